@@ -1,0 +1,3 @@
+pub mod BlankLemmas
+pub mod TextLemmas
+pub mod BufferLemmas

@@ -1,0 +1,81 @@
+-- Texts, their bytes and their places.
+use Rattle.std.proofs.Common.{◌≡◌, ℕ, ◌<◌, ◌≤◌, inl, inr, List, length, encode_utf8_all, Bool, true, false, nat_le, nat_eq, refl, sym, ◌∙◌, ap, arith}
+use Rattle.std.specs.Bool.{Decides}
+use Rattle.std.specs.Str.{chars, IsUtf8}
+use Rattle.std.specs.Cmp.Lexicographic.{pointwise, bytes_decides}
+use Rattle.std.proofs.lemmas.Str.{encodes-chars, chars-IsAscii, encodes-IsAscii, encodes_same}
+use Rattle.std.proofs.lemmas.Bool.Decides.{nat_tests, Decides-and, Decides-like, same_from_decides}
+use Rattle.smol_str.specs.declared.value.buffer.TheConstants.{INLINE_CAP}
+use Rattle.smol_str.specs.declared.value.place.Place.TheVariants.{Inline, Static, Heap}
+use Rattle.smol_str.specs.Text.{size, is_short, is_blank_run, place_of, IsShort, IsBlankRun, IsResident, blank_run, leading_newlines}
+use Rattle.smol_str.proofs.BlankLemmas.{IsAscii-blank_run, length-blank_run, Passes-from_IsBlankRun, IsBlankRun-from_tests}
+
+-- a text's size is its number of bytes
+pub size-chars : (bs : List ℕ) → IsUtf8 bs → size (chars bs) ≡ length bs
+size-chars bs u = ap length (encodes-chars bs u)
+
+pub IsShort-chars : (bs : List ℕ) → IsUtf8 bs → length bs ≤ INLINE_CAP → IsShort (chars bs)
+IsShort-chars bs u h = rw (encodes-chars bs u) h
+
+run_at : (bs : List ℕ) (a b : ℕ) → bs ≡ blank_run a b → chars bs ≡ bs
+run_at bs a b e = rw e (chars-IsAscii (blank_run a b) (IsAscii-blank_run a b))
+
+-- the bytes are a blank run exactly where the characters are
+pub IsBlankRun-chars : (bs : List ℕ) → IsBlankRun bs → IsBlankRun (chars bs)
+IsBlankRun-chars bs r = rw (run_at bs r.newlines r.spaces r.reads) r
+
+pub IsBlankRun-bytes : (bs : List ℕ) → IsUtf8 bs → IsBlankRun (chars bs) → IsBlankRun bs
+IsBlankRun-bytes bs u r =
+    let plain = encodes-IsAscii (blank_run r.newlines r.spaces) (IsAscii-blank_run r.newlines r.spaces) in
+    let e : bs ≡ blank_run r.newlines r.spaces = sym (encodes-chars bs u) ∙ ap encode_utf8_all r.reads ∙ plain in
+    record { newlines = r.newlines; spaces = r.spaces; few_newlines = r.few_newlines; few_spaces = r.few_spaces; reads = e }
+
+-- no text is resident that is longer than the buffer, and whose bytes are no blank run
+pub not_resident : (bs : List ℕ) → IsUtf8 bs → INLINE_CAP < length bs → ¬ (IsBlankRun bs) → ¬ (IsResident (chars bs))
+not_resident bs u long other (inl short) = let s = size-chars bs u in omega (arith, s, short)
+not_resident bs u long other (inr run) = other (IsBlankRun-bytes bs u run)
+
+-- while the blank constant is no longer than the buffer, a blank run is short
+pub IsShort-blank_run : (bs : List ℕ) → INLINE_CAP < length bs → ¬ (IsBlankRun bs)
+IsShort-blank_run bs long run =
+    let count = ap length run.reads ∙ length-blank_run run.newlines run.spaces in
+    let few_newlines = run.few_newlines in
+    let few_spaces = run.few_spaces in
+    omega arith
+
+-- the test for a blank run
+le_test : (a b : ℕ) → Decides (nat_le a b) (a ≤ b)
+le_test a b = ((λ h. grind (arith, nat_tests)), (λ h. grind (arith, nat_tests)))
+
+pub is_blank_run-Decides : (t : List ℕ) → Decides (is_blank_run t) (IsBlankRun t)
+unfolding is_blank_run
+is_blank_run-Decides t =
+    Decides-like _ (λ p. IsBlankRun-from_tests t (leading_newlines t) refl p.0 p.1.0 p.1.1) (λ r. let p = Passes-from_IsBlankRun t r in (p.newlines, (p.spaces, p.rest)))
+    (Decides-and _ _ (le_test _ _) (Decides-and _ _ (le_test _ _) ((λ h. h), (λ h. h))))
+
+-- the three places
+pub place_of-short : (t : List ℕ) → IsShort t → place_of t ≡ Inline
+unfolding place_of
+place_of-short t h = rw ((le_test (size t) INLINE_CAP).1 h)
+
+long_test : (t : List ℕ) → ¬ (IsShort t) → is_short t ≡ false
+long_test t h = grind (arith, nat_tests)
+
+no_test : (t : List ℕ) → ¬ (IsBlankRun t) → (b : Bool) → is_blank_run t ≡ b → b ≡ false
+no_test t h true e = absurd (h ((is_blank_run-Decides t).0 e))
+no_test t h false e = refl
+
+pub place_of-blank : (t : List ℕ) → ¬ (IsShort t) → IsBlankRun t → place_of t ≡ Static
+unfolding place_of
+place_of-blank t long run = rw (long_test t long, (is_blank_run-Decides t).1 run)
+
+pub place_of-heap : (t : List ℕ) → ¬ (IsResident t) → place_of t ≡ Heap
+unfolding place_of
+place_of-heap t away = rw (long_test t (λ short. away (inl short)), no_test t (λ run. away (inr run)) (is_blank_run t) refl)
+
+-- two texts are equal exactly where their bytes are
+pub bytes_eq-texts : (s t : List ℕ) → pointwise nat_eq (encode_utf8_all s) (encode_utf8_all t) ≡ pointwise nat_eq s t
+bytes_eq-texts s t =
+    same_from_decides _ _
+    (Decides-like _ (encodes_same s t) (ap encode_utf8_all) (bytes_decides (encode_utf8_all s) (encode_utf8_all t)))
+    (bytes_decides s t)

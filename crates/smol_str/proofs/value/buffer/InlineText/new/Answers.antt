@@ -1,0 +1,5 @@
+use Rattle.std.proofs.lemmas.Str.{chars-nil}
+use Rattle.smol_str.proofs.value.buffer.InlineText.new.Goals as goal
+
+pub returns : goal.returns
+returns c = chars-nil

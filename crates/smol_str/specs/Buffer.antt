@@ -1,0 +1,10 @@
+-- The buffer of a short text.
+use Rattle.std.specs.Prelude.{◌≡◌, ℕ, ◌-◌, ◌≤◌, List, take, drop, replicate}
+use Rattle.std.specs.Str.{IsUtf8}
+use Rattle.smol_str.specs.declared.value.buffer.TheConstants.{INLINE_CAP}
+
+-- the first `len` bytes are UTF-8, and zeros follow to the buffer's end
+pub record IsBuffer (len : ℕ) (buf : List ℕ) : Type 0 where
+  pub within : len ≤ INLINE_CAP
+  pub utf8 : IsUtf8 (take len buf)
+  pub zeros : drop len buf ≡ replicate (INLINE_CAP - len) 0

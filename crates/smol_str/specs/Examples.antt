@@ -1,0 +1,56 @@
+-- The definitions on small texts, computed by the checker. Where a limit matters, the example names the constant.
+use Rattle.std.specs.Prelude.{◌≡◌, ◌+◌, ◌-◌, [], ◌∷◌, ◌++◌, replicate, true, false, refl}
+use Rattle.smol_str.specs.declared.value.place.Place.TheVariants.{Inline, Heap}
+use Rattle.smol_str.specs.declared.value.buffer.TheConstants.{INLINE_CAP}
+use Rattle.smol_str.specs.declared.value.blank.TheConstants.{BLANK_NEWLINES, BLANK_SPACES}
+use Rattle.smol_str.specs.Text.{size, blank_run, is_blank_run, place_of}
+
+empty : place_of [] ≡ Inline
+unfolding place_of lib.Utf8.encode
+empty = refl
+
+fills_the_buffer : place_of (replicate INLINE_CAP 97) ≡ Inline
+unfolding place_of lib.Utf8.encode
+fills_the_buffer = refl
+
+one_byte_more : place_of (replicate (INLINE_CAP + 1) 97) ≡ Heap
+unfolding place_of is_blank_run lib.Utf8.encode
+one_byte_more = refl
+
+-- é, €, 🦀: two, three and four bytes
+widths : size (97 ∷ 233 ∷ 8364 ∷ 129408 ∷ []) ≡ 1 + 2 + 3 + 4
+unfolding lib.Utf8.encode
+widths = refl
+
+two_bytes_that_fit : place_of (replicate (INLINE_CAP - 2) 97 ++ 233 ∷ []) ≡ Inline
+unfolding place_of lib.Utf8.encode
+two_bytes_that_fit = refl
+
+two_bytes_across_the_end : place_of (replicate (INLINE_CAP - 1) 97 ++ 233 ∷ []) ≡ Heap
+unfolding place_of is_blank_run lib.Utf8.encode
+two_bytes_across_the_end = refl
+
+three_bytes_across_the_end : place_of (replicate (INLINE_CAP - 2) 97 ++ 8364 ∷ []) ≡ Heap
+unfolding place_of is_blank_run lib.Utf8.encode
+three_bytes_across_the_end = refl
+
+four_bytes_across_the_end : place_of (replicate (INLINE_CAP - 3) 97 ++ 129408 ∷ []) ≡ Heap
+unfolding place_of is_blank_run lib.Utf8.encode
+four_bytes_across_the_end = refl
+
+longest_blank_run : is_blank_run (blank_run BLANK_NEWLINES BLANK_SPACES) ≡ true
+unfolding is_blank_run
+longest_blank_run = refl
+
+-- a newline too many, and enough spaces that the text is not short
+newline_too_many : place_of (blank_run (BLANK_NEWLINES + 1) INLINE_CAP) ≡ Heap
+unfolding place_of is_blank_run lib.Utf8.encode
+newline_too_many = refl
+
+space_too_many : is_blank_run (blank_run BLANK_NEWLINES (BLANK_SPACES + 1)) ≡ false
+unfolding is_blank_run
+space_too_many = refl
+
+space_before_newline : place_of (replicate INLINE_CAP 32 ++ 10 ∷ []) ≡ Heap
+unfolding place_of is_blank_run lib.Utf8.encode
+space_before_newline = refl

@@ -1,0 +1,5 @@
+pub mod Text
+pub mod Meaning
+pub mod Buffer
+pub mod Arms
+pub mod Examples

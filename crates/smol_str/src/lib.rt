@@ -1,0 +1,14 @@
+//! Small immutable strings.
+//!
+//! A [`SmolStr`] means a text and a place. A text of at most [`INLINE_CAP`] bytes lies in the value
+//! itself and needs no memory.
+#![tactic(auto)]
+
+#[cfg(test)]
+mod tests;
+mod value;
+
+pub use value::SmolStr;
+pub use value::blank::{BLANK_NEWLINES, BLANK_SPACES};
+pub use value::buffer::INLINE_CAP;
+pub use value::place::Place;

@@ -1,0 +1,76 @@
+//! A short text in a buffer of its own.
+ghost use Rattle.std.specs.Prelude.{◌≡◌, ◌+◌, ◌≤◌, [], ◌++◌, length, take, drop, encode_utf8_all};
+ghost use Rattle.std.specs.Str.{chars};
+ghost use Rattle.smol_str.specs.Text.{size, IsShort};
+
+use std::marker::Model;
+
+/// The most bytes of a text that lies in the value itself.
+pub const INLINE_CAP: usize = 23;
+
+/// A text of at most [`INLINE_CAP`] bytes; the bytes past its end are zero.
+#[derive(Drop)]
+pub(crate) struct InlineText {
+    len: u8,
+    buf: [u8; INLINE_CAP],
+}
+
+impl Model for InlineText {
+    ghost use Rattle.std.specs.Prelude.{ℕ, List, take};
+    ghost use Rattle.std.specs.Str.{chars};
+    ghost use Rattle.smol_str.specs.Buffer.{IsBuffer};
+
+    ghost Value = { List ℕ };
+
+    ghost view = { λ s. chars (take s.len s.buf) };
+
+    ghost invariant = { λ s. IsBuffer s.len s.buf };
+}
+
+impl InlineText {
+    /// The empty text.
+    pub fn new() -> InlineText
+        ensures { result ≡ [] }
+    {
+        InlineText {
+            len: 0,
+            buf: [0; INLINE_CAP],
+        }
+    }
+
+    /// A copy of a short text.
+    pub fn from_short(text: &str) -> InlineText
+        requires { length text.now ≤ INLINE_CAP }
+        ensures { result ≡ chars text.now }
+    {
+        let mut short = InlineText::new();
+        short.push_str(text);
+        short
+    }
+
+    pub fn as_str(&self) -> &str
+        ensures bytes { result.now ≡ encode_utf8_all self.now }
+        ensures short { IsShort self.now }
+    {
+        let bytes = &self.buf[..self.len as usize];
+        unsafe { str::from_utf8_unchecked(bytes) }
+    }
+
+    /// Appends a text for which there is room.
+    pub fn push_str(&mut self, text: &str)
+        requires { size self.old + length text.now ≤ INLINE_CAP }
+        ensures { self.new ≡ self.old ++ chars text.now }
+    {
+        write_at(&mut self.buf, self.len as usize, text.as_bytes());
+        self.len += text.len() as u8;
+    }
+}
+
+/// Overwrites the bytes from `start` on.
+fn write_at(buf: &mut [u8; INLINE_CAP], start: usize, bytes: &[u8])
+    requires { start + length bytes.now ≤ INLINE_CAP }
+    ensures front { take (start + length bytes.now) buf.new ≡ take start buf.old ++ bytes.now }
+    ensures back { drop (start + length bytes.now) buf.new ≡ drop (start + length bytes.now) buf.old }
+{
+    buf[start..start + bytes.len()].copy_from_slice(bytes);
+}
