@@ -1,0 +1,7 @@
+pub mod Lines
+pub mod Report
+pub mod Words
+pub mod Stream
+pub mod Faults
+pub mod FaultLine
+pub mod Examples

@@ -1,0 +1,22 @@
+-- The lines of a text.
+--     is_newline c                 the character is U+000A
+--     lines t                      the lines of t, without their newlines
+--     without_empty_last pieces    the pieces, but for a last one that is empty
+use Rattle.std.specs.Prelude.{ℕ, Bool, List, [], ◌∷◌, ◌==◌, if◌then◌else◌}
+use Rattle.std.specs.List.{onto_first}
+
+-- the character that ends a line; a carriage return does not
+abbrev pub is_newline : ℕ → Bool
+is_newline c = c == 10
+
+-- a newline ends a line and is no part of it; what stands after the last one is a line where it is not empty
+abbrev pub lines : List ℕ → List (List ℕ)
+lines [] = []
+lines (c ∷ cs) = if is_newline c then [] ∷ lines cs else onto_first c (lines cs)
+
+-- all pieces but a last one that is empty
+abbrev pub without_empty_last : List (List ℕ) → List (List ℕ)
+without_empty_last [] = []
+without_empty_last ([] ∷ []) = []
+without_empty_last ((c ∷ cs) ∷ []) = (c ∷ cs) ∷ []
+without_empty_last (piece ∷ next ∷ more) = piece ∷ without_empty_last (next ∷ more)

@@ -1,0 +1,55 @@
+//! Reads text from standard input and writes, for each line, where a `SmolStr` would keep it.
+//!
+//! `main` gathers the words, calls [`run::run`] and tells the fault; the promise of the whole
+//! program is the contract of `run`.
+#![tactic(auto)]
+
+mod fault;
+mod laws;
+mod lines;
+mod mode;
+mod report;
+mod run;
+mod stream;
+#[cfg(test)]
+mod tests;
+
+use fault::{RunFault, fault_line};
+use mode::mode_of;
+use run::run;
+use std::process::ExitCode;
+use std::{env, io};
+
+/// The words after the program's name.
+fn words(rt: &HostRuntime) -> Result<Vec<String>, RunFault> {
+    let args = match env::args(rt) {
+        Ok(args) => args,
+        Err(e) if e.kind() == io::ErrorKind::OutOfMemory => return Err(RunFault::OutOfMemory),
+        Err(e) => return Err(RunFault::Io(e)),
+    };
+    match args.skip(1).collect(rt.alloc()) {
+        Ok(words) => Ok(words),
+        Err(_) => Err(RunFault::OutOfMemory),
+    }
+}
+
+/// Tells a fault in one line, and answers the status of a failed run.
+fn failed(rt: &HostRuntime, fault: &RunFault) -> ExitCode {
+    let _ = rt.eprintln(fault_line(fault));
+    ExitCode::from(1)
+}
+
+fn main(rt: HostRuntime) -> ExitCode {
+    let words = match words(&rt) {
+        Ok(words) => words,
+        Err(fault) => return failed(&rt, &fault),
+    };
+    let Some(mode) = mode_of(words) else {
+        let _ = rt.eprintln("usage");
+        return ExitCode::from(2);
+    };
+    match run(rt.alloc(), mode, &mut rt.stdin(), &mut rt.stdout()) {
+        Ok(()) => ExitCode::SUCCESS,
+        Err(fault) => failed(&rt, &fault),
+    }
+}

@@ -1,0 +1,54 @@
+//! The report on a text.
+ghost use Rattle.std.specs.Prelude.{◌≡◌, ◌++◌, IfOk, OnOk, encode_utf8_all};
+ghost use Rattle.std.specs.Str.{chars};
+ghost use Rattle.std.specs.String.{string_bytes};
+ghost use Rattle.smol_tokens.specs.Report.{place_word, answer, show_report, report};
+
+use crate::lines::first_line;
+use crate::mode::Mode;
+use smol_str::{Place, SmolStr};
+use std::alloc::{AllocError, Global};
+
+/// The whole report on a text.
+pub fn make_report(alloc: Global, mode: Mode, text: &str) -> Result<String, AllocError>
+    ensures { IfOk result (λ out. string_bytes out ≡ encode_utf8_all (report mode (chars text.now))) }
+{
+    match mode {
+        Mode::Show => show(alloc, text),
+    }
+}
+
+/// The answer line of each line.
+fn show(alloc: Global, text: &str) -> Result<String, AllocError>
+    ensures { IfOk result (λ out. string_bytes out ≡ encode_utf8_all (show_report (chars text.now))) }
+{
+    let mut out = String::new(alloc);
+    let mut rest = text;
+    while let Some((line, after)) = first_line(rest) {
+        push_answer(alloc, &mut out, line)?;
+        rest = after;
+    }
+    Ok(out)
+}
+
+/// Appends the answer line of a line; it makes no text of its own for it.
+fn push_answer(alloc: Global, out: &mut String, line: &str) -> Result<(), AllocError>
+    ensures { OnOk result (string_bytes out.new ≡ string_bytes out.old ++ encode_utf8_all (answer (chars line.now))) }
+{
+    let value = SmolStr::new(alloc, line)?;
+    let place = word_of(value.place());
+    let size = value.len();
+    let text = value.as_str();
+    write!(out, "{place} {size} {text}\n")
+}
+
+/// The word that an answer line has for a place.
+fn word_of(place: Place) -> &'static str
+    ensures { result.now ≡ place_word place }
+{
+    match place {
+        Place::Inline => "inline",
+        Place::Static => "static",
+        Place::Heap => "heap",
+    }
+}
