@@ -1,0 +1,3 @@
+//! Tests of what no clause says: outside values.
+mod keys;
+mod places;

@@ -1,0 +1,162 @@
+//! `run` in mode Show.
+ghost use Rattle.std.specs.Prelude.{◌≡◌, IfOk, IsUtf8, encode_utf8_all};
+ghost use Rattle.std.specs.Str.{chars};
+ghost use Rattle.smol_tokens.specs.Report.{report};
+
+use super::streams::{Drip, Failure, empty_drip, trickle_of};
+use crate::fault::RunFault;
+use crate::mode::Mode;
+use crate::run::run;
+use crate::stream::PIECE;
+use std::alloc::Global;
+use std::io::ErrorKind;
+use std::test::Fail;
+
+/// The report by a reader of one byte a call and a writer of one byte a call, and by the promise of
+/// `run` what it is.
+fn shown_bytewise(alloc: Global, input: &[u8]) -> Result<Vec<u8>, RunFault>
+    ensures { IfOk result (λ out. IsUtf8 input.now × (out.items ≡ encode_utf8_all (report Mode.Show (chars input.now)))) }
+{
+    let mut reader = trickle_of(input, 1, 0);
+    let mut writer = empty_drip(alloc, 1, 0, Failure::TakesNone);
+    run(alloc, Mode::Show, &mut reader, &mut writer)?;
+    let Drip {
+        taken,
+        step: _,
+        calls: _,
+        fails_at: _,
+        failure: _,
+    } = writer;
+    Ok(taken)
+}
+
+/// The same by std's reader and writer over memory.
+fn shown_whole(alloc: Global, input: &[u8]) -> Result<Vec<u8>, RunFault>
+    ensures { IfOk result (λ out. IsUtf8 input.now × (out.items ≡ encode_utf8_all (report Mode.Show (chars input.now)))) }
+{
+    let mut reader = input;
+    let mut out = Vec::new(alloc);
+    run(alloc, Mode::Show, &mut reader, &mut out)?;
+    Ok(out)
+}
+
+/// Each input, and the report on it.
+const REPORTS: [(&[u8], &[u8]); 7] = [
+    (
+        b"if\n\naaaaaaaaaaaaaaaaaaaaaaaa",
+        b"inline 2 if\ninline 0 \nheap 24 aaaaaaaaaaaaaaaaaaaaaaaa\n",
+    ),
+    (b"", b""),
+    (b"\n", b"inline 0 \n"),
+    (b"a\n\n", b"inline 1 a\ninline 0 \n"),
+    (b"a\nb", b"inline 1 a\ninline 1 b\n"),
+    (b"ab\r\nc", b"inline 3 ab\r\ninline 1 c\n"),
+    (
+        b"\xc3\xa9\n\xc3\x9f",
+        b"inline 2 \xc3\xa9\ninline 2 \xc3\x9f\n",
+    ),
+];
+
+#[test]
+fn reports(rt: HostRuntime) -> Result<(), Fail> {
+    for (input, wanted) in REPORTS {
+        let out = shown_bytewise(rt.alloc(), input)?;
+        assert_eq!(rt; out.as_slice(), wanted);
+        let out = shown_whole(rt.alloc(), input)?;
+        assert_eq!(rt; out.as_slice(), wanted);
+    }
+    Ok(())
+}
+
+#[test]
+fn long_line(rt: HostRuntime) -> Result<(), Fail> {
+    let out = shown_whole(rt.alloc(), &[b'a'; 5000])?;
+    assert_eq!(rt; out.len(), 5011);
+    assert!(rt; out.as_slice().starts_with(b"heap 5000 aaa"));
+    Ok(())
+}
+
+#[test]
+fn not_utf8(rt: HostRuntime) {
+    let inputs: [&[u8]; 3] = [b"\xff", b"a\n\xc3", b"\xed\xa0\x80\n"];
+    for input in inputs {
+        let mut reader = trickle_of(input, 1, 0);
+        let mut writer = empty_drip(rt.alloc(), 1, 0, Failure::TakesNone);
+        let answer = run(rt.alloc(), Mode::Show, &mut reader, &mut writer);
+        assert!(rt; matches!(answer, Err(RunFault::NotUtf8)), "{input:?}");
+        assert!(rt; writer.taken.is_empty(), "{input:?}");
+    }
+}
+
+// Three bytes are three calls, and a fourth answers that there are no more.
+#[test]
+fn fails_at_each_read(rt: HostRuntime) -> Result<(), Fail> {
+    for fails_at in 1..=5usize {
+        let mut reader = trickle_of(b"abc", 1, fails_at);
+        let mut writer = empty_drip(rt.alloc(), 1, 0, Failure::TakesNone);
+        let answer = run(rt.alloc(), Mode::Show, &mut reader, &mut writer);
+        if fails_at == 5 {
+            answer?;
+            assert_eq!(rt; writer.taken.as_slice(), b"inline 3 abc\n".as_slice());
+        } else {
+            assert!(rt;
+                is_io(&answer, ErrorKind::Interrupted),
+                "at call {fails_at}"
+            );
+            assert!(rt; writer.taken.is_empty(), "at call {fails_at}");
+        }
+        assert!(rt;
+            reader.least >= 1 && reader.most <= PIECE,
+            "at call {fails_at}"
+        );
+    }
+    Ok(())
+}
+
+// The report has eleven bytes, so a writer of one byte a call is called eleven times.
+#[test]
+fn fails_at_each_write(rt: HostRuntime) -> Result<(), Fail> {
+    for failure in [Failure::Interrupted, Failure::TakesNone] {
+        for fails_at in 1..=12usize {
+            let mut reader = trickle_of(b"a", 1, 0);
+            let mut writer = empty_drip(rt.alloc(), 1, fails_at, failure);
+            let answer = run(rt.alloc(), Mode::Show, &mut reader, &mut writer);
+            if fails_at == 12 {
+                answer?;
+            } else {
+                let kind = match failure {
+                    Failure::Interrupted => ErrorKind::Interrupted,
+                    Failure::TakesNone => ErrorKind::WriteZero,
+                };
+                assert!(rt; is_io(&answer, kind), "{failure:?} at call {fails_at}");
+            }
+            assert!(rt;
+                b"inline 1 a\n".starts_with(writer.taken.as_slice()),
+                "{failure:?} at call {fails_at}"
+            );
+            assert_eq!(rt; writer.taken.len(), fails_at - 1);
+        }
+    }
+    Ok(())
+}
+
+// A whole piece, and one byte more.
+#[test]
+fn reads_by_pieces(rt: HostRuntime) -> Result<(), Fail> {
+    let input = [b'a'; PIECE + 1];
+    let mut reader = trickle_of(&input, usize::MAX, 0);
+    let mut writer = empty_drip(rt.alloc(), usize::MAX, 0, Failure::TakesNone);
+    run(rt.alloc(), Mode::Show, &mut reader, &mut writer)?;
+    assert_eq!(rt; reader.calls, 3);
+    assert!(rt; reader.least >= 1 && reader.most <= PIECE);
+    assert_eq!(rt; writer.taken.len(), "heap 4097 ".len() + PIECE + 2);
+    Ok(())
+}
+
+/// Whether the answer is a fault of the reader or writer, of this kind.
+fn is_io(answer: &Result<(), RunFault>, kind: ErrorKind) -> bool {
+    match answer {
+        Err(RunFault::Io(e)) => e.kind() == kind,
+        _ => false,
+    }
+}
