@@ -1,11 +1,13 @@
 -- A short text in a buffer.
-use Rattle.std.proofs.Common.{◌≡◌, ℕ, ◌+◌, ◌-◌, ◌≤◌, List, ◌++◌, length, take, drop, replicate, sym, ◌∙◌, ap, arith, length-take-le}
+use Rattle.std.proofs.Common.{◌≡◌, ℕ, ◌+◌, ◌-◌, ◌≤◌, List, ◌++◌, length, take, drop, replicate, sym, ◌∙◌, ap, arith, length-take-le, encode_utf8_all, nat_eq, ◌↔◌, IsTrue}
+use Rattle.std.specs.Cmp.Lexicographic.{pointwise, bytes_decides}
+use Rattle.std.proofs.lemmas.Bool.Decides.{Decides-eqb}
 use Rattle.std.specs.Str.{chars, IsUtf8}
 use Rattle.std.proofs.lemmas.Str.{encodes-chars, chars-append, IsUtf8-append}
-use Rattle.std.proofs.lemmas.List.{drop-drop, drop-replicate}
+use Rattle.std.proofs.lemmas.List.{drop-drop, drop-replicate, take-append-drop}
 use Rattle.smol_str.specs.declared.value.buffer.TheConstants.{INLINE_CAP}
 use Rattle.smol_str.specs.Text.{size, IsShort}
-use Rattle.smol_str.specs.Buffer.{IsBuffer}
+use Rattle.smol_str.specs.Buffer.{IsBuffer, padded}
 
 -- the length is the size of the text
 pub len-size : (len : ℕ) (buf : List ℕ) → IsBuffer len buf → length buf ≡ INLINE_CAP → len ≡ size (chars (take len buf))
@@ -29,3 +31,34 @@ IsBuffer-write len m old new bytes h u within front back =
 pub chars-write : (len m : ℕ) (old new bytes : List ℕ) → IsBuffer len old → take (len + m) new ≡ take len old ++ bytes →
     chars (take (len + m) new) ≡ chars (take len old) ++ chars bytes
 chars-write len m old new bytes h front = rw front (chars-append (take len old) bytes h.utf8)
+
+-- the whole buffer
+pub buffer-padded : (len : ℕ) (buf : List ℕ) → IsBuffer len buf → length buf ≡ INLINE_CAP → buf ≡ padded (encode_utf8_all (chars (take len buf)))
+buffer-padded len buf h all =
+    let bytes : encode_utf8_all (chars (take len buf)) ≡ take len buf = encodes-chars (take len buf) h.utf8 in
+    let size : length (take len buf) ≡ len = length-take-le len buf (omega (arith, h.within, all)) in
+    rw (bytes, size, ← h.zeros) (sym (take-append-drop len buf))
+
+-- two short texts are equal exactly where their lengths and whole buffers are
+pub same-buffers : (m n : ℕ) (xs ys : List ℕ) → IsBuffer m xs → IsBuffer n ys → length xs ≡ INLINE_CAP → length ys ≡ INLINE_CAP →
+    chars (take m xs) ≡ chars (take n ys) → (m ≡ n) × (xs ≡ ys)
+same-buffers m n xs ys h k p q e = (
+  (len-size m xs h p ∙ ap size e ∙ sym (len-size n ys k q)),
+  (buffer-padded m xs h p ∙ ap (λ t. padded (encode_utf8_all t)) e ∙ sym (buffer-padded n ys k q)),
+)
+
+-- the test of whole buffers, at one length
+pub same-views : (m n : ℕ) (xs ys : List ℕ) → IsBuffer m xs → IsBuffer n ys → length xs ≡ INLINE_CAP → length ys ≡ INLINE_CAP → m ≡ n →
+    IsTrue (pointwise nat_eq xs ys) ↔ (chars (take m xs) ≡ chars (take n ys))
+same-views m n xs ys h k p q e = (
+  (λ b. let s : xs ≡ ys = (bytes_decides xs ys).0 b in rw (e, s)),
+  (λ v. (bytes_decides xs ys).1 (same-buffers m n xs ys h k p q v).1),
+)
+
+-- the test of the lengths, where they differ
+pub other-views : (m n : ℕ) (xs ys : List ℕ) → IsBuffer m xs → IsBuffer n ys → length xs ≡ INLINE_CAP → length ys ≡ INLINE_CAP → ¬ (m ≡ n) →
+    IsTrue (nat_eq m n) ↔ (chars (take m xs) ≡ chars (take n ys))
+other-views m n xs ys h k p q other = (
+  (λ b. absurd (other ((Decides-eqb m n).0 b))),
+  (λ v. absurd (other (same-buffers m n xs ys h k p q v).0)),
+)

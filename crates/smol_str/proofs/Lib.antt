@@ -1,3 +1,4 @@
 pub mod BlankLemmas
 pub mod TextLemmas
 pub mod BufferLemmas
+pub mod OrderLemmas

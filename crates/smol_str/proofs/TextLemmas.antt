@@ -3,12 +3,14 @@ use Rattle.std.proofs.Common.{◌≡◌, ℕ, ◌<◌, ◌≤◌, inl, inr, List
 use Rattle.std.specs.Bool.{Decides}
 use Rattle.std.specs.Str.{chars, IsUtf8}
 use Rattle.std.specs.Cmp.Lexicographic.{pointwise, bytes_decides}
-use Rattle.std.proofs.lemmas.Str.{encodes-chars, chars-IsAscii, encodes-IsAscii, encodes_same}
+use Rattle.std.proofs.lemmas.Str.{encodes-chars, chars-IsAscii, encodes-IsAscii, encodes_same, chars_from_encodes, IsUtf8-string_bytes}
+use Rattle.std.specs.Rc.{rc_str_bytes}
+use Rattle.std.specs.declared.rc.RcStr.{RcStr}
 use Rattle.std.proofs.lemmas.Bool.Decides.{nat_tests, Decides-and, Decides-like, same_from_decides}
 use Rattle.smol_str.specs.declared.value.buffer.TheConstants.{INLINE_CAP}
 use Rattle.smol_str.specs.declared.value.place.Place.TheVariants.{Inline, Static, Heap}
 use Rattle.smol_str.specs.Text.{size, is_short, is_blank_run, place_of, IsShort, IsBlankRun, IsResident, blank_run, leading_newlines}
-use Rattle.smol_str.proofs.BlankLemmas.{IsAscii-blank_run, length-blank_run, Passes-from_IsBlankRun, IsBlankRun-from_tests}
+use Rattle.smol_str.proofs.BlankLemmas.{IsAscii-blank_run, Passes-from_IsBlankRun, IsBlankRun-from_tests}
 
 -- a text's size is its number of bytes
 pub size-chars : (bs : List ℕ) → IsUtf8 bs → size (chars bs) ≡ length bs
@@ -34,14 +36,6 @@ IsBlankRun-bytes bs u r =
 pub not_resident : (bs : List ℕ) → IsUtf8 bs → INLINE_CAP < length bs → ¬ (IsBlankRun bs) → ¬ (IsResident (chars bs))
 not_resident bs u long other (inl short) = let s = size-chars bs u in omega (arith, s, short)
 not_resident bs u long other (inr run) = other (IsBlankRun-bytes bs u run)
-
--- while the blank constant is no longer than the buffer, a blank run is short
-pub IsShort-blank_run : (bs : List ℕ) → INLINE_CAP < length bs → ¬ (IsBlankRun bs)
-IsShort-blank_run bs long run =
-    let count = ap length run.reads ∙ length-blank_run run.newlines run.spaces in
-    let few_newlines = run.few_newlines in
-    let few_spaces = run.few_spaces in
-    omega arith
 
 -- the test for a blank run
 le_test : (a b : ℕ) → Decides (nat_le a b) (a ≤ b)
@@ -79,3 +73,14 @@ bytes_eq-texts s t =
     same_from_decides _ _
     (Decides-like _ (encodes_same s t) (ap encode_utf8_all) (bytes_decides (encode_utf8_all s) (encode_utf8_all t)))
     (bytes_decides s t)
+
+-- the characters of the bytes of a text
+pub chars-of : (t bs : List ℕ) → IsUtf8 bs → bs ≡ encode_utf8_all t → chars bs ≡ t
+chars-of t bs u e = sym (chars_from_encodes t bs u (sym e))
+
+pub IsUtf8-rc_str_bytes : {Z : Type 0} (s : RcStr Z) → IsUtf8 (rc_str_bytes s)
+IsUtf8-rc_str_bytes s = IsUtf8-string_bytes s.text.value
+
+-- a text equals the text of some bytes exactly where its bytes equal them
+pub bytes_eq-chars : (t bs : List ℕ) → IsUtf8 bs → pointwise nat_eq (encode_utf8_all t) bs ≡ pointwise nat_eq t (chars bs)
+bytes_eq-chars t bs u = ap (pointwise nat_eq (encode_utf8_all t)) (sym (encodes-chars bs u)) ∙ bytes_eq-texts t (chars bs)

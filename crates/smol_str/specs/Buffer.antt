@@ -1,7 +1,11 @@
 -- The buffer of a short text.
-use Rattle.std.specs.Prelude.{◌≡◌, ℕ, ◌-◌, ◌≤◌, List, take, drop, replicate}
+use Rattle.std.specs.Prelude.{◌≡◌, ℕ, ◌-◌, ◌≤◌, List, ◌++◌, length, take, drop, replicate}
 use Rattle.std.specs.Str.{IsUtf8}
 use Rattle.smol_str.specs.declared.value.buffer.TheConstants.{INLINE_CAP}
+
+-- bytes, and zeros after them to the buffer's end
+abbrev pub padded : List ℕ → List ℕ
+padded bytes = bytes ++ replicate (INLINE_CAP - length bytes) 0
 
 -- the first `len` bytes are UTF-8, and zeros follow to the buffer's end
 pub record IsBuffer (len : ℕ) (buf : List ℕ) : Type 0 where

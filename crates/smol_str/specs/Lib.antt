@@ -2,4 +2,5 @@ pub mod Text
 pub mod Meaning
 pub mod Buffer
 pub mod Arms
+pub mod Faults
 pub mod Examples

@@ -1,7 +1,8 @@
 //! Small immutable strings.
 //!
 //! A [`SmolStr`] means a text and a place. A text of at most [`INLINE_CAP`] bytes lies in the value
-//! itself and needs no memory.
+//! itself and needs no memory, and so does a blank run: at most [`BLANK_NEWLINES`] newlines and then
+//! at most [`BLANK_SPACES`] spaces.
 #![tactic(auto)]
 
 #[cfg(test)]
@@ -11,4 +12,5 @@ mod value;
 pub use value::SmolStr;
 pub use value::blank::{BLANK_NEWLINES, BLANK_SPACES};
 pub use value::buffer::INLINE_CAP;
+pub use value::convert::FromUtf8Fault;
 pub use value::place::Place;

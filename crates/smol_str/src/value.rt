@@ -1,15 +1,19 @@
 //! The immutable text.
-ghost use Rattle.std.specs.Prelude.{◌≡◌, ◌↔◌, MatchOption, IfOk, OnErr, IsTrue, encode_utf8_all};
+ghost use Rattle.std.specs.Prelude.{◌≡◌, ◌≤◌, ◌↔◌, ◌⊎◌, length, MatchOption, IfOk, OnErr, IsSome, IfSome, IsTrue, encode_utf8_all};
 ghost use Rattle.std.specs.Str.{chars};
 ghost use Rattle.std.specs.Rc.{rc_str_bytes};
-ghost use Rattle.smol_str.specs.Text.{size, IsShort, IsResident};
+ghost use Rattle.smol_str.specs.Text.{size, IsShort, IsResident, place_of};
+ghost use Rattle.smol_str.specs.Buffer.{padded};
 ghost use Rattle.smol_str.specs.Meaning.{IsValueOf};
 
 pub mod blank;
 pub mod buffer;
 mod compare;
+pub mod convert;
 pub mod place;
+mod print;
 
+use blank::blank_slice;
 use buffer::{INLINE_CAP, InlineText};
 use place::Place;
 use std::alloc::{AllocError, Global};
@@ -18,7 +22,8 @@ use std::rc::RcStr;
 
 /// An immutable text that is small and cheap to make where it is short.
 ///
-/// A value means its text and its [`Place`]; the place follows from the text alone.
+/// A value means its text and its [`Place`]. The place follows from the text alone, but for a value
+/// that [`SmolStr::new_static`] made and its clones, which are in place Static whatever their text.
 ///
 /// ```
 /// let token = SmolStr::new(alloc, "if")?;
@@ -33,6 +38,7 @@ pub struct SmolStr {
 #[derive(Drop)]
 enum Repr {
     Inline(InlineText),
+    Static(&'static str),
     Heap(RcStr),
 }
 
@@ -67,12 +73,44 @@ impl SmolStr {
         Ok(SmolStr::from_heap(heap))
     }
 
+    /// A value of a text of at most [`INLINE_CAP`] bytes, which needs no memory.
+    pub fn new_inline(text: &str) -> SmolStr
+        requires { length text.now ≤ INLINE_CAP }
+        ensures { IsValueOf (chars text.now) result }
+    {
+        SmolStr::from_inline(InlineText::from_short(text))
+    }
+
+    /// A value that refers to `text` where it stands, in place Static whatever its length.
+    pub fn new_static(text: &'static str) -> SmolStr
+        ensures text { result.text ≡ chars text.now }
+        ensures place { result.place ≡ Place.Static }
+    {
+        SmolStr {
+            repr: Repr::Static(text),
+        }
+    }
+
+    /// The same text in the same place. Only a heap value's clone can be refused.
+    pub fn clone(&self) -> Result<SmolStr, AllocError>
+        ensures same { IfOk result (λ copy. copy ≡ self.now) }
+        ensures refused { OnErr result (self.now.place ≡ Place.Heap) }
+    {
+        let repr = match &self.repr {
+            Repr::Inline(text) => Repr::Inline(text.duplicate()),
+            Repr::Static(text) => Repr::Static(text),
+            Repr::Heap(text) => Repr::Heap(text.clone()?),
+        };
+        Ok(SmolStr { repr })
+    }
+
     /// The text, as std's `str`.
     pub fn as_str(&self) -> &str
         ensures { result.now ≡ encode_utf8_all self.now.text }
     {
         match &self.repr {
             Repr::Inline(text) => text.as_str(),
+            Repr::Static(text) => text,
             Repr::Heap(text) => text.as_str(),
         }
     }
@@ -91,20 +129,35 @@ impl SmolStr {
         self.as_str().is_empty()
     }
 
-    /// Whether the text lies in memory that was asked for.
+    /// Whether the text lies in memory that was asked for; resident text never does.
     pub fn is_heap_allocated(&self) -> bool
-        ensures { IsTrue result ↔ (self.now.place ≡ Place.Heap) }
+        ensures heap { IsTrue result ↔ (self.now.place ≡ Place.Heap) }
+        ensures not_resident { IsTrue result → ¬ (IsResident self.now.text) }
     {
         matches!(self.repr, Repr::Heap(_))
     }
 
-    /// Where the text lies.
+    /// Where the text lies: where any value of the text does, or in place Static.
     pub fn place(&self) -> Place
-        ensures { result ≡ self.now.place }
+        ensures place { result ≡ self.now.place }
+        ensures by_text { (self.now.place ≡ place_of self.now.text) ⊎ (self.now.place ≡ Place.Static) }
     {
         match &self.repr {
             Repr::Inline(_) => Place::Inline,
+            Repr::Static(_) => Place::Static,
             Repr::Heap(_) => Place::Heap,
+        }
+    }
+
+    /// The buffer of an inline value, `None` in the other places: the text's bytes, and then zeros
+    /// up to its end.
+    pub fn inline_buffer(&self) -> Option<&[u8; INLINE_CAP]>
+        ensures place { IsSome result ↔ (self.now.place ≡ Place.Inline) }
+        ensures buffer { IfSome result (λ buffer. buffer.now ≡ padded (encode_utf8_all self.now.text)) }
+    {
+        match &self.repr {
+            Repr::Inline(text) => Some(text.buffer()),
+            Repr::Static(_) | Repr::Heap(_) => None,
         }
     }
 
@@ -115,7 +168,10 @@ impl SmolStr {
         if text.len() <= INLINE_CAP {
             return Some(SmolStr::from_inline(InlineText::from_short(text)));
         }
-        None
+        let run = blank_slice(text)?;
+        Some(SmolStr {
+            repr: Repr::Static(run),
+        })
     }
 
     /// The value that keeps a short text in its buffer.
@@ -136,5 +192,17 @@ impl SmolStr {
         SmolStr {
             repr: Repr::Heap(text),
         }
+    }
+}
+
+/// For containers of values; the same as [`SmolStr::clone`].
+impl Clone for SmolStr {
+    ghost is_clone = { λ s copy. copy ≡ s };
+
+    fn clone(&self) -> Result<SmolStr, AllocError>
+        ensures same { IfOk result (λ copy. copy ≡ self.now) }
+        ensures refused { OnErr result (self.now.place ≡ Place.Heap) }
+    {
+        SmolStr::clone(self)
     }
 }

@@ -1,7 +1,59 @@
 //! Blank runs: newlines and then spaces, as source code has them between its tokens.
+//!
+//! A run that fits is a slice of one constant, so it needs no memory.
+ghost use Rattle.std.specs.Prelude.{◌≡◌, ◌≤◌, length, IfSome, MatchOption};
+ghost use Rattle.smol_str.specs.Text.{IsBlankRun, blank_run, leading_newlines, all_spaces};
 
 /// The most newlines of a blank run that needs no memory.
-pub const BLANK_NEWLINES: usize = 0;
+pub const BLANK_NEWLINES: usize = 32;
 
 /// The most spaces of a blank run that needs no memory.
-pub const BLANK_SPACES: usize = 0;
+pub const BLANK_SPACES: usize = 128;
+
+const BLANK: &str =
+    "\n\n\n\n\n\n\n\n\n\n\n\n\n\n\n\n\n\n\n\n\n\n\n\n\n\n\n\n\n\n\n\n                                                                                                                                ";
+
+/// The slice of the blank constant that reads as the text; `None` exactly where the text is no
+/// blank run.
+pub(crate) fn blank_slice(text: &str) -> Option<&'static str>
+    ensures run { MatchOption result (¬ (IsBlankRun text.now)) (λ _. IsBlankRun text.now) }
+    ensures reads { IfSome result (λ run. run.now ≡ text.now) }
+{
+    let bytes = text.as_bytes();
+    let newlines = count_leading_newlines(bytes);
+    let spaces = bytes.len() - newlines;
+    if newlines > BLANK_NEWLINES || spaces > BLANK_SPACES || !is_all_spaces(&bytes[newlines..]) {
+        return None;
+    }
+    Some(slice_of_blank(newlines, spaces))
+}
+
+/// So many newlines and then so many spaces, as a slice of the constant.
+fn slice_of_blank(newlines: usize, spaces: usize) -> &'static str
+    requires few_newlines { newlines ≤ BLANK_NEWLINES }
+    requires few_spaces { spaces ≤ BLANK_SPACES }
+    ensures { result.now ≡ blank_run newlines spaces }
+{
+    &blank_constant()[BLANK_NEWLINES - newlines..BLANK_NEWLINES + spaces]
+}
+
+/// The whole constant, behind a call so that no goal shows its bytes.
+fn blank_constant() -> &'static str
+    ensures { result.now ≡ blank_run BLANK_NEWLINES BLANK_SPACES }
+{
+    BLANK
+}
+
+/// How many newlines the bytes begin with.
+fn count_leading_newlines(bytes: &[u8]) -> usize
+    ensures value { result ≡ leading_newlines bytes.now }
+    ensures within { result ≤ length bytes.now }
+{
+    bytes.iter().take_while(|byte| **byte == b'\n').count()
+}
+
+fn is_all_spaces(bytes: &[u8]) -> bool
+    ensures { result ≡ all_spaces bytes.now }
+{
+    bytes.iter().all(|byte| *byte == b' ')
+}

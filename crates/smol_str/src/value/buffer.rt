@@ -1,7 +1,8 @@
 //! A short text in a buffer of its own.
-ghost use Rattle.std.specs.Prelude.{◌≡◌, ◌+◌, ◌≤◌, [], ◌++◌, length, take, drop, encode_utf8_all};
+ghost use Rattle.std.specs.Prelude.{◌≡◌, ◌↔◌, IsTrue, ◌+◌, ◌≤◌, [], ◌++◌, length, take, drop, encode_utf8_all};
 ghost use Rattle.std.specs.Str.{chars};
 ghost use Rattle.smol_str.specs.Text.{size, IsShort};
+ghost use Rattle.smol_str.specs.Buffer.{padded};
 
 use std::marker::Model;
 
@@ -54,6 +55,31 @@ impl InlineText {
     {
         let bytes = &self.buf[..self.len as usize];
         unsafe { str::from_utf8_unchecked(bytes) }
+    }
+
+    /// The whole buffer: the text's bytes, and then zeros.
+    pub fn buffer(&self) -> &[u8; INLINE_CAP]
+        ensures { result.now ≡ padded (encode_utf8_all self.now) }
+    {
+        &self.buf
+    }
+
+    pub fn duplicate(&self) -> InlineText
+        ensures copy { result ≡ self.now }
+        ensures short { IsShort self.now }
+    {
+        InlineText {
+            len: self.len,
+            buf: self.buf,
+        }
+    }
+
+    /// Whether the texts are equal, by their lengths and whole buffers: the bytes past a text's end
+    /// are zero.
+    pub fn same(&self, other: &InlineText) -> bool
+        ensures { IsTrue result ↔ (self.now ≡ other.now) }
+    {
+        self.len == other.len && self.buf == other.buf
     }
 
     /// Appends a text for which there is room.

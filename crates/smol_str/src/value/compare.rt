@@ -1,13 +1,49 @@
 //! Comparisons: a value is compared and hashed as its text, whatever its place.
-ghost use Rattle.std.specs.Prelude.{◌≡◌, ◌↔◌, IsTrue, encode_utf8_all, nat_eq};
-ghost use Rattle.std.proofs.Common.{rules};
-ghost use Rattle.std.specs.Cmp.{on_per, on_equiv, partial_equiv_from_equiv};
-ghost use Rattle.std.specs.Cmp.Lexicographic.{pointwise, nat_list_eq_equiv};
+ghost use Rattle.std.specs.Prelude.{◌≡◌, ◌↔◌, Some, IsTrue, encode_utf8_all, nat_eq};
+ghost use Rattle.std.proofs.Common.{refl, rules};
+ghost use Rattle.std.specs.Str.{chars};
+ghost use Rattle.std.specs.String.{string_bytes};
+ghost use Rattle.std.specs.Ordering.{nat_cmp};
+ghost use Rattle.std.specs.Cmp.{on_per, on_equiv, on_po, on_total, partial_equiv_from_equiv};
+ghost use Rattle.std.specs.Cmp.Lexicographic.{pointwise, nat_list_eq_equiv, nat_list_cmp_total, texts_po, texts_ties, slice_cmp};
 ghost use Rattle.std.specs.Cmp.Rules.{hashing};
 ghost use Rattle.std.specs.Hash as fed;
 
-use super::SmolStr;
+use super::{Repr, SmolStr};
+use std::cmp::Ordering;
 use std::hash::{Hash, Hasher};
+
+impl SmolStr {
+    /// Whether the texts are equal; it stands for `==` with a `str`, either way round.
+    pub fn eq_str(&self, other: &str) -> bool
+        ensures { IsTrue result ↔ (self.now.text ≡ chars other.now) }
+    {
+        self.as_str() == other
+    }
+
+    /// Whether the texts are equal; it stands for `==` with a `String`, either way round.
+    pub fn eq_string(&self, other: &String) -> bool
+        ensures { IsTrue result ↔ (self.now.text ≡ chars (string_bytes other.now)) }
+    {
+        self.eq_str(other.as_str())
+    }
+
+    /// The order of the texts, by their characters, which is also that of their bytes.
+    pub fn cmp_str(&self, other: &str) -> Ordering
+        ensures texts { result ≡ slice_cmp nat_cmp self.now.text (chars other.now) }
+        ensures bytes { result ≡ slice_cmp nat_cmp (encode_utf8_all self.now.text) other.now }
+    {
+        self.as_str().cmp(other)
+    }
+
+    /// The order of the texts, as [`SmolStr::cmp_str`].
+    pub fn cmp_string(&self, other: &String) -> Ordering
+        ensures texts { result ≡ slice_cmp nat_cmp self.now.text (chars (string_bytes other.now)) }
+        ensures bytes { result ≡ slice_cmp nat_cmp (encode_utf8_all self.now.text) (string_bytes other.now) }
+    {
+        self.cmp_str(other.as_str())
+    }
+}
 
 /// Two values are equal where their texts are.
 impl PartialEq for SmolStr {
@@ -19,12 +55,43 @@ impl PartialEq for SmolStr {
         ensures answer { result ≡ pointwise nat_eq self.now.text other.now.text }
         ensures texts { IsTrue result ↔ (self.now.text ≡ other.now.text) }
     {
-        self.as_str() == other.as_str()
+        match (&self.repr, &other.repr) {
+            (Repr::Inline(left), Repr::Inline(right)) => left.same(right),
+            _ => self.as_str() == other.as_str(),
+        }
     }
 }
 
 impl Eq for SmolStr {
     ghost laws = { on_equiv (λ x. x.text) nat_list_eq_equiv };
+}
+
+/// The lexicographic order of the texts' characters, as `str` has it.
+impl PartialOrd for SmolStr {
+    ghost partial_cmp = { λ x y. Some (slice_cmp nat_cmp x.text y.text) };
+
+    ghost laws = { on_po (λ x. x.text) texts_po };
+
+    fn partial_cmp(&self, other: &SmolStr) -> Option<Ordering> {
+        Some(self.cmp(other))
+    }
+}
+
+impl Ord for SmolStr {
+    ghost cmp = { λ x y. slice_cmp nat_cmp x.text y.text };
+
+    ghost total = { on_total (λ x. x.text) nat_list_cmp_total };
+
+    ghost matches_partial_cmp = { λ x y. refl };
+
+    ghost matches_eq = { λ x y. texts_ties x.text y.text };
+
+    fn cmp(&self, other: &SmolStr) -> Ordering
+        ensures texts { result ≡ slice_cmp nat_cmp self.now.text other.now.text }
+        ensures bytes { result ≡ slice_cmp nat_cmp (encode_utf8_all self.now.text) (encode_utf8_all other.now.text) }
+    {
+        self.as_str().cmp(other.as_str())
+    }
 }
 
 /// A value feeds a hasher what std's `str` of its text feeds.

@@ -3,10 +3,10 @@ use Rattle.std.specs.Cmp.Lexicographic.{bytes_decides}
 use Rattle.smol_str.proofs.TextLemmas.{bytes_eq-texts}
 use Rattle.smol_str.proofs.value.compare.SmolStrPartialEq.eq.Goals as goal
 
-pub returns-clause-answer : goal.returns-clause-answer
-returns-clause-answer c =
-    let bytes = rw (c.as_str.ensures, c.as_str-2.ensures) at c.eq.ensures in
+pub returns-in_default-clause-answer : goal.returns-in_default-clause-answer
+returns-in_default-clause-answer c =
+    let bytes = rw (c.as_str.ensures, c.as_str-in_default.ensures) at c.eq.ensures in
     bytes ∙ bytes_eq-texts c.args.self.now.text c.args.other.now.text
 
-pub returns-clause-texts : goal.returns-clause-texts
-returns-clause-texts c = rw (returns-clause-answer c) (bytes_decides c.args.self.now.text c.args.other.now.text)
+pub returns-in_default-clause-texts : goal.returns-in_default-clause-texts
+returns-in_default-clause-texts c = rw (returns-in_default-clause-answer c) (bytes_decides c.args.self.now.text c.args.other.now.text)

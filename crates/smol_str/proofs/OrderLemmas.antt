@@ -1,0 +1,161 @@
+-- The order of texts is the order of their bytes.
+use Rattle.std.proofs.Common.{◌≡◌, ℕ, ◌+◌, ◌/◌, ◌%◌, ◌<◌, ◌≤◌, List, [], ◌∷◌, ◌++◌, refl, ◌∙◌, ap, arith, true, false, ◌⊎◌, inl, inr}
+use lib.Utf8.{encode, encodes, next}
+use lib.Dec.{ltb}
+use Rattle.std.specs.Cmp.Lexicographic.{slice_cmp, nat_list_cmp_total}
+use Rattle.std.specs.Ordering.{nat_cmp, ordering_reverse}
+use Rattle.std.specs.declared.cmp.Ordering.TheVariants.{Less, Equal, Greater}
+use Rattle.std.proofs.lemmas.Bool.Decides.{nat_tests}
+use Rattle.std.proofs.lemmas.Bool.{cases_order, cases_lt}
+
+nat_cmp-less : (a b : ℕ) → a < b → nat_cmp a b ≡ Less
+nat_cmp-less a b h = grind (arith, nat_tests)
+
+nat_cmp-same : (a : ℕ) → nat_cmp a a ≡ Equal
+nat_cmp-same a = grind (arith, nat_tests)
+
+nat_cmp-greater : (a b : ℕ) → b < a → nat_cmp a b ≡ Greater
+nat_cmp-greater a b h = grind (arith, nat_tests)
+
+-- the first byte decides
+less_head : (a b : ℕ) (xs ys : List ℕ) → a < b → slice_cmp nat_cmp (a ∷ xs) (b ∷ ys) ≡ Less
+less_head a b xs ys h = rw (nat_cmp-less a b h)
+
+-- or is the same
+same_head : (a b : ℕ) (xs ys : List ℕ) → a ≡ b → slice_cmp nat_cmp xs ys ≡ Less → slice_cmp nat_cmp (a ∷ xs) (b ∷ ys) ≡ Less
+same_head a b xs ys e h = rw (e, nat_cmp-same b) h
+
+-- a common front changes nothing
+slice_cmp-front : (p xs ys : List ℕ) → slice_cmp nat_cmp (p ++ xs) (p ++ ys) ≡ slice_cmp nat_cmp xs ys
+slice_cmp-front [] xs ys = refl
+slice_cmp-front (a ∷ p) xs ys = rw (nat_cmp-same a) (slice_cmp-front p xs ys)
+
+-- the order by digits of six bits
+split64 : (c d : ℕ) → c < d → (c / 64 < d / 64) ⊎ ((c / 64 ≡ d / 64) × (c % 64 < d % 64))
+split64 c d h = elim (cases_lt (c / 64) (d / 64)) [ inl l ↦ inl l | inr g ↦ inr (omega arith, omega arith) ]
+
+digits2 : (k c d : ℕ) (xs ys : List ℕ) → c < d → slice_cmp nat_cmp ((k + c / 64) ∷ next c ∷ xs) ((k + d / 64) ∷ next d ∷ ys) ≡ Less
+digits2 k c d xs ys h =
+    elim (split64 c d h) [
+      | inl l ↦ less_head (k + c / 64) (k + d / 64) (next c ∷ xs) (next d ∷ ys) (omega arith)
+      | inr p ↦ same_head (k + c / 64) (k + d / 64) (next c ∷ xs) (next d ∷ ys) (omega (arith, p.0)) (less_head (next c) (next d) xs ys (omega (arith, p.1)))
+    ]
+
+digits3 : (k c d : ℕ) (xs ys : List ℕ) → c < d →
+    slice_cmp nat_cmp ((k + c / 64 / 64) ∷ next (c / 64) ∷ next c ∷ xs) ((k + d / 64 / 64) ∷ next (d / 64) ∷ next d ∷ ys) ≡ Less
+digits3 k c d xs ys h =
+    elim (split64 c d h) [
+      | inl l ↦ digits2 k (c / 64) (d / 64) (next c ∷ xs) (next d ∷ ys) l
+      | inr p ↦
+          same_head (k + c / 64 / 64) (k + d / 64 / 64) (next (c / 64) ∷ next c ∷ xs) (next (d / 64) ∷ next d ∷ ys) (ap (λ n. k + n / 64) p.0)
+          (same_head (next (c / 64)) (next (d / 64)) (next c ∷ xs) (next d ∷ ys) (ap next p.0) (less_head (next c) (next d) xs ys (omega (arith, p.1))))
+    ]
+
+digits4 : (k c d : ℕ) (xs ys : List ℕ) → c < d →
+    slice_cmp nat_cmp ((k + c / 64 / 64 / 64) ∷ next (c / 64 / 64) ∷ next (c / 64) ∷ next c ∷ xs) ((k + d / 64 / 64 / 64) ∷ next (d / 64 / 64) ∷ next (d / 64) ∷ next d ∷ ys) ≡ Less
+digits4 k c d xs ys h =
+    elim (split64 c d h) [
+      | inl l ↦ digits3 k (c / 64) (d / 64) (next c ∷ xs) (next d ∷ ys) l
+      | inr p ↦
+          same_head (k + c / 64 / 64 / 64) (k + d / 64 / 64 / 64) (next (c / 64 / 64) ∷ next (c / 64) ∷ next c ∷ xs) (next (d / 64 / 64) ∷ next (d / 64) ∷ next d ∷ ys) (ap (λ n. k + n / 64 / 64) p.0)
+          (same_head (next (c / 64 / 64)) (next (d / 64 / 64)) (next (c / 64) ∷ next c ∷ xs) (next (d / 64) ∷ next d ∷ ys) (ap (λ n. next (n / 64)) p.0)
+          (same_head (next (c / 64)) (next (d / 64)) (next c ∷ xs) (next d ∷ ys) (ap next p.0) (less_head (next c) (next d) xs ys (omega (arith, p.1)))))
+    ]
+
+div4096 : (c : ℕ) → c / 4096 ≡ c / 64 / 64
+div4096 c = omega arith
+
+div262144 : (c : ℕ) → c / 262144 ≡ c / 64 / 64 / 64
+div262144 c = omega arith
+
+-- the four forms
+abbrev form1 : ℕ → List ℕ
+form1 c = c ∷ []
+
+abbrev form2 : ℕ → List ℕ
+form2 c = (192 + c / 64) ∷ next c ∷ []
+
+abbrev form3 : ℕ → List ℕ
+form3 c = (224 + c / 64 / 64) ∷ next (c / 64) ∷ next c ∷ []
+
+abbrev form4 : ℕ → List ℕ
+form4 c = (240 + c / 64 / 64 / 64) ∷ next (c / 64 / 64) ∷ next (c / 64) ∷ next c ∷ []
+
+data Form (c : ℕ) : Type 0 where
+  one : c < 128 → encode c ≡ form1 c → Form c
+  two : 128 ≤ c → c < 2048 → encode c ≡ form2 c → Form c
+  three : 2048 ≤ c → c < 65536 → encode c ≡ form3 c → Form c
+  four : 65536 ≤ c → encode c ≡ form4 c → Form c
+
+is_one : (c : ℕ) → c < 128 → encode c ≡ form1 c
+unfolding encode
+is_one c h = let t : ltb c 128 ≡ true = grind (arith, nat_tests) in rw t
+
+is_two : (c : ℕ) → 128 ≤ c → c < 2048 → encode c ≡ form2 c
+unfolding encode
+is_two c l h = let t : ltb c 128 ≡ false = grind (arith, nat_tests) in let u : ltb c 2048 ≡ true = grind (arith, nat_tests) in rw (t, u)
+
+is_three : (c : ℕ) → 2048 ≤ c → c < 65536 → encode c ≡ form3 c
+unfolding encode
+is_three c l h =
+    let t : ltb c 128 ≡ false = grind (arith, nat_tests) in let u : ltb c 2048 ≡ false = grind (arith, nat_tests) in let v : ltb c 65536 ≡ true = grind (arith, nat_tests) in
+    rw (t, u, v, div4096 c)
+
+is_four : (c : ℕ) → 65536 ≤ c → encode c ≡ form4 c
+unfolding encode
+is_four c l =
+    let t : ltb c 128 ≡ false = grind (arith, nat_tests) in let u : ltb c 2048 ≡ false = grind (arith, nat_tests) in let v : ltb c 65536 ≡ false = grind (arith, nat_tests) in
+    rw (t, u, v, div4096 c, div262144 c)
+
+form : (c : ℕ) → Form c
+form c =
+    elim (cases_lt c 128) [
+      | inl h ↦ one h (is_one c h)
+      | inr l ↦ elim (cases_lt c 2048) [
+        | inl h ↦ two l h (is_two c l h)
+        | inr m ↦ elim (cases_lt c 65536) [ inl h ↦ three m h (is_three c m h) | inr n ↦ four n (is_four c n) ]
+      ]
+    ]
+
+-- the bytes of the lower character come first
+less_forms : (c d : ℕ) (xs ys : List ℕ) → c < d → Form c → Form d → slice_cmp nat_cmp (encode c ++ xs) (encode d ++ ys) ≡ Less
+less_forms c d xs ys h (one a e) (one b f) = rw (e, f) (less_head c d xs ys h)
+less_forms c d xs ys h (one a e) (two b b' f) = rw (e, f) (less_head c (192 + d / 64) xs (next d ∷ ys) (omega arith))
+less_forms c d xs ys h (one a e) (three b b' f) = rw (e, f) (less_head c (224 + d / 64 / 64) xs (next (d / 64) ∷ next d ∷ ys) (omega arith))
+less_forms c d xs ys h (one a e) (four b f) = rw (e, f) (less_head c (240 + d / 64 / 64 / 64) xs (next (d / 64 / 64) ∷ next (d / 64) ∷ next d ∷ ys) (omega arith))
+less_forms c d xs ys h (two a a' e) (one b f) = absurd (omega arith)
+less_forms c d xs ys h (two a a' e) (two b b' f) = rw (e, f) (digits2 192 c d xs ys h)
+less_forms c d xs ys h (two a a' e) (three b b' f) = rw (e, f) (less_head (192 + c / 64) (224 + d / 64 / 64) (next c ∷ xs) (next (d / 64) ∷ next d ∷ ys) (omega arith))
+less_forms c d xs ys h (two a a' e) (four b f) = rw (e, f) (less_head (192 + c / 64) (240 + d / 64 / 64 / 64) (next c ∷ xs) (next (d / 64 / 64) ∷ next (d / 64) ∷ next d ∷ ys) (omega arith))
+less_forms c d xs ys h (three a a' e) (one b f) = absurd (omega arith)
+less_forms c d xs ys h (three a a' e) (two b b' f) = absurd (omega arith)
+less_forms c d xs ys h (three a a' e) (three b b' f) = rw (e, f) (digits3 224 c d xs ys h)
+less_forms c d xs ys h (three a a' e) (four b f) = rw (e, f) (less_head (224 + c / 64 / 64) (240 + d / 64 / 64 / 64) (next (c / 64) ∷ next c ∷ xs) (next (d / 64 / 64) ∷ next (d / 64) ∷ next d ∷ ys) (omega arith))
+less_forms c d xs ys h (four a e) (one b f) = absurd (omega arith)
+less_forms c d xs ys h (four a e) (two b b' f) = absurd (omega arith)
+less_forms c d xs ys h (four a e) (three b b' f) = absurd (omega arith)
+less_forms c d xs ys h (four a e) (four b f) = rw (e, f) (digits4 240 c d xs ys h)
+
+encode-less : (c d : ℕ) (xs ys : List ℕ) → c < d → slice_cmp nat_cmp (encode c ++ xs) (encode d ++ ys) ≡ Less
+encode-less c d xs ys h = less_forms c d xs ys h (form c) (form d)
+
+-- a character has a byte
+some_bytes : (c : ℕ) (xs : List ℕ) → Form c → (slice_cmp nat_cmp [] (encode c ++ xs) ≡ Less) × (slice_cmp nat_cmp (encode c ++ xs) [] ≡ Greater)
+some_bytes c xs (one a e) = (rw e, rw e)
+some_bytes c xs (two a b e) = (rw e, rw e)
+some_bytes c xs (three a b e) = (rw e, rw e)
+some_bytes c xs (four a e) = (rw e, rw e)
+
+pub order-texts : (s t : List ℕ) → slice_cmp nat_cmp (encodes s) (encodes t) ≡ slice_cmp nat_cmp s t
+order-texts [] [] = refl
+order-texts [] (d ∷ t) = (some_bytes d (encodes t) (form d)).0
+order-texts (c ∷ s) [] = (some_bytes c (encodes s) (form c)).1
+order-texts (c ∷ s) (d ∷ t) =
+    elim (cases_order c d) [
+      | inl e ↦ rw (e, nat_cmp-same d) (slice_cmp-front (encode d) (encodes s) (encodes t) ∙ order-texts s t)
+      | inr o ↦ elim o [
+        | inl l ↦ rw (nat_cmp-less c d l) (encode-less c d (encodes s) (encodes t) l)
+        | inr g ↦ rw (nat_cmp-greater c d g)
+            (nat_list_cmp_total.antisymm (encode c ++ encodes s) (encode d ++ encodes t) ∙ ap ordering_reverse (encode-less d c (encodes t) (encodes s) g))
+      ]
+    ]

@@ -1,0 +1,5 @@
+use Rattle.std.proofs.lemmas.Str.{chars-nil}
+use Rattle.smol_str.proofs.value.convert.SmolStrDefault.default.Goals as goal
+
+pub returns : goal.returns
+returns c = rw chars-nil at c.new_inline.ensures

@@ -1,0 +1,164 @@
+//! Values from other texts, and back.
+ghost use Rattle.std.specs.Prelude.{◌≡◌, [], ◌∷◌, IfOk, IfErr, OnErr, encode_utf8_all};
+ghost use Rattle.std.specs.Str.{chars, IsUtf8};
+ghost use Rattle.std.specs.String.{string_bytes};
+ghost use Rattle.std.specs.Box.{boxed_str_bytes};
+ghost use Rattle.std.specs.Cow.{cow_str_bytes};
+ghost use Rattle.std.specs.Rc.{rc_str_bytes};
+ghost use Rattle.smol_str.specs.Text.{IsResident};
+ghost use Rattle.smol_str.specs.Meaning.{IsValueOf};
+ghost use Rattle.smol_str.specs.Faults.{AfterFromUtf8Fault};
+
+use super::place::Place;
+use super::{Repr, SmolStr};
+use std::alloc::{AllocError, Global};
+use std::borrow::CowStr;
+use std::boxed::BoxedStr;
+use std::rc::RcStr;
+use std::str::Utf8Error;
+
+/// Why bytes made no value.
+#[derive(Debug, Drop)]
+pub enum FromUtf8Fault {
+    /// The bytes are not UTF-8; std's fault says where they stop to be.
+    NotUtf8(Utf8Error),
+    /// The bytes are UTF-8, and memory was refused.
+    OutOfMemory,
+}
+
+impl SmolStr {
+    /// The same as [`SmolStr::new`].
+    pub fn from_str(alloc: Global, text: &str) -> Result<SmolStr, AllocError>
+        ensures ok { IfOk result (λ v. IsValueOf (chars text.now) v) }
+        ensures refused { OnErr result (¬ (IsResident (chars text.now))) }
+    {
+        SmolStr::new(alloc, text)
+    }
+
+    /// A value of the text of a `String`, copied.
+    pub fn from_string_ref(alloc: Global, text: &String) -> Result<SmolStr, AllocError>
+        ensures ok { IfOk result (λ v. IsValueOf (chars (string_bytes text.now)) v) }
+        ensures refused { OnErr result (¬ (IsResident (chars (string_bytes text.now)))) }
+    {
+        SmolStr::new(alloc, text.as_str())
+    }
+
+    /// A value of the text of these bytes; UTF-8 is tested before memory is asked for.
+    pub fn from_utf8(alloc: Global, bytes: &[u8]) -> Result<SmolStr, FromUtf8Fault>
+        ensures ok { IfOk result (λ v. IsUtf8 bytes.now × IsValueOf (chars bytes.now) v) }
+        ensures fault { IfErr result (AfterFromUtf8Fault bytes.now) }
+    {
+        match str::from_utf8(bytes) {
+            Ok(text) => match SmolStr::new(alloc, text) {
+                Ok(value) => Ok(value),
+                Err(_) => Err(FromUtf8Fault::OutOfMemory),
+            },
+            Err(fault) => Err(FromUtf8Fault::NotUtf8(fault)),
+        }
+    }
+
+    /// A value of the text of bytes that are known to be UTF-8.
+    pub fn from_utf8_unchecked(alloc: Global, bytes: &[u8]) -> Result<SmolStr, AllocError>
+        requires { IsUtf8 bytes.now }
+        ensures ok { IfOk result (λ v. IsValueOf (chars bytes.now) v) }
+        ensures refused { OnErr result (¬ (IsResident (chars bytes.now))) }
+    {
+        SmolStr::new(alloc, unsafe { str::from_utf8_unchecked(bytes) })
+    }
+
+    /// A value of the text of a `String`; a refusal gives the argument back.
+    pub fn from_string(alloc: Global, text: String) -> Result<SmolStr, String>
+        ensures ok { IfOk result (λ v. IsValueOf (chars (string_bytes text)) v) }
+        ensures back { IfErr result (λ back. back ≡ text) }
+        ensures refused { OnErr result (¬ (IsResident (chars (string_bytes text)))) }
+    {
+        match SmolStr::new(alloc, text.as_str()) {
+            Ok(value) => Ok(value),
+            Err(_) => Err(text),
+        }
+    }
+
+    /// A value of the text of a boxed `str`; a refusal gives the argument back.
+    pub fn from_boxed_str(alloc: Global, text: BoxedStr) -> Result<SmolStr, BoxedStr>
+        ensures ok { IfOk result (λ v. IsValueOf (chars (boxed_str_bytes text)) v) }
+        ensures back { IfErr result (λ back. back ≡ text) }
+        ensures refused { OnErr result (¬ (IsResident (chars (boxed_str_bytes text)))) }
+    {
+        match SmolStr::new(alloc, text.as_str()) {
+            Ok(value) => Ok(value),
+            Err(_) => Err(text),
+        }
+    }
+
+    /// A value of a text that is borrowed or owned; a refusal gives the argument back.
+    pub fn from_cow_str<'a>(alloc: Global, text: CowStr<'a>) -> Result<SmolStr, CowStr<'a>>
+        ensures ok { IfOk result (λ v. IsValueOf (chars (cow_str_bytes text.entry)) v) }
+        ensures back { IfErr result (λ back. back ≡ text.entry) }
+        ensures refused { OnErr result (¬ (IsResident (chars (cow_str_bytes text.entry)))) }
+    {
+        match SmolStr::new(alloc, text.as_str()) {
+            Ok(value) => Ok(value),
+            Err(_) => Err(text),
+        }
+    }
+
+    /// A value of a shared text, which takes no memory: the argument itself is kept where the text
+    /// is not resident, and let go where it is.
+    pub fn from_rc_str(text: RcStr) -> SmolStr
+        ensures { IsValueOf (chars (rc_str_bytes text)) result }
+    {
+        match SmolStr::resident(text.as_str()) {
+            Some(value) => value,
+            None => SmolStr::from_heap(text),
+        }
+    }
+
+    /// The text as a `String`; a refusal gives the value back.
+    pub fn into_string(self, alloc: Global) -> Result<String, SmolStr>
+        ensures ok { IfOk result (λ text. string_bytes text ≡ encode_utf8_all self.text) }
+        ensures back { IfErr result (λ back. back ≡ self) }
+    {
+        match String::from_str(alloc, self.as_str()) {
+            Ok(text) => Ok(text),
+            Err(_) => Err(self),
+        }
+    }
+
+    /// The text as a shared text: the one that a heap value has, which is never refused, else a new
+    /// one. A refusal gives the value back.
+    pub fn into_rc_str(self, alloc: Global) -> Result<RcStr, SmolStr>
+        ensures ok { IfOk result (λ text. rc_str_bytes text ≡ encode_utf8_all self.text) }
+        ensures back { IfErr result (λ back. back ≡ self) }
+        ensures refused { OnErr result (¬ (self.place ≡ Place.Heap)) }
+    {
+        match self.repr {
+            Repr::Heap(text) => Ok(text),
+            repr => {
+                let value = SmolStr { repr };
+                match RcStr::from_str(alloc, value.as_str()) {
+                    Ok(text) => Ok(text),
+                    Err(_) => Err(value),
+                }
+            }
+        }
+    }
+}
+
+/// The text of one character, inline.
+impl From<char> for SmolStr {
+    ghost from_gives = { λ character value. IsValueOf (character ∷ []) value };
+
+    fn from(character: char) -> SmolStr {
+        let mut buf = [0; 4];
+        SmolStr::new_inline(character.encode_utf8(&mut buf))
+    }
+}
+
+/// The empty text, inline.
+impl Default for SmolStr {
+    ghost is_default = { λ value. IsValueOf [] value };
+
+    fn default() -> SmolStr {
+        SmolStr::new_inline("")
+    }
+}
