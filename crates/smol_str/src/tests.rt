@@ -1,3 +1,18 @@
 //! Tests of what no clause says: outside values.
+
+mod compare;
+mod convert;
 mod keys;
 mod places;
+mod print;
+
+use std::alloc::{AllocError, Global};
+
+/// A text so many times.
+fn repeated(alloc: Global, text: &str, times: usize) -> Result<String, AllocError> {
+    let mut all = String::new(alloc);
+    for _ in 0..times {
+        all.push_str(text)?;
+    }
+    Ok(all)
+}

@@ -1,5 +1,7 @@
 //! Where texts are kept.
+use super::repeated;
 use crate::{Place, SmolStr};
+use std::alloc::{AllocError, Global};
 use std::test::Fail;
 
 /// Each text, and the place of its value.
@@ -11,6 +13,20 @@ const PLACES: [(&str, Place); 7] = [
     ("aaaaaaaaaaaaaaaaaaaaaaé", Place::Heap),
     ("🦀🦀🦀🦀🦀", Place::Inline),
     ("🦀🦀🦀🦀🦀🦀", Place::Heap),
+];
+
+/// Newlines, spaces and newlines again, and the place of the text that they make.
+const BLANKS: [(usize, usize, usize, Place); 10] = [
+    (32, 128, 0, Place::Static),
+    (0, 129, 0, Place::Heap),
+    (33, 0, 0, Place::Heap),
+    (0, 23, 1, Place::Heap),
+    (1, 22, 0, Place::Inline),
+    (32, 0, 0, Place::Static),
+    (32, 1, 1, Place::Heap),
+    (0, 24, 0, Place::Static),
+    (0, 128, 0, Place::Static),
+    (33, 128, 0, Place::Heap),
 ];
 
 #[test]
@@ -26,14 +42,112 @@ fn new_places(rt: HostRuntime) -> Result<(), Fail> {
     Ok(())
 }
 
+fn blank(
+    alloc: Global,
+    newlines: usize,
+    spaces: usize,
+    more_newlines: usize,
+) -> Result<String, AllocError> {
+    let mut text = repeated(alloc, "\n", newlines)?;
+    text.push_str(repeated(alloc, " ", spaces)?.as_str())?;
+    text.push_str(repeated(alloc, "\n", more_newlines)?.as_str())?;
+    Ok(text)
+}
+
+#[test]
+fn blank_places(rt: HostRuntime) -> Result<(), Fail> {
+    for (newlines, spaces, more, place) in BLANKS {
+        let text = blank(rt.alloc(), newlines, spaces, more)?;
+        let value = SmolStr::new(rt.alloc(), text.as_str())?;
+        assert_eq!(rt; value.place(), place, "{newlines}, {spaces}, {more}");
+        assert_eq!(rt; value.as_str(), text.as_str());
+    }
+    Ok(())
+}
+
 // A `new` that always gives up would keep its contract.
 #[test]
 fn new_of_long_text(rt: HostRuntime) -> Result<(), Fail> {
-    let bytes = [b'a'; 5000];
-    let text = str::from_utf8(&bytes)?;
-    let value = SmolStr::new(rt.alloc(), text)?;
+    let text = repeated(rt.alloc(), "a", 5000)?;
+    let value = SmolStr::new(rt.alloc(), text.as_str())?;
     assert_eq!(rt; value.len(), 5000);
-    assert_eq!(rt; value.as_str(), text);
+    assert_eq!(rt; value.as_str(), text.as_str());
     assert_eq!(rt; value.place(), Place::Heap);
+    Ok(())
+}
+
+// A pinned value and its clone are static whatever the text.
+#[test]
+fn pinned_places(rt: HostRuntime) -> Result<(), Fail> {
+    for text in ["", "ab", "aaaaaaaaaaaaaaaaaaaaaaaa"] {
+        let pinned = SmolStr::new_static(text);
+        assert_eq!(rt; pinned.place(), Place::Static, "{text}");
+        assert_eq!(rt; pinned.clone()?.place(), Place::Static, "{text}");
+        assert!(rt; !pinned.is_heap_allocated(), "{text}");
+        assert_eq!(rt; pinned.as_str(), text);
+    }
+    Ok(())
+}
+
+#[test]
+fn inline_texts(rt: HostRuntime) -> Result<(), Fail> {
+    let texts = [
+        "",
+        "A",
+        "HELLO",
+        "ABCDEFGHIZKLMNOPQRSTUVW",
+        "                       ",
+    ];
+    for text in texts {
+        let value = SmolStr::new_inline(text);
+        assert!(rt; value == SmolStr::new(rt.alloc(), text)?, "{text}");
+        assert_eq!(rt; value.place(), Place::Inline, "{text}");
+    }
+    assert!(rt; SmolStr::default() == SmolStr::new(rt.alloc(), "")?);
+    assert_eq!(rt; SmolStr::default().place(), Place::Inline);
+    Ok(())
+}
+
+/// The text of so many characters, the given ones in turn.
+fn in_turn(alloc: Global, characters: &[char], count: usize) -> Result<String, AllocError> {
+    let mut text = String::new(alloc);
+    for i in 0..count {
+        if let Some(character) = characters.get(i % characters.len().max(1)) {
+            text.push(*character)?;
+        }
+    }
+    Ok(text)
+}
+
+#[test]
+fn round_trips(rt: HostRuntime) -> Result<(), Fail> {
+    let alphabets: [&[char]; 4] = [&['a', 'é', '€', '🦀'], &[' '], &['\n'], &['\n', ' ']];
+    for characters in alphabets {
+        for count in 0..=200usize {
+            let text = in_turn(rt.alloc(), characters, count)?;
+            let value = SmolStr::new(rt.alloc(), text.as_str())?;
+            assert_eq!(rt; value.as_str(), text.as_str());
+            assert_eq!(rt; value.len(), text.len());
+            assert_eq!(rt; value.is_empty(), count == 0);
+            assert!(rt; text.len() > 23 || !value.is_heap_allocated(), "{text:?}");
+        }
+    }
+    Ok(())
+}
+
+#[test]
+fn inline_buffers(rt: HostRuntime) -> Result<(), Fail> {
+    let value = SmolStr::new(rt.alloc(), "ab")?;
+    match value.inline_buffer() {
+        Some(buffer) => {
+            assert!(rt; buffer.starts_with(b"ab"));
+            assert!(rt; buffer.iter().skip(2).all(|byte| *byte == 0));
+            assert_eq!(rt; buffer.len(), 23);
+        }
+        None => assert!(rt; false, "an inline value has a buffer"),
+    }
+    assert!(rt; SmolStr::new_static("ab").inline_buffer().is_none());
+    let long = SmolStr::new(rt.alloc(), "aaaaaaaaaaaaaaaaaaaaaaaa")?;
+    assert!(rt; long.inline_buffer().is_none());
     Ok(())
 }

@@ -1,0 +1,91 @@
+//! Equality, order and hashes.
+use crate::SmolStr;
+use std::alloc::Global;
+use std::cmp::Ordering;
+use std::hash::{DefaultHasher, Hash, Hasher};
+use std::test::Fail;
+
+/// Two texts, and the order of the first to the second.
+const ORDERS: [(&str, &str, Ordering); 9] = [
+    ("\u{FFFD}", "\u{10000}", Ordering::Less),
+    ("", "a", Ordering::Less),
+    ("Z", "a", Ordering::Less),
+    ("b", "ab", Ordering::Greater),
+    ("é", "z", Ordering::Greater),
+    ("a", "a\0", Ordering::Less),
+    ("ab", "ab", Ordering::Equal),
+    (
+        "aaaaaaaaaaaaaaaaaaaaaaaa",
+        "aaaaaaaaaaaaaaaaaaaaaaab",
+        Ordering::Less,
+    ),
+    (
+        "aaaaaaaaaaaaaaaaaaaaaaaa",
+        "aaaaaaaaaaaaaaaaaaaaaaaa",
+        Ordering::Equal,
+    ),
+];
+
+// The right side also as a pinned value, so that places differ.
+#[test]
+fn orders(rt: HostRuntime) -> Result<(), Fail> {
+    for (left, right, order) in ORDERS {
+        let value = SmolStr::new(rt.alloc(), left)?;
+        let owned = String::from_str(rt.alloc(), right)?;
+        for other in [SmolStr::new(rt.alloc(), right)?, SmolStr::new_static(right)] {
+            assert_eq!(rt; value.cmp(&other), order, "{left:?}, {right:?}");
+            assert_eq!(rt;
+                value.partial_cmp(&other),
+                Some(order),
+                "{left:?}, {right:?}"
+            );
+            assert_eq!(rt; other.cmp(&value), order.reverse(), "{left:?}, {right:?}");
+            assert_eq!(rt;
+                value == other,
+                order == Ordering::Equal,
+                "{left:?}, {right:?}"
+            );
+        }
+        assert_eq!(rt; value.cmp_str(right), order, "{left:?}, {right:?}");
+        assert_eq!(rt; value.cmp_string(&owned), order, "{left:?}, {right:?}");
+        assert_eq!(rt;
+            value.eq_str(right),
+            order == Ordering::Equal,
+            "{left:?}, {right:?}"
+        );
+        assert_eq!(rt;
+            value.eq_string(&owned),
+            order == Ordering::Equal,
+            "{left:?}, {right:?}"
+        );
+    }
+    assert_eq!(rt; SmolStr::new_static("ab").cmp_str("abc"), Ordering::Less);
+    Ok(())
+}
+
+fn hash_of<T: Hash>(value: &T) -> u64 {
+    let mut hasher = DefaultHasher::default();
+    value.hash(&mut hasher);
+    hasher.finish()
+}
+
+// Equal texts have equal hashes in every place, that of std's `str`.
+#[test]
+fn hashes(rt: HostRuntime) -> Result<(), Fail> {
+    for text in [
+        "",
+        "ab",
+        "                        ",
+        "aaaaaaaaaaaaaaaaaaaaaaaa",
+    ] {
+        let value = SmolStr::new(rt.alloc(), text)?;
+        let pinned = SmolStr::new_static(text);
+        assert!(rt; value == pinned, "{text}");
+        assert_eq!(rt; hash_of(&value), hash_of(&pinned), "{text}");
+        assert_eq!(rt; hash_of(&value), hash_of(&text), "{text}");
+    }
+    let short = SmolStr::new(rt.alloc(), "a")?;
+    let longer = SmolStr::new(rt.alloc(), "a\0")?;
+    assert!(rt; short != longer);
+    Ok(())
+}

@@ -1,0 +1,116 @@
+//! Values from other texts, and back.
+use super::repeated;
+use crate::{FromUtf8Fault, Place, SmolStr};
+use std::borrow::CowStr;
+use std::rc::RcStr;
+use std::test::Fail;
+
+#[test]
+fn characters(rt: HostRuntime) -> Result<(), Fail> {
+    let rows = [('a', "a", 1), ('ñ', "ñ", 2), ('€', "€", 3), ('🦀', "🦀", 4)];
+    for (character, text, len) in rows {
+        let value = SmolStr::from(character);
+        assert_eq!(rt; value.as_str(), text);
+        assert_eq!(rt; value.len(), len, "{text}");
+        assert_eq!(rt; value.place(), Place::Inline, "{text}");
+    }
+    Ok(())
+}
+
+#[test]
+fn bytes(rt: HostRuntime) -> Result<(), Fail> {
+    let wrong: [&[u8]; 3] = [b"\xc0\x80", b"\xed\xa0\x80", b"\xf4\x90\x80\x80"];
+    for bytes in wrong {
+        let answer = SmolStr::from_utf8(rt.alloc(), bytes);
+        assert!(rt;
+            matches!(answer, Err(FromUtf8Fault::NotUtf8(_))),
+            "{bytes:?}"
+        );
+    }
+    match SmolStr::from_utf8(rt.alloc(), b"\xc3\xa9") {
+        Ok(value) => {
+            assert_eq!(rt; value.as_str(), "é");
+            assert_eq!(rt; value.place(), Place::Inline);
+        }
+        Err(_) => assert!(rt; false, "these bytes are UTF-8"),
+    }
+    let value = SmolStr::from_utf8_unchecked(rt.alloc(), "é€".as_bytes())?;
+    assert_eq!(rt; value.as_str(), "é€");
+    Ok(())
+}
+
+#[test]
+fn hello_world(rt: HostRuntime) -> Result<(), Fail> {
+    let text = "Hello, World!";
+    match SmolStr::new(rt.alloc(), text)?.into_string(rt.alloc()) {
+        Ok(back) => assert_eq!(rt; back.as_str(), text),
+        Err(_) => assert!(rt; false, "there is memory"),
+    }
+    let shared = RcStr::from_str(rt.alloc(), text)?;
+    match SmolStr::from_rc_str(shared).into_rc_str(rt.alloc()) {
+        Ok(back) => assert_eq!(rt; back.as_str(), text),
+        Err(_) => assert!(rt; false, "there is memory"),
+    }
+    Ok(())
+}
+
+// Each call that takes a text makes the value that `new` makes.
+#[test]
+fn every_way_in(rt: HostRuntime) -> Result<(), Fail> {
+    let alloc = rt.alloc();
+    let texts = [
+        repeated(alloc, "ab", 1)?,
+        repeated(alloc, " ", 24)?,
+        repeated(alloc, "a", 24)?,
+        repeated(alloc, "é", 2500)?,
+    ];
+    for text in &texts {
+        let text = text.as_str();
+        let owned = String::from_str(alloc, text)?;
+        let boxed = String::from_str(alloc, text)?.into_boxed_str();
+        let values = [
+            SmolStr::from_str(alloc, text).ok(),
+            SmolStr::from_string_ref(alloc, &owned).ok(),
+            SmolStr::from_utf8(alloc, text.as_bytes()).ok(),
+            SmolStr::from_string(alloc, owned).ok(),
+            SmolStr::from_boxed_str(alloc, boxed).ok(),
+            SmolStr::from_cow_str(alloc, CowStr::Borrowed(text)).ok(),
+            SmolStr::from_cow_str(alloc, CowStr::Owned(String::from_str(alloc, text)?)).ok(),
+            Some(SmolStr::from_rc_str(RcStr::from_str(alloc, text)?)),
+        ];
+        let wanted = SmolStr::new(alloc, text)?;
+        for (way, value) in values.iter().enumerate() {
+            match value {
+                Some(value) => {
+                    assert_eq!(rt; value.as_str(), text);
+                    assert_eq!(rt; value.place(), wanted.place(), "way {way}");
+                }
+                None => assert!(rt; false, "no value by way {way}"),
+            }
+        }
+    }
+    Ok(())
+}
+
+// A text that is not resident is kept as it was handed in, and handed out again.
+#[test]
+fn keeps_a_shared_text(rt: HostRuntime) -> Result<(), Fail> {
+    let alloc = rt.alloc();
+    let shared = RcStr::from_str(alloc, "aaaaaaaaaaaaaaaaaaaaaaaa")?;
+    let value = SmolStr::from_rc_str(shared.clone()?);
+    assert_eq!(rt; value.place(), Place::Heap);
+    match value.into_rc_str(alloc) {
+        Ok(back) => assert!(rt; RcStr::ptr_eq(&back, &shared)),
+        Err(_) => assert!(rt; false, "it takes no memory"),
+    }
+    let rows = [
+        ("ab", Place::Inline),
+        ("                        ", Place::Static),
+    ];
+    for (text, place) in rows {
+        let value = SmolStr::from_rc_str(RcStr::from_str(alloc, text)?);
+        assert_eq!(rt; value.place(), place, "{text:?}");
+        assert_eq!(rt; value.len(), text.len(), "{text:?}");
+    }
+    Ok(())
+}
