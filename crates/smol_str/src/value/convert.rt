@@ -79,37 +79,37 @@ impl SmolStr {
     }
 
     /// A value of the text of a boxed `str`; a refusal gives the argument back.
-    pub fn from_boxed_str(alloc: Global, text: BoxedStr) -> Result<SmolStr, BoxedStr>
-        ensures ok { IfOk result (λ v. IsValueOf (chars (boxed_str_bytes text)) v) }
-        ensures back { IfErr result (λ back. back ≡ text) }
-        ensures refused { OnErr result (¬ (IsResident (chars (boxed_str_bytes text)))) }
+    pub fn from_boxed_str(alloc: Global, boxed: BoxedStr) -> Result<SmolStr, BoxedStr>
+        ensures ok { IfOk result (λ v. IsValueOf (chars (boxed_str_bytes boxed)) v) }
+        ensures back { IfErr result (λ back. back ≡ boxed) }
+        ensures refused { OnErr result (¬ (IsResident (chars (boxed_str_bytes boxed)))) }
     {
-        match SmolStr::new(alloc, text.as_str()) {
+        match SmolStr::new(alloc, boxed.as_str()) {
             Ok(value) => Ok(value),
-            Err(_) => Err(text),
+            Err(_) => Err(boxed),
         }
     }
 
     /// A value of a text that is borrowed or owned; a refusal gives the argument back.
-    pub fn from_cow_str<'a>(alloc: Global, text: CowStr<'a>) -> Result<SmolStr, CowStr<'a>>
-        ensures ok { IfOk result (λ v. IsValueOf (chars (cow_str_bytes text.entry)) v) }
-        ensures back { IfErr result (λ back. back ≡ text.entry) }
-        ensures refused { OnErr result (¬ (IsResident (chars (cow_str_bytes text.entry)))) }
+    pub fn from_cow_str<'a>(alloc: Global, cow: CowStr<'a>) -> Result<SmolStr, CowStr<'a>>
+        ensures ok { IfOk result (λ v. IsValueOf (chars (cow_str_bytes cow.entry)) v) }
+        ensures back { IfErr result (λ back. back ≡ cow.entry) }
+        ensures refused { OnErr result (¬ (IsResident (chars (cow_str_bytes cow.entry)))) }
     {
-        match SmolStr::new(alloc, text.as_str()) {
+        match SmolStr::new(alloc, cow.as_str()) {
             Ok(value) => Ok(value),
-            Err(_) => Err(text),
+            Err(_) => Err(cow),
         }
     }
 
     /// A value of a shared text, which takes no memory: the argument itself is kept where the text
     /// is not resident, and let go where it is.
-    pub fn from_rc_str(text: RcStr) -> SmolStr
-        ensures { IsValueOf (chars (rc_str_bytes text)) result }
+    pub fn from_rc_str(shared: RcStr) -> SmolStr
+        ensures { IsValueOf (chars (rc_str_bytes shared)) result }
     {
-        match SmolStr::resident(text.as_str()) {
+        match SmolStr::resident(shared.as_str()) {
             Some(value) => value,
-            None => SmolStr::from_heap(text),
+            None => SmolStr::from_heap(shared),
         }
     }
 
