@@ -2,3 +2,4 @@ pub mod BlankLemmas
 pub mod TextLemmas
 pub mod BufferLemmas
 pub mod OrderLemmas
+pub mod DraftLemmas

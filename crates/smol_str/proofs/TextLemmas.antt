@@ -1,9 +1,10 @@
 -- Texts, their bytes and their places.
-use Rattle.std.proofs.Common.{◌≡◌, ℕ, ◌<◌, ◌≤◌, inl, inr, List, length, encode_utf8_all, Bool, true, false, nat_le, nat_eq, refl, sym, ◌∙◌, ap, arith}
+use Rattle.std.proofs.Common.{◌≡◌, ℕ, ◌+◌, ◌<◌, ◌≤◌, inl, inr, List, [], ◌∷◌, ◌++◌, length, encode_utf8, encode_utf8_all, length-append, Bool, true, false, nat_le, nat_eq, Result, Ok, Err, OnOk, OnErr, is_ok, refl, sym, ◌∙◌, ap, arith}
 use Rattle.std.specs.Bool.{Decides}
 use Rattle.std.specs.Str.{chars, IsUtf8}
 use Rattle.std.specs.Cmp.Lexicographic.{pointwise, bytes_decides}
-use Rattle.std.proofs.lemmas.Str.{encodes-chars, chars-IsAscii, encodes-IsAscii, encodes_same, chars_from_encodes, IsUtf8-string_bytes}
+use Rattle.std.proofs.lemmas.Str.{encodes-chars, chars-IsAscii, encodes-IsAscii, encodes_same, encodes-append, chars_from_encodes, IsUtf8-string_bytes}
+use Rattle.std.proofs.lemmas.List.{append-nil}
 use Rattle.std.specs.Rc.{rc_str_bytes}
 use Rattle.std.specs.declared.rc.RcStr.{RcStr}
 use Rattle.std.proofs.lemmas.Bool.Decides.{nat_tests, Decides-and, Decides-like, same_from_decides}
@@ -74,6 +75,18 @@ bytes_eq-texts s t =
     (Decides-like _ (encodes_same s t) (ap encode_utf8_all) (bytes_decides (encode_utf8_all s) (encode_utf8_all t)))
     (bytes_decides s t)
 
+
+-- the size of two texts, one after the other
+pub size-append : (s t : List ℕ) → size (s ++ t) ≡ size s + size t
+size-append s t = rw (encodes-append s t) (length-append (encode_utf8_all s) (encode_utf8_all t))
+
+-- the test for a short text
+pub is_short-true : (t : List ℕ) → IsShort t → is_short t ≡ true
+is_short-true t h = (le_test (size t) INLINE_CAP).1 h
+
+pub is_short-false : (t : List ℕ) → ¬ (IsShort t) → is_short t ≡ false
+is_short-false t h = long_test t h
+
 -- the characters of the bytes of a text
 pub chars-of : (t bs : List ℕ) → IsUtf8 bs → bs ≡ encode_utf8_all t → chars bs ≡ t
 chars-of t bs u e = sym (chars_from_encodes t bs u (sym e))
@@ -84,3 +97,16 @@ IsUtf8-rc_str_bytes s = IsUtf8-string_bytes s.text.value
 -- a text equals the text of some bytes exactly where its bytes equal them
 pub bytes_eq-chars : (t bs : List ℕ) → IsUtf8 bs → pointwise nat_eq (encode_utf8_all t) bs ≡ pointwise nat_eq t (chars bs)
 bytes_eq-chars t bs u = ap (pointwise nat_eq (encode_utf8_all t)) (sym (encodes-chars bs u)) ∙ bytes_eq-texts t (chars bs)
+
+pub chars-one : (c : ℕ) (bs : List ℕ) → IsUtf8 bs → bs ≡ encode_utf8 c → chars bs ≡ c ∷ []
+chars-one c bs u e = chars-of (c ∷ []) bs u (e ∙ sym (append-nil (encode_utf8 c)))
+
+-- what holds anyway holds of an `Err`
+pub OnErr-always : {T E : Type 0} (r : Result T E) (P : Type 0) → P → OnErr r P
+OnErr-always (Ok x) P h = tt
+OnErr-always (Err e) P h = h
+
+-- a fact for `Ok`, from the test
+pub OnOk-if : {T E : Type 0} (r : Result T E) (P : Type 0) → (is_ok r ≡ true → P) → OnOk r P
+OnOk-if (Ok x) P h = h refl
+OnOk-if (Err e) P h = tt

@@ -2,13 +2,15 @@
 //!
 //! A [`SmolStr`] means a text and a place. A text of at most [`INLINE_CAP`] bytes lies in the value
 //! itself and needs no memory, and so does a blank run: at most [`BLANK_NEWLINES`] newlines and then
-//! at most [`BLANK_SPACES`] spaces.
+//! at most [`BLANK_SPACES`] spaces. A [`SmolStrBuilder`] makes a text piece by piece.
 #![tactic(auto)]
 
+mod builder;
 #[cfg(test)]
 mod tests;
 mod value;
 
+pub use builder::SmolStrBuilder;
 pub use value::SmolStr;
 pub use value::blank::{BLANK_NEWLINES, BLANK_SPACES};
 pub use value::buffer::INLINE_CAP;

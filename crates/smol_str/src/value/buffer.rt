@@ -57,6 +57,14 @@ impl InlineText {
         unsafe { str::from_utf8_unchecked(bytes) }
     }
 
+    /// The length in bytes.
+    pub fn len(&self) -> usize
+        ensures len { result ≡ size self.now }
+        ensures short { IsShort self.now }
+    {
+        self.len as usize
+    }
+
     /// The whole buffer: the text's bytes, and then zeros.
     pub fn buffer(&self) -> &[u8; INLINE_CAP]
         ensures { result.now ≡ padded (encode_utf8_all self.now) }

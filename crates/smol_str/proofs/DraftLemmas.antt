@@ -1,0 +1,55 @@
+-- A builder's text and kind.
+use Rattle.std.proofs.Common.{◌≡◌, ℕ, ◌-◌, ◌<◌, ◌≤◌, List, ◌++◌, length, Bool, true, false, ◌&&◌, nat_le, cond, refl, arith, ◌⊎◌, inl, inr}
+use Rattle.std.specs.Str.{chars, IsUtf8}
+use Rattle.std.proofs.lemmas.Bool.Decides.{nat_tests}
+use Rattle.smol_str.specs.declared.value.buffer.TheConstants.{INLINE_CAP}
+use Rattle.smol_str.specs.Text.{size, is_short, IsShort}
+use Rattle.smol_str.specs.Draft.{InBuffer, OnHeap, kind_with, kind_for}
+use Rattle.smol_str.proofs.TextLemmas.{size-append, size-chars, is_short-true, is_short-false}
+
+-- the bytes fit in the room that is left, or they do not
+pub IsShort-append : (t bs : List ℕ) → IsUtf8 bs → IsShort t → length bs ≤ INLINE_CAP - size t → IsShort (t ++ chars bs)
+IsShort-append t bs u short room = omega (arith, size-append t (chars bs), size-chars bs u)
+
+pub too_long-append : (t bs : List ℕ) → IsUtf8 bs → INLINE_CAP - size t < length bs → ¬ (IsShort (t ++ chars bs))
+too_long-append t bs u room = λ short. omega (arith, short, size-append t (chars bs), size-chars bs u)
+
+-- a builder in its buffer, whose text stays short, or does not
+pub kind_with-short : (t : List ℕ) → IsShort t → kind_with InBuffer t ≡ InBuffer
+kind_with-short t h = rw (is_short-true t h)
+
+pub kind_with-long : (t : List ℕ) → ¬ (IsShort t) → kind_with InBuffer t ≡ OnHeap
+kind_with-long t h = rw (is_short-false t h)
+
+-- a capacity that the buffer has not
+pub kind_for-large : (n : ℕ) (t : List ℕ) → INLINE_CAP < n → kind_for n t ≡ OnHeap
+kind_for-large n t h = let e : nat_le n INLINE_CAP ≡ false = grind (arith, nat_tests) in rw e
+
+append_case : (fits was is : Bool) (t : List ℕ) → (is ≡ true → was ≡ true) → is_short t ≡ is →
+    kind_with (cond (fits && was) InBuffer OnHeap) t ≡ cond (fits && is) InBuffer OnHeap
+append_case true true is t h e = rw e
+append_case true false true t h e = let k = h refl in cc
+append_case true false false t h e = refl
+append_case false was is t h e = refl
+
+short_front : (t u : List ℕ) → is_short (t ++ u) ≡ true → is_short t ≡ true
+short_front t u h =
+    let all : size (t ++ u) ≤ INLINE_CAP = grind (arith, nat_tests) in
+    is_short-true t (omega (arith, all, size-append t u))
+
+-- the kind after an append is that of the whole text
+pub kind_for-append : (n : ℕ) (t u : List ℕ) → kind_with (kind_for n t) (t ++ u) ≡ kind_for n (t ++ u)
+kind_for-append n t u = append_case (nat_le n INLINE_CAP) (is_short t) (is_short (t ++ u)) (t ++ u) (short_front t u) refl
+
+heap_case : (fits is : Bool) → cond (fits && is) InBuffer OnHeap ≡ OnHeap → (fits ≡ false) ⊎ (is ≡ false)
+heap_case true true h = cc
+heap_case true false h = inr refl
+heap_case false is h = inl refl
+
+-- a builder is on the heap for its capacity or for its text
+pub why_heap : (n : ℕ) (t : List ℕ) → kind_for n t ≡ OnHeap → (INLINE_CAP < n) ⊎ (¬ (IsShort t))
+why_heap n t h =
+    elim (heap_case (nat_le n INLINE_CAP) (is_short t) h) [
+      | inl e ↦ inl (grind (arith, nat_tests))
+      | inr e ↦ inr (λ s. let k = is_short-true t s in cc)
+    ]

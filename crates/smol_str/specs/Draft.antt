@@ -1,0 +1,35 @@
+-- What a builder means: its text and its kind.
+--     Draft             a text, and where the builder keeps it
+--     empty_draft k     no text yet
+--     appended b u      the builder b, and the text u at its end
+--     kind_for n t      the kind of a builder that was given capacity n and has the text t
+use Rattle.std.specs.Prelude.{ℕ, List, [], ◌++◌, ◌&&◌, nat_le, if◌then◌else◌}
+use Rattle.smol_str.specs.declared.value.buffer.TheConstants.{INLINE_CAP}
+use Rattle.smol_str.specs.Text.{is_short}
+
+-- a builder keeps its text in its own buffer, or on the heap
+pub data Kind : Type 0 where
+  InBuffer : Kind
+  OnHeap : Kind
+
+-- a text, and where the builder keeps it
+pub record Draft : Type 0 where
+  pub text : List ℕ
+  pub kind : Kind
+
+-- a builder without text
+abbrev pub empty_draft : Kind → Draft
+empty_draft k = record { text = []; kind = k }
+
+-- a builder in its buffer stays there while its text is short; one on the heap stays there
+abbrev pub kind_with : Kind → List ℕ → Kind
+kind_with InBuffer t = if is_short t then InBuffer else OnHeap
+kind_with OnHeap t = OnHeap
+
+-- the text at the end of the builder's own
+abbrev pub appended : Draft → List ℕ → Draft
+appended b u = record { text = b.text ++ u; kind = kind_with b.kind (b.text ++ u) }
+
+-- in the buffer exactly where the capacity and the text fit there
+abbrev pub kind_for : ℕ → List ℕ → Kind
+kind_for n t = if nat_le n INLINE_CAP && is_short t then InBuffer else OnHeap

@@ -1,0 +1,181 @@
+//! The builder of a text.
+ghost use Rattle.std.specs.Prelude.{◌≡◌, ◌↔◌, ◌<◌, [], ◌∷◌, ◌++◌, IfOk, IfErr, OnOk, OnErr, IsTrue, encode_utf8_all};
+ghost use Rattle.std.specs.Str.{chars};
+ghost use Rattle.std.specs.String.{string_bytes};
+ghost use Rattle.smol_str.specs.Text.{size, IsResident};
+ghost use Rattle.smol_str.specs.Meaning.{IsValueOf};
+ghost use Rattle.smol_str.specs.Draft.{InBuffer, OnHeap, empty_draft, appended, kind_for};
+
+use crate::value::SmolStr;
+use crate::value::buffer::{INLINE_CAP, InlineText};
+use std::alloc::{AllocError, Global};
+use std::marker::Model;
+
+/// A text that grows, and is then finished to a [`SmolStr`].
+///
+/// A builder means its text and its kind. It begins in its own buffer, and takes no memory while its
+/// text fits there; it moves to the heap when the text outgrows the buffer, or at once where a larger
+/// capacity was asked for. What [`finish`](SmolStrBuilder::finish) answers depends on the text alone.
+///
+/// ```
+/// let mut builder = SmolStrBuilder::new(alloc);
+/// builder.push_str("fn")?;
+/// builder.push('_')?;
+/// assert_eq!(rt; builder.as_str(), "fn_");
+/// ```
+#[derive(Drop)]
+pub struct SmolStrBuilder {
+    alloc: Global,
+    repr: BuilderRepr,
+}
+
+#[derive(Drop)]
+enum BuilderRepr {
+    Inline(InlineText),
+    Heap(String),
+}
+
+impl Model for SmolStrBuilder {
+    ghost use Rattle.smol_str.specs.Draft.{Draft};
+
+    ghost Value = { Draft };
+
+    ghost use Rattle.smol_str.specs.DraftArms.{builder_text, builder_kind, IsSoundBuilder};
+
+    ghost view = { λ s. record { text = builder_text s.repr; kind = builder_kind s.repr } };
+
+    ghost invariant = { λ s. IsSoundBuilder s.repr };
+}
+
+impl SmolStrBuilder {
+    /// An empty builder, which takes no memory.
+    pub fn new(alloc: Global) -> SmolStrBuilder
+        ensures { result ≡ empty_draft InBuffer }
+    {
+        SmolStrBuilder {
+            alloc,
+            repr: BuilderRepr::Inline(InlineText::new()),
+        }
+    }
+
+    /// An empty builder with room for `capacity` bytes.
+    ///
+    /// Up to [`INLINE_CAP`] bytes it takes no memory. A larger capacity is asked for at once, so that
+    /// appends up to it take no more; it is refused with [`AllocError`] where the heap has no such
+    /// room, and nothing is made.
+    pub fn with_capacity(alloc: Global, capacity: usize) -> Result<SmolStrBuilder, AllocError>
+        ensures ok { IfOk result (λ b. b ≡ empty_draft (kind_for capacity [])) }
+        ensures refused { OnErr result (INLINE_CAP < capacity) }
+    {
+        if capacity <= INLINE_CAP {
+            return Ok(SmolStrBuilder::new(alloc));
+        }
+        let heap = String::with_capacity(alloc, capacity)?;
+        Ok(SmolStrBuilder {
+            alloc,
+            repr: BuilderRepr::Heap(heap),
+        })
+    }
+
+    /// The text so far, as std's `str`.
+    pub fn as_str(&self) -> &str
+        ensures { result.now ≡ encode_utf8_all self.now.text }
+    {
+        match &self.repr {
+            BuilderRepr::Inline(text) => text.as_str(),
+            BuilderRepr::Heap(text) => text.as_str(),
+        }
+    }
+
+    /// The length of the text in bytes, not in characters.
+    pub fn len(&self) -> usize
+        ensures { result ≡ size self.now.text }
+    {
+        self.as_str().len()
+    }
+
+    /// Whether the text has no bytes.
+    pub fn is_empty(&self) -> bool
+        ensures { IsTrue result ↔ (size self.now.text ≡ 0) }
+    {
+        self.as_str().is_empty()
+    }
+
+    /// Appends a character.
+    ///
+    /// It is refused with [`AllocError`] where the heap has no room, and the builder is as before.
+    pub fn push(&mut self, character: char) -> Result<(), AllocError>
+        ensures ok { OnOk result (self.new ≡ appended self.old (character ∷ [])) }
+        ensures unchanged { OnErr result (self.new ≡ self.old) }
+        ensures refused { OnErr result ((appended self.old (character ∷ [])).kind ≡ OnHeap) }
+    {
+        let mut buf = [0; 4];
+        let text = character.encode_utf8(&mut buf);
+        self.push_str(text)
+    }
+
+    /// Appends a text.
+    ///
+    /// It is refused with [`AllocError`] where the heap has no room, and the builder is as before.
+    pub fn push_str(&mut self, text: &str) -> Result<(), AllocError>
+        ensures ok { OnOk result (self.new ≡ appended self.old (chars text.now)) }
+        ensures unchanged { OnErr result (self.new ≡ self.old) }
+        ensures refused { OnErr result ((appended self.old (chars text.now)).kind ≡ OnHeap) }
+    {
+        match &mut self.repr {
+            BuilderRepr::Heap(heap) => heap.push_str(text),
+            BuilderRepr::Inline(short) => {
+                if text.len() <= INLINE_CAP - short.len() {
+                    short.push_str(text);
+                    return Ok(());
+                }
+                // Memory first: a refusal leaves the buffer as it is.
+                let heap = both_on_heap(self.alloc, short.as_str(), text)?;
+                self.repr = BuilderRepr::Heap(heap);
+                Ok(())
+            }
+        }
+    }
+
+    /// The value of the text, in the place of the text whatever the kind.
+    ///
+    /// A resident text needs no memory. Any other is refused where the heap has no room for the value,
+    /// and the builder is given back.
+    pub fn finish(self) -> Result<SmolStr, SmolStrBuilder>
+        ensures ok { IfOk result (λ v. IsValueOf self.text v) }
+        ensures given_back { IfErr result (λ back. back ≡ self) }
+        ensures refused { OnErr result (¬ (IsResident self.text)) }
+    {
+        let alloc = self.alloc;
+        match self.repr {
+            BuilderRepr::Inline(text) => Ok(SmolStr::from_inline(text)),
+            BuilderRepr::Heap(text) => match SmolStr::new(alloc, text.as_str()) {
+                Ok(value) => Ok(value),
+                Err(AllocError) => Err(SmolStrBuilder {
+                    alloc,
+                    repr: BuilderRepr::Heap(text),
+                }),
+            },
+        }
+    }
+}
+
+impl SmolStr {
+    /// The value of a builder's text: [`SmolStrBuilder::finish`] as a function of the value's type.
+    pub fn from_builder(builder: SmolStrBuilder) -> Result<SmolStr, SmolStrBuilder>
+        ensures ok { IfOk result (λ v. IsValueOf builder.text v) }
+        ensures given_back { IfErr result (λ back. back ≡ builder) }
+        ensures refused { OnErr result (¬ (IsResident builder.text)) }
+    {
+        builder.finish()
+    }
+}
+
+/// Both texts, one after the other, on the heap.
+fn both_on_heap(alloc: Global, first: &str, second: &str) -> Result<String, AllocError>
+    ensures { IfOk result (λ s. string_bytes s ≡ first.now ++ second.now) }
+{
+    let mut heap = String::from_str(alloc, first)?;
+    heap.push_str(second)?;
+    Ok(heap)
+}
