@@ -3,3 +3,4 @@ pub mod TextLemmas
 pub mod BufferLemmas
 pub mod OrderLemmas
 pub mod DraftLemmas
+pub mod StepLemmas

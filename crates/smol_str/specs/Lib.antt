@@ -5,4 +5,5 @@ pub mod Arms
 pub mod Faults
 pub mod Draft
 pub mod DraftArms
+pub mod Steps
 pub mod Examples

@@ -6,6 +6,8 @@ ghost use Rattle.smol_str.specs.Text.{size, IsResident};
 ghost use Rattle.smol_str.specs.Meaning.{IsValueOf};
 ghost use Rattle.smol_str.specs.Draft.{InBuffer, OnHeap, empty_draft, appended, kind_for};
 
+pub mod steps;
+
 use crate::value::SmolStr;
 use crate::value::buffer::{INLINE_CAP, InlineText};
 use std::alloc::{AllocError, Global};

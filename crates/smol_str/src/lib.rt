@@ -11,6 +11,7 @@ mod tests;
 mod value;
 
 pub use builder::SmolStrBuilder;
+pub use builder::steps::{Step, build};
 pub use value::SmolStr;
 pub use value::blank::{BLANK_NEWLINES, BLANK_SPACES};
 pub use value::buffer::INLINE_CAP;
