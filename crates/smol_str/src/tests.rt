@@ -1,5 +1,6 @@
 //! Tests of what no clause says: outside values.
 
+mod built;
 mod compare;
 mod convert;
 mod keys;

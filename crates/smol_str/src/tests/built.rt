@@ -1,0 +1,187 @@
+//! Values by a builder's calls and by lists of steps.
+ghost use Rattle.std.specs.Prelude.{◌≡◌, IfOk};
+ghost use Rattle.std.specs.Str.{chars};
+
+use crate::{INLINE_CAP, Place, SmolStr, SmolStrBuilder, Step, build};
+use std::alloc::{AllocError, Global};
+use std::process::Abort;
+use std::test::Fail;
+
+/// What a row appends.
+#[derive(Clone, Copy)]
+enum Piece {
+    Char(char),
+    Text(&'static str),
+}
+
+/// Pieces, the text that they make, and its place.
+const ROWS: [(&[Piece], &str, Place); 14] = [
+    (&[], "", Place::Inline),
+    (&[Piece::Char('a'), Piece::Text("bc")], "abc", Place::Inline),
+    (&[Piece::Text("ab")], "ab", Place::Inline),
+    (&[Piece::Text("a"), Piece::Text("b")], "ab", Place::Inline),
+    (&[Piece::Char('a'), Piece::Char('b')], "ab", Place::Inline),
+    (
+        &[
+            Piece::Text(""),
+            Piece::Char('a'),
+            Piece::Text(""),
+            Piece::Text("b"),
+        ],
+        "ab",
+        Place::Inline,
+    ),
+    (
+        &[Piece::Char('é'), Piece::Char('€'), Piece::Char('🦀')],
+        "é€🦀",
+        Place::Inline,
+    ),
+    (
+        &[Piece::Text("aaaaaaaaaaaaaaaaaaaaaaa")],
+        "aaaaaaaaaaaaaaaaaaaaaaa",
+        Place::Inline,
+    ),
+    (
+        &[Piece::Text("aaaaaaaaaaaaaaaaaaaaaaaa")],
+        "aaaaaaaaaaaaaaaaaaaaaaaa",
+        Place::Heap,
+    ),
+    (
+        &[Piece::Text("aaaaaaaaaaaaaaaaaaaaa"), Piece::Char('é')],
+        "aaaaaaaaaaaaaaaaaaaaaé",
+        Place::Inline,
+    ),
+    (
+        &[Piece::Text("aaaaaaaaaaaaaaaaaaaaaa"), Piece::Char('é')],
+        "aaaaaaaaaaaaaaaaaaaaaaé",
+        Place::Heap,
+    ),
+    (
+        &[
+            Piece::Text("aaaaaaaaaaaaaaaaaaaaaaa"),
+            Piece::Text("aaaaaaaaaaaaaaaaaaaaaaa"),
+        ],
+        "aaaaaaaaaaaaaaaaaaaaaaaaaaaaaaaaaaaaaaaaaaaaaa",
+        Place::Heap,
+    ),
+    (
+        &[Piece::Text("ohnonononononononono!"), Piece::Char('🤯')],
+        "ohnonononononononono!🤯",
+        Place::Heap,
+    ),
+    (
+        &[
+            Piece::Text("aaaaaaaaaaaaaaaaaaaaaaaa"),
+            Piece::Char('b'),
+            Piece::Text("€"),
+        ],
+        "aaaaaaaaaaaaaaaaaaaaaaaab€",
+        Place::Heap,
+    ),
+];
+
+#[test]
+fn rows(rt: HostRuntime) -> Result<(), Fail> {
+    let alloc = rt.alloc();
+    for (pieces, text, place) in ROWS {
+        for capacity in [0, INLINE_CAP, INLINE_CAP + 1, 100] {
+            let value = build(alloc, capacity, &steps_of(alloc, pieces)?)?;
+            assert_value(&rt, &value, text, place);
+
+            let builder = of_pieces(alloc, capacity, pieces)?;
+            assert_eq!(rt; builder.as_str(), text, "capacity {capacity}");
+            assert_eq!(rt; builder.len(), text.len(), "{text}");
+            assert_eq!(rt; builder.is_empty(), text.is_empty(), "{text}");
+            let value = builder.finish().ok().ok_or("refused")?;
+            assert_value(&rt, &value, text, place);
+
+            let builder = of_characters(alloc, capacity, text)?;
+            let value = SmolStr::from_builder(builder).ok().ok_or("refused")?;
+            assert_value(&rt, &value, text, place);
+        }
+    }
+    Ok(())
+}
+
+// No allocation can have such a capacity.
+#[test]
+fn capacity_too_large(rt: HostRuntime) {
+    for capacity in [usize::MAX, usize::MAX / 2 + 1] {
+        assert!(rt; build(rt.alloc(), capacity, &[]).is_err(), "{capacity}");
+        let builder = SmolStrBuilder::with_capacity(rt.alloc(), capacity);
+        assert!(rt; builder.is_err(), "{capacity}");
+    }
+}
+
+#[test]
+fn equal_texts(rt: HostRuntime) -> Result<(), Fail> {
+    for (_, text, place) in ROWS {
+        let small = builder_of(rt.alloc(), 0, text)?;
+        let large = builder_of(rt.alloc(), 100, text)?;
+        let (one, other) = finish_both(small, large)?;
+        assert!(rt; one == other, "{text}");
+        assert_eq!(rt; one.place(), place, "{text}");
+        assert_eq!(rt; other.place(), place, "{text}");
+    }
+    Ok(())
+}
+
+/// The values of two builders with one text. Whatever their kinds, the values mean the same.
+fn finish_both(a: SmolStrBuilder, b: SmolStrBuilder) -> Result<(SmolStr, SmolStr), AllocError>
+    requires { a.text ≡ b.text }
+    ensures { IfOk result (λ values. values.0 ≡ values.1) }
+{
+    match (a.finish(), b.finish()) {
+        (Ok(one), Ok(other)) => Ok((one, other)),
+        _ => Err(AllocError),
+    }
+}
+
+fn of_pieces(
+    alloc: Global,
+    capacity: usize,
+    pieces: &[Piece],
+) -> Result<SmolStrBuilder, AllocError> {
+    let mut builder = SmolStrBuilder::with_capacity(alloc, capacity)?;
+    for piece in pieces {
+        match piece {
+            Piece::Char(character) => builder.push(*character)?,
+            Piece::Text(text) => builder.push_str(text)?,
+        }
+    }
+    Ok(builder)
+}
+
+fn of_characters(alloc: Global, capacity: usize, text: &str) -> Result<SmolStrBuilder, AllocError> {
+    let mut builder = SmolStrBuilder::with_capacity(alloc, capacity)?;
+    for character in text.chars() {
+        builder.push(character)?;
+    }
+    Ok(builder)
+}
+
+/// A builder of this capacity that has the text.
+pub fn builder_of(alloc: Global, capacity: usize, text: &str) -> Result<SmolStrBuilder, AllocError>
+    ensures { IfOk result (λ builder. builder.text ≡ chars text.now) }
+{
+    let mut builder = SmolStrBuilder::with_capacity(alloc, capacity)?;
+    builder.push_str(text)?;
+    Ok(builder)
+}
+
+fn steps_of(alloc: Global, pieces: &[Piece]) -> Result<Vec<Step>, AllocError> {
+    let mut steps = Vec::new(alloc);
+    for piece in pieces {
+        steps.push(match piece {
+            Piece::Char(character) => Step::Push(*character),
+            Piece::Text(text) => Step::PushStr(String::from_str(alloc, text)?),
+        })?;
+    }
+    Ok(steps)
+}
+
+fn assert_value(rt: &impl Abort, value: &SmolStr, text: &str, place: Place) {
+    assert_eq!(rt; value.as_str(), text);
+    assert_eq!(rt; value.len(), text.len(), "{text}");
+    assert_eq!(rt; value.place(), place, "{text}");
+}
