@@ -1,4 +1,4 @@
-//! Tests of what no clause says: outside values.
+//! Tests of what no clause says: outside values, and memory refused.
 
 mod built;
 mod compare;
@@ -6,6 +6,8 @@ mod convert;
 mod keys;
 mod places;
 mod print;
+mod refuse;
+mod refused;
 
 use std::alloc::{AllocError, Global};
 
