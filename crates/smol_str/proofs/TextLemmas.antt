@@ -75,7 +75,6 @@ bytes_eq-texts s t =
     (Decides-like _ (encodes_same s t) (ap encode_utf8_all) (bytes_decides (encode_utf8_all s) (encode_utf8_all t)))
     (bytes_decides s t)
 
-
 -- the size of two texts, one after the other
 pub size-append : (s t : List ℕ) → size (s ++ t) ≡ size s + size t
 size-append s t = rw (encodes-append s t) (length-append (encode_utf8_all s) (encode_utf8_all t))

@@ -1,8 +1,9 @@
 //! The builder of a text.
-ghost use Rattle.std.specs.Prelude.{◌≡◌, ◌↔◌, ◌<◌, [], ◌∷◌, ◌++◌, IfOk, IfErr, OnOk, OnErr, IsTrue, encode_utf8_all};
+ghost use Rattle.std.specs.Prelude.{◌≡◌, ◌↔◌, ◌<◌, [], ◌∷◌, ◌++◌, IsSome, IfSome, IfOk, IfErr, OnOk, OnErr, IsTrue, encode_utf8_all};
 ghost use Rattle.std.specs.Str.{chars};
 ghost use Rattle.std.specs.String.{string_bytes};
 ghost use Rattle.smol_str.specs.Text.{size, IsResident};
+ghost use Rattle.smol_str.specs.Buffer.{padded};
 ghost use Rattle.smol_str.specs.Meaning.{IsValueOf};
 ghost use Rattle.smol_str.specs.Draft.{InBuffer, OnHeap, empty_draft, appended, kind_for};
 
@@ -101,6 +102,18 @@ impl SmolStrBuilder {
         ensures { IsTrue result ↔ (size self.now.text ≡ 0) }
     {
         self.as_str().is_empty()
+    }
+
+    /// The buffer of a builder that keeps its text there, `None` on the heap: the text's bytes, and
+    /// then zeros up to its end.
+    pub fn inline_buffer(&self) -> Option<&[u8; INLINE_CAP]>
+        ensures kind { IsSome result ↔ (self.now.kind ≡ InBuffer) }
+        ensures buffer { IfSome result (λ buffer. buffer.now ≡ padded (encode_utf8_all self.now.text)) }
+    {
+        match &self.repr {
+            BuilderRepr::Inline(text) => Some(text.buffer()),
+            BuilderRepr::Heap(_) => None,
+        }
     }
 
     /// Appends a character.

@@ -8,6 +8,7 @@ mod places;
 mod print;
 mod refuse;
 mod refused;
+mod refused_conversions;
 
 use std::alloc::{AllocError, Global};
 

@@ -15,7 +15,7 @@ enum Piece {
 }
 
 /// Pieces, the text that they make, and its place.
-const ROWS: [(&[Piece], &str, Place); 14] = [
+const ROWS: [(&[Piece], &str, Place); 15] = [
     (&[], "", Place::Inline),
     (&[Piece::Char('a'), Piece::Text("bc")], "abc", Place::Inline),
     (&[Piece::Text("ab")], "ab", Place::Inline),
@@ -77,6 +77,11 @@ const ROWS: [(&[Piece], &str, Place); 14] = [
         ],
         "aaaaaaaaaaaaaaaaaaaaaaaab€",
         Place::Heap,
+    ),
+    (
+        &[Piece::Text("                        ")],
+        "                        ",
+        Place::Static,
     ),
 ];
 

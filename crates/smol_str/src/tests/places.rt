@@ -1,6 +1,6 @@
 //! Where texts are kept.
 use super::repeated;
-use crate::{Place, SmolStr};
+use crate::{Place, SmolStr, SmolStrBuilder, Step, build};
 use std::alloc::{AllocError, Global};
 use std::test::Fail;
 
@@ -135,19 +135,50 @@ fn round_trips(rt: HostRuntime) -> Result<(), Fail> {
     Ok(())
 }
 
+// The text's bytes, and zeros: of a value and of a builder that are inline, and of no other.
 #[test]
 fn inline_buffers(rt: HostRuntime) -> Result<(), Fail> {
-    let value = SmolStr::new(rt.alloc(), "ab")?;
-    match value.inline_buffer() {
-        Some(buffer) => {
-            assert!(rt; buffer.starts_with(b"ab"));
-            assert!(rt; buffer.iter().skip(2).all(|byte| *byte == 0));
-            assert_eq!(rt; buffer.len(), 23);
+    let alloc = rt.alloc();
+    let value = SmolStr::new(alloc, "ab")?;
+    let mut builder = SmolStrBuilder::new(alloc);
+    builder.push_str("ab")?;
+    for buffer in [value.inline_buffer(), builder.inline_buffer()] {
+        match buffer {
+            Some(buffer) => {
+                assert!(rt; buffer.starts_with(b"ab"));
+                assert!(rt; buffer.iter().skip(2).all(|byte| *byte == 0));
+                assert_eq!(rt; buffer.len(), 23);
+            }
+            None => assert!(rt; false, "an inline text has a buffer"),
         }
-        None => assert!(rt; false, "an inline value has a buffer"),
     }
     assert!(rt; SmolStr::new_static("ab").inline_buffer().is_none());
-    let long = SmolStr::new(rt.alloc(), "aaaaaaaaaaaaaaaaaaaaaaaa")?;
+    let long = SmolStr::new(alloc, "aaaaaaaaaaaaaaaaaaaaaaaa")?;
     assert!(rt; long.inline_buffer().is_none());
+    let mut large = SmolStrBuilder::with_capacity(alloc, 100)?;
+    large.push_str("ab")?;
+    assert!(rt; large.inline_buffer().is_none());
+    Ok(())
+}
+
+// One text, made in every way so far: equal values, all inline.
+#[test]
+fn one_text_in_every_way(rt: HostRuntime) -> Result<(), Fail> {
+    let alloc = rt.alloc();
+    let mut large = SmolStrBuilder::with_capacity(alloc, 100)?;
+    large.push_str("ab")?;
+    let values = [
+        SmolStr::new(alloc, "ab")?,
+        SmolStr::new_inline("ab"),
+        SmolStr::from_utf8(alloc, b"ab").ok().ok_or("not UTF-8")?,
+        large.finish().ok().ok_or("refused")?,
+        build(alloc, 0, &[Step::Push('a'), Step::Push('b')])?,
+    ];
+    for left in &values {
+        assert_eq!(rt; left.place(), Place::Inline);
+        for right in &values {
+            assert!(rt; left == right);
+        }
+    }
     Ok(())
 }
