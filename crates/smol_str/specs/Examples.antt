@@ -43,6 +43,18 @@ longest_blank_run : is_blank_run (blank_run BLANK_NEWLINES BLANK_SPACES) ≡ tru
 unfolding is_blank_run
 longest_blank_run = refl
 
+longest_run_is_static : place_of (blank_run BLANK_NEWLINES BLANK_SPACES) ≡ Static
+unfolding place_of is_blank_run lib.Utf8.encode
+longest_run_is_static = refl
+
+newlines_alone : place_of (replicate BLANK_NEWLINES 10) ≡ Static
+unfolding place_of is_blank_run lib.Utf8.encode
+newlines_alone = refl
+
+newlines_alone_one_too_many : place_of (replicate (BLANK_NEWLINES + 1) 10) ≡ Heap
+unfolding place_of is_blank_run lib.Utf8.encode
+newlines_alone_one_too_many = refl
+
 -- a newline too many, and enough spaces that the text is not short
 newline_too_many : place_of (blank_run (BLANK_NEWLINES + 1) INLINE_CAP) ≡ Heap
 unfolding place_of is_blank_run lib.Utf8.encode

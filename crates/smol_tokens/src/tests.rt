@@ -1,4 +1,6 @@
-//! Tests of what no clause says: outside values, and readers and writers that fail.
+//! Tests of what no clause says: outside values, readers and writers that fail, and memory refused.
+mod refuse;
+mod refused;
 mod show;
 mod streams;
 mod words;

@@ -208,22 +208,24 @@ fn no_request_at_all(rt: HostRuntime) -> Result<(), Fail> {
     let again = shared.clone()?;
     let short = RcStr::from_str(alloc, "ab")?;
     refuse_from(alloc, 1);
-    let values = [
-        SmolStr::from_rc_str(again),
-        SmolStr::from_rc_str(short),
-        SmolStr::new_inline("ab"),
-        SmolStr::new_static("aaaaaaaaaaaaaaaaaaaaaaaa"),
-        SmolStr::default(),
-        SmolStr::from('🦀'),
-    ];
-    let pinned = values[3].clone();
-    let inline = values[2].clone();
+    let kept = SmolStr::from_rc_str(again);
+    let copied = SmolStr::from_rc_str(short);
+    let inline = SmolStr::new_inline("ab");
+    let pinned = SmolStr::new_static("aaaaaaaaaaaaaaaaaaaaaaaa");
+    let empty = SmolStr::default();
+    let crab = SmolStr::from('🦀');
+    let inline_clone = inline.clone();
+    let pinned_clone = pinned.clone();
     let was_refused = end_refusals(alloc);
     assert!(rt; !was_refused, "a request for memory");
-    assert_eq!(rt; pinned?.place(), Place::Static);
-    assert_eq!(rt; inline?.place(), Place::Inline);
-    let [kept, ..] = values;
-    match kept.into_rc_str(alloc) {
+    assert!(rt; copied == inline && empty.is_empty() && crab.eq_str("🦀"));
+    assert_eq!(rt; inline_clone?.place(), Place::Inline);
+    assert_eq!(rt; pinned_clone?.place(), Place::Static);
+    refuse_from(alloc, 1);
+    let answer = kept.into_rc_str(alloc);
+    let was_refused = end_refusals(alloc);
+    assert!(rt; !was_refused, "a request for memory");
+    match answer {
         Ok(back) => assert!(rt; RcStr::ptr_eq(&back, &shared)),
         Err(_) => assert!(rt; false, "it takes no memory"),
     }
