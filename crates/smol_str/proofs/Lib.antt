@@ -4,3 +4,9 @@ pub mod BufferLemmas
 pub mod OrderLemmas
 pub mod DraftLemmas
 pub mod StepLemmas
+pub mod CaseLemmas
+pub mod CutLemmas
+pub mod ReplaceLemmas
+pub mod WireLemmas
+pub mod Utf8Lemmas
+pub mod SyncLemmas

@@ -1,7 +1,7 @@
 -- The order of texts is the order of their bytes.
-use Rattle.std.proofs.Common.{◌≡◌, ℕ, ◌+◌, ◌/◌, ◌%◌, ◌<◌, ◌≤◌, List, [], ◌∷◌, ◌++◌, refl, ◌∙◌, ap, arith, true, false, ◌⊎◌, inl, inr}
+use Rattle.std.proofs.Common.{◌≡◌, ℕ, ◌+◌, ◌/◌, ◌%◌, ◌<◌, List, [], ◌∷◌, ◌++◌, refl, ◌∙◌, ap, arith, ◌⊎◌, inl, inr}
 use lib.Utf8.{encode, encodes, next}
-use lib.Dec.{ltb}
+use Rattle.smol_str.proofs.Utf8Lemmas.{Form, one, two, three, four, form}
 use Rattle.std.specs.Cmp.Lexicographic.{slice_cmp, nat_list_cmp_total}
 use Rattle.std.specs.Ordering.{nat_cmp, ordering_reverse}
 use Rattle.std.specs.declared.cmp.Ordering.TheVariants.{Less, Equal, Greater}
@@ -60,61 +60,6 @@ digits4 k c d xs ys h =
           same_head (k + c / 64 / 64 / 64) (k + d / 64 / 64 / 64) (next (c / 64 / 64) ∷ next (c / 64) ∷ next c ∷ xs) (next (d / 64 / 64) ∷ next (d / 64) ∷ next d ∷ ys) (ap (λ n. k + n / 64 / 64) p.0)
           (same_head (next (c / 64 / 64)) (next (d / 64 / 64)) (next (c / 64) ∷ next c ∷ xs) (next (d / 64) ∷ next d ∷ ys) (ap (λ n. next (n / 64)) p.0)
           (same_head (next (c / 64)) (next (d / 64)) (next c ∷ xs) (next d ∷ ys) (ap next p.0) (less_head (next c) (next d) xs ys (omega (arith, p.1)))))
-    ]
-
-div4096 : (c : ℕ) → c / 4096 ≡ c / 64 / 64
-div4096 c = omega arith
-
-div262144 : (c : ℕ) → c / 262144 ≡ c / 64 / 64 / 64
-div262144 c = omega arith
-
--- the four forms
-abbrev form1 : ℕ → List ℕ
-form1 c = c ∷ []
-
-abbrev form2 : ℕ → List ℕ
-form2 c = (192 + c / 64) ∷ next c ∷ []
-
-abbrev form3 : ℕ → List ℕ
-form3 c = (224 + c / 64 / 64) ∷ next (c / 64) ∷ next c ∷ []
-
-abbrev form4 : ℕ → List ℕ
-form4 c = (240 + c / 64 / 64 / 64) ∷ next (c / 64 / 64) ∷ next (c / 64) ∷ next c ∷ []
-
-data Form (c : ℕ) : Type 0 where
-  one : c < 128 → encode c ≡ form1 c → Form c
-  two : 128 ≤ c → c < 2048 → encode c ≡ form2 c → Form c
-  three : 2048 ≤ c → c < 65536 → encode c ≡ form3 c → Form c
-  four : 65536 ≤ c → encode c ≡ form4 c → Form c
-
-is_one : (c : ℕ) → c < 128 → encode c ≡ form1 c
-unfolding encode
-is_one c h = let t : ltb c 128 ≡ true = grind (arith, nat_tests) in rw t
-
-is_two : (c : ℕ) → 128 ≤ c → c < 2048 → encode c ≡ form2 c
-unfolding encode
-is_two c l h = let t : ltb c 128 ≡ false = grind (arith, nat_tests) in let u : ltb c 2048 ≡ true = grind (arith, nat_tests) in rw (t, u)
-
-is_three : (c : ℕ) → 2048 ≤ c → c < 65536 → encode c ≡ form3 c
-unfolding encode
-is_three c l h =
-    let t : ltb c 128 ≡ false = grind (arith, nat_tests) in let u : ltb c 2048 ≡ false = grind (arith, nat_tests) in let v : ltb c 65536 ≡ true = grind (arith, nat_tests) in
-    rw (t, u, v, div4096 c)
-
-is_four : (c : ℕ) → 65536 ≤ c → encode c ≡ form4 c
-unfolding encode
-is_four c l =
-    let t : ltb c 128 ≡ false = grind (arith, nat_tests) in let u : ltb c 2048 ≡ false = grind (arith, nat_tests) in let v : ltb c 65536 ≡ false = grind (arith, nat_tests) in
-    rw (t, u, v, div4096 c, div262144 c)
-
-form : (c : ℕ) → Form c
-form c =
-    elim (cases_lt c 128) [
-      | inl h ↦ one h (is_one c h)
-      | inr l ↦ elim (cases_lt c 2048) [
-        | inl h ↦ two l h (is_two c l h)
-        | inr m ↦ elim (cases_lt c 65536) [ inl h ↦ three m h (is_three c m h) | inr n ↦ four n (is_four c n) ]
-      ]
     ]
 
 -- the bytes of the lower character come first

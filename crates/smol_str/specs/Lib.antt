@@ -7,3 +7,7 @@ pub mod Draft
 pub mod DraftArms
 pub mod Steps
 pub mod Examples
+pub mod Case
+pub mod Cut
+pub mod Replace
+pub mod Wire

@@ -6,6 +6,7 @@
 #![tactic(auto)]
 
 mod builder;
+pub mod laws;
 #[cfg(test)]
 mod tests;
 mod value;

@@ -1,0 +1,59 @@
+-- No wire form begins another.
+use Rattle.std.proofs.Common.{◌≡◌, ℕ, ◌+◌, List, ◌++◌, ⊎_elim, length, take, drop, refl, sym, ap, ◌∙◌, arith, length-append, append_assoc, take-append-drop}
+use Rattle.std.specs.Int.{to_le_bytes, from_le_bytes, w32}
+use Rattle.std.specs.Str.{encode_utf8_all}
+use Rattle.std.proofs.lemmas.Nat.{from_le_bytes-to_le_bytes_4}
+use Rattle.std.proofs.lemmas.Str.{encodes_same}
+use Rattle.std.proofs.lemmas.List.{take_at, drop_at, append_cancel_left, length-take-le}
+use Rattle.smol_str.specs.Text.{size}
+use Rattle.smol_str.specs.Wire.{HasWire, wire, Holds, stated, HasEndedEarly, body}
+
+four : (n : ℕ) → length (to_le_bytes w32 n) ≡ 4
+four n = refl
+
+pub length-wire : (t : List ℕ) → length (wire t) ≡ size t + 4
+unfolding wire
+length-wire t = omega (arith, length-append (to_le_bytes w32 (size t)) (encode_utf8_all t), four (size t))
+
+split : (t x : List ℕ) → wire t ++ x ≡ to_le_bytes w32 (size t) ++ (encode_utf8_all t ++ x)
+unfolding wire
+split t x = append_assoc (to_le_bytes w32 (size t)) (encode_utf8_all t) x
+
+pub stated_size : (t x : List ℕ) → HasWire t → stated (wire t ++ x) ≡ size t
+unfolding stated
+stated_size t x h =
+    ap (λ b. from_le_bytes w32 (take 4 b)) (split t x) ∙ ap (from_le_bytes w32) (take_at (to_le_bytes w32 (size t)) (encode_utf8_all t ++ x) 4 (four (size t))) ∙ from_le_bytes-to_le_bytes_4 (size t) h
+
+pub wire-apart : (s t x y : List ℕ) → HasWire s → HasWire t → wire s ++ x ≡ wire t ++ y → (s ≡ t) × (x ≡ y)
+wire-apart s t x y h k e =
+    let sizes : size s ≡ size t = sym (stated_size s x h) ∙ ap stated e ∙ stated_size t y k in
+    let rest : encode_utf8_all s ++ x ≡ encode_utf8_all t ++ y =
+    append_cancel_left (to_le_bytes w32 (size s)) (encode_utf8_all s ++ x) (encode_utf8_all t ++ y)
+    (sym (split s x) ∙ e ∙ split t y ∙ ap (λ n. to_le_bytes w32 n ++ (encode_utf8_all t ++ y)) (sym sizes)) in
+    let bytes : encode_utf8_all s ≡ encode_utf8_all t =
+    sym (take_at (encode_utf8_all s) x (size s) refl) ∙ ap (take (size s)) rest ∙ take_at (encode_utf8_all t) y (size s) (sym sizes) in
+    (encodes_same s t bytes, append_cancel_left (encode_utf8_all s) x y (rest ∙ ap (λ b. b ++ y) (sym bytes)))
+
+-- what is held, and what follows it
+held : (b t : List ℕ) (n : ℕ) → Holds b t n → b ≡ wire t ++ drop n b
+held b t n h = sym (take-append-drop n b) ∙ ap (λ s. s ++ drop n b) h.reads
+
+length-Holds : (b t : List ℕ) (n : ℕ) → Holds b t n → n ≡ size t + 4
+length-Holds b t n h = sym (length-take-le n b h.within) ∙ ap length h.reads ∙ length-wire t
+
+pub Holds-one : (b s t : List ℕ) (m n : ℕ) → Holds b s m → Holds b t n → (s ≡ t) × (m ≡ n)
+Holds-one b s t m n h k =
+    let same = wire-apart s t (drop m b) (drop n b) h.sized k.sized (sym (held b s m h) ∙ held b t n k) in
+    (same.0, length-Holds b s m h ∙ ap (λ u. size u + 4) same.0 ∙ sym (length-Holds b t n k))
+
+pub Holds-whole : (b t : List ℕ) (n : ℕ) → Holds b t n → ¬ HasEndedEarly b
+Holds-whole b t n h early =
+    let says : stated b ≡ size t = ap stated (held b t n h) ∙ stated_size t (drop n b) h.sized in
+    let long : n ≡ size t + 4 = length-Holds b t n h in
+    ⊎_elim (λ l. omega (arith, h.within)) (λ l. omega (arith, h.within)) early
+
+pub body-Holds : (b t : List ℕ) (n : ℕ) → Holds b t n → body b ≡ encode_utf8_all t
+body-Holds b t n h =
+    let says : stated b ≡ size t = ap stated (held b t n h) ∙ stated_size t (drop n b) h.sized in
+    let back : drop 4 b ≡ encode_utf8_all t ++ drop n b = ap (drop 4) (held b t n h ∙ split t (drop n b)) ∙ drop_at (to_le_bytes w32 (size t)) (encode_utf8_all t ++ drop n b) 4 (four (size t)) in
+    (λ i. take (says i) (back i)) ∙ take_at (encode_utf8_all t) (drop n b) (size t) refl

@@ -1,0 +1,5 @@
+use Rattle.smol_str.proofs.OrderLemmas.{order-texts}
+use Rattle.smol_str.proofs.laws.byte_order.Goals as goal
+
+pub returns : goal.returns
+returns c = order-texts

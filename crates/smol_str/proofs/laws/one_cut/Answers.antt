@@ -1,0 +1,6 @@
+use Rattle.smol_str.specs.Replace.{cut}
+use Rattle.smol_str.proofs.CutLemmas.{IsCut-cut, IsCut-unique}
+use Rattle.smol_str.proofs.laws.one_cut.Goals as goal
+
+pub returns : goal.returns
+returns c = record { exists = λ t p n. (cut t p n, IsCut-cut t p n); unique = IsCut-unique; computed = IsCut-cut }

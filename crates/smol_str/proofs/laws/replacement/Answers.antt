@@ -1,0 +1,5 @@
+use Rattle.smol_str.proofs.ReplaceLemmas.{replaced-cut, replaced-none, replaced-enough, replaced-itself, length-IsCut, match_count-limit}
+use Rattle.smol_str.proofs.laws.replacement.Goals as goal
+
+pub returns : goal.returns
+returns c = record { of_each_cut = replaced-cut; none = replaced-none; enough = replaced-enough; itself = replaced-itself; pieces = length-IsCut; unlimited = match_count-limit }

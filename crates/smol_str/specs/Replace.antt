@@ -1,0 +1,54 @@
+-- The one cut of a text, computed, and what replacing makes of it.
+--     cut t p n               the pieces of t, cut at p at most n times
+--     no_limit t              a limit that leaves no match out: no cut of t takes more
+--     match_count t p         how many matches p has in t: the pieces of the unlimited cut, less one
+--     replaced t p w n        t with w in place of the first n matches of p
+--     replaced_all t p w      t with w in place of each match
+use Rattle.std.specs.Prelude.{ℕ, ◌+◌, ◌-◌, zero, suc, List, [], ◌∷◌, length, drop, Option, Some, None, unwrap_or, option_map, nat_eq, if◌then◌else◌}
+use Rattle.std.specs.List.{starts_with}
+use Rattle.smol_str.specs.Cut.{joined_by}
+
+-- what stands before the first match of p, and what follows that match
+abbrev pub first_match : List ℕ → List ℕ → Option (List ℕ × List ℕ)
+first_match p [] = None
+first_match p (c ∷ t) =
+    if starts_with nat_eq (c ∷ t) p
+    then Some ([], drop (length p) (c ∷ t))
+    else option_map (λ m. (c ∷ m.0, m.1)) (first_match p t)
+
+-- at a pattern that is not empty: before the first match a piece, and what follows the match is cut further
+abbrev pub cut_at : ℕ → List ℕ → List ℕ → List (List ℕ)
+cut_at zero p t = t ∷ []
+cut_at (suc n) p t = unwrap_or (option_map (λ m. m.0 ∷ cut_at n p m.1) (first_match p t)) (t ∷ [])
+
+-- at most n pieces of one character, and the rest
+abbrev pub spell : ℕ → List ℕ → List (List ℕ)
+spell zero t = t ∷ []
+spell (suc n) [] = [] ∷ []
+spell (suc n) (c ∷ t) = (c ∷ []) ∷ spell n t
+
+-- at the empty pattern: the empty piece before the first character, and then the characters
+abbrev pub cut_between : ℕ → List ℕ → List (List ℕ)
+cut_between zero t = t ∷ []
+cut_between (suc n) t = [] ∷ spell n t
+
+-- the pieces of `IsCut`
+abbrev pub cut : List ℕ → List ℕ → ℕ → List (List ℕ)
+cut t [] n = cut_between n t
+cut t (c ∷ p) n = cut_at n (c ∷ p) t
+
+-- one more than the text has characters
+abbrev pub no_limit : List ℕ → ℕ
+no_limit t = length t + 1
+
+-- the matches that an unlimited cut takes
+abbrev pub match_count : List ℕ → List ℕ → ℕ
+match_count t p = length (cut t p (no_limit t)) - 1
+
+-- `t.replacen(p, w, n)`: the pieces of the cut, joined by w
+abbrev pub replaced : List ℕ → List ℕ → List ℕ → ℕ → List ℕ
+replaced t p w n = joined_by w (cut t p n)
+
+-- `t.replace(p, w)`
+abbrev pub replaced_all : List ℕ → List ℕ → List ℕ → List ℕ
+replaced_all t p w = replaced t p w (no_limit t)

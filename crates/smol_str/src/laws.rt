@@ -1,0 +1,103 @@
+//! What the definitions in `specs/` mean: laws over every text, each the contract of a function
+//! that does nothing.
+//!
+//! A contract elsewhere says that a call meets a definition. The laws here say that the
+//! definitions are the right ones. They range over every list of numbers, so a premise stands only
+//! where a law would be false without it.
+
+ghost use Rattle.std.specs.Prelude.{◌≡◌, ◌+◌, ◌<◌, ◌≤◌, ℕ, List, [], ◌∷◌, ◌++◌, length, min, All, encode_utf8_all};
+ghost use Rattle.std.specs.Ordering.{nat_cmp};
+ghost use Rattle.std.specs.Cmp.Lexicographic.{slice_cmp};
+ghost use Rattle.std.specs.Char.{IsAsciiUppercase, IsAsciiLowercase};
+ghost use Rattle.smol_str.specs.Text.{size};
+ghost use Rattle.smol_str.specs.Case.{lower, upper, front, IsAsciiText, BeginsPastAscii};
+ghost use Rattle.smol_str.specs.Cut.{Occurs, StandsAt, IsFirstAfter, IsCut, joined_by};
+ghost use Rattle.smol_str.specs.Replace.{cut, no_limit, match_count, replaced, replaced_all};
+ghost use Rattle.smol_str.specs.Wire.{HasWire, wire, Holds, HasEndedEarly, body};
+
+/// ASCII case keeps the size, is stable, and leaves no letter of the other case.
+pub fn ascii_case()
+    ensures lower_size { (t : List ℕ) → size (lower t) ≡ size t }
+    ensures upper_size { (t : List ℕ) → size (upper t) ≡ size t }
+
+    ensures lower_twice { (t : List ℕ) → lower (lower t) ≡ lower t }
+    ensures upper_twice { (t : List ℕ) → upper (upper t) ≡ upper t }
+    ensures lower_of_upper { (t : List ℕ) → lower (upper t) ≡ lower t }
+    ensures upper_of_lower { (t : List ℕ) → upper (lower t) ≡ upper t }
+
+    ensures lower_has_no_capital { (t : List ℕ) → All (λ c. ¬ IsAsciiUppercase c) (lower t) }
+    ensures upper_has_no_small { (t : List ℕ) → All (λ c. ¬ IsAsciiLowercase c) (upper t) }
+    ensures lower_unchanged { (t : List ℕ) → All (λ c. ¬ IsAsciiUppercase c) t → lower t ≡ t }
+    ensures upper_unchanged { (t : List ℕ) → All (λ c. ¬ IsAsciiLowercase c) t → upper t ≡ t }
+{}
+
+/// The ASCII front of a text ends where the first character past ASCII stands.
+///
+/// Both premises are needed: `é` is no ASCII front, and the front of `ab` is longer than `a`.
+pub fn ascii_front()
+    ensures { (a r : List ℕ) → IsAsciiText a → BeginsPastAscii r → front (a ++ r) ≡ a }
+{}
+
+/// Each text has exactly one cut at a pattern, whatever the limit, and `cut` computes it.
+pub fn one_cut()
+    ensures exists { (t p : List ℕ) (n : ℕ) → (pieces : List (List ℕ)) × IsCut t p n pieces }
+    ensures unique { (t p : List ℕ) (n : ℕ) (xs ys : List (List ℕ)) →
+        IsCut t p n xs → IsCut t p n ys → xs ≡ ys }
+    ensures computed { (t p : List ℕ) (n : ℕ) → IsCut t p n (cut t p n) }
+{}
+
+/// Replacement, and how its limit counts.
+pub fn replacement()
+    ensures of_each_cut { (t p w : List ℕ) (n : ℕ) (pieces : List (List ℕ)) →
+        IsCut t p n pieces → replaced t p w n ≡ joined_by w pieces }
+
+    ensures none { (t p w : List ℕ) → replaced t p w 0 ≡ t }
+    ensures enough { (t p w : List ℕ) (n : ℕ) →
+        match_count t p ≤ n → replaced t p w n ≡ replaced_all t p w }
+    ensures itself { (t p : List ℕ) (n : ℕ) → replaced t p p n ≡ t }
+
+    ensures pieces { (t p : List ℕ) (n : ℕ) (pieces : List (List ℕ)) →
+        IsCut t p n pieces → length pieces ≡ min n (match_count t p) + 1 }
+    ensures unlimited { (t p : List ℕ) → match_count t p ≤ no_limit t }
+{}
+
+/// Replacement from the left: one match at a time, until none is left or the limit is reached.
+///
+/// The first two laws hold of the empty pattern too, but say nothing there: it stands in every
+/// text, and so is first after none. It matches before each character, and at the end.
+pub fn replacement_by_steps()
+    ensures matched { (t p w q r : List ℕ) (n : ℕ) → t ≡ q ++ (p ++ r) → IsFirstAfter p q →
+        replaced t p w (n + 1) ≡ q ++ (w ++ replaced r p w n) }
+    ensures unmatched { (t p w : List ℕ) (n : ℕ) → ¬ Occurs p t → replaced t p w n ≡ t }
+
+    ensures between { (c : ℕ) (t w : List ℕ) (n : ℕ) →
+        replaced (c ∷ t) [] w (n + 1) ≡ w ++ (c ∷ replaced t [] w n) }
+    ensures end { (w : List ℕ) (n : ℕ) → replaced [] [] w (n + 1) ≡ w }
+{}
+
+/// Wire forms can be told apart, and bytes hold at most one.
+///
+/// The first law needs its limit: the empty text and a text of 2^32 bytes would state one size.
+pub fn wire_forms()
+    ensures apart { (s t x y : List ℕ) → HasWire s → HasWire t →
+        wire s ++ x ≡ wire t ++ y → (s ≡ t) × (x ≡ y) }
+    ensures long { (t : List ℕ) → length (wire t) ≡ size t + 4 }
+
+    ensures one { (b s t : List ℕ) (m n : ℕ) → Holds b s m → Holds b t n → (s ≡ t) × (m ≡ n) }
+    ensures whole { (b t : List ℕ) (n : ℕ) → Holds b t n → ¬ HasEndedEarly b }
+    ensures body { (b t : List ℕ) (n : ℕ) → Holds b t n → body b ≡ encode_utf8_all t }
+{}
+
+/// Texts are ordered by their bytes as they are by their characters.
+pub fn byte_order()
+    ensures { (s t : List ℕ) →
+        slice_cmp nat_cmp (encode_utf8_all s) (encode_utf8_all t) ≡ slice_cmp nat_cmp s t }
+{}
+
+/// Where the bytes of a pattern stand in the bytes of a text, the pattern stands in the text.
+///
+/// The empty pattern is left out: it stands between the two bytes of `é`.
+pub fn self_synchronisation()
+    ensures { (t p x y : List ℕ) → 0 < length p →
+        encode_utf8_all t ≡ x ++ (encode_utf8_all p ++ y) → StandsAt p t (length x) }
+{}
