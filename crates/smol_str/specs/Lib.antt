@@ -11,3 +11,6 @@ pub mod Case
 pub mod Cut
 pub mod Replace
 pub mod Wire
+pub mod CutExamples
+pub mod CaseExamples
+pub mod WireExamples

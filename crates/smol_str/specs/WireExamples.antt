@@ -1,0 +1,41 @@
+-- Wire forms of small texts, computed by the checker.
+use Rattle.std.specs.Prelude.{◌≡◌, [], ◌∷◌, refl}
+use Rattle.std.proofs.Common.{inl, inr, lit<}
+use Rattle.smol_str.specs.Wire.{wire, stated, body, HasEndedEarly}
+
+wire_ab : wire (97 ∷ 98 ∷ []) ≡ 2 ∷ 0 ∷ 0 ∷ 0 ∷ 97 ∷ 98 ∷ []
+unfolding wire lib.Utf8.encode
+wire_ab = refl
+
+wire_empty : wire [] ≡ 0 ∷ 0 ∷ 0 ∷ 0 ∷ []
+unfolding wire
+wire_empty = refl
+
+-- 🦀: the size counts bytes
+wire_crab : wire (129408 ∷ []) ≡ 4 ∷ 0 ∷ 0 ∷ 0 ∷ 0xF0 ∷ 0x9F ∷ 0xA6 ∷ 0x80 ∷ []
+unfolding wire lib.Utf8.encode
+wire_crab = refl
+
+-- the lowest byte of the size is the first
+stated_low : stated (0x84 ∷ 1 ∷ 0 ∷ 0 ∷ []) ≡ 388
+unfolding stated
+stated_low = refl
+
+-- the seventh byte is no part of the body
+body_ab : body (2 ∷ 0 ∷ 0 ∷ 0 ∷ 97 ∷ 98 ∷ 99 ∷ []) ≡ 97 ∷ 98 ∷ []
+unfolding stated
+body_ab = refl
+
+no_bytes : HasEndedEarly []
+no_bytes = inl (lit< tt)
+
+size_cut_short : HasEndedEarly (0 ∷ 0 ∷ 0 ∷ [])
+size_cut_short = inl (lit< tt)
+
+body_cut_short : HasEndedEarly (5 ∷ 0 ∷ 0 ∷ 0 ∷ 0xFF ∷ [])
+unfolding stated
+body_cut_short = inr (lit< tt)
+
+largest_size : HasEndedEarly (0xFF ∷ 0xFF ∷ 0xFF ∷ 0xFF ∷ 97 ∷ 98 ∷ 99 ∷ [])
+unfolding stated
+largest_size = inr (lit< tt)
