@@ -1,4 +1,5 @@
 pub mod Lines
+pub mod Tally
 pub mod Report
 pub mod Words
 pub mod Stream

@@ -1,13 +1,20 @@
 -- The lines of a text.
 --     is_newline c                 the character is U+000A
+--     newline                      the text of it alone
 --     lines t                      the lines of t, without their newlines
 --     without_empty_last pieces    the pieces, but for a last one that is empty
-use Rattle.std.specs.Prelude.{ℕ, Bool, List, [], ◌∷◌, ◌==◌, if◌then◌else◌}
-use Rattle.std.specs.List.{onto_first}
+--     HasNoNewline t               no character of t is a newline
+--     ended texts                  each of the texts with a newline behind it, in a row
+use Rattle.std.specs.Prelude.{◌≢◌, ℕ, Bool, List, [], ◌∷◌, ◌++◌, ◌==◌, All, if◌then◌else◌}
+use Rattle.std.specs.List.{flat_map, onto_first}
 
 -- the character that ends a line; a carriage return does not
 abbrev pub is_newline : ℕ → Bool
 is_newline c = c == 10
+
+-- the same, as a text
+abbrev pub newline : List ℕ
+newline = 10 ∷ []
 
 -- a newline ends a line and is no part of it; what stands after the last one is a line where it is not empty
 abbrev pub lines : List ℕ → List (List ℕ)
@@ -20,3 +27,11 @@ without_empty_last [] = []
 without_empty_last ([] ∷ []) = []
 without_empty_last ((c ∷ cs) ∷ []) = (c ∷ cs) ∷ []
 without_empty_last (piece ∷ next ∷ more) = piece ∷ without_empty_last (next ∷ more)
+
+-- the text has no newline
+abbrev pub HasNoNewline : List ℕ → Type 0
+HasNoNewline t = All (λ c. c ≢ 10) t
+
+-- the texts as whole lines
+abbrev pub ended : List (List ℕ) → List ℕ
+ended texts = flat_map (λ t. t ++ newline) texts

@@ -1,15 +1,20 @@
 -- What the program writes of a text, as characters.
 --     place_word p       the word for a place
 --     answer t           the answer line of a text
---     show_report t      the answer lines of the lines of t
+--     count_line e       the count line of a token and how often it stands
+--     show_report t, join_report t, lower_report t, upper_report t, replace_report from to t, tokens_report t
+--                        what is written of t in the mode of that name
 --     report mode t      what the program writes in a mode
-use Rattle.std.specs.Prelude.{ℕ, List, ◌++◌, codes}
-use Rattle.std.specs.List.{flat_map}
+use Rattle.std.specs.Prelude.{ℕ, List, ◌++◌, map, codes}
+use Rattle.std.specs.List.{concat, flat_map}
 use Rattle.std.specs.Fmt.{decimal}
 use Rattle.smol_str.specs.Text.{size, place_of}
 use Rattle.smol_str.specs.declared.value.place.Place.{Place}
 use Rattle.smol_str.specs.declared.value.place.Place.TheVariants.{Inline, Static, Heap}
+use Rattle.smol_str.specs.Case.{lower, upper}
+use Rattle.smol_str.specs.Replace.{replaced_all}
 use Rattle.smol_tokens.specs.Lines.{lines}
+use Rattle.smol_tokens.specs.Tally.{tally}
 use Rattle.smol_tokens.specs.declared.mode.Mode.{Mode}
 use Rattle.smol_tokens.specs.declared.mode.Mode.TheVariants.{Show}
 
@@ -30,6 +35,30 @@ answer t = answer_line (place_of t) (size t) t
 -- the answer line of each line
 abbrev pub show_report : List ℕ → List ℕ
 show_report t = flat_map answer (lines t)
+
+-- one answer line: of all lines joined
+abbrev pub join_report : List ℕ → List ℕ
+join_report t = answer (concat (lines t))
+
+-- the answer line of each line in small letters of ASCII
+abbrev pub lower_report : List ℕ → List ℕ
+lower_report t = flat_map (λ line. answer (lower line)) (lines t)
+
+-- the answer line of each line in capital letters of ASCII
+abbrev pub upper_report : List ℕ → List ℕ
+upper_report t = flat_map (λ line. answer (upper line)) (lines t)
+
+-- the answer line of each line, with `to` in place of each match of `from`
+abbrev pub replace_report : List ℕ → List ℕ → List ℕ → List ℕ
+replace_report from to t = flat_map (λ line. answer (replaced_all line from to)) (lines t)
+
+-- a count in decimal, a space, the token, and a newline
+abbrev pub count_line : List ℕ × ℕ → List ℕ
+count_line e = decimal e.1 ++ (codes " " ++ (e.0 ++ codes "\n"))
+
+-- the count line of each different line, in order of first sight
+abbrev pub tokens_report : List ℕ → List ℕ
+tokens_report t = flat_map count_line (tally (map (λ line. (line, 1)) (lines t)))
 
 -- what is written in each mode
 abbrev pub report : Mode → List ℕ → List ℕ

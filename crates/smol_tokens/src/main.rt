@@ -5,7 +5,7 @@
 #![tactic(auto)]
 
 mod fault;
-mod laws;
+pub mod laws;
 mod lines;
 mod mode;
 mod report;

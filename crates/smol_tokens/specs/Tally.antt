@@ -1,0 +1,33 @@
+-- How often each text of a list of pairs (text, times) stands in it.
+--     is_same s t            s and t are one text
+--     tokens pairs           the texts of the pairs
+--     times_of t pairs       the sum of the times that stand with t
+--     first_sights texts     the texts without repeats, in order of first sight
+--     tally pairs            those of the pairs, each with the sum of its times
+use Rattle.std.specs.Prelude.{ℕ, List, [], ◌∷◌, Bool, not, map, filter, sum_by, nat_eq, if◌then◌else◌}
+use Rattle.std.specs.Cmp.Lexicographic.{pointwise}
+
+-- the test that two texts are equal
+abbrev pub is_same : List ℕ → List ℕ → Bool
+is_same s t = pointwise nat_eq s t
+
+-- the first of each pair
+abbrev pub tokens : List (List ℕ × ℕ) → List (List ℕ)
+tokens pairs = map (λ pair. pair.0) pairs
+
+-- a pair of another text adds nothing
+abbrev pub times_of : List ℕ → List (List ℕ × ℕ) → ℕ
+times_of t pairs = sum_by (λ pair. if is_same t pair.0 then pair.1 else 0) pairs
+
+-- the texts other than t
+abbrev pub without : List ℕ → List (List ℕ) → List (List ℕ)
+without t texts = filter (λ u. not (is_same t u)) texts
+
+-- the first text, and the others after it
+abbrev pub first_sights : List (List ℕ) → List (List ℕ)
+first_sights [] = []
+first_sights (t ∷ texts) = t ∷ without t (first_sights texts)
+
+-- each text once
+abbrev pub tally : List (List ℕ × ℕ) → List (List ℕ × ℕ)
+tally pairs = map (λ t. (t, times_of t pairs)) (first_sights (tokens pairs))
