@@ -68,6 +68,25 @@ pub place_of-heap : (t : List ℕ) → ¬ (IsResident t) → place_of t ≡ Heap
 unfolding place_of
 place_of-heap t away = rw (long_test t (λ short. away (inl short)), no_test t (λ run. away (inr run)) (is_blank_run t) refl)
 
+-- the test for a short text
+pub is_short-true : (t : List ℕ) → IsShort t → is_short t ≡ true
+is_short-true t h = (le_test (size t) INLINE_CAP).1 h
+
+pub is_short-false : (t : List ℕ) → ¬ (IsShort t) → is_short t ≡ false
+is_short-false t h = long_test t h
+
+heap_of_run : (t : List ℕ) → IsBlankRun t → (b : Bool) → is_short t ≡ b → place_of t ≡ Heap → ⊥
+heap_of_run t run true e h = let inline = place_of-short t (grind (arith, nat_tests)) in cc
+heap_of_run t run false e h = let static = place_of-blank t (λ short. let yes = is_short-true t short in cc) run in cc
+
+place_of-heap-alone : (t : List ℕ) → (IsResident t) → place_of t ≡ Heap → ⊥
+place_of-heap-alone t (inl short) e = let inline = place_of-short t short in cc
+place_of-heap-alone t (inr run) e = heap_of_run t run (is_short t) refl e
+
+-- only a text that is not resident has the place Heap
+pub heap-not_resident : (t : List ℕ) → place_of t ≡ Heap → ¬ (IsResident t)
+heap-not_resident t e resident = place_of-heap-alone t resident e
+
 -- two texts are equal exactly where their bytes are
 pub bytes_eq-texts : (s t : List ℕ) → pointwise nat_eq (encode_utf8_all s) (encode_utf8_all t) ≡ pointwise nat_eq s t
 bytes_eq-texts s t =
@@ -78,13 +97,6 @@ bytes_eq-texts s t =
 -- the size of two texts, one after the other
 pub size-append : (s t : List ℕ) → size (s ++ t) ≡ size s + size t
 size-append s t = rw (encodes-append s t) (length-append (encode_utf8_all s) (encode_utf8_all t))
-
--- the test for a short text
-pub is_short-true : (t : List ℕ) → IsShort t → is_short t ≡ true
-is_short-true t h = (le_test (size t) INLINE_CAP).1 h
-
-pub is_short-false : (t : List ℕ) → ¬ (IsShort t) → is_short t ≡ false
-is_short-false t h = long_test t h
 
 -- the characters of the bytes of a text
 pub chars-of : (t bs : List ℕ) → IsUtf8 bs → bs ≡ encode_utf8_all t → chars bs ≡ t

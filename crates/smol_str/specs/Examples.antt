@@ -1,6 +1,6 @@
 -- The definitions on small texts, computed by the checker. Where a limit matters, the example names the constant.
 use Rattle.std.specs.Prelude.{◌≡◌, ◌+◌, ◌-◌, [], ◌∷◌, ◌++◌, replicate, true, false, refl}
-use Rattle.smol_str.specs.declared.value.place.Place.TheVariants.{Inline, Heap}
+use Rattle.smol_str.specs.declared.value.place.Place.TheVariants.{Inline, Static, Heap}
 use Rattle.smol_str.specs.declared.value.buffer.TheConstants.{INLINE_CAP}
 use Rattle.smol_str.specs.declared.value.blank.TheConstants.{BLANK_NEWLINES, BLANK_SPACES}
 use Rattle.smol_str.specs.Text.{size, blank_run, is_blank_run, place_of}

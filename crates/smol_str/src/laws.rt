@@ -9,11 +9,21 @@ ghost use Rattle.std.specs.Prelude.{◌≡◌, ◌+◌, ◌<◌, ◌≤◌, ℕ,
 ghost use Rattle.std.specs.Ordering.{nat_cmp};
 ghost use Rattle.std.specs.Cmp.Lexicographic.{slice_cmp};
 ghost use Rattle.std.specs.Char.{IsAsciiUppercase, IsAsciiLowercase};
-ghost use Rattle.smol_str.specs.Text.{size};
+ghost use Rattle.smol_str.specs.Text.{size, IsShort, IsBlankRun, IsResident, place_of};
 ghost use Rattle.smol_str.specs.Case.{lower, upper, front, IsAsciiText, BeginsPastAscii};
 ghost use Rattle.smol_str.specs.Cut.{Occurs, StandsAt, IsFirstAfter, IsCut, joined_by};
 ghost use Rattle.smol_str.specs.Replace.{cut, no_limit, match_count, replaced, replaced_all};
 ghost use Rattle.smol_str.specs.Wire.{HasWire, wire, Holds, HasEndedEarly, body};
+
+use crate::value::place::Place;
+
+/// The tests behind `place_of` decide the facts that a text is short and that it is a blank run.
+pub fn places()
+    ensures short { (t : List ℕ) → IsShort t → place_of t ≡ Place.Inline }
+    ensures blank { (t : List ℕ) → ¬ (IsShort t) → IsBlankRun t → place_of t ≡ Place.Static }
+    ensures other { (t : List ℕ) → ¬ (IsResident t) → place_of t ≡ Place.Heap }
+    ensures heap_alone { (t : List ℕ) → place_of t ≡ Place.Heap → ¬ (IsResident t) }
+{}
 
 /// ASCII case keeps the size, is stable, and leaves no letter of the other case.
 pub fn ascii_case()

@@ -1,14 +1,22 @@
 //! What the definitions in `specs/` mean: laws over every text and every list of pairs, each the
 //! contract of a function that does nothing.
 ghost use Rattle.std.specs.Prelude.{◌≡◌, ◌≢◌, ◌⊎◌, ◌+◌, ℕ, List, [], ◌∷◌, ◌++◌, All, AllPairs, unwrap_or};
+ghost use Rattle.std.specs.List.{slice_split};
 ghost use Rattle.std.specs.Map.{lookup};
 ghost use Rattle.indexmap.specs.IndexMap.{insert_entry};
 ghost use Rattle.smol_str.specs.Cut.{IsCut, joined_by};
 ghost use Rattle.smol_str.specs.Replace.{no_limit};
-ghost use Rattle.smol_tokens.specs.Lines.{newline, lines, without_empty_last, HasNoNewline, ended};
+ghost use Rattle.smol_tokens.specs.Lines.{is_newline, newline, lines, without_empty_last, HasNoNewline, ended};
 ghost use Rattle.smol_tokens.specs.Tally.{is_same, tokens, times_of, tally};
 
-/// The lines of a text are its pieces between newlines, without a last piece that is empty.
+/// The lines of a text are the pieces between newlines that std's `split` of a slice gives, without
+/// a last piece that is empty.
+pub fn lines_are_pieces()
+    ensures { (t : List ℕ) → lines t ≡ without_empty_last (slice_split is_newline t) }
+{}
+
+/// The lines of a text are the pieces of its unlimited cut at the newline, without a last piece that
+/// is empty; they hold no newline, and joined or written again they give the text.
 ///
 /// The last law needs its premises: a newline in one of the lines would end that line.
 pub fn lines_of_a_text()

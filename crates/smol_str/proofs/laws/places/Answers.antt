@@ -1,0 +1,10 @@
+use Rattle.smol_str.proofs.TextLemmas.{place_of-short, place_of-blank, place_of-heap, heap-not_resident}
+use Rattle.smol_str.proofs.laws.places.Goals as goal
+
+pub returns : goal.returns
+returns c = record {
+  short = place_of-short;
+  blank = place_of-blank;
+  other = place_of-heap;
+  heap_alone = heap-not_resident;
+}
