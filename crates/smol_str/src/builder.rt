@@ -10,7 +10,7 @@ ghost use Rattle.smol_str.specs.Draft.{InBuffer, OnHeap, empty_draft, appended, 
 pub mod steps;
 
 use crate::value::SmolStr;
-use crate::value::buffer::{INLINE_CAP, InlineText};
+use crate::value::buffer::{INLINE_CAP, InlineBuffer, InlineText};
 use std::alloc::{AllocError, Global};
 use std::marker::Model;
 
@@ -106,7 +106,7 @@ impl SmolStrBuilder {
 
     /// The buffer of a builder that keeps its text there, `None` on the heap: the text's bytes, and
     /// then zeros up to its end.
-    pub fn inline_buffer(&self) -> Option<&[u8; INLINE_CAP]>
+    pub fn inline_buffer(&self) -> Option<&InlineBuffer>
         ensures kind { IsSome result ↔ (self.now.kind ≡ InBuffer) }
         ensures buffer { IfSome result (λ buffer. buffer.now ≡ padded (encode_utf8_all self.now.text)) }
     {

@@ -15,6 +15,6 @@ pub use builder::SmolStrBuilder;
 pub use builder::steps::{Step, build};
 pub use value::SmolStr;
 pub use value::blank::{BLANK_NEWLINES, BLANK_SPACES};
-pub use value::buffer::INLINE_CAP;
+pub use value::buffer::{INLINE_CAP, InlineBuffer};
 pub use value::convert::FromUtf8Fault;
 pub use value::place::Place;

@@ -14,7 +14,7 @@ pub mod place;
 mod print;
 
 use blank::blank_slice;
-use buffer::{INLINE_CAP, InlineText};
+use buffer::{INLINE_CAP, InlineBuffer, InlineText};
 use place::Place;
 use std::alloc::{AllocError, Global};
 use std::marker::Model;
@@ -151,7 +151,7 @@ impl SmolStr {
 
     /// The buffer of an inline value, `None` in the other places: the text's bytes, and then zeros
     /// up to its end.
-    pub fn inline_buffer(&self) -> Option<&[u8; INLINE_CAP]>
+    pub fn inline_buffer(&self) -> Option<&InlineBuffer>
         ensures place { IsSome result ↔ (self.now.place ≡ Place.Inline) }
         ensures buffer { IfSome result (λ buffer. buffer.now ≡ padded (encode_utf8_all self.now.text)) }
     {

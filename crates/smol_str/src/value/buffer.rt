@@ -9,11 +9,14 @@ use std::marker::Model;
 /// The most bytes of a text that lies in the value itself.
 pub const INLINE_CAP: usize = 23;
 
+/// The whole buffer of a short text: its bytes, and then zeros.
+pub type InlineBuffer = [u8; INLINE_CAP];
+
 /// A text of at most [`INLINE_CAP`] bytes; the bytes past its end are zero.
 #[derive(Drop)]
 pub(crate) struct InlineText {
     len: u8,
-    buf: [u8; INLINE_CAP],
+    buf: InlineBuffer,
 }
 
 impl Model for InlineText {
@@ -30,7 +33,7 @@ impl Model for InlineText {
 
 impl InlineText {
     /// The empty text.
-    pub fn new() -> InlineText
+    pub(crate) fn new() -> InlineText
         ensures { result ≡ [] }
     {
         InlineText {
@@ -40,7 +43,7 @@ impl InlineText {
     }
 
     /// A copy of a short text.
-    pub fn from_short(text: &str) -> InlineText
+    pub(crate) fn from_short(text: &str) -> InlineText
         requires { length text.now ≤ INLINE_CAP }
         ensures { result ≡ chars text.now }
     {
@@ -49,7 +52,8 @@ impl InlineText {
         short
     }
 
-    pub fn as_str(&self) -> &str
+    /// The text, as std's `str`.
+    pub(crate) fn as_str(&self) -> &str
         ensures bytes { result.now ≡ encode_utf8_all self.now }
         ensures short { IsShort self.now }
     {
@@ -58,21 +62,22 @@ impl InlineText {
     }
 
     /// The length in bytes.
-    pub fn len(&self) -> usize
+    pub(crate) fn len(&self) -> usize
         ensures len { result ≡ size self.now }
         ensures short { IsShort self.now }
     {
         self.len as usize
     }
 
-    /// The whole buffer: the text's bytes, and then zeros.
-    pub fn buffer(&self) -> &[u8; INLINE_CAP]
+    /// The whole buffer.
+    pub(crate) fn buffer(&self) -> &InlineBuffer
         ensures { result.now ≡ padded (encode_utf8_all self.now) }
     {
         &self.buf
     }
 
-    pub fn duplicate(&self) -> InlineText
+    /// A copy, which cannot be refused.
+    pub(crate) fn duplicate(&self) -> InlineText
         ensures copy { result ≡ self.now }
         ensures short { IsShort self.now }
     {
@@ -84,14 +89,14 @@ impl InlineText {
 
     /// Whether the texts are equal, by their lengths and whole buffers: the bytes past a text's end
     /// are zero.
-    pub fn same(&self, other: &InlineText) -> bool
+    pub(crate) fn same(&self, other: &InlineText) -> bool
         ensures { IsTrue result ↔ (self.now ≡ other.now) }
     {
         self.len == other.len && self.buf == other.buf
     }
 
     /// Appends a text for which there is room.
-    pub fn push_str(&mut self, text: &str)
+    pub(crate) fn push_str(&mut self, text: &str)
         requires { size self.old + length text.now ≤ INLINE_CAP }
         ensures { self.new ≡ self.old ++ chars text.now }
     {
@@ -101,7 +106,7 @@ impl InlineText {
 }
 
 /// Overwrites the bytes from `start` on.
-fn write_at(buf: &mut [u8; INLINE_CAP], start: usize, bytes: &[u8])
+fn write_at(buf: &mut InlineBuffer, start: usize, bytes: &[u8])
     requires { start + length bytes.now ≤ INLINE_CAP }
     ensures front { take (start + length bytes.now) buf.new ≡ take start buf.old ++ bytes.now }
     ensures back { drop (start + length bytes.now) buf.new ≡ drop (start + length bytes.now) buf.old }
