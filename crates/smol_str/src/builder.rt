@@ -154,8 +154,9 @@ impl SmolStrBuilder {
 
     /// The value of the text, in the place of the text whatever the kind.
     ///
-    /// A resident text needs no memory. Any other is refused where the heap has no room for the value,
-    /// and the builder is given back.
+    /// Builders with one text therefore finish to equal values in the same place, however each was
+    /// filled. A resident text needs no memory. Any other is refused where the heap has no room for
+    /// the value, and the builder is given back.
     pub fn finish(self) -> Result<SmolStr, SmolStrBuilder>
         ensures ok { IfOk result (λ v. IsValueOf self.text v) }
         ensures given_back { IfErr result (λ back. back ≡ self) }

@@ -119,7 +119,7 @@ fn no_request(rt: HostRuntime) -> Result<(), Fail> {
     Ok(())
 }
 
-// The boundary: a character of two bytes is refused, and one of one byte then fits.
+// Where one byte is left, a text of two bytes is refused, and a character of one byte then fits.
 #[test]
 fn refused_at_the_boundary(rt: HostRuntime) -> Result<(), Fail> {
     let alloc = rt.alloc();
