@@ -1,7 +1,8 @@
 //! Where texts are kept.
 use super::repeated;
-use crate::{Place, SmolStr, SmolStrBuilder, Step, build};
+use crate::{InlineBuffer, Place, SmolStr, SmolStrBuilder, Step, build};
 use std::alloc::{AllocError, Global};
+use std::process::Abort;
 use std::test::Fail;
 
 /// Each text, and the place of its value.
@@ -142,16 +143,8 @@ fn inline_buffers(rt: HostRuntime) -> Result<(), Fail> {
     let value = SmolStr::new(alloc, "ab")?;
     let mut builder = SmolStrBuilder::new(alloc);
     builder.push_str("ab")?;
-    for buffer in [value.inline_buffer(), builder.inline_buffer()] {
-        match buffer {
-            Some(buffer) => {
-                assert!(rt; buffer.starts_with(b"ab"));
-                assert!(rt; buffer.iter().skip(2).all(|byte| *byte == 0));
-                assert_eq!(rt; buffer.len(), 23);
-            }
-            None => assert!(rt; false, "an inline text has a buffer"),
-        }
-    }
+    assert_holds_ab(&rt, value.inline_buffer());
+    assert_holds_ab(&rt, builder.inline_buffer());
     assert!(rt; SmolStr::new_static("ab").inline_buffer().is_none());
     let long = SmolStr::new(alloc, "aaaaaaaaaaaaaaaaaaaaaaaa")?;
     assert!(rt; long.inline_buffer().is_none());
@@ -159,6 +152,17 @@ fn inline_buffers(rt: HostRuntime) -> Result<(), Fail> {
     large.push_str("ab")?;
     assert!(rt; large.inline_buffer().is_none());
     Ok(())
+}
+
+fn assert_holds_ab(rt: &impl Abort, buffer: Option<&InlineBuffer>) {
+    match buffer {
+        Some(buffer) => {
+            assert!(rt; buffer.starts_with(b"ab"));
+            assert!(rt; buffer.iter().skip(2).all(|byte| *byte == 0));
+            assert_eq!(rt; buffer.len(), 23);
+        }
+        None => assert!(rt; false, "an inline text has a buffer"),
+    }
 }
 
 // One text, made in every way so far: equal values, all inline.
