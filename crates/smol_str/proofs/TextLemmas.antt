@@ -48,13 +48,17 @@ is_blank_run-Decides t =
     Decides-like _ (λ p. IsBlankRun-from_tests t (leading_newlines t) refl p.0 p.1.0 p.1.1) (λ r. let p = Passes-from_IsBlankRun t r in (p.newlines, (p.spaces, p.rest)))
     (Decides-and _ _ (le_test _ _) (Decides-and _ _ (le_test _ _) ((λ h. h), (λ h. h))))
 
+-- the test for a short text
+pub is_short-true : (t : List ℕ) → IsShort t → is_short t ≡ true
+is_short-true t h = (le_test (size t) INLINE_CAP).1 h
+
+pub is_short-false : (t : List ℕ) → ¬ (IsShort t) → is_short t ≡ false
+is_short-false t h = grind (arith, nat_tests)
+
 -- the three places
 pub place_of-short : (t : List ℕ) → IsShort t → place_of t ≡ Inline
 unfolding place_of
-place_of-short t h = rw ((le_test (size t) INLINE_CAP).1 h)
-
-long_test : (t : List ℕ) → ¬ (IsShort t) → is_short t ≡ false
-long_test t h = grind (arith, nat_tests)
+place_of-short t h = rw (is_short-true t h)
 
 no_test : (t : List ℕ) → ¬ (IsBlankRun t) → (b : Bool) → is_blank_run t ≡ b → b ≡ false
 no_test t h true e = absurd (h ((is_blank_run-Decides t).0 e))
@@ -62,30 +66,21 @@ no_test t h false e = refl
 
 pub place_of-blank : (t : List ℕ) → ¬ (IsShort t) → IsBlankRun t → place_of t ≡ Static
 unfolding place_of
-place_of-blank t long run = rw (long_test t long, (is_blank_run-Decides t).1 run)
+place_of-blank t long run = rw (is_short-false t long, (is_blank_run-Decides t).1 run)
 
 pub place_of-heap : (t : List ℕ) → ¬ (IsResident t) → place_of t ≡ Heap
 unfolding place_of
-place_of-heap t away = rw (long_test t (λ short. away (inl short)), no_test t (λ run. away (inr run)) (is_blank_run t) refl)
+place_of-heap t away = rw (is_short-false t (λ short. away (inl short)), no_test t (λ run. away (inr run)) (is_blank_run t) refl)
 
--- the test for a short text
-pub is_short-true : (t : List ℕ) → IsShort t → is_short t ≡ true
-is_short-true t h = (le_test (size t) INLINE_CAP).1 h
-
-pub is_short-false : (t : List ℕ) → ¬ (IsShort t) → is_short t ≡ false
-is_short-false t h = long_test t h
-
-heap_of_run : (t : List ℕ) → IsBlankRun t → (b : Bool) → is_short t ≡ b → place_of t ≡ Heap → ⊥
-heap_of_run t run true e h = let inline = place_of-short t (grind (arith, nat_tests)) in cc
-heap_of_run t run false e h = let static = place_of-blank t (λ short. let yes = is_short-true t short in cc) run in cc
-
-place_of-heap-alone : (t : List ℕ) → (IsResident t) → place_of t ≡ Heap → ⊥
-place_of-heap-alone t (inl short) e = let inline = place_of-short t short in cc
-place_of-heap-alone t (inr run) e = heap_of_run t run (is_short t) refl e
+-- a blank run is short, or else Static
+run_elsewhere : (t : List ℕ) → IsBlankRun t → (b : Bool) → is_short t ≡ b → place_of t ≡ Heap → ⊥
+run_elsewhere t run true e heap = let inline = place_of-short t (grind (arith, nat_tests)) in cc
+run_elsewhere t run false e heap = let static = place_of-blank t (λ short. let yes = is_short-true t short in cc) run in cc
 
 -- only a text that is not resident has the place Heap
 pub heap-not_resident : (t : List ℕ) → place_of t ≡ Heap → ¬ (IsResident t)
-heap-not_resident t e resident = place_of-heap-alone t resident e
+heap-not_resident t heap (inl short) = let inline = place_of-short t short in cc
+heap-not_resident t heap (inr run) = run_elsewhere t run (is_short t) refl heap
 
 -- two texts are equal exactly where their bytes are
 pub bytes_eq-texts : (s t : List ℕ) → pointwise nat_eq (encode_utf8_all s) (encode_utf8_all t) ≡ pointwise nat_eq s t

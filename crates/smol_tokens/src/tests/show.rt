@@ -41,10 +41,14 @@ fn shown_whole(alloc: Global, input: &[u8]) -> Result<Vec<u8>, RunFault>
 }
 
 /// Each input, and the report on it.
-const REPORTS: [(&[u8], &[u8]); 7] = [
+const REPORTS: [(&[u8], &[u8]); 8] = [
     (
         b"if\n\naaaaaaaaaaaaaaaaaaaaaaaa",
         b"inline 2 if\ninline 0 \nheap 24 aaaaaaaaaaaaaaaaaaaaaaaa\n",
+    ),
+    (
+        b"                        \n",
+        b"static 24                         \n",
     ),
     (b"", b""),
     (b"\n", b"inline 0 \n"),
@@ -65,6 +69,15 @@ fn reports(rt: HostRuntime) -> Result<(), Fail> {
         let out = shown_whole(rt.alloc(), input)?;
         assert_eq!(rt; out.as_slice(), wanted);
     }
+    Ok(())
+}
+
+// A space too many for the blank constant.
+#[test]
+fn long_blank_line(rt: HostRuntime) -> Result<(), Fail> {
+    let out = shown_whole(rt.alloc(), &[b' '; 129])?;
+    assert_eq!(rt; out.len(), 139);
+    assert!(rt; out.as_slice().starts_with(b"heap 129  "));
     Ok(())
 }
 
