@@ -4,7 +4,7 @@
 --     Holds b t n          the first n bytes of b are the wire form of t
 --     stated b             the size that the first four bytes of b state
 --     HasEndedEarly b      b is shorter than four bytes, or than four bytes and the size that they state
---     body b               the stated number of bytes after the first four
+--     body b               as many bytes as b states, from its fifth on
 use Rattle.std.specs.Prelude.{◌≡◌, ℕ, ◌+◌, ◌<◌, ◌≤◌, ◌^◌, ◌⊎◌, List, ◌++◌, length, take, drop, encode_utf8_all}
 use Rattle.std.specs.Int.{to_le_bytes, from_le_bytes, w32}
 use Rattle.smol_str.specs.Text.{size}

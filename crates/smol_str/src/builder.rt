@@ -152,7 +152,7 @@ impl SmolStrBuilder {
         }
     }
 
-    /// The value of the text, in the place of the text whatever the kind.
+    /// The value of the text, in the place of the text wherever the builder kept it.
     ///
     /// Builders with one text therefore finish to equal values in the same place, however each was
     /// filled. A resident text needs no memory. Any other is refused where the heap has no room for

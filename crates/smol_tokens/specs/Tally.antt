@@ -2,7 +2,7 @@
 --     is_same s t            s and t are one text
 --     tokens pairs           the texts of the pairs
 --     times_of t pairs       the sum of the times that stand with t
---     first_sights texts     the texts without repeats, in order of first sight
+--     first_sights texts     each text once, in the order in which they first stand
 --     tally pairs            those of the pairs, each with the sum of its times
 use Rattle.std.specs.Prelude.{ℕ, List, [], ◌∷◌, Bool, not, map, filter, sum_by, nat_eq, if◌then◌else◌}
 use Rattle.std.specs.Cmp.Lexicographic.{pointwise}

@@ -94,7 +94,7 @@ impl Ord for SmolStr {
     }
 }
 
-/// A value feeds a hasher what std's `str` of its text feeds.
+/// Hashing a value makes the writes that hashing its text as a `str` makes.
 impl Hash for SmolStr {
     ghost hash_input = { λ s. fed.str (encode_utf8_all s.text) };
 
