@@ -148,56 +148,91 @@ fn of_utf8(answer: Result<SmolStr, FromUtf8Fault>) -> Answer {
     }
 }
 
-// A value that is refused a copy comes back as it was.
+/// A call on a value that may ask for memory.
+#[derive(Clone, Copy, PartialEq, Eq, Debug)]
+enum Use {
+    Clone,
+    IntoString,
+    IntoRcStr,
+}
+
+/// What a call on a value answered: its text, or want of memory with the value that came back.
+#[derive(Drop)]
+enum Used {
+    Copied(SmolStr),
+    Owned(String),
+    Shared(RcStr),
+    Refused,
+    GivenBack(SmolStr),
+}
+
+// A clone outside the heap asks for nothing, nor does a shared text that a heap value has.
 #[test]
 fn values_come_back(rt: HostRuntime) -> Result<(), Fail> {
     let alloc = rt.alloc();
     for len in [1, INLINE_CAP, INLINE_CAP + 1, 5000] {
         let text = repeated(alloc, "a", len)?;
-        let value = SmolStr::new(alloc, text.as_str())?;
-        let place = value.place();
-        refuse_from(alloc, 1);
-        let answer = value.into_string(alloc);
-        let was_refused = end_refusals(alloc);
-        assert_eq!(rt; was_refused, can_refuse(alloc), "{len} bytes");
-        match answer {
-            Ok(string) => assert_eq!(rt; string.as_str(), text.as_str()),
-            Err(back) => {
-                assert!(rt; was_refused, "{len} bytes: nothing was refused");
-                assert_eq!(rt; back.as_str(), text.as_str());
-                assert_eq!(rt; back.place(), place);
-            }
+        let is_inline = len <= INLINE_CAP;
+        for (call, wants_memory) in [
+            (Use::Clone, false),
+            (Use::IntoString, true),
+            (Use::IntoRcStr, is_inline),
+        ] {
+            let refusals = count_refused_uses(&rt, alloc, call, text.as_str())?;
+            assert!(rt;
+                (refusals > 0) == (wants_memory && can_refuse(alloc)),
+                "{call:?} of {len} bytes"
+            );
         }
     }
     Ok(())
 }
 
-// Only a heap value has a shared text to give: any other asks for one.
-#[test]
-fn shared_texts(rt: HostRuntime) -> Result<(), Fail> {
-    let alloc = rt.alloc();
-    for len in [1, INLINE_CAP + 1, 5000] {
-        let text = repeated(alloc, "a", len)?;
-        let value = SmolStr::new(alloc, text.as_str())?;
+/// Refuses the first request, the second, and so on, until a run meets no refusal, and answers how
+/// many runs met one. A value that comes back is as it was.
+fn count_refused_uses(rt: &impl Abort, alloc: Global, call: Use, text: &str) -> Result<u32, Fail> {
+    for nth in 1..MOST {
+        let value = SmolStr::new(alloc, text)?;
         let place = value.place();
-        refuse_from(alloc, 1);
-        let answer = value.into_rc_str(alloc);
+        refuse_one(alloc, nth);
+        let used = use_value(alloc, call, value);
         let was_refused = end_refusals(alloc);
-        assert_eq!(rt;
-            was_refused,
-            place != Place::Heap && can_refuse(alloc),
-            "{len} bytes"
-        );
-        match answer {
-            Ok(shared) => assert_eq!(rt; shared.as_str(), text.as_str()),
-            Err(back) => {
-                assert!(rt; was_refused, "{len} bytes: nothing was refused");
-                assert_eq!(rt; back.as_str(), text.as_str());
-                assert_eq!(rt; back.place(), place);
+        match used {
+            Used::Copied(copy) => {
+                assert_eq!(rt; copy.as_str(), text);
+                assert_eq!(rt; copy.place(), place, "{call:?}");
+            }
+            Used::Owned(string) => assert_eq!(rt; string.as_str(), text),
+            Used::Shared(shared) => assert_eq!(rt; shared.as_str(), text),
+            Used::Refused => assert!(rt; was_refused, "{call:?}: nothing was refused"),
+            Used::GivenBack(back) => {
+                assert!(rt; was_refused, "{call:?}: nothing was refused");
+                assert_eq!(rt; back.as_str(), text);
+                assert_eq!(rt; back.place(), place, "{call:?}");
             }
         }
+        if !was_refused {
+            return Ok(nth - 1);
+        }
     }
-    Ok(())
+    Err("a call makes too many requests".into())
+}
+
+fn use_value(alloc: Global, call: Use, value: SmolStr) -> Used {
+    match call {
+        Use::Clone => match value.clone() {
+            Ok(copy) => Used::Copied(copy),
+            Err(_) => Used::Refused,
+        },
+        Use::IntoString => match value.into_string(alloc) {
+            Ok(string) => Used::Owned(string),
+            Err(back) => Used::GivenBack(back),
+        },
+        Use::IntoRcStr => match value.into_rc_str(alloc) {
+            Ok(shared) => Used::Shared(shared),
+            Err(back) => Used::GivenBack(back),
+        },
+    }
 }
 
 // The calls that can never be refused.
