@@ -5,7 +5,7 @@ use Rattle.std.proofs.lemmas.Bool.Decides.{Decides-eqb}
 use Rattle.std.specs.Str.{chars, IsUtf8}
 use Rattle.std.proofs.lemmas.Str.{encodes-chars, chars-append, IsUtf8-append}
 use Rattle.std.proofs.lemmas.List.{drop-drop, drop-replicate, take-append-drop}
-use Rattle.smol_str.specs.declared.value.buffer.TheConstants.{INLINE_CAP}
+use Rattle.smol_str.specs.declared.buffer.TheConstants.{INLINE_CAP}
 use Rattle.smol_str.specs.Text.{size, IsShort}
 use Rattle.smol_str.specs.Buffer.{IsBuffer, padded}
 

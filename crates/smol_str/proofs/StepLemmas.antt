@@ -2,7 +2,7 @@
 use Rattle.std.proofs.Common.{◌≡◌, ℕ, ◌+◌, ◌<◌, List, [], ◌∷◌, ◌++◌, length, take, drop, get_or, sym, ◌∙◌, ap, arith, ◌⊎◌, inl, inr}
 use Rattle.std.proofs.lemmas.List.{append-nil, take-append-drop, take_more}
 use Rattle.std.proofs.lemmas.List.Concat.{flat_map-append}
-use Rattle.smol_str.specs.declared.value.buffer.TheConstants.{INLINE_CAP}
+use Rattle.smol_str.specs.declared.buffer.TheConstants.{INLINE_CAP}
 use Rattle.smol_str.specs.declared.builder.steps.Step.{Step}
 use Rattle.smol_str.specs.Text.{IsShort}
 use Rattle.smol_str.specs.Draft.{Draft, OnHeap, kind_with, kind_for, appended}

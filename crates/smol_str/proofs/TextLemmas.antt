@@ -8,7 +8,7 @@ use Rattle.std.proofs.lemmas.List.{append-nil}
 use Rattle.std.specs.Rc.{rc_str_bytes}
 use Rattle.std.specs.declared.rc.RcStr.{RcStr}
 use Rattle.std.proofs.lemmas.Bool.Decides.{nat_tests, Decides-and, Decides-like, same_from_decides}
-use Rattle.smol_str.specs.declared.value.buffer.TheConstants.{INLINE_CAP}
+use Rattle.smol_str.specs.declared.buffer.TheConstants.{INLINE_CAP}
 use Rattle.smol_str.specs.declared.value.place.Place.TheVariants.{Inline, Static, Heap}
 use Rattle.smol_str.specs.Text.{size, is_short, is_blank_run, place_of, IsShort, IsBlankRun, IsResident, blank_run, leading_newlines}
 use Rattle.smol_str.proofs.BlankLemmas.{IsAscii-blank_run, Passes-from_IsBlankRun, IsBlankRun-from_tests}

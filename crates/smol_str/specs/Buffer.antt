@@ -1,7 +1,7 @@
 -- The buffer of a short text.
 use Rattle.std.specs.Prelude.{◌≡◌, ℕ, ◌-◌, ◌≤◌, List, ◌++◌, length, take, drop, replicate}
 use Rattle.std.specs.Str.{IsUtf8}
-use Rattle.smol_str.specs.declared.value.buffer.TheConstants.{INLINE_CAP}
+use Rattle.smol_str.specs.declared.buffer.TheConstants.{INLINE_CAP}
 
 -- bytes, and zeros after them to the buffer's end
 abbrev pub padded : List ℕ → List ℕ

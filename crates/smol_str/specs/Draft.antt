@@ -4,7 +4,7 @@
 --     appended b u      the builder b, and the text u at its end
 --     kind_for n t      the kind of a builder that was given capacity n and has the text t
 use Rattle.std.specs.Prelude.{ℕ, List, [], ◌++◌, ◌&&◌, nat_le, if◌then◌else◌}
-use Rattle.smol_str.specs.declared.value.buffer.TheConstants.{INLINE_CAP}
+use Rattle.smol_str.specs.declared.buffer.TheConstants.{INLINE_CAP}
 use Rattle.smol_str.specs.Text.{is_short}
 
 -- a builder keeps its text in its own buffer, or on the heap

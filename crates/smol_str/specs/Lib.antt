@@ -1,12 +1,13 @@
 pub mod Text
 pub mod Meaning
 pub mod Buffer
-pub mod Arms
+pub mod ValueArms
 pub mod Faults
 pub mod Draft
-pub mod DraftArms
+pub mod BuilderArms
 pub mod Steps
-pub mod Examples
+pub mod TextExamples
+pub mod DraftExamples
 pub mod Case
 pub mod Cut
 pub mod Replace

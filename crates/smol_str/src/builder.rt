@@ -9,8 +9,8 @@ ghost use Rattle.smol_str.specs.Draft.{InBuffer, OnHeap, empty_draft, appended, 
 
 pub mod steps;
 
+use crate::buffer::{INLINE_CAP, InlineBuffer, InlineText};
 use crate::value::SmolStr;
-use crate::value::buffer::{INLINE_CAP, InlineBuffer, InlineText};
 use std::alloc::{AllocError, Global};
 use std::marker::Model;
 
@@ -43,7 +43,7 @@ impl Model for SmolStrBuilder {
 
     ghost Value = { Draft };
 
-    ghost use Rattle.smol_str.specs.DraftArms.{builder_text, builder_kind, IsSoundBuilder};
+    ghost use Rattle.smol_str.specs.BuilderArms.{builder_text, builder_kind, IsSoundBuilder};
 
     ghost view = { λ s. record { text = builder_text s.repr; kind = builder_kind s.repr } };
 
@@ -159,7 +159,7 @@ impl SmolStrBuilder {
     /// the value, and the builder is given back.
     pub fn finish(self) -> Result<SmolStr, SmolStrBuilder>
         ensures ok { IfOk result (λ v. IsValueOf self.text v) }
-        ensures given_back { IfErr result (λ back. back ≡ self) }
+        ensures back { IfErr result (λ back. back ≡ self) }
         ensures refused { OnErr result (¬ (IsResident self.text)) }
     {
         let alloc = self.alloc;
@@ -180,7 +180,7 @@ impl SmolStr {
     /// The value of a builder's text: [`SmolStrBuilder::finish`] as a function of the value's type.
     pub fn from_builder(builder: SmolStrBuilder) -> Result<SmolStr, SmolStrBuilder>
         ensures ok { IfOk result (λ v. IsValueOf builder.text v) }
-        ensures given_back { IfErr result (λ back. back ≡ builder) }
+        ensures back { IfErr result (λ back. back ≡ builder) }
         ensures refused { OnErr result (¬ (IsResident builder.text)) }
     {
         builder.finish()

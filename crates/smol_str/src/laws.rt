@@ -61,10 +61,10 @@ pub fn replacement()
     ensures of_each_cut { (t p w : List ℕ) (n : ℕ) (pieces : List (List ℕ)) →
         IsCut t p n pieces → replaced t p w n ≡ joined_by w pieces }
 
-    ensures none { (t p w : List ℕ) → replaced t p w 0 ≡ t }
-    ensures enough { (t p w : List ℕ) (n : ℕ) →
+    ensures limit_zero { (t p w : List ℕ) → replaced t p w 0 ≡ t }
+    ensures limit_beyond_matches { (t p w : List ℕ) (n : ℕ) →
         match_count t p ≤ n → replaced t p w n ≡ replaced_all t p w }
-    ensures itself { (t p : List ℕ) (n : ℕ) → replaced t p p n ≡ t }
+    ensures by_itself { (t p : List ℕ) (n : ℕ) → replaced t p p n ≡ t }
 
     ensures pieces { (t p : List ℕ) (n : ℕ) (pieces : List (List ℕ)) →
         IsCut t p n pieces → length pieces ≡ min n (match_count t p) + 1 }
@@ -91,10 +91,10 @@ pub fn replacement_by_steps()
 pub fn wire_forms()
     ensures apart { (s t x y : List ℕ) → HasWire s → HasWire t →
         wire s ++ x ≡ wire t ++ y → (s ≡ t) × (x ≡ y) }
-    ensures long { (t : List ℕ) → length (wire t) ≡ size t + 4 }
+    ensures length { (t : List ℕ) → length (wire t) ≡ size t + 4 }
 
-    ensures one { (b s t : List ℕ) (m n : ℕ) → Holds b s m → Holds b t n → (s ≡ t) × (m ≡ n) }
-    ensures whole { (b t : List ℕ) (n : ℕ) → Holds b t n → ¬ HasEndedEarly b }
+    ensures one_text { (b s t : List ℕ) (m n : ℕ) → Holds b s m → Holds b t n → (s ≡ t) × (m ≡ n) }
+    ensures not_ended_early { (b t : List ℕ) (n : ℕ) → Holds b t n → ¬ HasEndedEarly b }
     ensures body { (b t : List ℕ) (n : ℕ) → Holds b t n → body b ≡ encode_utf8_all t }
 {}
 

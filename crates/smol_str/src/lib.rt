@@ -5,16 +5,17 @@
 //! at most [`BLANK_SPACES`] spaces. A [`SmolStrBuilder`] makes a text piece by piece.
 #![tactic(auto)]
 
+mod buffer;
 mod builder;
 pub mod laws;
 #[cfg(test)]
 mod tests;
 mod value;
 
+pub use buffer::{INLINE_CAP, InlineBuffer};
 pub use builder::SmolStrBuilder;
 pub use builder::steps::{Step, build};
 pub use value::SmolStr;
 pub use value::blank::{BLANK_NEWLINES, BLANK_SPACES};
-pub use value::buffer::{INLINE_CAP, InlineBuffer};
 pub use value::convert::FromUtf8Fault;
 pub use value::place::Place;

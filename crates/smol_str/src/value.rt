@@ -7,14 +7,13 @@ ghost use Rattle.smol_str.specs.Buffer.{padded};
 ghost use Rattle.smol_str.specs.Meaning.{IsValueOf};
 
 pub mod blank;
-pub mod buffer;
 mod compare;
 pub mod convert;
 pub mod place;
 mod print;
 
+use crate::buffer::{INLINE_CAP, InlineBuffer, InlineText};
 use blank::blank_slice;
-use buffer::{INLINE_CAP, InlineBuffer, InlineText};
 use place::Place;
 use std::alloc::{AllocError, Global};
 use std::marker::Model;
@@ -47,7 +46,7 @@ impl Model for SmolStr {
 
     ghost Value = { Meaning };
 
-    ghost use Rattle.smol_str.specs.Arms.{repr_text, repr_place, IsSound};
+    ghost use Rattle.smol_str.specs.ValueArms.{repr_text, repr_place, IsSound};
 
     ghost view = { λ s. record { text = repr_text s.repr; place = repr_place s.repr } };
 

@@ -6,8 +6,8 @@ ghost use Rattle.smol_str.specs.Draft.{OnHeap, appended};
 ghost use Rattle.smol_str.specs.Steps.{step_text, joined};
 
 use super::SmolStrBuilder;
+use crate::buffer::INLINE_CAP;
 use crate::value::SmolStr;
-use crate::value::buffer::INLINE_CAP;
 use std::alloc::{AllocError, Global};
 
 /// One call of a builder that appends.

@@ -1,7 +1,7 @@
 use Rattle.std.proofs.Common.{◌∙◌, take, sym, ap, encode_utf8_all}
 use Rattle.std.proofs.lemmas.Str.{encodes-chars}
 use Rattle.smol_str.proofs.BufferLemmas.{IsShort-buffer}
-use Rattle.smol_str.proofs.value.buffer.InlineText.as_str.Goals as goal
+use Rattle.smol_str.proofs.buffer.InlineText.as_str.Goals as goal
 
 pub returns-clause-bytes : goal.returns-clause-bytes
 returns-clause-bytes c =

@@ -2,7 +2,7 @@ use Rattle.std.proofs.Common.{◌∙◌, ap, arith, ◌++◌}
 use Rattle.std.specs.Str.{chars}
 use Rattle.smol_str.specs.Text.{size}
 use Rattle.smol_str.proofs.BufferLemmas.{len-size, IsBuffer-write, chars-write}
-use Rattle.smol_str.proofs.value.buffer.InlineText.push_str.Goals as goal
+use Rattle.smol_str.proofs.buffer.InlineText.push_str.Goals as goal
 
 pub write_at-requires : goal.write_at-requires
 write_at-requires c =

@@ -1,7 +1,7 @@
 use Rattle.std.proofs.Common.{◌∙◌, ap}
 use Rattle.smol_str.specs.Text.{size}
 use Rattle.smol_str.proofs.BufferLemmas.{len-size, IsShort-buffer}
-use Rattle.smol_str.proofs.value.buffer.InlineText.len.Goals as goal
+use Rattle.smol_str.proofs.buffer.InlineText.len.Goals as goal
 
 pub returns-clause-len : goal.returns-clause-len
 returns-clause-len c = len-size _ _ c.self.invariant c.self.told ∙ ap size c.self.view_is

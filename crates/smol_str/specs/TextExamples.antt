@@ -1,10 +1,9 @@
--- The definitions on small texts, computed by the checker. Where a limit matters, the example names the constant.
+-- Sizes, blank runs and places of small texts, computed by the checker. Where a limit matters, the example names the constant.
 use Rattle.std.specs.Prelude.{◌≡◌, ◌+◌, ◌-◌, [], ◌∷◌, ◌++◌, replicate, true, false, refl}
 use Rattle.smol_str.specs.declared.value.place.Place.TheVariants.{Inline, Static, Heap}
-use Rattle.smol_str.specs.declared.value.buffer.TheConstants.{INLINE_CAP}
+use Rattle.smol_str.specs.declared.buffer.TheConstants.{INLINE_CAP}
 use Rattle.smol_str.specs.declared.value.blank.TheConstants.{BLANK_NEWLINES, BLANK_SPACES}
 use Rattle.smol_str.specs.Text.{size, blank_run, is_blank_run, place_of}
-use Rattle.smol_str.specs.Draft.{InBuffer, OnHeap, appended, kind_for}
 
 empty : place_of [] ≡ Inline
 unfolding place_of lib.Utf8.encode
@@ -67,19 +66,3 @@ space_too_many = refl
 space_before_newline : place_of (replicate INLINE_CAP 32 ++ 10 ∷ []) ≡ Heap
 unfolding place_of is_blank_run lib.Utf8.encode
 space_before_newline = refl
-
--- a builder leaves its buffer with the first character that does not fit
-last_byte : (appended (record { text = replicate (INLINE_CAP - 1) 97; kind = InBuffer }) (98 ∷ [])).kind ≡ InBuffer
-unfolding lib.Utf8.encode
-last_byte = refl
-
-across_the_end : (appended (record { text = replicate (INLINE_CAP - 1) 97; kind = InBuffer }) (233 ∷ [])).kind ≡ OnHeap
-unfolding lib.Utf8.encode
-across_the_end = refl
-
--- and begins on the heap where a larger capacity was asked for
-capacity_of_the_buffer : kind_for INLINE_CAP [] ≡ InBuffer
-capacity_of_the_buffer = refl
-
-larger_capacity : kind_for (INLINE_CAP + 1) [] ≡ OnHeap
-larger_capacity = refl

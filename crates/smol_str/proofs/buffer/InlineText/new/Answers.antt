@@ -1,5 +1,5 @@
 use Rattle.std.proofs.lemmas.Str.{chars-nil}
-use Rattle.smol_str.proofs.value.buffer.InlineText.new.Goals as goal
+use Rattle.smol_str.proofs.buffer.InlineText.new.Goals as goal
 
 pub returns : goal.returns
 returns c = chars-nil

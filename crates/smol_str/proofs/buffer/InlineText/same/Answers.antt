@@ -1,5 +1,5 @@
 use Rattle.smol_str.proofs.BufferLemmas.{same-views, other-views}
-use Rattle.smol_str.proofs.value.buffer.InlineText.same.Goals as goal
+use Rattle.smol_str.proofs.buffer.InlineText.same.Goals as goal
 
 pub returns-then-self-other : goal.returns-then-self-other
 returns-then-self-other c =
