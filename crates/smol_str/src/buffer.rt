@@ -1,6 +1,6 @@
 //! A short text in a buffer of its own.
 ghost use Rattle.std.specs.Prelude.{◌≡◌, ◌↔◌, IsTrue, ◌+◌, ◌≤◌, [], ◌++◌, length, take, drop, encode_utf8_all};
-ghost use Rattle.std.specs.Str.{chars};
+ghost use Rattle.std.specs.Str.{chars, all_scalars};
 ghost use Rattle.smol_str.specs.Text.{size, IsShort};
 ghost use Rattle.smol_str.specs.Buffer.{padded};
 
@@ -21,7 +21,7 @@ pub(crate) struct InlineText {
 
 impl Model for InlineText {
     ghost use Rattle.std.specs.Prelude.{ℕ, List, take};
-    ghost use Rattle.std.specs.Str.{chars};
+    ghost use Rattle.std.specs.Str.{chars, all_scalars};
     ghost use Rattle.smol_str.specs.Buffer.{IsBuffer};
 
     ghost Value = { List ℕ };
@@ -55,6 +55,7 @@ impl InlineText {
     /// The text, as std's `str`.
     pub(crate) fn as_str(&self) -> &str
         ensures bytes { result.now ≡ encode_utf8_all self.now }
+        ensures scalars { IsTrue (all_scalars self.now) }
         ensures short { IsShort self.now }
     {
         let bytes = &self.buf[..self.len as usize];

@@ -1,6 +1,6 @@
 //! The builder of a text.
 ghost use Rattle.std.specs.Prelude.{◌≡◌, ◌↔◌, ◌<◌, [], ◌∷◌, ◌++◌, IsSome, IfSome, IfOk, IfErr, OnOk, OnErr, IsTrue, encode_utf8_all};
-ghost use Rattle.std.specs.Str.{chars};
+ghost use Rattle.std.specs.Str.{chars, all_scalars};
 ghost use Rattle.std.specs.String.{string_bytes};
 ghost use Rattle.smol_str.specs.Text.{size, IsResident};
 ghost use Rattle.smol_str.specs.Buffer.{padded};
@@ -82,7 +82,8 @@ impl SmolStrBuilder {
 
     /// The text so far, as std's `str`.
     pub fn as_str(&self) -> &str
-        ensures { result.now ≡ encode_utf8_all self.now.text }
+        ensures bytes { result.now ≡ encode_utf8_all self.now.text }
+        ensures scalars { IsTrue (all_scalars self.now.text) }
     {
         match &self.repr {
             BuilderRepr::Inline(text) => text.as_str(),

@@ -1,6 +1,6 @@
 //! The immutable text.
 ghost use Rattle.std.specs.Prelude.{◌≡◌, ◌≤◌, ◌↔◌, ◌⊎◌, length, MatchOption, IfOk, OnErr, IsSome, IfSome, IsTrue, encode_utf8_all};
-ghost use Rattle.std.specs.Str.{chars};
+ghost use Rattle.std.specs.Str.{chars, all_scalars};
 ghost use Rattle.std.specs.Rc.{rc_str_bytes};
 ghost use Rattle.smol_str.specs.Text.{size, IsShort, IsResident, place_of};
 ghost use Rattle.smol_str.specs.Buffer.{padded};
@@ -105,7 +105,8 @@ impl SmolStr {
 
     /// The text, as std's `str`.
     pub fn as_str(&self) -> &str
-        ensures { result.now ≡ encode_utf8_all self.now.text }
+        ensures bytes { result.now ≡ encode_utf8_all self.now.text }
+        ensures scalars { IsTrue (all_scalars self.now.text) }
     {
         match &self.repr {
             Repr::Inline(text) => text.as_str(),

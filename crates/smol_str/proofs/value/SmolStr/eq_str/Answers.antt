@@ -8,5 +8,5 @@ pub returns : goal.returns
 returns c =
     let text = c.args.self.now.text in
     let other = c.args.other.now in
-    let bytes = rw c.as_str.ensures at c.eq.ensures in
+    let bytes = rw c.as_str.ensures.bytes at c.eq.ensures in
     rw (bytes ∙ bytes_eq-chars text other c.utf8.other) (bytes_decides text (chars other))

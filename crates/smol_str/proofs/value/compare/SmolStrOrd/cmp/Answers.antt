@@ -4,5 +4,5 @@ use Rattle.smol_str.proofs.value.compare.SmolStrOrd.cmp.Goals as goal
 
 pub returns-clause-texts : goal.returns-clause-texts
 returns-clause-texts c =
-    let r = rw (c.as_str.ensures, c.as_str-2.ensures) at c.cmp.ensures in
+    let r = rw (c.as_str.ensures.bytes, c.as_str-2.ensures.bytes) at c.cmp.ensures in
     r ∙ order-texts c.args.self.now.text c.args.other.now.text

@@ -5,7 +5,7 @@ use Rattle.smol_str.proofs.value.compare.SmolStrPartialEq.eq.Goals as goal
 
 pub returns-in_default-clause-answer : goal.returns-in_default-clause-answer
 returns-in_default-clause-answer c =
-    let bytes = rw (c.as_str.ensures, c.as_str-in_default.ensures) at c.eq.ensures in
+    let bytes = rw (c.as_str.ensures.bytes, c.as_str-in_default.ensures.bytes) at c.eq.ensures in
     bytes ∙ bytes_eq-texts c.args.self.now.text c.args.other.now.text
 
 pub returns-in_default-clause-texts : goal.returns-in_default-clause-texts
