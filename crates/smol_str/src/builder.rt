@@ -2,7 +2,7 @@
 ghost use Rattle.std.specs.Prelude.{◌≡◌, ◌↔◌, ◌<◌, [], ◌∷◌, ◌++◌, IsSome, IfSome, IfOk, IfErr, OnOk, OnErr, IsTrue, encode_utf8_all};
 ghost use Rattle.std.specs.Str.{chars, all_scalars};
 ghost use Rattle.std.specs.String.{string_bytes};
-ghost use Rattle.smol_str.specs.Text.{size, IsResident};
+ghost use Rattle.smol_str.specs.Text.{size, IsShort, IsResident};
 ghost use Rattle.smol_str.specs.Buffer.{padded};
 ghost use Rattle.smol_str.specs.Meaning.{IsValueOf};
 ghost use Rattle.smol_str.specs.Draft.{InBuffer, OnHeap, empty_draft, appended, kind_for};
@@ -84,6 +84,7 @@ impl SmolStrBuilder {
     pub fn as_str(&self) -> &str
         ensures bytes { result.now ≡ encode_utf8_all self.now.text }
         ensures scalars { IsTrue (all_scalars self.now.text) }
+        ensures short { self.now.kind ≡ InBuffer → IsShort self.now.text }
     {
         match &self.repr {
             BuilderRepr::Inline(text) => text.as_str(),
@@ -185,6 +186,13 @@ impl SmolStr {
         ensures refused { OnErr result (¬ (IsResident builder.text)) }
     {
         builder.finish()
+    }
+}
+
+/// For `?` in a function that answers [`AllocError`], where the builder is not wanted back.
+impl From<SmolStrBuilder> for AllocError {
+    fn from(_builder: SmolStrBuilder) -> AllocError {
+        AllocError
     }
 }
 

@@ -94,6 +94,7 @@ impl SmolStr {
     pub fn clone(&self) -> Result<SmolStr, AllocError>
         ensures same { IfOk result (λ copy. copy ≡ self.now) }
         ensures refused { OnErr result (self.now.place ≡ Place.Heap) }
+        ensures not_resident { OnErr result (¬ (IsResident self.now.text)) }
     {
         let repr = match &self.repr {
             Repr::Inline(text) => Repr::Inline(text.duplicate()),
@@ -140,6 +141,7 @@ impl SmolStr {
     /// Where the text lies: where any value of the text does, or in place Static.
     pub fn place(&self) -> Place
         ensures place { result ≡ self.now.place }
+        ensures inline { self.now.place ≡ Place.Inline → IsShort self.now.text }
         ensures by_text { (self.now.place ≡ place_of self.now.text) ⊎ (self.now.place ≡ Place.Static) }
     {
         match &self.repr {
@@ -195,13 +197,26 @@ impl SmolStr {
     }
 }
 
+/// For `?` in a function that answers [`AllocError`], where the value that a refused conversion gives
+/// back is not wanted.
+impl From<SmolStr> for AllocError {
+    fn from(_value: SmolStr) -> AllocError {
+        AllocError
+    }
+}
+
 /// For containers of values; the same as [`SmolStr::clone`].
 impl Clone for SmolStr {
     ghost is_clone = { λ s copy. copy ≡ s };
 
+    ghost use Rattle.smol_str.specs.declared.value.place.Place.TheVariants.{Heap};
+
+    ghost is_infallible = { λ s. ¬ (s.place ≡ Heap) };
+
     fn clone(&self) -> Result<SmolStr, AllocError>
         ensures same { IfOk result (λ copy. copy ≡ self.now) }
         ensures refused { OnErr result (self.now.place ≡ Place.Heap) }
+        ensures not_resident { OnErr result (¬ (IsResident self.now.text)) }
     {
         SmolStr::clone(self)
     }
