@@ -64,8 +64,8 @@ impl SmolStrBuilder {
     /// An empty builder with room for `capacity` bytes.
     ///
     /// Up to [`INLINE_CAP`] bytes it takes no memory. A larger capacity is asked for at once, so that
-    /// appends up to it take no more; it is refused with [`AllocError`] where the heap has no such
-    /// room, and nothing is made.
+    /// appends up to it take no more, which is only tested, since no contract sees a capacity. It is
+    /// refused with [`AllocError`] where the heap has no such room, and nothing is made.
     pub fn with_capacity(alloc: Global, capacity: usize) -> Result<SmolStrBuilder, AllocError>
         ensures ok { IfOk result (λ b. b ≡ empty_draft (kind_for capacity [])) }
         ensures refused { OnErr result (INLINE_CAP < capacity) }

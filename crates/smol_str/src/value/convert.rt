@@ -103,7 +103,7 @@ impl SmolStr {
     }
 
     /// A value of a shared text, which takes no memory: the argument itself is kept where the text
-    /// is not resident, and let go where it is.
+    /// is not resident, and let go where it is. That no copy is made is only tested.
     pub fn from_rc_str(shared: RcStr) -> SmolStr
         ensures { IsValueOf (chars (rc_str_bytes shared)) result }
     {
@@ -125,7 +125,7 @@ impl SmolStr {
     }
 
     /// The text as a shared text: the one that a heap value has, which is never refused, else a new
-    /// one. A refusal gives the value back.
+    /// one. A refusal gives the value back. That a heap value hands out its own is only tested.
     pub fn into_rc_str(self, alloc: Global) -> Result<RcStr, SmolStr>
         ensures ok { IfOk result (λ text. rc_str_bytes text ≡ encode_utf8_all self.text) }
         ensures back { IfErr result (λ back. back ≡ self) }
