@@ -5,4 +5,7 @@ pub mod Words
 pub mod Stream
 pub mod Faults
 pub mod FaultLine
-pub mod Examples
+pub mod LineExamples
+pub mod TallyExamples
+pub mod ReportExamples
+pub mod WordExamples

@@ -1,12 +1,13 @@
 -- The lines of a text.
 --     is_newline c                 the character is U+000A
 --     newline                      the text of it alone
---     lines t                      the lines of t, without their newlines
 --     without_empty_last pieces    the pieces, but for a last one that is empty
+--     lines t                      the lines of t, without their newlines
 --     HasNoNewline t               no character of t is a newline
 --     ended texts                  each of the texts with a newline behind it, in a row
-use Rattle.std.specs.Prelude.{◌≢◌, ℕ, Bool, List, [], ◌∷◌, ◌++◌, ◌==◌, All, if◌then◌else◌}
-use Rattle.std.specs.List.{flat_map, onto_first}
+use Rattle.std.specs.Prelude.{◌≢◌, ℕ, Bool, List, [], ◌∷◌, ◌++◌, ◌==◌, All}
+use Rattle.std.specs.List.{flat_map}
+use Rattle.smol_str.specs.Replace.{cut, no_limit}
 
 -- the character that ends a line; a carriage return does not
 abbrev pub is_newline : ℕ → Bool
@@ -16,17 +17,16 @@ is_newline c = c == 10
 abbrev pub newline : List ℕ
 newline = 10 ∷ []
 
--- a newline ends a line and is no part of it; what stands after the last one is a line where it is not empty
-abbrev pub lines : List ℕ → List (List ℕ)
-lines [] = []
-lines (c ∷ cs) = if is_newline c then [] ∷ lines cs else onto_first c (lines cs)
-
 -- all pieces but a last one that is empty
 abbrev pub without_empty_last : List (List ℕ) → List (List ℕ)
 without_empty_last [] = []
 without_empty_last ([] ∷ []) = []
 without_empty_last ((c ∷ cs) ∷ []) = (c ∷ cs) ∷ []
 without_empty_last (piece ∷ next ∷ more) = piece ∷ without_empty_last (next ∷ more)
+
+-- the pieces between newlines: what follows the last newline is a line where it is not empty
+unfoldable pub lines : List ℕ → List (List ℕ)
+lines t = without_empty_last (cut t newline (no_limit t))
 
 -- the text has no newline
 abbrev pub HasNoNewline : List ℕ → Type 0

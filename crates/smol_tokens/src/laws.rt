@@ -1,7 +1,7 @@
 //! What the definitions in `specs/` mean: laws over every text and every list of pairs, each the
 //! contract of a function that does nothing.
 ghost use Rattle.std.specs.Prelude.{◌≡◌, ◌≢◌, ◌⊎◌, ◌+◌, ℕ, List, [], ◌∷◌, ◌++◌, All, AllPairs, unwrap_or};
-ghost use Rattle.std.specs.List.{slice_split};
+ghost use Rattle.std.specs.List.{onto_first, slice_split};
 ghost use Rattle.std.specs.Map.{lookup};
 ghost use Rattle.indexmap.specs.IndexMap.{insert_entry};
 ghost use Rattle.smol_str.specs.Cut.{IsCut, joined_by};
@@ -28,6 +28,14 @@ pub fn lines_of_a_text()
     ensures read_back { (whole : List (List ℕ)) (last : List ℕ) →
         All HasNoNewline whole → HasNoNewline last →
         lines (ended whole ++ last) ≡ whole ++ without_empty_last (last ∷ []) }
+{}
+
+/// The lines of a text from its left, character by character.
+pub fn lines_from_left()
+    ensures empty { lines [] ≡ [] }
+    ensures newline_ends_a_line { (t : List ℕ) → lines (newline ++ t) ≡ [] ∷ lines t }
+    ensures other_character { (c : ℕ) (t : List ℕ) →
+        HasNoNewline (c ∷ []) → lines (c ∷ t) ≡ onto_first c (lines t) }
 {}
 
 /// A tally counts each token once, in order of first sight, and can be taken up again.

@@ -1,4 +1,5 @@
-use Rattle.smol_tokens.proofs.PieceLemmas.{lines-IsCut, joined-lines, HasNoNewline-lines, lines-ended}
+use Rattle.smol_tokens.proofs.PieceLemmas.{lines-IsCut}
+use Rattle.smol_tokens.proofs.LineLemmas.{joined-lines, HasNoNewline-lines, lines-ended}
 use Rattle.smol_tokens.proofs.laws.lines_of_a_text.Goals as goal
 
 pub returns : goal.returns
