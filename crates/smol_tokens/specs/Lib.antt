@@ -5,6 +5,7 @@ pub mod Words
 pub mod Stream
 pub mod Faults
 pub mod FaultLine
+pub mod ReadFaults
 pub mod LineExamples
 pub mod TallyExamples
 pub mod ReportExamples

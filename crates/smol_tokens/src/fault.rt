@@ -1,7 +1,11 @@
 //! Why a run failed, and how that is told.
 ghost use Rattle.std.specs.Prelude.{◌≡◌};
 ghost use Rattle.smol_tokens.specs.FaultLine.{line_of};
+ghost use Rattle.smol_tokens.specs.ReadFaults.{run_fault};
+ghost use Rattle.smol_tokens.specs.declared.fault.RunFault.TheVariants.{OutOfMemory, Io};
 
+use crate::stream::ReadFault;
+use std::alloc::AllocError;
 use std::io;
 
 /// Why a run failed; the contract of [`crate::run::run`] says what stands after each.
@@ -13,6 +17,33 @@ pub enum RunFault {
     OutOfMemory,
     /// The reader or the writer failed, or the writer took no byte.
     Io(io::Error),
+}
+
+impl From<AllocError> for RunFault {
+    ghost from_gives = { λ _ fault. fault ≡ OutOfMemory };
+
+    fn from(_refused: AllocError) -> RunFault {
+        RunFault::OutOfMemory
+    }
+}
+
+impl From<io::Error> for RunFault {
+    ghost from_gives = { λ e fault. fault ≡ Io e };
+
+    fn from(e: io::Error) -> RunFault {
+        RunFault::Io(e)
+    }
+}
+
+impl From<ReadFault> for RunFault {
+    ghost from_gives = { λ reading fault. fault ≡ run_fault reading };
+
+    fn from(reading: ReadFault) -> RunFault {
+        match reading {
+            ReadFault::OutOfMemory => RunFault::OutOfMemory,
+            ReadFault::Io(e) => RunFault::Io(e),
+        }
+    }
 }
 
 /// The line that tells a fault on standard error, without its newline.

@@ -8,7 +8,8 @@ ghost use Rattle.smol_tokens.specs.Lines.{lines};
 ///
 /// Unlike `str::lines`, a carriage return stays in its line.
 pub fn first_line(text: &str) -> Option<(&str, &str)>
-    ensures cut { MatchOption result (lines (chars text.now) ≡ []) (λ cut. lines (chars text.now) ≡ chars cut.0.now ∷ lines (chars cut.1.now)) }
+    ensures cut { MatchOption result (lines (chars text.now) ≡ [])
+        (λ cut. lines (chars text.now) ≡ chars cut.0.now ∷ lines (chars cut.1.now)) }
     ensures shorter { IfSome result (λ cut. length cut.1.now < length text.now) }
 {
     if text.is_empty() {

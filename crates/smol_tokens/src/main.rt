@@ -27,10 +27,7 @@ fn words(rt: &HostRuntime) -> Result<Vec<String>, RunFault> {
         Err(e) if e.kind() == io::ErrorKind::OutOfMemory => return Err(RunFault::OutOfMemory),
         Err(e) => return Err(RunFault::Io(e)),
     };
-    match args.skip(1).collect(rt.alloc()) {
-        Ok(words) => Ok(words),
-        Err(_) => Err(RunFault::OutOfMemory),
-    }
+    Ok(args.skip(1).collect(rt.alloc())?)
 }
 
 /// Tells a fault in one line, and answers the status of a failed run.

@@ -33,7 +33,8 @@ fn show(alloc: Global, text: &str) -> Result<String, AllocError>
 
 /// Appends the answer line of a line; it makes no text of its own for it.
 fn push_answer(alloc: Global, out: &mut String, line: &str) -> Result<(), AllocError>
-    ensures { OnOk result (string_bytes out.new ≡ string_bytes out.old ++ encode_utf8_all (answer (chars line.now))) }
+    ensures { OnOk result
+        (string_bytes out.new ≡ string_bytes out.old ++ encode_utf8_all (answer (chars line.now))) }
 {
     let value = SmolStr::new(alloc, line)?;
     let place = word_of(value.place());

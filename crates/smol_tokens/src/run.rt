@@ -5,7 +5,7 @@ ghost use Rattle.smol_tokens.specs.Faults.{WroteReport, AfterFault};
 use crate::fault::RunFault;
 use crate::mode::Mode;
 use crate::report::make_report;
-use crate::stream::{ReadFault, read_all, write_steps};
+use crate::stream::{read_all, write_steps};
 use std::alloc::Global;
 use std::io::{Read, Write};
 
@@ -22,23 +22,18 @@ pub fn run<R: Read, W: Write>(
     reader: &mut R,
     writer: &mut W,
 ) -> Result<(), RunFault>
-    ensures ok { OnOk result (WroteReport mode (R.remaining reader.old) (R.remaining reader.new) (W.contents writer.old) (W.contents writer.new)) }
-    ensures fault { IfErr result (AfterFault mode (R.remaining reader.old) (R.remaining reader.new) (W.contents writer.old) (W.contents writer.new)) }
+    ensures ok { OnOk result
+        (WroteReport mode (R.remaining reader.old) (R.remaining reader.new)
+            (W.contents writer.old) (W.contents writer.new)) }
+    ensures fault { IfErr result
+        (AfterFault mode (R.remaining reader.old) (R.remaining reader.new)
+            (W.contents writer.old) (W.contents writer.new)) }
 {
-    let input = match read_all(alloc, reader) {
-        Ok(input) => input,
-        Err(ReadFault::OutOfMemory) => return Err(RunFault::OutOfMemory),
-        Err(ReadFault::Io(e)) => return Err(RunFault::Io(e)),
+    let input = read_all(alloc, reader)?;
+    let Ok(text) = str::from_utf8(input.as_slice()) else {
+        return Err(RunFault::NotUtf8);
     };
-    let text = match str::from_utf8(input.as_slice()) {
-        Ok(text) => text,
-        Err(_) => return Err(RunFault::NotUtf8),
-    };
-    let Ok(report) = make_report(alloc, mode, text) else {
-        return Err(RunFault::OutOfMemory);
-    };
-    match write_steps(writer, report.as_bytes()) {
-        Ok(()) => Ok(()),
-        Err(e) => Err(RunFault::Io(e)),
-    }
+    let report = make_report(alloc, mode, text)?;
+    write_steps(writer, report.as_bytes())?;
+    Ok(())
 }
