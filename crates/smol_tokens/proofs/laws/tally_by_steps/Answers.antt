@@ -1,5 +1,11 @@
 use Rattle.smol_tokens.proofs.TallyLemmas.{tally-added, lookup-tally, tally-table}
 use Rattle.smol_tokens.proofs.laws.tally_by_steps.Goals as goal
 
-pub returns : goal.returns
-returns c = record { added = tally-added; found = lookup-tally; table = tally-table }
+pub returns-clause-added : goal.returns-clause-added
+returns-clause-added c = tally-added
+
+pub returns-clause-found : goal.returns-clause-found
+returns-clause-found c = lookup-tally
+
+pub returns-clause-table : goal.returns-clause-table
+returns-clause-table c = tally-table
