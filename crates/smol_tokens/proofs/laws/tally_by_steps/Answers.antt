@@ -1,4 +1,4 @@
-use Rattle.smol_tokens.proofs.TallyLemmas.{tally-added, lookup-tally, tally-table}
+use Rattle.smol_tokens.proofs.TableLemmas.{tally-added, lookup-tally, tally-table}
 use Rattle.smol_tokens.proofs.laws.tally_by_steps.Goals as goal
 
 pub returns-clause-added : goal.returns-clause-added
