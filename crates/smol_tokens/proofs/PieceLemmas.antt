@@ -1,11 +1,12 @@
--- For the laws of lines: the pieces of std's `split` at a newline are the unlimited cut, and so the lines from the left.
-use Rattle.std.proofs.Common.{◌≡◌, ◌≢◌, ℕ, ◌+◌, ◌-◌, ◌≤◌, ◌==◌, List, [], ◌∷◌, ◌++◌, Bool, true, false, cond, ⊎_elim, length, refl, sym, ap, ◌∙◌, subst, arith, length-append}
+-- For the laws of lines: std's `split` at newlines gives the unlimited cut, and so the lines from the left.
+use Rattle.std.proofs.Common.{◌≡◌, ◌≢◌, ℕ, ◌+◌, ◌-◌, ◌≤◌, ◌==◌, List, [], ◌∷◌, ◌++◌, Bool, true, false, cond, ⊎_elim}
+use Rattle.std.proofs.Common.{length, refl, sym, ap, ◌∙◌, subst, arith, length-append}
 use Rattle.std.specs.List.{onto_first, slice_split}
 use Rattle.std.proofs.lemmas.Bool.{eqb-true, eqb-false, ne_eqb}
 use Rattle.std.proofs.lemmas.List.Elements.{All-cons, All-head, All-tail}
-use Rattle.smol_str.specs.Cut.{Occurs, IsFirstAfter, but_last, IsCutAt, IsCut}
+use Rattle.smol_str.specs.Cut.{Occurs, IsFirstAfter, but_last, IsCutAt, IsCut, joined_by}
 use Rattle.smol_str.specs.Replace.{cut, no_limit}
-use Rattle.smol_str.proofs.CutLemmas.{IsCut-cut, IsCut-unique, step, no_match, occurs_cases, head_same}
+use Rattle.smol_str.proofs.CutLemmas.{IsCut-cut, IsCut-unique, step, no_match, occurs_cases}
 use Rattle.smol_tokens.specs.Lines.{is_newline, newline, lines, without_empty_last}
 
 -- the pieces between newlines, an empty last one too
@@ -14,7 +15,8 @@ pieces_of t = slice_split is_newline t
 
 -- a newline stands in a character and more only where it stands in the more
 not_begun : (c : ℕ) (t : List ℕ) → c ≢ 10 → ¬ Occurs newline t → ¬ Occurs newline (c ∷ t)
-not_begun c t ne none o = ⊎_elim (λ x. ne (head_same c 10 t x.0 x.1)) none (occurs_cases newline c t o.0 o.1 o.2)
+not_begun c t ne none o =
+    ⊎_elim (λ x. let same : c ≡ 10 = cc (x.1) in ne same) none (occurs_cases newline c t o.0 o.1 o.2)
 
 begun : (c : ℕ) (t : List ℕ) (n : ℕ) (pieces : List (List ℕ)) → c ≢ 10
     → IsCutAt t newline n pieces → IsCutAt (c ∷ t) newline n (onto_first c pieces)
@@ -27,8 +29,8 @@ begun c t n (q ∷ []) ne h = record {
   complete = λ l. not_begun c q ne (h.complete l);
 }
 begun c t n (q ∷ r ∷ rs) ne h =
-    let others = but_last (r ∷ rs) in
-    let none : IsFirstAfter newline (c ∷ q) = not_begun c (q ++ []) ne (All-head (IsFirstAfter newline) q (but_last (r ∷ rs)) h.first) in
+    let none : IsFirstAfter newline (c ∷ q) =
+      not_begun c (q ++ []) ne (All-head (IsFirstAfter newline) q (but_last (r ∷ rs)) h.first) in
     record {
       some = omega arith;
       limited = h.limited;
@@ -56,9 +58,14 @@ is_pieces (c ∷ t) n l =
     cut_step c t (n - 1) n (pieces_of t) (omega arith) (c == 10) refl
     (is_pieces t (n - 1) (omega arith)) (is_pieces t n (omega arith))
 
+pub joined-pieces : (t : List ℕ) → joined_by newline (slice_split is_newline t) ≡ t
+joined-pieces t = (is_pieces t (no_limit t) (omega arith)).joined
+
 -- each cut without a limit is the pieces, since a text has one
-pub IsCut-pieces : (t : List ℕ) (pieces : List (List ℕ)) → IsCut t newline (no_limit t) pieces → pieces ≡ slice_split is_newline t
-IsCut-pieces t pieces h = IsCut-unique t newline (no_limit t) pieces (pieces_of t) h (is_pieces t (no_limit t) (omega arith))
+pub IsCut-pieces : (t : List ℕ) (pieces : List (List ℕ)) → IsCut t newline (no_limit t) pieces
+    → pieces ≡ slice_split is_newline t
+IsCut-pieces t pieces h =
+    IsCut-unique t newline (no_limit t) pieces (pieces_of t) h (is_pieces t (no_limit t) (omega arith))
 
 pub lines-pieces : (t : List ℕ) → lines t ≡ without_empty_last (slice_split is_newline t)
 unfolding lines
@@ -70,7 +77,8 @@ lines-IsCut t pieces h = lines-pieces t ∙ ap without_empty_last (sym (IsCut-pi
 
 -- the lines of a text by those of its tail
 from_tail : (c : ℕ) (pieces : List (List ℕ)) → 1 ≤ length pieces → (b : Bool)
-    → without_empty_last (cond b ([] ∷ pieces) (onto_first c pieces)) ≡ cond b ([] ∷ without_empty_last pieces) (onto_first c (without_empty_last pieces))
+    → without_empty_last (cond b ([] ∷ pieces) (onto_first c pieces))
+    ≡ cond b ([] ∷ without_empty_last pieces) (onto_first c (without_empty_last pieces))
 from_tail c [] l b = absurd (omega arith)
 from_tail c (q ∷ rs) l true = refl
 from_tail c ([] ∷ []) l false = refl

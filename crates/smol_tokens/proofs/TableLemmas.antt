@@ -25,8 +25,10 @@ IsTable (e ∷ es) = IsNew e.0 es × IsTable es
 -- the same, by std's word
 new_from : (t : List ℕ) (es : List (List ℕ × ℕ)) → All (λ u. t ≢ u) (tokens es) → IsNew t es
 new_from t [] h = tt
-new_from t (e ∷ es) h =
-    (other_from t e.0 (All-head (λ u. t ≢ u) e.0 (tokens es) h), new_from t es (All-tail (λ u. t ≢ u) e.0 (tokens es) h))
+new_from t (e ∷ es) h = (
+  other_from t e.0 (All-head (λ u. t ≢ u) e.0 (tokens es) h),
+  new_from t es (All-tail (λ u. t ≢ u) e.0 (tokens es) h),
+)
 
 table_from : (es : List (List ℕ × ℕ)) → AllPairs (λ s t. s ≢ t) (tokens es) → IsTable es
 table_from [] h = tt

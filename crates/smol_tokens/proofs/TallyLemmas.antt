@@ -64,7 +64,8 @@ counted f t (e ∷ es) =
       ap f (same_from t e.0 h),
     )))
     (λ h.
-      let left : times_of t (paired f (first_sights (tokens (e ∷ es)))) ≡ times_of t (paired f (first_sights (tokens es))) =
+      let left : times_of t (paired f (first_sights (tokens (e ∷ es))))
+          ≡ times_of t (paired f (first_sights (tokens es))) =
         times_other t (e.0, f e.0) (paired f (without e.0 (first_sights (tokens es)))) h
         ∙ others_left f t e.0 (first_sights (tokens es)) h in
       ⊎_elim (λ x. inl (left ∙ x)) (λ x. inr (left ∙ x.0, times_other t e es h ∙ x.1)) (counted f t es))
@@ -87,8 +88,8 @@ tally-again es fs =
     let sights : first_sights (tokens (tally es ++ fs)) ≡ first_sights (tokens (es ++ fs)) =
       ap first_sights (map-append (λ e. e.0) (tally es) fs ∙ ap (λ s. s ++ tokens fs) (tokens_tally es))
       ∙ sights_again (tokens es) (tokens fs) ∙ ap first_sights (sym (map-append (λ e. e.0) es fs)) in
-    paired_agree (λ t. times_of t (tally es ++ fs)) (λ t. times_of t (es ++ fs)) (first_sights (tokens (tally es ++ fs)))
-    (λ k d l. counts _)
+    paired_agree (λ t. times_of t (tally es ++ fs)) (λ t. times_of t (es ++ fs))
+    (first_sights (tokens (tally es ++ fs))) (λ k d l. counts _)
     ∙ ap (paired (λ t. times_of t (es ++ fs))) sights
 
 -- no token stands twice
@@ -112,7 +113,8 @@ without_token t es = filter (λ e. not (is_same t e.0)) es
 pub tally-cons : (e : List ℕ × ℕ) (es : List (List ℕ × ℕ))
     → tally (e ∷ es) ≡ (e.0, e.1 + times_of e.0 es) ∷ without_token e.0 (tally es)
 tally-cons e es =
-    let more : paired (λ u. times_of u (e ∷ es)) (without e.0 (first_sights (tokens es))) ≡ without_token e.0 (tally es) =
+    let more : paired (λ u. times_of u (e ∷ es)) (without e.0 (first_sights (tokens es)))
+        ≡ without_token e.0 (tally es) =
       paired_agree (λ u. times_of u (e ∷ es)) (λ u. times_of u es) (without e.0 (first_sights (tokens es)))
       (All-weaker (λ u. is_same e.0 u ≡ false) (λ u. times_of u (e ∷ es) ≡ times_of u es)
         (λ u h. times_other u e es (other_way e.0 u h)) (without e.0 (first_sights (tokens es)))

@@ -15,11 +15,15 @@ use Rattle.smol_tokens.specs.Stream.{AppendsBeginning}
 module _ (mode : Mode) (input left held holds : Option (List ℕ)) where
   -- the reader is at its end, its bytes are the UTF-8 of a text, and exactly the report on that text was written
   abbrev pub WroteReport : Type 0
-  WroteReport = IsAtEnd left × IfSome input (λ bytes. IsUtf8 bytes × Appends held holds (encode_utf8_all (report mode (chars bytes))))
+  WroteReport =
+      IsAtEnd left
+      × IfSome input (λ bytes. IsUtf8 bytes × Appends held holds (encode_utf8_all (report mode (chars bytes))))
 
   -- the same, but only a beginning of the report was written
   abbrev pub WroteBeginning : Type 0
-  WroteBeginning = IsAtEnd left × IfSome input (λ bytes. IsUtf8 bytes × AppendsBeginning held holds (encode_utf8_all (report mode (chars bytes))))
+  WroteBeginning =
+      IsAtEnd left
+      × IfSome input (λ bytes. IsUtf8 bytes × AppendsBeginning held holds (encode_utf8_all (report mode (chars bytes))))
 
   -- not UTF-8: the whole input came and is not UTF-8; nothing was written, after want of memory too; after a failed
   -- read nothing either, and after a failed write a beginning of the report

@@ -24,7 +24,8 @@ pub enum ReadFault {
 
 /// Reads to the end, by `read`s of at most [`PIECE`] bytes up to an answer of 0.
 pub fn read_all<R: Read>(alloc: Global, reader: &mut R) -> Result<Vec<u8>, ReadFault>
-    ensures bytes { IfOk result (λ all. Consumes (R.remaining reader.old) (R.remaining reader.new) all.items) }
+    ensures bytes { IfOk result
+        (λ all. Consumes (R.remaining reader.old) (R.remaining reader.new) all.items) }
     ensures end { OnOk result (IsAtEnd (R.remaining reader.new)) }
     ensures whole { IfOk result (λ all. IfSome (R.remaining reader.old) (λ input. all.items ≡ input)) }
 {
@@ -47,7 +48,8 @@ pub fn read_all<R: Read>(alloc: Global, reader: &mut R) -> Result<Vec<u8>, ReadF
 /// is an error. After an error a beginning of `bytes` was written.
 pub fn write_steps<W: Write>(writer: &mut W, bytes: &[u8]) -> Result<(), io::Error>
     ensures ok { OnOk result (Appends (W.contents writer.old) (W.contents writer.new) bytes.now) }
-    ensures beginning { OnErr result (AppendsBeginning (W.contents writer.old) (W.contents writer.new) bytes.now) }
+    ensures beginning { OnErr result
+        (AppendsBeginning (W.contents writer.old) (W.contents writer.new) bytes.now) }
 {
     let mut rest = bytes;
     while !rest.is_empty() {
