@@ -1,12 +1,12 @@
 -- For the laws of lines: std's `split` at newlines gives the unlimited cut, and so the lines from the left.
-use Rattle.std.proofs.Common.{◌≡◌, ◌≢◌, ℕ, ◌+◌, ◌-◌, ◌≤◌, ◌==◌, List, [], ◌∷◌, ◌++◌, Bool, true, false, cond, ⊎_elim}
+use Rattle.std.proofs.Common.{◌≡◌, ◌≢◌, ℕ, ◌+◌, ◌-◌, ◌≤◌, ◌==◌, List, [], ◌∷◌, ◌++◌, Bool, true, false, cond}
 use Rattle.std.proofs.Common.{length, refl, sym, ap, ◌∙◌, subst, arith, length-append}
 use Rattle.std.specs.List.{onto_first, slice_split}
 use Rattle.std.proofs.lemmas.Bool.{eqb-true, eqb-false, ne_eqb}
 use Rattle.std.proofs.lemmas.List.Elements.{All-cons, All-head, All-tail}
 use Rattle.smol_str.specs.Cut.{Occurs, IsFirstAfter, but_last, IsCutAt, IsCut, joined_by}
 use Rattle.smol_str.specs.Replace.{cut, no_limit}
-use Rattle.smol_str.proofs.CutLemmas.{IsCut-cut, IsCut-unique, step, no_match, occurs_cases}
+use Rattle.smol_str.proofs.CutLemmas.{IsCut-cut, IsCut-unique, step, no_match}
 use Rattle.smol_tokens.specs.Lines.{is_newline, newline, lines, without_empty_last}
 
 -- the pieces between newlines, an empty last one too
@@ -15,8 +15,8 @@ pieces_of t = slice_split is_newline t
 
 -- a newline stands in a character and more only where it stands in the more
 not_begun : (c : ℕ) (t : List ℕ) → c ≢ 10 → ¬ Occurs newline t → ¬ Occurs newline (c ∷ t)
-not_begun c t ne none o =
-    ⊎_elim (λ x. let same : c ≡ 10 = cc (x.1) in ne same) none (occurs_cases newline c t o.0 o.1 o.2)
+not_begun c t ne none ([], r, e) = let same : c ≡ 10 = cc in ne same
+not_begun c t ne none (d ∷ a, r, e) = let later : t ≡ a ++ (newline ++ r) = cc in none (a, r, later)
 
 begun : (c : ℕ) (t : List ℕ) (n : ℕ) (pieces : List (List ℕ)) → c ≢ 10
     → IsCutAt t newline n pieces → IsCutAt (c ∷ t) newline n (onto_first c pieces)
