@@ -36,13 +36,13 @@ lines-split bs front back i j u (none, at) is_front is_back within =
     let boundary = IsCharBoundary-before_ascii bs i within ascii in
     let front_text = IsUtf8-take bs i u boundary in
     let rest_is : chars (drop i bs) ≡ 10 ∷ chars (drop j bs) =
-      chars_past_char (drop i bs) (drop j bs) 10 (IsUtf8-drop bs i u boundary) at.split in
+    chars_past_char (drop i bs) (drop j bs) 10 (IsUtf8-drop bs i u boundary) at.split in
     let all : chars bs ≡ chars (take i bs) ++ (10 ∷ chars (drop j bs)) =
-      ap chars (sym (take-append-drop i bs)) ∙ chars-append (take i bs) (drop i bs) front_text
-      ∙ ap (λ l. chars (take i bs) ++ l) rest_is in
+    ap chars (sym (take-append-drop i bs)) ∙ chars-append (take i bs) (drop i bs) front_text
+    ∙ ap (λ l. chars (take i bs) ++ l) rest_is in
     rw (is_front, is_back, all)
     (lines-first (chars (take i bs)) (chars (drop j bs))
-      (none_passes (chars (take i bs)) (none-chars (take i bs) front_text none)))
+    (none_passes (chars (take i bs)) (none-chars (take i bs) front_text none)))
 
 pub lines-none : (bs : List ℕ) → length bs ≡ 0 → lines (chars bs) ≡ []
 lines-none [] none = rw chars-nil lines-nil

@@ -30,14 +30,14 @@ filter_swap p q [] = refl
 filter_swap p q (x ∷ xs) =
     by_test (p x)
     (λ e. by_test (q x)
-      (λ f. ap (filter p) (filter_yes q x xs f) ∙ filter_yes p x (filter q xs) e ∙ ap (λ s. x ∷ s) (filter_swap p q xs)
-        ∙ sym (filter_yes q x (filter p xs) f) ∙ ap (filter q) (sym (filter_yes p x xs e)))
-      (λ f. ap (filter p) (filter_no q x xs f) ∙ filter_swap p q xs
-        ∙ sym (filter_no q x (filter p xs) f) ∙ ap (filter q) (sym (filter_yes p x xs e))))
+    (λ f. ap (filter p) (filter_yes q x xs f) ∙ filter_yes p x (filter q xs) e ∙ ap (λ s. x ∷ s) (filter_swap p q xs)
+    ∙ sym (filter_yes q x (filter p xs) f) ∙ ap (filter q) (sym (filter_yes p x xs e)))
+    (λ f. ap (filter p) (filter_no q x xs f) ∙ filter_swap p q xs
+    ∙ sym (filter_no q x (filter p xs) f) ∙ ap (filter q) (sym (filter_yes p x xs e))))
     (λ e. by_test (q x)
-      (λ f. ap (filter p) (filter_yes q x xs f) ∙ filter_no p x (filter q xs) e
-        ∙ filter_swap p q xs ∙ ap (filter q) (sym (filter_no p x xs e)))
-      (λ f. ap (filter p) (filter_no q x xs f) ∙ filter_swap p q xs ∙ ap (filter q) (sym (filter_no p x xs e))))
+    (λ f. ap (filter p) (filter_yes q x xs f) ∙ filter_no p x (filter q xs) e
+    ∙ filter_swap p q xs ∙ ap (filter q) (sym (filter_no p x xs e)))
+    (λ f. ap (filter p) (filter_no q x xs f) ∙ filter_swap p q xs ∙ ap (filter q) (sym (filter_no p x xs e))))
 
 -- each item with its number
 abbrev pub paired : {X : Type 0} → (X → ℕ) → List X → List (X × ℕ)
@@ -63,6 +63,6 @@ paired-filter f p [] = refl
 paired-filter f p (x ∷ xs) =
     by_test (p x)
     (λ e. ap (paired f) (filter_yes p x xs e) ∙ ap (λ s. (x, f x) ∷ s) (paired-filter f p xs)
-      ∙ sym (filter_yes (λ e. p e.0) (x, f x) (paired f xs) e))
+    ∙ sym (filter_yes (λ e. p e.0) (x, f x) (paired f xs) e))
     (λ e. ap (paired f) (filter_no p x xs e) ∙ paired-filter f p xs
-      ∙ sym (filter_no (λ e. p e.0) (x, f x) (paired f xs) e))
+    ∙ sym (filter_no (λ e. p e.0) (x, f x) (paired f xs) e))

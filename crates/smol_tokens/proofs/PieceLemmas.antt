@@ -30,7 +30,7 @@ begun c t n (q ∷ []) ne h = record {
 }
 begun c t n (q ∷ r ∷ rs) ne h =
     let none : IsFirstAfter newline (c ∷ q) =
-      not_begun c (q ++ []) ne (All-head (IsFirstAfter newline) q (but_last (r ∷ rs)) h.first) in
+    not_begun c (q ++ []) ne (All-head (IsFirstAfter newline) q (but_last (r ∷ rs)) h.first) in
     record {
       some = omega arith;
       limited = h.limited;

@@ -56,23 +56,23 @@ sights_without x [] = refl
 sights_without x (y ∷ ys) =
     by_same x y
     (λ e. ap first_sights (without_here x y ys e) ∙ sights_without x ys ∙ sym (without_twice x (first_sights ys))
-      ∙ ap (λ z. without x (without z (first_sights ys))) (same_from x y e)
-      ∙ sym (without_here x y (without y (first_sights ys)) e))
+    ∙ ap (λ z. without x (without z (first_sights ys))) (same_from x y e)
+    ∙ sym (without_here x y (without y (first_sights ys)) e))
     (λ e. ap first_sights (without_other x y ys e) ∙ ap (λ s. y ∷ without y s) (sights_without x ys)
-      ∙ ap (λ s. y ∷ s) (without_swap y x (first_sights ys))
-      ∙ sym (without_other x y (without y (first_sights ys)) e))
+    ∙ ap (λ s. y ∷ s) (without_swap y x (first_sights ys))
+    ∙ sym (without_other x y (without y (first_sights ys)) e))
 
 -- first sights of first sights and more
 pub sights_again : (xs ys : List (List ℕ)) → first_sights (first_sights xs ++ ys) ≡ first_sights (xs ++ ys)
 sights_again [] ys = refl
 sights_again (x ∷ xs) ys =
     let inner : without x (without x (first_sights xs) ++ ys) ≡ without x (first_sights xs ++ ys) =
-      without-append x (without x (first_sights xs)) ys
-      ∙ ap (λ s. s ++ without x ys) (without_twice x (first_sights xs))
-      ∙ sym (without-append x (first_sights xs) ys) in
+    without-append x (without x (first_sights xs)) ys
+    ∙ ap (λ s. s ++ without x ys) (without_twice x (first_sights xs))
+    ∙ sym (without-append x (first_sights xs) ys) in
     ap (λ s. x ∷ s)
     (sym (sights_without x (without x (first_sights xs) ++ ys)) ∙ ap first_sights inner
-      ∙ sights_without x (first_sights xs ++ ys) ∙ ap (without x) (sights_again xs ys))
+    ∙ sights_without x (first_sights xs ++ ys) ∙ ap (without x) (sights_again xs ys))
 
 -- no text stands twice
 pub sights_once : (ts : List (List ℕ)) → AllPairs (λ s t. s ≢ t) (first_sights ts)
@@ -80,7 +80,7 @@ sights_once [] = λ i j d l k. absurd (omega arith)
 sights_once (t ∷ ts) =
     AllPairs-cons (λ s u. s ≢ u) t (without t (first_sights ts))
     (All-weaker (λ u. is_same t u ≡ false) (λ u. t ≢ u) (λ u h. differ t u h) (without t (first_sights ts))
-      (All-without t (first_sights ts)))
+    (All-without t (first_sights ts)))
     (AllPairs-filter (λ s u. s ≢ u) (λ u. not (is_same t u)) (first_sights ts) (sights_once ts))
 
 -- the first sights of a list come first, in their order, in those of a longer one

@@ -78,10 +78,10 @@ stepped : (t : List ℕ) (n : ℕ) (e : List ℕ × ℕ) (es : List (List ℕ ×
     ≡ cond b ((e.0, e.1 + n) ∷ es) (e ∷ insert_entry is_same es t (had t es + n))
 stepped t n e es true x =
     ap (λ b. cond b ((e.0, unwrap_or (cond b (Some e.1) (lookup (is_same t) es)) 0 + n) ∷ es)
-      (e ∷ insert_entry is_same es t (unwrap_or (cond b (Some e.1) (lookup (is_same t) es)) 0 + n))) x
+    (e ∷ insert_entry is_same es t (unwrap_or (cond b (Some e.1) (lookup (is_same t) es)) 0 + n))) x
 stepped t n e es false x =
     ap (λ b. cond b ((e.0, unwrap_or (cond b (Some e.1) (lookup (is_same t) es)) 0 + n) ∷ es)
-      (e ∷ insert_entry is_same es t (unwrap_or (cond b (Some e.1) (lookup (is_same t) es)) 0 + n))) x
+    (e ∷ insert_entry is_same es t (unwrap_or (cond b (Some e.1) (lookup (is_same t) es)) 0 + n))) x
 
 -- what a table is after one more entry
 put : (es : List (List ℕ × ℕ)) (t : List ℕ) (n : ℕ) → IsTable es
@@ -92,24 +92,24 @@ put [] t n h =
 put (e ∷ es) t n h =
     by_same t e.0
     (λ x.
-      let same : e.0 ≡ t = sym (same_from t e.0 x) in
-      let rest : without_token e.0 (tally (es ++ (t, n) ∷ [])) ≡ es =
-        ap (without_token e.0)
-        (put es t n h.1 ∙ new_put t es (had t es + n) (subst (λ k. IsNew k es) same h.0))
-        ∙ drop_last t e.0 es (had t es + n) same h.0 in
-      let here : times_of e.0 ((t, n) ∷ []) ≡ n + 0 =
-        times_here e.0 (t, n) [] (ap (λ k. is_same k t) same ∙ is_same_itself t) in
-      let sum : times_of e.0 (es ++ (t, n) ∷ []) ≡ n =
-        omega (arith, times-append e.0 es ((t, n) ∷ []), new_times e.0 es h.0, here) in
-      tally-cons e (es ++ (t, n) ∷ []) ∙ (λ i. (e.0, e.1 + sum i) ∷ rest i) ∙ sym (stepped t n e es true x))
+    let same : e.0 ≡ t = sym (same_from t e.0 x) in
+    let rest : without_token e.0 (tally (es ++ (t, n) ∷ [])) ≡ es =
+    ap (without_token e.0)
+    (put es t n h.1 ∙ new_put t es (had t es + n) (subst (λ k. IsNew k es) same h.0))
+    ∙ drop_last t e.0 es (had t es + n) same h.0 in
+    let here : times_of e.0 ((t, n) ∷ []) ≡ n + 0 =
+    times_here e.0 (t, n) [] (ap (λ k. is_same k t) same ∙ is_same_itself t) in
+    let sum : times_of e.0 (es ++ (t, n) ∷ []) ≡ n =
+    omega (arith, times-append e.0 es ((t, n) ∷ []), new_times e.0 es h.0, here) in
+    tally-cons e (es ++ (t, n) ∷ []) ∙ (λ i. (e.0, e.1 + sum i) ∷ rest i) ∙ sym (stepped t n e es true x))
     (λ x.
-      let d : is_same e.0 t ≡ false = other_way t e.0 x in
-      let rest : without_token e.0 (tally (es ++ (t, n) ∷ [])) ≡ insert_entry is_same es t (had t es + n) =
-        ap (without_token e.0) (put es t n h.1)
-        ∙ new_kept e.0 (insert_entry is_same es t (had t es + n)) (put_kept e.0 t es (had t es + n) d h.0) in
-      let sum : e.1 + times_of e.0 (es ++ (t, n) ∷ []) ≡ e.1 =
-        omega (arith, times-append e.0 es ((t, n) ∷ []), new_times e.0 es h.0, times_other e.0 (t, n) [] d) in
-      tally-cons e (es ++ (t, n) ∷ []) ∙ (λ i. (e.0, sum i) ∷ rest i) ∙ sym (stepped t n e es false x))
+    let d : is_same e.0 t ≡ false = other_way t e.0 x in
+    let rest : without_token e.0 (tally (es ++ (t, n) ∷ [])) ≡ insert_entry is_same es t (had t es + n) =
+    ap (without_token e.0) (put es t n h.1)
+    ∙ new_kept e.0 (insert_entry is_same es t (had t es + n)) (put_kept e.0 t es (had t es + n) d h.0) in
+    let sum : e.1 + times_of e.0 (es ++ (t, n) ∷ []) ≡ e.1 =
+    omega (arith, times-append e.0 es ((t, n) ∷ []), new_times e.0 es h.0, times_other e.0 (t, n) [] d) in
+    tally-cons e (es ++ (t, n) ∷ []) ∙ (λ i. (e.0, sum i) ∷ rest i) ∙ sym (stepped t n e es false x))
 
 kept : (es : List (List ℕ × ℕ)) → IsTable es → tally es ≡ es
 kept [] h = refl
@@ -122,10 +122,10 @@ found t [] h = refl
 found t (e ∷ es) h =
     by_same t e.0
     (λ x.
-      let none : times_of t es ≡ 0 = new_times t es (subst (λ k. IsNew k es) (sym (same_from t e.0 x)) h.0) in
-      ap (λ b. unwrap_or (cond b (Some e.1) (lookup (is_same t) es)) 0) x ∙ omega (arith, none, times_here t e es x))
+    let none : times_of t es ≡ 0 = new_times t es (subst (λ k. IsNew k es) (sym (same_from t e.0 x)) h.0) in
+    ap (λ b. unwrap_or (cond b (Some e.1) (lookup (is_same t) es)) 0) x ∙ omega (arith, none, times_here t e es x))
     (λ x. ap (λ b. unwrap_or (cond b (Some e.1) (lookup (is_same t) es)) 0) x ∙ found t es h.1
-      ∙ sym (times_other t e es x))
+    ∙ sym (times_other t e es x))
 
 pub tally-table : (es : List (List ℕ × ℕ)) → AllPairs (λ s u. s ≢ u) (tokens es) → tally es ≡ es
 tally-table es h = kept es (table_from es h)

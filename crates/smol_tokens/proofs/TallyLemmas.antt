@@ -36,7 +36,7 @@ none_left f t (u ∷ us) =
     by_same t u
     (λ e. ap (λ s. times_of t (paired f s)) (without_here t u us e) ∙ none_left f t us)
     (λ e. ap (λ s. times_of t (paired f s)) (without_other t u us e)
-      ∙ times_other t (u, f u) (paired f (without t us)) e ∙ none_left f t us)
+    ∙ times_other t (u, f u) (paired f (without t us)) e ∙ none_left f t us)
 
 others_left : (f : List ℕ → ℕ) (t k : List ℕ) (us : List (List ℕ)) → is_same t k ≡ false
     → times_of t (paired f (without k us)) ≡ times_of t (paired f us)
@@ -44,10 +44,10 @@ others_left f t k [] h = refl
 others_left f t k (u ∷ us) h =
     by_same k u
     (λ e. ap (λ s. times_of t (paired f s)) (without_here k u us e) ∙ others_left f t k us h
-      ∙ sym (times_other t (u, f u) (paired f us) (ap (is_same t) (sym (same_from k u e)) ∙ h)))
+    ∙ sym (times_other t (u, f u) (paired f us) (ap (is_same t) (sym (same_from k u e)) ∙ h)))
     (λ e. ap (λ s. times_of t (paired f s)) (without_other k u us e)
-      ∙ times-cons t (u, f u) (paired f (without k us))
-      ∙ ap (λ n. worth t (u, f u) + n) (others_left f t k us h) ∙ sym (times-cons t (u, f u) (paired f us)))
+    ∙ times-cons t (u, f u) (paired f (without k us))
+    ∙ ap (λ n. worth t (u, f u) + n) (others_left f t k us h) ∙ sym (times-cons t (u, f u) (paired f us)))
 
 -- of a text that was seen the number is counted once, and another has none
 counted : (f : List ℕ → ℕ) (t : List ℕ) (es : List (List ℕ × ℕ))
@@ -64,11 +64,11 @@ counted f t (e ∷ es) =
       ap f (same_from t e.0 h),
     )))
     (λ h.
-      let left : times_of t (paired f (first_sights (tokens (e ∷ es))))
-          ≡ times_of t (paired f (first_sights (tokens es))) =
-        times_other t (e.0, f e.0) (paired f (without e.0 (first_sights (tokens es)))) h
-        ∙ others_left f t e.0 (first_sights (tokens es)) h in
-      ⊎_elim (λ x. inl (left ∙ x)) (λ x. inr (left ∙ x.0, times_other t e es h ∙ x.1)) (counted f t es))
+    let left : times_of t (paired f (first_sights (tokens (e ∷ es))))
+    ≡ times_of t (paired f (first_sights (tokens es))) =
+    times_other t (e.0, f e.0) (paired f (without e.0 (first_sights (tokens es)))) h
+    ∙ others_left f t e.0 (first_sights (tokens es)) h in
+    ⊎_elim (λ x. inl (left ∙ x)) (λ x. inr (left ∙ x.0, times_other t e es h ∙ x.1)) (counted f t es))
 
 -- the count of a token in a tally is the sum of its times
 pub times_of-tally : (t : List ℕ) (es : List (List ℕ × ℕ)) → times_of t (tally es) ≡ times_of t es
@@ -84,10 +84,10 @@ tokens_tally es = firsts-paired (λ u. times_of u es) (first_sights (tokens es))
 pub tally-again : (es fs : List (List ℕ × ℕ)) → tally (tally es ++ fs) ≡ tally (es ++ fs)
 tally-again es fs =
     let counts : (t : List ℕ) → times_of t (tally es ++ fs) ≡ times_of t (es ++ fs) = λ t.
-      times-append t (tally es) fs ∙ ap (λ n. n + times_of t fs) (times_of-tally t es) ∙ sym (times-append t es fs) in
+    times-append t (tally es) fs ∙ ap (λ n. n + times_of t fs) (times_of-tally t es) ∙ sym (times-append t es fs) in
     let sights : first_sights (tokens (tally es ++ fs)) ≡ first_sights (tokens (es ++ fs)) =
-      ap first_sights (map-append (λ e. e.0) (tally es) fs ∙ ap (λ s. s ++ tokens fs) (tokens_tally es))
-      ∙ sights_again (tokens es) (tokens fs) ∙ ap first_sights (sym (map-append (λ e. e.0) es fs)) in
+    ap first_sights (map-append (λ e. e.0) (tally es) fs ∙ ap (λ s. s ++ tokens fs) (tokens_tally es))
+    ∙ sights_again (tokens es) (tokens fs) ∙ ap first_sights (sym (map-append (λ e. e.0) es fs)) in
     paired_agree (λ t. times_of t (tally es ++ fs)) (λ t. times_of t (es ++ fs))
     (first_sights (tokens (tally es ++ fs))) (λ k d l. counts _)
     ∙ ap (paired (λ t. times_of t (es ++ fs))) sights
@@ -114,10 +114,10 @@ pub tally-cons : (e : List ℕ × ℕ) (es : List (List ℕ × ℕ))
     → tally (e ∷ es) ≡ (e.0, e.1 + times_of e.0 es) ∷ without_token e.0 (tally es)
 tally-cons e es =
     let more : paired (λ u. times_of u (e ∷ es)) (without e.0 (first_sights (tokens es)))
-        ≡ without_token e.0 (tally es) =
-      paired_agree (λ u. times_of u (e ∷ es)) (λ u. times_of u es) (without e.0 (first_sights (tokens es)))
-      (All-weaker (λ u. is_same e.0 u ≡ false) (λ u. times_of u (e ∷ es) ≡ times_of u es)
-        (λ u h. times_other u e es (other_way e.0 u h)) (without e.0 (first_sights (tokens es)))
-        (All-without e.0 (first_sights (tokens es))))
-      ∙ paired-filter (λ u. times_of u es) (λ u. not (is_same e.0 u)) (first_sights (tokens es)) in
+    ≡ without_token e.0 (tally es) =
+    paired_agree (λ u. times_of u (e ∷ es)) (λ u. times_of u es) (without e.0 (first_sights (tokens es)))
+    (All-weaker (λ u. is_same e.0 u ≡ false) (λ u. times_of u (e ∷ es) ≡ times_of u es)
+    (λ u h. times_other u e es (other_way e.0 u h)) (without e.0 (first_sights (tokens es)))
+    (All-without e.0 (first_sights (tokens es))))
+    ∙ paired-filter (λ u. times_of u es) (λ u. not (is_same e.0 u)) (first_sights (tokens es)) in
     (λ i. (e.0, times_here e.0 e es (is_same_itself e.0) i) ∷ more i)

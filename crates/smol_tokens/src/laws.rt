@@ -40,14 +40,14 @@ pub fn lines_from_left()
 
 /// A tally counts each token once, in order of first sight, and can be taken up again.
 pub fn tallies()
-    ensures again { (pairs more : List (List ℕ × ℕ)) →
+    ensures taken_up_again { (pairs more : List (List ℕ × ℕ)) →
         tally (tally pairs ++ more) ≡ tally (pairs ++ more) }
     ensures counts { (pairs : List (List ℕ × ℕ)) →
         All (λ entry. entry.1 ≡ times_of entry.0 pairs) (tally pairs) }
     ensures sums { (t : List ℕ) (pairs : List (List ℕ × ℕ)) →
         times_of t (tally pairs) ≡ times_of t pairs }
     ensures once { (pairs : List (List ℕ × ℕ)) → AllPairs (λ s t. s ≢ t) (tokens (tally pairs)) }
-    ensures order { (pairs more : List (List ℕ × ℕ)) →
+    ensures old_tokens_first { (pairs more : List (List ℕ × ℕ)) →
         (new : List (List ℕ)) × (tokens (tally (pairs ++ more)) ≡ tokens (tally pairs) ++ new) }
 {}
 
@@ -59,6 +59,6 @@ pub fn tally_by_steps()
         tally (pairs ++ (t, times) ∷ []) ≡ insert_entry is_same (tally pairs) t (times_of t pairs + times) }
     ensures found { (pairs : List (List ℕ × ℕ)) (t : List ℕ) →
         unwrap_or (lookup (is_same t) (tally pairs)) 0 ≡ times_of t pairs }
-    ensures table { (pairs : List (List ℕ × ℕ)) →
+    ensures without_repeats { (pairs : List (List ℕ × ℕ)) →
         AllPairs (λ s t. s ≢ t) (tokens pairs) → tally pairs ≡ pairs }
 {}

@@ -24,10 +24,10 @@ pub fn run<R: Read, W: Write>(
 ) -> Result<(), RunFault>
     ensures ok { OnOk result
         (WroteReport mode (R.remaining reader.old) (R.remaining reader.new)
-            (W.contents writer.old) (W.contents writer.new)) }
+        (W.contents writer.old) (W.contents writer.new)) }
     ensures fault { IfErr result
         (AfterFault mode (R.remaining reader.old) (R.remaining reader.new)
-            (W.contents writer.old) (W.contents writer.new)) }
+        (W.contents writer.old) (W.contents writer.new)) }
 {
     let input = read_all(alloc, reader)?;
     let Ok(text) = str::from_utf8(input.as_slice()) else {

@@ -7,5 +7,5 @@ returns-clause-added c = tally-added
 pub returns-clause-found : goal.returns-clause-found
 returns-clause-found c = lookup-tally
 
-pub returns-clause-table : goal.returns-clause-table
-returns-clause-table c = tally-table
+pub returns-clause-without_repeats : goal.returns-clause-without_repeats
+returns-clause-without_repeats c = tally-table

@@ -11,7 +11,7 @@ abbrev pub invariant-loop-line : goal.invariant-loop-line
 invariant-loop-line l =
     shadow (Utf8 l.rest)
     × (encode_utf8_all (show_report (chars l.text))
-      ≡ string_bytes l.out ++ encode_utf8_all (show_report (chars l.rest)))
+    ≡ string_bytes l.out ++ encode_utf8_all (show_report (chars l.rest)))
 
 abbrev pub decreases-loop-line : goal.decreases-loop-line
 decreases-loop-line l = length l.rest
