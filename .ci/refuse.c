@@ -1,30 +1,41 @@
-/* Refuses memory to a test program, where its tests ask for it.
+/* Refuses memory to a test program, and counts what it asks for, where its tests want that.
 
-   Preloaded, this library stands before the C library's malloc and realloc. A test speaks to it by
-   requests for sizes that no allocation can have, so that without the library each is refused and
-   the same program runs as it is:
+   Preloaded, this library stands before the C library's malloc, realloc and free. A test sends it
+   messages: requests for sizes that no allocation can have, so that without the library each is
+   refused and the same program runs as it is. Message k is BASE + k * WORD, plus its argument n:
 
-       BASE + n          the nth request from here on is refused, and no other
-       BASE + WORD + n   the nth request from here on is refused, and each later one
-       BASE + 2 * WORD   nothing is refused from here on; granted exactly if something was
-       BASE + 3 * WORD   is the library here? granted
+       0   the nth request from here on is refused, and no other
+       1   the nth request from here on is refused, and each later one
+       2   nothing is refused from here on; granted exactly if something was
+       3   is the library here? granted
+       4   every count is 0 from here on
+       5   granted exactly if bit n is set in the number of requests, malloc's and realloc's
+       6   the same of the bytes that they asked for
+       7   the same of the blocks that were handed out and not freed
 
-   src/tests/refuse.rt of each crate says these words. At the process's end one line goes to the file
-   that REFUSE_LOG names: how often the program asked for refusals, and how many requests were refused. */
+   src/tests/refuse.rt of each crate sends these messages. At the process's end one line goes to the
+   file that REFUSE_LOG names: how often the program asked for refusals, and how many requests were
+   refused. */
 #include <stddef.h>
+#include <stdint.h>
 #include <stdio.h>
 #include <stdlib.h>
 
 extern void *__libc_malloc(size_t);
 extern void *__libc_realloc(void *, size_t);
+extern void __libc_free(void *);
 
 static const size_t BASE = (size_t)1 << 62;
 static const size_t WORD = (size_t)1 << 32;
 
+/* What a granted message answers. It is no block: free leaves it alone. */
+static _Alignas(max_align_t) char granted_block[sizeof(max_align_t)];
+
 static enum { NONE, ONE, FROM } mode = NONE;
-static size_t nth;          /* the first request to refuse, from 1 */
-static size_t seen, met;    /* requests and refusals since the mode was set */
-static size_t armed, total; /* the same two numbers for the whole process */
+static size_t nth;                     /* the first request to refuse, from 1 */
+static size_t seen, met;               /* requests and refusals since the mode was set */
+static size_t armed, total;            /* the same two numbers for the whole process */
+static uint32_t requests, bytes, blocks; /* the counts; blocks wraps where older ones are freed */
 
 static void arm(int new_mode, size_t n) {
     mode = new_mode;
@@ -33,9 +44,9 @@ static void arm(int new_mode, size_t n) {
     armed++;
 }
 
-/* Whether the size is a word to this library; then *answer is what malloc answers. */
-static int is_word(size_t size, void **answer) {
-    if (size < BASE || size >= BASE + 4 * WORD) return 0;
+/* Whether the size is a message; then *answer is what malloc answers. */
+static int is_message(size_t size, void **answer) {
+    if (size < BASE || size >= BASE + 8 * WORD) return 0;
     size_t n = (size - BASE) % WORD;
     int granted = 0;
     switch ((size - BASE) / WORD) {
@@ -43,12 +54,18 @@ static int is_word(size_t size, void **answer) {
     case 1: arm(FROM, n); break;
     case 2: mode = NONE; granted = met > 0; break;
     case 3: granted = 1; break;
+    case 4: requests = bytes = blocks = 0; break;
+    case 5: granted = requests >> n & 1; break;
+    case 6: granted = bytes >> n & 1; break;
+    case 7: granted = blocks >> n & 1; break;
     }
-    *answer = granted ? __libc_malloc(1) : NULL;
+    *answer = granted ? granted_block : NULL;
     return 1;
 }
 
-static int is_refused(void) {
+static int is_refused(size_t size) {
+    requests++;
+    bytes += size;
     if (mode == NONE) return 0;
     seen++;
     if (mode == ONE ? seen != nth : seen < nth) return 0;
@@ -59,12 +76,22 @@ static int is_refused(void) {
 
 void *malloc(size_t size) {
     void *answer;
-    if (is_word(size, &answer)) return answer;
-    return is_refused() ? NULL : __libc_malloc(size);
+    if (is_message(size, &answer)) return answer;
+    answer = is_refused(size) ? NULL : __libc_malloc(size);
+    blocks += answer != NULL;
+    return answer;
 }
 
 void *realloc(void *old, size_t size) {
-    return is_refused() ? NULL : __libc_realloc(old, size);
+    void *answer = is_refused(size) ? NULL : __libc_realloc(old, size);
+    blocks += old == NULL && answer != NULL;
+    return answer;
+}
+
+void free(void *block) {
+    if (block == granted_block || block == NULL) return;
+    blocks--;
+    __libc_free(block);
 }
 
 __attribute__((destructor)) static void log_counts(void) {

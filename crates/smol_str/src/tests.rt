@@ -1,14 +1,14 @@
 //! Tests of what no clause says: outside values, and memory refused.
 
 mod built;
+mod calls;
 mod compare;
 mod convert;
 mod keys;
+mod large;
 mod places;
 mod print;
 mod refuse;
-mod refused;
-mod refused_conversions;
 
 use std::alloc::{AllocError, Global};
 

@@ -2,6 +2,7 @@
 ghost use Rattle.std.specs.Prelude.{◌≡◌, IfOk};
 ghost use Rattle.std.specs.Str.{chars};
 
+use super::refuse::{can_refuse, end_refusals, refuse_all};
 use crate::{INLINE_CAP, Place, SmolStr, SmolStrBuilder, Step, build};
 use std::alloc::{AllocError, Global};
 use std::process::Abort;
@@ -86,25 +87,56 @@ const ROWS: [(&[Piece], &str, Place); 15] = [
 ];
 
 #[test]
-fn rows(rt: HostRuntime) -> Result<(), Fail> {
+fn test_builder_push_str(rt: HostRuntime) -> Result<(), Fail> {
+    for (pieces, text, place) in ROWS {
+        let builder = of_pieces(SmolStrBuilder::new(rt.alloc()), pieces)?;
+        assert_finishes(&rt, builder, text, place)?;
+    }
+    Ok(())
+}
+
+#[test]
+fn test_builder_push(rt: HostRuntime) -> Result<(), Fail> {
+    for (_, text, place) in ROWS {
+        let mut builder = SmolStrBuilder::new(rt.alloc());
+        for character in text.chars() {
+            builder.push(character)?;
+        }
+        assert_finishes(&rt, builder, text, place)?;
+    }
+    Ok(())
+}
+
+#[test]
+fn every_capacity(rt: HostRuntime) -> Result<(), Fail> {
     let alloc = rt.alloc();
     for (pieces, text, place) in ROWS {
         for capacity in [0, INLINE_CAP, INLINE_CAP + 1, 100] {
             let value = build(alloc, capacity, &steps_of(alloc, pieces)?)?;
             assert_value(&rt, &value, text, place);
-
-            let builder = of_pieces(alloc, capacity, pieces)?;
-            assert_eq!(rt; builder.as_str(), text, "capacity {capacity}");
-            assert_eq!(rt; builder.len(), text.len(), "{text}");
-            assert_eq!(rt; builder.is_empty(), text.is_empty(), "{text}");
-            let value = builder.finish().ok().ok_or("refused")?;
-            assert_value(&rt, &value, text, place);
-
-            let builder = of_characters(alloc, capacity, text)?;
-            let value = SmolStr::from_builder(builder).ok().ok_or("refused")?;
-            assert_value(&rt, &value, text, place);
+            let builder = SmolStrBuilder::with_capacity(alloc, capacity)?;
+            assert_finishes(&rt, of_pieces(builder, pieces)?, text, place)?;
         }
     }
+    Ok(())
+}
+
+// Where one byte is left, a text of two bytes is refused, and a character of one byte then fits.
+#[test]
+fn refused_at_the_boundary(rt: HostRuntime) -> Result<(), Fail> {
+    let alloc = rt.alloc();
+    let mut builder = builder_of(alloc, 0, "aaaaaaaaaaaaaaaaaaaaaa")?;
+    refuse_all(alloc);
+    if builder.push_str("bc").is_ok() {
+        assert!(rt; !can_refuse(alloc), "nothing was refused");
+        return Ok(());
+    }
+    assert_eq!(rt; builder.as_str(), "aaaaaaaaaaaaaaaaaaaaaa");
+    assert!(rt; builder.inline_buffer().is_some());
+    builder.push('d')?;
+    let value = SmolStr::from_builder(builder).map_err(|_| "refused")?;
+    end_refusals(alloc);
+    assert_value(&rt, &value, "aaaaaaaaaaaaaaaaaaaaaad", Place::Inline);
     Ok(())
 }
 
@@ -142,25 +174,12 @@ fn finish_both(a: SmolStrBuilder, b: SmolStrBuilder) -> Result<(SmolStr, SmolStr
     }
 }
 
-fn of_pieces(
-    alloc: Global,
-    capacity: usize,
-    pieces: &[Piece],
-) -> Result<SmolStrBuilder, AllocError> {
-    let mut builder = SmolStrBuilder::with_capacity(alloc, capacity)?;
+fn of_pieces(mut builder: SmolStrBuilder, pieces: &[Piece]) -> Result<SmolStrBuilder, AllocError> {
     for piece in pieces {
         match piece {
             Piece::Char(character) => builder.push(*character)?,
             Piece::Text(text) => builder.push_str(text)?,
         }
-    }
-    Ok(builder)
-}
-
-fn of_characters(alloc: Global, capacity: usize, text: &str) -> Result<SmolStrBuilder, AllocError> {
-    let mut builder = SmolStrBuilder::with_capacity(alloc, capacity)?;
-    for character in text.chars() {
-        builder.push(character)?;
     }
     Ok(builder)
 }
@@ -183,6 +202,21 @@ fn steps_of(alloc: Global, pieces: &[Piece]) -> Result<Vec<Step>, AllocError> {
         })?;
     }
     Ok(steps)
+}
+
+/// The builder has the text, and finishes to its value.
+fn assert_finishes(
+    rt: &impl Abort,
+    builder: SmolStrBuilder,
+    text: &str,
+    place: Place,
+) -> Result<(), Fail> {
+    assert_eq!(rt; builder.as_str(), text);
+    assert_eq!(rt; builder.len(), text.len(), "{text}");
+    assert_eq!(rt; builder.is_empty(), text.is_empty(), "{text}");
+    let value = builder.finish().map_err(|_| "refused")?;
+    assert_value(rt, &value, text, place);
+    Ok(())
 }
 
 fn assert_value(rt: &impl Abort, value: &SmolStr, text: &str, place: Place) {

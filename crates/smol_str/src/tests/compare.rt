@@ -1,6 +1,5 @@
 //! Equality, order and hashes.
-use crate::SmolStr;
-use std::alloc::Global;
+use crate::{Place, SmolStr};
 use std::cmp::Ordering;
 use std::hash::{DefaultHasher, Hash, Hasher};
 use std::test::Fail;
@@ -69,17 +68,26 @@ fn hash_of<T: Hash>(value: &T) -> u64 {
     hasher.finish()
 }
 
-// Equal texts have equal hashes in every place, that of std's `str`.
+// A pinned value is static whatever its text, and so is its clone. Equal texts have equal hashes in
+// every place, that of std's `str`.
 #[test]
-fn hashes(rt: HostRuntime) -> Result<(), Fail> {
-    for text in [
-        "",
-        "ab",
-        "                        ",
-        "aaaaaaaaaaaaaaaaaaaaaaaa",
-    ] {
+fn pinned_and_new(rt: HostRuntime) -> Result<(), Fail> {
+    let rows = [
+        ("", Place::Inline),
+        ("ab", Place::Inline),
+        ("                        ", Place::Static),
+        ("aaaaaaaaaaaaaaaaaaaaaaaa", Place::Heap),
+    ];
+    for (text, place) in rows {
         let value = SmolStr::new(rt.alloc(), text)?;
         let pinned = SmolStr::new_static(text);
+        assert_eq!(rt; value.place(), place, "{text}");
+        assert_eq!(rt; pinned.place(), Place::Static, "{text}");
+        assert_eq!(rt; pinned.clone()?.place(), Place::Static, "{text}");
+        assert!(rt;
+            !pinned.is_heap_allocated() && pinned.eq_str(text),
+            "{text}"
+        );
         assert!(rt; value == pinned, "{text}");
         assert_eq!(rt; hash_of(&value), hash_of(&pinned), "{text}");
         assert_eq!(rt; hash_of(&value), hash_of(&text), "{text}");

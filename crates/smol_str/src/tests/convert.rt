@@ -1,4 +1,5 @@
 //! Values from other texts, and back.
+use super::refuse::{can_refuse, end_refusals, refuse_all};
 use super::repeated;
 use crate::{FromUtf8Fault, Place, SmolStr};
 use std::borrow::CowStr;
@@ -6,7 +7,7 @@ use std::rc::RcStr;
 use std::test::Fail;
 
 #[test]
-fn characters(rt: HostRuntime) -> Result<(), Fail> {
+fn test_from_char(rt: HostRuntime) -> Result<(), Fail> {
     let rows = [('a', "a", 1), ('ñ', "ñ", 2), ('€', "€", 3), ('🦀', "🦀", 4)];
     for (character, text, len) in rows {
         let value = SmolStr::from(character);
@@ -40,7 +41,7 @@ fn bytes(rt: HostRuntime) -> Result<(), Fail> {
 }
 
 #[test]
-fn hello_world(rt: HostRuntime) -> Result<(), Fail> {
+fn conversions(rt: HostRuntime) -> Result<(), Fail> {
     let text = "Hello, World!";
     match SmolStr::new(rt.alloc(), text)?.into_string(rt.alloc()) {
         Ok(back) => assert_eq!(rt; back.as_str(), text),
@@ -111,6 +112,23 @@ fn keeps_a_shared_text(rt: HostRuntime) -> Result<(), Fail> {
         let value = SmolStr::from_rc_str(RcStr::from_str(alloc, text)?);
         assert_eq!(rt; value.place(), place, "{text:?}");
         assert_eq!(rt; value.len(), text.len(), "{text:?}");
+    }
+    Ok(())
+}
+
+#[test]
+fn refused_borrowed_text_comes_back(rt: HostRuntime) -> Result<(), Fail> {
+    let alloc = rt.alloc();
+    let text = "aaaaaaaaaaaaaaaaaaaaaaaa";
+    refuse_all(alloc);
+    let answer = SmolStr::from_cow_str(alloc, CowStr::Borrowed(text));
+    let was_refused = end_refusals(alloc);
+    match answer {
+        Ok(value) => assert!(rt; !can_refuse(alloc) && value.eq_str(text)),
+        Err(back) => {
+            assert!(rt; was_refused && matches!(back, CowStr::Borrowed(_)));
+            assert_eq!(rt; back.as_str(), text);
+        }
     }
     Ok(())
 }

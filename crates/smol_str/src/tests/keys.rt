@@ -26,7 +26,7 @@ fn keys_of_maps(rt: HostRuntime) -> Result<(), Fail> {
 }
 
 #[test]
-fn search_in_hash_map(rt: HostRuntime) -> Result<(), Fail> {
+fn test_search_in_hashmap(rt: HostRuntime) -> Result<(), Fail> {
     let mut map = HashMap::new(rt.alloc());
     map.insert(SmolStr::new(rt.alloc(), "aaa")?, 17)?;
     assert_eq!(rt; map.get(&SmolStr::new_inline("aaa")).copied(), Some(17));

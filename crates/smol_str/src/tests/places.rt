@@ -1,6 +1,6 @@
 //! Where texts are kept.
 use super::repeated;
-use crate::{InlineBuffer, Place, SmolStr, SmolStrBuilder, Step, build};
+use crate::{INLINE_CAP, InlineBuffer, Place, SmolStr, SmolStrBuilder, Step, build};
 use std::alloc::{AllocError, Global};
 use std::process::Abort;
 use std::test::Fail;
@@ -61,37 +61,14 @@ fn blank_places(rt: HostRuntime) -> Result<(), Fail> {
         let text = blank(rt.alloc(), newlines, spaces, more)?;
         let value = SmolStr::new(rt.alloc(), text.as_str())?;
         assert_eq!(rt; value.place(), place, "{newlines}, {spaces}, {more}");
+        assert_eq!(rt; value.len(), text.len(), "{newlines}, {spaces}, {more}");
         assert_eq!(rt; value.as_str(), text.as_str());
     }
     Ok(())
 }
 
-// A `new` that always gives up would keep its contract.
 #[test]
-fn new_of_long_text(rt: HostRuntime) -> Result<(), Fail> {
-    let text = repeated(rt.alloc(), "a", 5000)?;
-    let value = SmolStr::new(rt.alloc(), text.as_str())?;
-    assert_eq!(rt; value.len(), 5000);
-    assert_eq!(rt; value.as_str(), text.as_str());
-    assert_eq!(rt; value.place(), Place::Heap);
-    Ok(())
-}
-
-// A pinned value and its clone are static whatever the text.
-#[test]
-fn pinned_places(rt: HostRuntime) -> Result<(), Fail> {
-    for text in ["", "ab", "aaaaaaaaaaaaaaaaaaaaaaaa"] {
-        let pinned = SmolStr::new_static(text);
-        assert_eq!(rt; pinned.place(), Place::Static, "{text}");
-        assert_eq!(rt; pinned.clone()?.place(), Place::Static, "{text}");
-        assert!(rt; !pinned.is_heap_allocated(), "{text}");
-        assert_eq!(rt; pinned.as_str(), text);
-    }
-    Ok(())
-}
-
-#[test]
-fn inline_texts(rt: HostRuntime) -> Result<(), Fail> {
+fn const_fn_ctor(rt: HostRuntime) -> Result<(), Fail> {
     let texts = [
         "",
         "A",
@@ -120,20 +97,40 @@ fn in_turn(alloc: Global, characters: &[char], count: usize) -> Result<String, A
     Ok(text)
 }
 
-#[test]
-fn round_trips(rt: HostRuntime) -> Result<(), Fail> {
-    let alphabets: [&[char]; 4] = [&['a', 'é', '€', '🦀'], &[' '], &['\n'], &['\n', ' ']];
-    for characters in alphabets {
-        for count in 0..=200usize {
-            let text = in_turn(rt.alloc(), characters, count)?;
-            let value = SmolStr::new(rt.alloc(), text.as_str())?;
-            assert_eq!(rt; value.as_str(), text.as_str());
-            assert_eq!(rt; value.len(), text.len());
-            assert_eq!(rt; value.is_empty(), count == 0);
-            assert!(rt; text.len() > 23 || !value.is_heap_allocated(), "{text:?}");
-        }
+/// Texts of 0 to 200 characters, the given ones in turn, are kept as they are.
+fn assert_round_trips(rt: &impl Abort, alloc: Global, characters: &[char]) -> Result<(), Fail> {
+    for count in 0..=200usize {
+        let text = in_turn(alloc, characters, count)?;
+        let value = SmolStr::new(alloc, text.as_str())?;
+        assert_eq!(rt; value.as_str(), text.as_str());
+        assert_eq!(rt; value.len(), text.len());
+        assert_eq!(rt; value.is_empty(), count == 0);
+        assert!(rt;
+            text.len() > INLINE_CAP || !value.is_heap_allocated(),
+            "{text:?}"
+        );
     }
     Ok(())
+}
+
+#[test]
+fn roundtrip(rt: HostRuntime) -> Result<(), Fail> {
+    assert_round_trips(&rt, rt.alloc(), &['a', 'é', '€', '🦀'])
+}
+
+#[test]
+fn roundtrip_spaces(rt: HostRuntime) -> Result<(), Fail> {
+    assert_round_trips(&rt, rt.alloc(), &[' '])
+}
+
+#[test]
+fn roundtrip_newlines(rt: HostRuntime) -> Result<(), Fail> {
+    assert_round_trips(&rt, rt.alloc(), &['\n'])
+}
+
+#[test]
+fn roundtrip_ws(rt: HostRuntime) -> Result<(), Fail> {
+    assert_round_trips(&rt, rt.alloc(), &['\n', ' '])
 }
 
 // The text's bytes, and zeros: of a value and of a builder that are inline, and of no other.
