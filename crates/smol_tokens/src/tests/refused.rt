@@ -1,5 +1,7 @@
 //! `run` with memory refused: nothing is written, or all.
-use super::refuse::{can_refuse, end_refusals, refuse_one};
+use super::refuse::{
+    can_refuse, count_blocks, count_refusals, end_refusals, refuse_one, start_counts,
+};
 use super::streams::{Failure, empty_drip, trickle_of};
 use crate::fault::RunFault;
 use crate::mode::Mode;
@@ -7,9 +9,6 @@ use crate::run::run;
 use std::alloc::Global;
 use std::process::Abort;
 use std::test::Fail;
-
-/// More requests than a run here makes.
-const MOST: u32 = 1000;
 
 /// Each input, and the length of the report on it.
 const INPUTS: [(&[u8], usize); 4] = [
@@ -23,38 +22,38 @@ const INPUTS: [(&[u8], usize); 4] = [
 fn each_request_in_turn(rt: HostRuntime) -> Result<(), Fail> {
     let alloc = rt.alloc();
     for (input, wanted) in INPUTS {
-        let refusals = count_refusals(&rt, alloc, input, wanted)?;
+        let refusals = count_refusals(|nth| {
+            start_counts(alloc);
+            let was_refused = assert_run(&rt, alloc, input, wanted, nth)?;
+            assert_eq!(rt; count_blocks(alloc), 0, "a run leaks");
+            Ok(was_refused)
+        })?;
         assert_eq!(rt; refusals > 0, can_refuse(alloc) && !input.is_empty());
     }
     Ok(())
 }
 
-/// Refuses the first request, the second, and so on, until a run meets no refusal, and answers how
-/// many runs met one.
-fn count_refusals(
+/// Runs with the `nth` request refused, and answers whether one was.
+fn assert_run(
     rt: &impl Abort,
     alloc: Global,
     input: &[u8],
     wanted: usize,
-) -> Result<u32, Fail> {
-    for nth in 1..MOST {
-        let mut reader = trickle_of(input, 4096, 0);
-        let mut writer = empty_drip(alloc, 4096, 0, Failure::TakesNone);
-        writer.taken = Vec::with_capacity(alloc, wanted)?;
-        refuse_one(alloc, nth);
-        let answer = run(alloc, Mode::Show, &mut reader, &mut writer);
-        let was_refused = end_refusals(alloc);
-        match answer {
-            Ok(()) => assert_eq!(rt; writer.taken.len(), wanted),
-            Err(RunFault::OutOfMemory) => {
-                assert!(rt; was_refused, "want of memory where nothing was refused");
-                assert!(rt; writer.taken.is_empty(), "written after want of memory");
-            }
-            _ => assert!(rt; false, "another fault"),
+    nth: u32,
+) -> Result<bool, Fail> {
+    let mut reader = trickle_of(input, 4096, 0);
+    let mut writer = empty_drip(alloc, 4096, 0, Failure::TakesNone);
+    writer.taken = Vec::with_capacity(alloc, wanted)?;
+    refuse_one(alloc, nth);
+    let answer = run(alloc, Mode::Show, &mut reader, &mut writer);
+    let was_refused = end_refusals(alloc);
+    match answer {
+        Ok(()) => assert_eq!(rt; writer.taken.len(), wanted),
+        Err(RunFault::OutOfMemory) => {
+            assert!(rt; was_refused, "want of memory where nothing was refused");
+            assert!(rt; writer.taken.is_empty(), "written after want of memory");
         }
-        if !was_refused {
-            return Ok(nth - 1);
-        }
+        _ => assert!(rt; false, "another fault"),
     }
-    Err("a run makes too many requests".into())
+    Ok(was_refused)
 }

@@ -7,7 +7,6 @@ use super::streams::{Drip, Failure, empty_drip, trickle_of};
 use crate::fault::RunFault;
 use crate::mode::Mode;
 use crate::run::run;
-use crate::stream::PIECE;
 use std::alloc::Global;
 use std::io::ErrorKind;
 use std::test::Fail;
@@ -81,11 +80,25 @@ fn long_blank_line(rt: HostRuntime) -> Result<(), Fail> {
     Ok(())
 }
 
+// A line of 70,000 bytes, and an input of 200,000 in lines of 100.
 #[test]
-fn long_line(rt: HostRuntime) -> Result<(), Fail> {
-    let out = shown_whole(rt.alloc(), &[b'a'; 5000])?;
-    assert_eq!(rt; out.len(), 5011);
-    assert!(rt; out.as_slice().starts_with(b"heap 5000 aaa"));
+fn long_inputs(rt: HostRuntime) -> Result<(), Fail> {
+    let alloc = rt.alloc();
+    for (line, times) in [(70_000, 1), (99, 2000)] {
+        let mut input = Vec::new(alloc);
+        let mut wanted = String::new(alloc);
+        for _ in 0..times {
+            write!(wanted, "heap {line} ")?;
+            for _ in 0..line {
+                input.push(b'a')?;
+                wanted.push('a')?;
+            }
+            input.push(b'\n')?;
+            wanted.push('\n')?;
+        }
+        let out = shown_whole(alloc, input.as_slice())?;
+        assert_eq!(rt; out.as_slice(), wanted.as_str().as_bytes());
+    }
     Ok(())
 }
 
@@ -119,7 +132,7 @@ fn fails_at_each_read(rt: HostRuntime) -> Result<(), Fail> {
             assert!(rt; writer.taken.is_empty(), "at call {fails_at}");
         }
         assert!(rt;
-            reader.least >= 1 && reader.most <= PIECE,
+            reader.least >= 1 && reader.most <= 4096,
             "at call {fails_at}"
         );
     }
@@ -153,16 +166,36 @@ fn fails_at_each_write(rt: HostRuntime) -> Result<(), Fail> {
     Ok(())
 }
 
-// A whole piece, and one byte more.
+// Whole pieces and a byte more, also where a character lies across the end of the first.
 #[test]
 fn reads_by_pieces(rt: HostRuntime) -> Result<(), Fail> {
-    let input = [b'a'; PIECE + 1];
-    let mut reader = trickle_of(&input, usize::MAX, 0);
-    let mut writer = empty_drip(rt.alloc(), usize::MAX, 0, Failure::TakesNone);
+    for (beginning, piece, times) in [("", "a", 4097), ("a", "é", 2048), ("aa", "🦀", 1024)] {
+        let mut line = String::from_str(rt.alloc(), beginning)?;
+        for _ in 0..times {
+            line.push_str(piece)?;
+        }
+        let mut reader = trickle_of(line.as_str().as_bytes(), usize::MAX, 0);
+        let mut writer = empty_drip(rt.alloc(), usize::MAX, 0, Failure::TakesNone);
+        run(rt.alloc(), Mode::Show, &mut reader, &mut writer)?;
+        assert_eq!(rt; reader.calls, 3, "{piece}");
+        assert_eq!(rt; reader.most, 4096, "{piece}");
+        assert!(rt; reader.least >= 1, "{piece}");
+        let wanted = format!(in rt.alloc(); "heap {} {line}\n", line.len())?;
+        assert_eq!(rt;
+            writer.taken.as_slice(),
+            wanted.as_str().as_bytes(),
+            "{piece}"
+        );
+    }
+    Ok(())
+}
+
+#[test]
+fn no_write_of_an_empty_report(rt: HostRuntime) -> Result<(), Fail> {
+    let mut reader = trickle_of(b"", 1, 0);
+    let mut writer = empty_drip(rt.alloc(), 1, 1, Failure::Interrupted);
     run(rt.alloc(), Mode::Show, &mut reader, &mut writer)?;
-    assert_eq!(rt; reader.calls, 3);
-    assert!(rt; reader.least >= 1 && reader.most <= PIECE);
-    assert_eq!(rt; writer.taken.len(), "heap 4097 ".len() + PIECE + 2);
+    assert_eq!(rt; writer.calls, 0);
     Ok(())
 }
 
