@@ -77,6 +77,14 @@ const OWNED: &[Asks] = &[Asks::Owned];
 
 const BUILT: &[Asks] = &[Asks::Owned, Asks::Shared];
 
+const AND_CHAR: &[Asks] = &[Asks::OwnedAndChar];
+
+const TWICE: &[Asks] = &[Asks::OwnedTwice];
+
+const BY_CHAR: &[Asks] = &[Asks::GrowByChar];
+
+const BY_TEXT: &[Asks] = &[Asks::GrowByText];
+
 /// Each call, and what it asks for on a text that fills a buffer, on the blank constant, and on a
 /// text that is not resident.
 const CALLS: [(Call, &[Asks], &[Asks], &[Asks]); 31] = [
@@ -102,18 +110,8 @@ const CALLS: [(Call, &[Asks], &[Asks], &[Asks]); 31] = [
     (Call::Compare, NONE, NONE, NONE),
     (Call::NewBuilder, NONE, NONE, NONE),
     (Call::WithCapacity, NONE, OWNED, OWNED),
-    (
-        Call::Push,
-        &[Asks::OwnedAndChar],
-        &[Asks::GrowByChar],
-        &[Asks::GrowByChar],
-    ),
-    (
-        Call::PushStr,
-        &[Asks::OwnedTwice],
-        &[Asks::GrowByText],
-        &[Asks::GrowByText],
-    ),
+    (Call::Push, AND_CHAR, BY_CHAR, BY_CHAR),
+    (Call::PushStr, TWICE, BY_TEXT, BY_TEXT),
     (Call::PushStrToEmpty, NONE, OWNED, OWNED),
     (Call::ReadBuilder, NONE, NONE, NONE),
     (Call::Finish, NONE, NONE, SHARED),
@@ -136,7 +134,7 @@ enum Thing {
     Lent,
 }
 
-/// What a run of a call asked for, and whether memory was refused to it.
+/// What a call asked the heap for.
 #[derive(Clone, Copy, PartialEq, Eq, Debug)]
 struct Asked {
     requests: u32,

@@ -2,7 +2,9 @@
 use super::refuse::{can_refuse, end_refusals, refuse_all};
 use super::repeated;
 use crate::{FromUtf8Fault, Place, SmolStr};
+use std::alloc::Global;
 use std::borrow::CowStr;
+use std::process::Abort;
 use std::rc::RcStr;
 use std::test::Fail;
 
@@ -55,41 +57,60 @@ fn conversions(rt: HostRuntime) -> Result<(), Fail> {
     Ok(())
 }
 
-// Each call that takes a text makes the value that `new` makes.
+// Each call that takes a text makes the value that `new` makes, and none gives up.
 #[test]
 fn every_way_in(rt: HostRuntime) -> Result<(), Fail> {
     let alloc = rt.alloc();
-    let texts = [
-        repeated(alloc, "ab", 1)?,
-        repeated(alloc, " ", 24)?,
-        repeated(alloc, "a", 24)?,
-        repeated(alloc, "é", 2500)?,
+    let rows = [
+        ("ab", 1, Place::Inline),
+        (" ", 24, Place::Static),
+        ("a", 24, Place::Heap),
+        ("a", 5000, Place::Heap),
+        ("a", 70_000, Place::Heap),
+        ("é", 2500, Place::Heap),
+        ("é", 35_000, Place::Heap),
     ];
-    for text in &texts {
+    for (piece, times, place) in rows {
+        let text = repeated(alloc, piece, times)?;
         let text = text.as_str();
         let owned = String::from_str(alloc, text)?;
         let boxed = String::from_str(alloc, text)?.into_boxed_str();
         let values = [
+            SmolStr::new(alloc, text).ok(),
             SmolStr::from_str(alloc, text).ok(),
             SmolStr::from_string_ref(alloc, &owned).ok(),
             SmolStr::from_utf8(alloc, text.as_bytes()).ok(),
+            SmolStr::from_utf8_unchecked(alloc, text.as_bytes()).ok(),
             SmolStr::from_string(alloc, owned).ok(),
             SmolStr::from_boxed_str(alloc, boxed).ok(),
             SmolStr::from_cow_str(alloc, CowStr::Borrowed(text)).ok(),
             SmolStr::from_cow_str(alloc, CowStr::Owned(String::from_str(alloc, text)?)).ok(),
             Some(SmolStr::from_rc_str(RcStr::from_str(alloc, text)?)),
         ];
-        let wanted = SmolStr::new(alloc, text)?;
         for (way, value) in values.iter().enumerate() {
             match value {
-                Some(value) => {
-                    assert_eq!(rt; value.as_str(), text);
-                    assert_eq!(rt; value.place(), wanted.place(), "way {way}");
-                }
+                Some(value) => assert_value(&rt, alloc, value, text, place)?,
                 None => assert!(rt; false, "no value by way {way}"),
             }
         }
     }
+    Ok(())
+}
+
+fn assert_value(
+    rt: &impl Abort,
+    alloc: Global,
+    value: &SmolStr,
+    text: &str,
+    place: Place,
+) -> Result<(), Fail> {
+    assert_eq!(rt; value.as_str(), text);
+    assert_eq!(rt; value.place(), place);
+    assert_eq!(rt; format!(in alloc; "{value}")?.as_str(), text);
+    assert_eq!(rt;
+        format!(in alloc; "{value:?}")?,
+        format!(in alloc; "\"{text}\"")?
+    );
     Ok(())
 }
 

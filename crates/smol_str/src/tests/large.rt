@@ -1,11 +1,7 @@
-//! Large capacities and long texts.
+//! Large capacities.
 use super::refuse::{can_refuse, end_refusals, refuse_all, refuse_one};
 use super::repeated;
 use crate::{INLINE_CAP, Place, SmolStr, SmolStrBuilder, Step, build};
-use std::alloc::Global;
-use std::borrow::CowStr;
-use std::process::Abort;
-use std::rc::RcStr;
 use std::test::Fail;
 
 const CAPACITIES: [usize; 4] = [INLINE_CAP, 200, 5000, 1_000_001];
@@ -63,49 +59,5 @@ fn refused_finish_keeps_the_capacity(rt: HostRuntime) -> Result<(), Fail> {
             assert_eq!(rt; back.len(), 200);
         }
     }
-    Ok(())
-}
-
-// A call that always gives up would keep its contract.
-#[test]
-fn long_texts(rt: HostRuntime) -> Result<(), Fail> {
-    let alloc = rt.alloc();
-    for (piece, times) in [("a", 5000), ("a", 70_000), ("é", 2500), ("é", 35_000)] {
-        let text = repeated(alloc, piece, times)?;
-        let text = text.as_str();
-        let owned = String::from_str(alloc, text)?;
-        let boxed = String::from_str(alloc, text)?.into_boxed_str();
-        let shared = RcStr::from_str(alloc, text)?;
-        let values = [
-            SmolStr::new(alloc, text).ok(),
-            SmolStr::from_str(alloc, text).ok(),
-            SmolStr::from_string_ref(alloc, &owned).ok(),
-            SmolStr::from_utf8(alloc, text.as_bytes()).ok(),
-            SmolStr::from_utf8_unchecked(alloc, text.as_bytes()).ok(),
-            SmolStr::from_string(alloc, owned).ok(),
-            SmolStr::from_boxed_str(alloc, boxed).ok(),
-            SmolStr::from_cow_str(alloc, CowStr::Borrowed(text)).ok(),
-            Some(SmolStr::from_rc_str(shared)),
-        ];
-        for (way, value) in values.iter().enumerate() {
-            match value {
-                Some(value) => assert_prints(&rt, alloc, value, text)?,
-                None => assert!(rt; false, "no value by way {way}"),
-            }
-        }
-    }
-    Ok(())
-}
-
-fn assert_prints(rt: &impl Abort, alloc: Global, value: &SmolStr, text: &str) -> Result<(), Fail> {
-    assert_eq!(rt; value.as_str(), text);
-    assert_eq!(rt; value.place(), Place::Heap);
-    assert_eq!(rt; format!(in alloc; "{value}")?.as_str(), text);
-    let printed = format!(in alloc; "{value:?}")?;
-    let inner = printed
-        .as_str()
-        .strip_prefix('"')
-        .and_then(|rest| rest.strip_suffix('"'));
-    assert_eq!(rt; inner, Some(text));
     Ok(())
 }
