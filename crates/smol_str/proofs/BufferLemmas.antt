@@ -1,10 +1,10 @@
 -- A short text in a buffer.
-use Rattle.std.proofs.Common.{◌≡◌, ℕ, ◌+◌, ◌-◌, ◌≤◌, List, ◌++◌, length, take, drop, replicate, sym, ◌∙◌, ap, arith, length-take-le, encode_utf8_all, nat_eq, ◌↔◌, IsTrue}
+use Rattle.std.proofs.Common.{◌≡◌, ℕ, ◌+◌, ◌-◌, ◌≤◌, List, ◌++◌, length, take, drop, replicate, refl, sym, ◌∙◌, ap, arith, length-take-le, encode_utf8_all, nat_eq, ◌↔◌, IsTrue}
 use Rattle.std.specs.Cmp.Lexicographic.{pointwise, bytes_decides}
 use Rattle.std.proofs.lemmas.Bool.Decides.{Decides-eqb}
 use Rattle.std.specs.Str.{chars, IsUtf8}
-use Rattle.std.proofs.lemmas.Str.{encodes-chars, chars-append, IsUtf8-append}
-use Rattle.std.proofs.lemmas.List.{drop-drop, drop-replicate, take-append-drop}
+use Rattle.std.proofs.lemmas.Str.{encodes-chars, encodes_same, chars-append, IsUtf8-append}
+use Rattle.std.proofs.lemmas.List.{drop-drop, drop-replicate, take-append-drop, take_at}
 use Rattle.smol_str.specs.declared.buffer.TheConstants.{INLINE_CAP}
 use Rattle.smol_str.specs.Text.{size, IsShort}
 use Rattle.smol_str.specs.Buffer.{IsBuffer, padded}
@@ -62,3 +62,10 @@ other-views m n xs ys h k p q other = (
   (λ b. absurd (other ((Decides-eqb m n).0 b))),
   (λ v. absurd (other (same-buffers m n xs ys h k p q v).0)),
 )
+
+-- texts of one size with one padded buffer
+pub padded-same : (s t : List ℕ) → size s ≡ size t → padded (encode_utf8_all s) ≡ padded (encode_utf8_all t) → s ≡ t
+padded-same s t e h =
+    let left = take_at (encode_utf8_all s) (replicate (INLINE_CAP - size s) 0) (size s) refl in
+    let right = take_at (encode_utf8_all t) (replicate (INLINE_CAP - size t) 0) (size s) (sym e) in
+    encodes_same s t (sym left ∙ ap (take (size s)) h ∙ right)

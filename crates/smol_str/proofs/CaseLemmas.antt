@@ -1,10 +1,10 @@
 -- ASCII case, character by character.
-use Rattle.std.proofs.Common.{◌≡◌, ℕ, ◌<◌, List, [], ◌∷◌, ◌++◌, cond, ⊎_elim, map, refl, ap, ◌∙◌, arith, length-append}
+use Rattle.std.proofs.Common.{◌≡◌, ℕ, ◌+◌, ◌<◌, ◌≤◌, List, [], ◌∷◌, ◌++◌, Bool, true, false, cond, ⊎_elim, map, refl, ap, ◌∙◌, arith, length-append}
 use Rattle.std.specs.Prelude.{All}
 use Rattle.std.specs.Char.{to_ascii_lowercase, to_ascii_uppercase, is_ascii, len_utf8, IsAsciiUppercase, IsAsciiLowercase}
 use Rattle.std.specs.Str.{encode_utf8_all}
 use lib.Utf8.{encode}
-use Rattle.std.proofs.lemmas.Bool.{lt-ltb, le-ltb, cases_lt}
+use Rattle.std.proofs.lemmas.Bool.{lt-ltb, le-ltb, ltb-true, ltb-false, cases_lt}
 use Rattle.std.proofs.lemmas.Bool.Decides.{nat_tests}
 use Rattle.std.proofs.lemmas.Str.{length-encode}
 use Rattle.std.proofs.lemmas.List.Elements.{All-nil, All-cons, All-head, All-tail}
@@ -35,6 +35,13 @@ lower_left c h = ⊎_elim (λ l. grind (arith, nat_tests)) (λ l. ⊎_elim (λ k
 
 upper_left : (c : ℕ) → ¬ IsAsciiLowercase c → to_ascii_uppercase c ≡ c
 upper_left c h = ⊎_elim (λ l. grind (arith, nat_tests)) (λ l. ⊎_elim (λ k. absurd (h (l, omega arith))) (λ k. grind (arith, nat_tests)) (cases_lt c 123)) (cases_lt c 97)
+
+-- a letter of the other case is 32 away
+pub lower-capital : (c : ℕ) (t : List ℕ) → IsAsciiUppercase c → lower (c ∷ t) ≡ (c + 32) ∷ lower t
+lower-capital c t h = let one : to_ascii_lowercase c ≡ c + 32 = grind (arith, nat_tests) in ap (λ d. d ∷ lower t) one
+
+pub upper-small : (c : ℕ) (t : List ℕ) → IsAsciiUppercase c → upper ((c + 32) ∷ t) ≡ c ∷ upper t
+upper-small c t h = let one : to_ascii_uppercase (c + 32) ≡ c = grind (arith, nat_tests) in ap (λ d. d ∷ upper t) one
 
 -- what holds of each character holds of the text
 size-map : (f : ℕ → ℕ) → ((c : ℕ) → len_utf8 (f c) ≡ len_utf8 c) → (t : List ℕ) → size (map f t) ≡ size t
@@ -84,6 +91,19 @@ front-append [] (d ∷ r) h k = front-cons d r ∙ ap (λ b. cond b (d ∷ front
 front-append (c ∷ a) r h k =
     front-cons c (a ++ r) ∙ ap (λ b. cond b (c ∷ front (a ++ r)) []) (lt-ltb c 0x80 (All-head (λ d. d < 0x80) c a h))
     ∙ ap (λ s. c ∷ s) (front-append a r (All-tail (λ d. d < 0x80) c a h) k)
+
+-- a text is its front and what follows
+abbrev Parts : List ℕ → List ℕ → Type 0
+Parts t a = (r : List ℕ) × (t ≡ a ++ r) × IsAsciiText a × BeginsPastAscii r
+
+parts_more : (c : ℕ) (t : List ℕ) → Parts t (front t) → (b : Bool) → is_ascii c ≡ b → Parts (c ∷ t) (cond b (c ∷ front t) [])
+parts_more c t h true e =
+    (h.0, ap (λ s. c ∷ s) h.1, All-cons (λ d. d < 0x80) c (front t) (ltb-true c 0x80 e) h.2, h.3)
+parts_more c t h false e = (c ∷ t, refl, All-nil (λ d. d < 0x80), ltb-false c 0x80 e)
+
+pub front-parts : (t : List ℕ) → Parts t (front t)
+front-parts [] = ([], refl, All-nil (λ d. d < 0x80), tt)
+front-parts (c ∷ t) = rw (front-cons c t) (parts_more c t (front-parts t) (is_ascii c) refl)
 
 -- no letter of the other case is left
 lower_none : (c : ℕ) → ¬ IsAsciiUppercase (to_ascii_lowercase c)

@@ -1,9 +1,9 @@
 -- Each text has one cut at a pattern, and `cut` is it.
-use Rattle.std.proofs.Common.{◌≡◌, ℕ, ◌+◌, ◌-◌, ◌<◌, ◌≤◌, zero, suc, min, List, [], ◌∷◌, ◌++◌, Bool, true, false, cond, Option, Some, None, ◌⊎◌, inl, inr, ⊎_elim, length, take, drop, option_map, unwrap_or, MatchOption, refl, sym, ap, ◌∙◌, subst, arith, length-append, append_assoc, append-nil, take-append-drop}
+use Rattle.std.proofs.Common.{◌≡◌, ◌↔◌, ℕ, ◌+◌, ◌-◌, ◌<◌, ◌≤◌, zero, suc, min, List, [], ◌∷◌, ◌++◌, Bool, true, false, cond, Option, Some, None, ◌⊎◌, inl, inr, ⊎_elim, length, take, drop, option_map, unwrap_or, MatchOption, refl, sym, ap, ◌∙◌, subst, arith, length-append, append_assoc, append-nil, take-append-drop}
 use Rattle.std.specs.Prelude.{nat_eq}
-use Rattle.std.specs.Bool.{Decides}
 use Rattle.std.specs.List.{concat, starts_with, flat_map}
-use Rattle.std.proofs.lemmas.Bool.{eqb-true, eq-eqb, false≢true}
+use Rattle.std.proofs.lemmas.Bool.{false≢true, false_from_ne_true}
+use Rattle.std.proofs.lemmas.Bool.Decides.{Decides-eqb}
 use Rattle.std.proofs.lemmas.List.{take_at, take-append-le, append_cancel_left}
 use Rattle.std.proofs.lemmas.Slice.Eq.{starts_is}
 use Rattle.std.specs.Prelude.{All}
@@ -71,6 +71,25 @@ one_first p (c ∷ q) (d ∷ q') x y some e f g =
     let same : q ≡ q' = one_first p q q' x y some (tail_same c d (q ++ (p ++ x)) (q' ++ (p ++ y)) e) (not_later p c (q ++ but_last p) f) (not_later p d (q' ++ but_last p) g) in
     ap (λ k. k ∷ q) (head_same c d (q ++ (p ++ x)) (q' ++ (p ++ y)) e) ∙ ap (λ s. d ∷ s) same
 
+-- the first match is the one after the shortest text
+shortest : (p q a r s : List ℕ) → 0 < length p → q ++ (p ++ r) ≡ a ++ (p ++ s) → IsFirstAfter p q → length q ≤ length a
+shortest p [] a r s some e f = omega arith
+shortest p (c ∷ q) [] r s some e f = absurd (f (early p (c ∷ q) s r some (omega arith) (sym e)))
+shortest p (c ∷ q) (d ∷ a) r s some e f =
+    let rest = tail_same c d (q ++ (p ++ r)) (a ++ (p ++ s)) e in
+    omega (arith, shortest p q a r s some rest (not_later p c (q ++ but_last p) f))
+
+pub first-shortest : (p q r : List ℕ) → 0 < length p →
+    IsFirstAfter p q ↔ ((a s : List ℕ) → q ++ (p ++ r) ≡ a ++ (p ++ s) → length q ≤ length a)
+first-shortest p q r some = (
+  (λ f a s e. shortest p q a r s some e f),
+  (λ least o.
+      let later = parts p q r ∙ ap (λ x. x ++ (last_part p ++ r)) o.2 ∙ append_assoc o.0 (p ++ o.1) (last_part p ++ r)
+      ∙ ap (λ x. o.0 ++ x) (append_assoc p o.1 (last_part p ++ r)) in
+      let sizes = ap length o.2 in
+      omega (arith, least o.0 (o.1 ++ (last_part p ++ r)) later, sizes, length-append q (but_last p), length-append o.0 (p ++ o.1), length-append p o.1, length_but_last p)),
+)
+
 -- without its first piece a cut is a cut of what is left
 rest_cut : (t p : List ℕ) (n : ℕ) (q r : List ℕ) (rs : List (List ℕ)) → IsCutAt t p n (q ∷ r ∷ rs) → IsCutAt (joined_by p (r ∷ rs)) p (n - 1) (r ∷ rs)
 rest_cut t p n q r rs h = record {
@@ -135,14 +154,14 @@ pub occurs_cases : (p : List ℕ) (c : ℕ) (t a r : List ℕ) → c ∷ t ≡ a
 occurs_cases p c t [] r e = inl (r, e)
 occurs_cases p c t (d ∷ a) r e = inr (a, r, tail_same c d t (a ++ (p ++ r)) e)
 
-nat_eq_decides : (a b : ℕ) → Decides (nat_eq a b) (a ≡ b)
-nat_eq_decides a b = (eqb-true a b, eq-eqb a b)
-
 begins : (p s : List ℕ) → starts_with nat_eq s p ≡ true → s ≡ p ++ drop (length p) s
-begins p s e = (starts_is nat_eq_decides s p (starts_with nat_eq s p) refl).0 e
+begins p s e = (starts_is Decides-eqb s p (starts_with nat_eq s p) refl).0 e
 
 begins_not : (p s x : List ℕ) → starts_with nat_eq s p ≡ false → ¬ (s ≡ p ++ x)
-begins_not p s x e h = false≢true (sym e ∙ (starts_is nat_eq_decides s p (starts_with nat_eq s p) refl).1 x h)
+begins_not p s x e h = false≢true (sym e ∙ (starts_is Decides-eqb s p (starts_with nat_eq s p) refl).1 x h)
+
+pub begins_nowhere : (p s : List ℕ) → ((r : List ℕ) → ¬ (s ≡ p ++ r)) → starts_with nat_eq s p ≡ false
+begins_nowhere p s none = false_from_ne_true (starts_with nat_eq s p) (λ yes. none (drop (length p) s) (begins p s yes))
 
 too_long : (p : List ℕ) → 0 < length p → ¬ Occurs p (but_last p)
 too_long p some o = omega (arith, length_but_last p, ap length o.2, length-append o.0 (p ++ o.1), length-append p o.1)

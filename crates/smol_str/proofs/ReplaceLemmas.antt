@@ -1,12 +1,13 @@
 -- What replacing makes of a text.
-use Rattle.std.proofs.Common.{◌≡◌, ℕ, ◌+◌, ◌-◌, ◌<◌, ◌≤◌, zero, suc, min, List, [], ◌∷◌, ◌++◌, length, refl, sym, ap, ◌∙◌, arith, length-append, append-nil}
+use Rattle.std.proofs.Common.{◌≡◌, ℕ, ◌+◌, ◌-◌, ◌<◌, ◌≤◌, zero, suc, min, List, [], ◌∷◌, ◌++◌, Option, Some, None, false, option_map, unwrap_or, length, refl, sym, ap, ◌∙◌, arith, length-append, append-nil}
 use Rattle.std.proofs.Common.{⊎_elim}
 use Rattle.std.proofs.lemmas.Bool.{cases_lt}
-use Rattle.std.specs.List.{concat}
+use Rattle.std.specs.Prelude.{nat_eq}
+use Rattle.std.specs.List.{concat, starts_with}
 use Rattle.std.proofs.lemmas.List.Concat.{concat_is}
 use Rattle.smol_str.specs.Cut.{Occurs, IsFirstAfter, joined_by, IsCutAt, IsCut}
-use Rattle.smol_str.specs.Replace.{cut, cut_at, cut_between, spell, no_limit, match_count, replaced, replaced_all}
-use Rattle.smol_str.proofs.CutLemmas.{joined_one, joined_more, IsCut-cut, IsCutAt-cut, IsCutBetween-cut, IsCut-unique, step, no_match}
+use Rattle.smol_str.specs.Replace.{first_match, cut, cut_at, cut_between, spell, no_limit, match_count, replaced, replaced_all}
+use Rattle.smol_str.proofs.CutLemmas.{joined_one, joined_more, IsCut-cut, IsCutAt-cut, IsCutBetween-cut, IsCut-unique, step, no_match, begins_nowhere}
 
 pub replaced-none : (t p w : List ℕ) → replaced t p w 0 ≡ t
 replaced-none t [] w = joined_one w t
@@ -68,6 +69,23 @@ pub replaced-unmatched : (t p w : List ℕ) (n : ℕ) → ¬ Occurs p t → repl
 replaced-unmatched t [] w n none = absurd (none ([], t, refl))
 replaced-unmatched t (c ∷ p) w n none =
     ap (joined_by w) (IsCut-unique t (c ∷ p) n (cut t (c ∷ p) n) (t ∷ []) (IsCut-cut t (c ∷ p) n) (no_match t (c ∷ p) n none)) ∙ joined_one w t
+
+-- a character at which no match begins
+abbrev taken : ℕ → List ℕ → List ℕ → Option (List ℕ × List ℕ) → List (List ℕ)
+taken n p t o = unwrap_or (option_map (λ m. m.0 ∷ cut_at n p m.1) o) (t ∷ [])
+
+kept_piece : (n c : ℕ) (p w t : List ℕ) (o : Option (List ℕ × List ℕ)) →
+    joined_by w (taken n p (c ∷ t) (option_map (λ (m : List ℕ × List ℕ). (c ∷ m.0, m.1)) o)) ≡ c ∷ joined_by w (taken n p t o)
+kept_piece n c p w t None = refl
+kept_piece n c p w t (Some m) = refl
+
+kept_at : (n c : ℕ) (p w t : List ℕ) → starts_with nat_eq (c ∷ t) p ≡ false → joined_by w (cut_at n p (c ∷ t)) ≡ c ∷ joined_by w (cut_at n p t)
+kept_at zero c p w t e = refl
+kept_at (suc n) c p w t e = rw e (kept_piece n c p w t (first_match p t))
+
+pub replaced-passed : (c : ℕ) (t p w : List ℕ) (n : ℕ) → ((r : List ℕ) → ¬ (c ∷ t ≡ p ++ r)) → replaced (c ∷ t) p w n ≡ c ∷ replaced t p w n
+replaced-passed c t [] w n none = absurd (none (c ∷ t) refl)
+replaced-passed c t (d ∷ p) w n none = kept_at n c (d ∷ p) w t (begins_nowhere (d ∷ p) (c ∷ t) none)
 
 -- how many pieces there are
 count_at : (t p : List ℕ) (n : ℕ) (xs : List (List ℕ)) → 0 < length p → match_count t p ≡ length (cut t p (no_limit t)) - 1 → IsCut t p n xs → n < match_count t p → length xs ≡ n + 1

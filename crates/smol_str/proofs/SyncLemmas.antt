@@ -1,7 +1,7 @@
 -- Where the bytes of a text that is not empty stand in the bytes of a text, its characters stand. It holds of every two lists of numbers.
 use Rattle.std.proofs.Common.{◌≡◌, ℕ, ◌+◌, ◌≤◌, ◌<◌, ◌/◌, List, [], ◌∷◌, ◌++◌, ◌⊎◌, inl, inr, ⊎_elim, length, refl, sym, ap, ◌∙◌, arith, append_assoc}
 use lib.Utf8.{encode, encodes, next}
-use Rattle.std.proofs.lemmas.Str.{cons_from_encodes}
+use Rattle.std.proofs.lemmas.Str.{cons_from_encodes, encodes-append}
 use Rattle.smol_str.specs.Cut.{StandsAt}
 use Rattle.smol_str.proofs.CutLemmas.{head_same, tail_same}
 use Rattle.smol_str.proofs.Utf8Lemmas.{Form, one, two, three, four, form}
@@ -92,3 +92,10 @@ stands (c ∷ cs) (k ∷ ks) (d ∷ x) y some e =
 
 pub StandsAt-bytes : (t p x y : List ℕ) → 0 < length p → encodes t ≡ x ++ (encodes p ++ y) → StandsAt p t (length x)
 StandsAt-bytes t p x y some e = let h = stands t p x y some e in (h.0, h.1, h.2, ap length h.3)
+
+-- and the other way round
+pub bytes-StandsAt : (t p : List ℕ) (i : ℕ) → StandsAt p t i →
+    (x y : List ℕ) × (encodes t ≡ x ++ (encodes p ++ y)) × (length x ≡ i)
+bytes-StandsAt t p i h =
+    let spelt = ap encodes h.2 ∙ encodes-append h.0 (p ++ h.1) ∙ ap (λ s. encodes h.0 ++ s) (encodes-append p h.1) in
+    (encodes h.0, encodes h.1, spelt, h.3)

@@ -1,5 +1,5 @@
 -- Texts, their bytes and their places.
-use Rattle.std.proofs.Common.{◌≡◌, ℕ, ◌+◌, ◌<◌, ◌≤◌, inl, inr, List, [], ◌∷◌, ◌++◌, length, encode_utf8, encode_utf8_all, length-append, Bool, true, false, nat_le, nat_eq, Result, Ok, Err, OnOk, OnErr, is_ok, refl, sym, ◌∙◌, ap, arith}
+use Rattle.std.proofs.Common.{◌≡◌, ℕ, ◌+◌, ◌<◌, ◌≤◌, inl, inr, ⊎_elim, List, [], ◌∷◌, ◌++◌, length, encode_utf8, encode_utf8_all, length-append, Bool, true, false, nat_le, nat_eq, Result, Ok, Err, OnOk, OnErr, is_ok, refl, sym, ◌∙◌, ap, arith}
 use Rattle.std.specs.Bool.{Decides}
 use Rattle.std.specs.Str.{chars, IsUtf8}
 use Rattle.std.specs.Cmp.Lexicographic.{pointwise, bytes_decides}
@@ -72,6 +72,21 @@ pub place_of-heap : (t : List ℕ) → ¬ (IsResident t) → place_of t ≡ Heap
 unfolding place_of
 place_of-heap t away = rw (is_short-false t (λ short. away (inl short)), no_test t (λ run. away (inr run)) (is_blank_run t) refl)
 
+-- a text that is not short is not Inline, and one that is no blank run not Static
+not_inline : (t : List ℕ) → ¬ (IsShort t) → (b : Bool) → is_blank_run t ≡ b → place_of t ≡ Inline → ⊥
+not_inline t long true e inline = let static = place_of-blank t long ((is_blank_run-Decides t).0 e) in cc
+not_inline t long false e inline = let heap = place_of-heap t (λ r. ⊎_elim long (λ run. let yes = (is_blank_run-Decides t).1 run in cc) r) in cc
+
+elsewhere : (t : List ℕ) → ¬ (IsShort t) → place_of t ≡ Inline → ⊥
+elsewhere t long inline = not_inline t long (is_blank_run t) refl inline
+
+not_static : (t : List ℕ) → ¬ (IsBlankRun t) → (b : Bool) → is_short t ≡ b → place_of t ≡ Static → ⊥
+not_static t other true e static = let inline = place_of-short t (grind (arith, nat_tests)) in cc
+not_static t other false e static = let heap = place_of-heap t (λ r. ⊎_elim (λ short. let yes = is_short-true t short in cc) other r) in cc
+
+unblank : (t : List ℕ) → ¬ (IsBlankRun t) → place_of t ≡ Static → ⊥
+unblank t other static = not_static t other (is_short t) refl static
+
 -- a blank run is short, or else Static
 run_elsewhere : (t : List ℕ) → IsBlankRun t → (b : Bool) → is_short t ≡ b → place_of t ≡ Heap → ⊥
 run_elsewhere t run true e heap = let inline = place_of-short t (grind (arith, nat_tests)) in cc
@@ -81,6 +96,22 @@ run_elsewhere t run false e heap = let static = place_of-blank t (λ short. let 
 pub heap-not_resident : (t : List ℕ) → place_of t ≡ Heap → ¬ (IsResident t)
 heap-not_resident t heap (inl short) = let inline = place_of-short t short in cc
 heap-not_resident t heap (inr run) = run_elsewhere t run (is_short t) refl heap
+
+-- only a short text has the place Inline, and only a longer blank run the place Static
+inline_case : (t : List ℕ) (b : Bool) → is_short t ≡ b → place_of t ≡ Inline → IsShort t
+inline_case t true e inline = grind (arith, nat_tests)
+inline_case t false e inline = absurd (elsewhere t (λ short. let yes = is_short-true t short in cc) inline)
+
+pub inline-short : (t : List ℕ) → place_of t ≡ Inline → IsShort t
+inline-short t inline = inline_case t (is_short t) refl inline
+
+static_case : (t : List ℕ) (b : Bool) → is_blank_run t ≡ b → place_of t ≡ Static → IsBlankRun t
+static_case t true e static = (is_blank_run-Decides t).0 e
+static_case t false e static = absurd (unblank t (λ run. let yes = (is_blank_run-Decides t).1 run in cc) static)
+
+pub static-blank : (t : List ℕ) → place_of t ≡ Static → (¬ (IsShort t)) × IsBlankRun t
+static-blank t static =
+    ((λ short. let inline = place_of-short t short in cc), static_case t (is_blank_run t) refl static)
 
 -- two texts are equal exactly where their bytes are
 pub bytes_eq-texts : (s t : List ℕ) → pointwise nat_eq (encode_utf8_all s) (encode_utf8_all t) ≡ pointwise nat_eq s t

@@ -1,10 +1,13 @@
 -- No wire form begins another.
-use Rattle.std.proofs.Common.{◌≡◌, ℕ, ◌+◌, List, ◌++◌, ⊎_elim, length, take, drop, refl, sym, ap, ◌∙◌, arith, length-append, append_assoc, take-append-drop}
+use Rattle.std.proofs.Common.{◌≡◌, ℕ, zero, suc, ◌+◌, ◌<◌, ◌≤◌, ◌^◌, inl, inr, lit<, List, [], ◌∷◌, ◌++◌, ⊎_elim, get_or, IsTrue, length, take, drop, refl, sym, ap, ◌∙◌, arith, length-append, append_assoc, take-append-drop}
 use Rattle.std.specs.Int.{to_le_bytes, from_le_bytes, w32}
-use Rattle.std.specs.Str.{encode_utf8_all}
-use Rattle.std.proofs.lemmas.Nat.{from_le_bytes-to_le_bytes_4}
+use Rattle.std.specs.Prelude.{All}
+use Rattle.std.specs.Str.{encode_utf8_all, all_scalars}
+use Rattle.std.proofs.lemmas.Nat.{from_le_bytes-to_le_bytes_4, le_bytes_4}
 use Rattle.std.proofs.lemmas.Str.{encodes_same}
-use Rattle.std.proofs.lemmas.List.{take_at, drop_at, append_cancel_left, length-take-le}
+use Rattle.std.proofs.lemmas.List.{take_at, drop_at, append_cancel_left, length-take-le, length-drop}
+use Rattle.std.proofs.lemmas.List.Elements.{All-head, All-tail}
+use Rattle.std.proofs.Math.Seq.{take-add}
 use Rattle.smol_str.specs.Text.{size}
 use Rattle.smol_str.specs.Wire.{HasWire, wire, Holds, stated, HasEndedEarly, body}
 
@@ -57,3 +60,46 @@ body-Holds b t n h =
     let says : stated b ≡ size t = ap stated (held b t n h) ∙ stated_size t (drop n b) h.sized in
     let back : drop 4 b ≡ encode_utf8_all t ++ drop n b = ap (drop 4) (held b t n h ∙ split t (drop n b)) ∙ drop_at (to_le_bytes w32 (size t)) (encode_utf8_all t ++ drop n b) 4 (four (size t)) in
     (λ i. take (says i) (back i)) ∙ take_at (encode_utf8_all t) (drop n b) (size t) refl
+
+-- a form, and what follows it
+pub Holds-written : (t x : List ℕ) → HasWire t → IsTrue (all_scalars t) → Holds (wire t ++ x) t (size t + 4)
+Holds-written t x h s =
+    let long = length-wire t in
+    let more = length-append (wire t) x in
+    record { scalars = s; sized = h; within = omega arith; reads = take_at (wire t) x (size t + 4) long }
+
+-- numbers that are bytes, whatever is read past their end
+small_at : (b : List ℕ) → All (λ c. c < 2 ^ 8) b → (i : ℕ) → get_or b i 0 < 256
+small_at [] small i = lit< tt
+small_at (x ∷ xs) small zero = All-head (λ c. c < 2 ^ 8) x xs small
+small_at (x ∷ xs) small (suc i) = small_at xs (All-tail (λ c. c < 2 ^ 8) x xs small) i
+
+small_front : (n : ℕ) (b : List ℕ) → ((i : ℕ) → get_or b i 0 < 256) → (i : ℕ) → get_or (take n b) i 0 < 256
+small_front zero b small i = lit< tt
+small_front (suc n) [] small i = lit< tt
+small_front (suc n) (x ∷ xs) small zero = small zero
+small_front (suc n) (x ∷ xs) small (suc i) = small_front n xs (λ k. small (suc k)) i
+
+-- four bytes are a `u32`
+u32_from : (bs : List ℕ) → ((i : ℕ) → get_or bs i 0 < 256) → from_le_bytes w32 bs < 2 ^ 32
+u32_from bs small = omega (arith, small 0, small 1, small 2, small 3)
+
+-- bytes that have not ended early hold the text that their body is
+pub Holds-stated : (b t : List ℕ) → All (λ c. c < 2 ^ 8) b → ¬ HasEndedEarly b → body b ≡ encode_utf8_all t →
+    IsTrue (all_scalars t) → Holds b t (size t + 4)
+unfolding stated wire
+Holds-stated b t small whole e scalars =
+    let four : 4 ≤ length b = omega (arith, λ (h : length b < 4). whole (inl h)) in
+    let rest : 4 + stated b ≤ length b = omega (arith, λ (h : length b < 4 + stated b). whole (inr h)) in
+    let front = small_front 4 b (small_at b small) in
+    let fits = u32_from (take 4 b) front in
+    let long : size t ≡ stated b =
+    ap length (sym e) ∙ length-take-le (stated b) (drop 4 b) (omega (arith, length-drop 4 b)) in
+    let sized : to_le_bytes w32 (size t) ≡ take 4 b =
+    le_bytes_4 (take 4 b) (size t) (length-take-le 4 b four) front long in
+    record {
+      scalars = scalars;
+      sized = omega arith;
+      within = omega arith;
+      reads = ap (λ k. take k b) (omega arith) ∙ take-add 4 (stated b) b ∙ (λ i. sym sized i ++ e i);
+    }

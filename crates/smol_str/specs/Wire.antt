@@ -5,7 +5,8 @@
 --     stated b             the size that the first four bytes of b state
 --     HasEndedEarly b      b is shorter than four bytes, or than four bytes and the size that they state
 --     body b               as many bytes as b states, from its fifth on
-use Rattle.std.specs.Prelude.{◌≡◌, ℕ, ◌+◌, ◌<◌, ◌≤◌, ◌^◌, ◌⊎◌, List, ◌++◌, length, take, drop, encode_utf8_all}
+use Rattle.std.specs.Prelude.{◌≡◌, ℕ, ◌+◌, ◌<◌, ◌≤◌, ◌^◌, ◌⊎◌, List, ◌++◌, length, take, drop, IsTrue, encode_utf8_all}
+use Rattle.std.specs.Str.{all_scalars}
 use Rattle.std.specs.Int.{to_le_bytes, from_le_bytes, w32}
 use Rattle.smol_str.specs.Text.{size}
 
@@ -17,8 +18,9 @@ HasWire t = size t < 2 ^ 32
 unfoldable pub wire : List ℕ → List ℕ
 wire t = to_le_bytes w32 (size t) ++ encode_utf8_all t
 
--- b has n bytes at least, and its first n are the wire form of t
+-- b has n bytes at least, and its first n are the wire form of t; no bytes hold what is no scalar value, such as U+D800
 pub record Holds (b t : List ℕ) (n : ℕ) : Type 0 where
+  pub scalars : IsTrue (all_scalars t)
   pub sized : HasWire t
   pub within : n ≤ length b
   pub reads : take n b ≡ wire t

@@ -36,6 +36,11 @@ body_cut_short : HasEndedEarly (5 ∷ 0 ∷ 0 ∷ 0 ∷ 0xFF ∷ [])
 unfolding stated
 body_cut_short = inr (lit< tt)
 
+-- the size of the size counts too
+body_one_byte_short : HasEndedEarly (2 ∷ 0 ∷ 0 ∷ 0 ∷ 97 ∷ [])
+unfolding stated
+body_one_byte_short = inr (lit< tt)
+
 largest_size : HasEndedEarly (0xFF ∷ 0xFF ∷ 0xFF ∷ 0xFF ∷ 97 ∷ 98 ∷ 99 ∷ [])
 unfolding stated
 largest_size = inr (lit< tt)

@@ -5,11 +5,13 @@
 //! definitions are the right ones. They range over every list of numbers, so a premise stands only
 //! where a law would be false without it.
 
-ghost use Rattle.std.specs.Prelude.{◌≡◌, ◌+◌, ◌<◌, ◌≤◌, ℕ, List, [], ◌∷◌, ◌++◌, length, min, All, encode_utf8_all};
+ghost use Rattle.std.specs.Prelude.{◌≡◌, ◌↔◌, ◌+◌, ◌^◌, ◌<◌, ◌≤◌, ℕ, List, [], ◌∷◌, ◌++◌, length, min, All, IsTrue, encode_utf8_all};
+ghost use Rattle.std.specs.Str.{chars, all_scalars};
 ghost use Rattle.std.specs.Ordering.{nat_cmp};
 ghost use Rattle.std.specs.Cmp.Lexicographic.{slice_cmp};
 ghost use Rattle.std.specs.Char.{IsAsciiUppercase, IsAsciiLowercase};
 ghost use Rattle.smol_str.specs.Text.{size, IsShort, IsBlankRun, IsResident, place_of};
+ghost use Rattle.smol_str.specs.Buffer.{padded};
 ghost use Rattle.smol_str.specs.Case.{lower, upper, front, IsAsciiText, BeginsPastAscii};
 ghost use Rattle.smol_str.specs.Cut.{Occurs, StandsAt, IsFirstAfter, IsCut, joined_by};
 ghost use Rattle.smol_str.specs.Replace.{cut, no_limit, match_count, replaced, replaced_all};
@@ -17,16 +19,33 @@ ghost use Rattle.smol_str.specs.Wire.{HasWire, wire, Holds, HasEndedEarly, body}
 
 use crate::value::place::Place;
 
+/// A text and its bytes determine each other, and a text of a known size is determined by its buffer.
+///
+/// The last law needs the sizes: `a`, and `a` with a character U+0000 behind it, fill a buffer alike.
+pub fn texts()
+    ensures one_text { (s t : List ℕ) → encode_utf8_all s ≡ encode_utf8_all t → s ≡ t }
+    ensures back { (t : List ℕ) → IsTrue (all_scalars t) → chars (encode_utf8_all t) ≡ t }
+    ensures buffers { (s t : List ℕ) → size s ≡ size t →
+        padded (encode_utf8_all s) ≡ padded (encode_utf8_all t) → s ≡ t }
+{}
+
 /// The tests behind `place_of` decide the facts that a text is short and that it is a blank run.
 pub fn places()
     ensures short { (t : List ℕ) → IsShort t → place_of t ≡ Place.Inline }
     ensures blank { (t : List ℕ) → ¬ (IsShort t) → IsBlankRun t → place_of t ≡ Place.Static }
     ensures other { (t : List ℕ) → ¬ (IsResident t) → place_of t ≡ Place.Heap }
+
+    ensures inline_alone { (t : List ℕ) → place_of t ≡ Place.Inline → IsShort t }
+    ensures static_alone { (t : List ℕ) → place_of t ≡ Place.Static → (¬ (IsShort t)) × IsBlankRun t }
     ensures heap_alone { (t : List ℕ) → place_of t ≡ Place.Heap → ¬ (IsResident t) }
 {}
 
-/// ASCII case keeps the size, is stable, and leaves no letter of the other case.
+/// ASCII case puts 32 between a capital letter and its small one, and leaves every other character.
+/// So it keeps the size, is stable, and leaves no letter of the other case.
 pub fn ascii_case()
+    ensures lower_of_capital { (c : ℕ) (t : List ℕ) → IsAsciiUppercase c → lower (c ∷ t) ≡ (c + 32) ∷ lower t }
+    ensures upper_of_small { (c : ℕ) (t : List ℕ) → IsAsciiUppercase c → upper ((c + 32) ∷ t) ≡ c ∷ upper t }
+
     ensures lower_size { (t : List ℕ) → size (lower t) ≡ size t }
     ensures upper_size { (t : List ℕ) → size (upper t) ≡ size t }
 
@@ -45,7 +64,16 @@ pub fn ascii_case()
 ///
 /// Both premises are needed: `é` is no ASCII front, and the front of `ab` is longer than `a`.
 pub fn ascii_front()
-    ensures { (a r : List ℕ) → IsAsciiText a → BeginsPastAscii r → front (a ++ r) ≡ a }
+    ensures longest { (a r : List ℕ) → IsAsciiText a → BeginsPastAscii r → front (a ++ r) ≡ a }
+    ensures parts { (t : List ℕ) → (r : List ℕ) × (t ≡ front t ++ r) × IsAsciiText (front t) × BeginsPastAscii r }
+{}
+
+/// A pattern stands first after `q` exactly where it stands after no shorter text.
+///
+/// The empty pattern is left out: it stands after the empty text, and is first after none.
+pub fn first_match()
+    ensures { (p q r : List ℕ) → 0 < length p → IsFirstAfter p q ↔
+        ((a s : List ℕ) → q ++ (p ++ r) ≡ a ++ (p ++ s) → length q ≤ length a) }
 {}
 
 /// Each text has exactly one cut at a pattern, whatever the limit, and `cut` computes it.
@@ -71,23 +99,27 @@ pub fn replacement()
     ensures unlimited { (t p : List ℕ) → match_count t p ≤ no_limit t }
 {}
 
-/// Replacement from the left: one match at a time, until none is left or the limit is reached.
+/// Replacement from the left: one match at a time, until none is left or the limit is reached, and a
+/// character at which no match begins stays.
 ///
-/// The first two laws hold of the empty pattern too, but say nothing there: it stands in every
-/// text, and so is first after none. It matches before each character, and at the end.
+/// The first three laws hold of the empty pattern too, but say nothing there: it begins every text,
+/// and so is first after none. It matches before each character, and at the end.
 pub fn replacement_by_steps()
     ensures matched { (t p w q r : List ℕ) (n : ℕ) → t ≡ q ++ (p ++ r) → IsFirstAfter p q →
         replaced t p w (n + 1) ≡ q ++ (w ++ replaced r p w n) }
     ensures unmatched { (t p w : List ℕ) (n : ℕ) → ¬ Occurs p t → replaced t p w n ≡ t }
+    ensures passed { (c : ℕ) (t p w : List ℕ) (n : ℕ) → ((r : List ℕ) → ¬ (c ∷ t ≡ p ++ r)) →
+        replaced (c ∷ t) p w n ≡ c ∷ replaced t p w n }
 
     ensures between { (c : ℕ) (t w : List ℕ) (n : ℕ) →
         replaced (c ∷ t) [] w (n + 1) ≡ w ++ (c ∷ replaced t [] w n) }
     ensures end { (w : List ℕ) (n : ℕ) → replaced [] [] w (n + 1) ≡ w }
 {}
 
-/// Wire forms can be told apart, and bytes hold at most one.
+/// Wire forms can be told apart, bytes hold at most one, and they hold it where they say so.
 ///
-/// The first law needs its limit: the empty text and a text of 2^32 bytes would state one size.
+/// The first law needs its limit: the empty text and a text of 2^32 bytes would state one size. The
+/// last needs bytes: a number above 255 is lost in the size that is read.
 pub fn wire_forms()
     ensures apart { (s t x y : List ℕ) → HasWire s → HasWire t →
         wire s ++ x ≡ wire t ++ y → (s ≡ t) × (x ≡ y) }
@@ -96,6 +128,11 @@ pub fn wire_forms()
     ensures one_text { (b s t : List ℕ) (m n : ℕ) → Holds b s m → Holds b t n → (s ≡ t) × (m ≡ n) }
     ensures not_ended_early { (b t : List ℕ) (n : ℕ) → Holds b t n → ¬ HasEndedEarly b }
     ensures body { (b t : List ℕ) (n : ℕ) → Holds b t n → body b ≡ encode_utf8_all t }
+    ensures scalars { (b t : List ℕ) (n : ℕ) → Holds b t n → IsTrue (all_scalars t) }
+
+    ensures written { (t x : List ℕ) → HasWire t → IsTrue (all_scalars t) → Holds (wire t ++ x) t (size t + 4) }
+    ensures stated { (b t : List ℕ) → All (λ c. c < 2 ^ 8) b → ¬ HasEndedEarly b →
+        body b ≡ encode_utf8_all t → IsTrue (all_scalars t) → Holds b t (size t + 4) }
 {}
 
 /// Texts are ordered by their bytes as they are by their characters.
@@ -104,10 +141,13 @@ pub fn byte_order()
         slice_cmp nat_cmp (encode_utf8_all s) (encode_utf8_all t) ≡ slice_cmp nat_cmp s t }
 {}
 
-/// Where the bytes of a pattern stand in the bytes of a text, the pattern stands in the text.
+/// Where the bytes of a pattern stand in the bytes of a text, the pattern stands in the text, and the
+/// other way round.
 ///
-/// The empty pattern is left out: it stands between the two bytes of `é`.
+/// The empty pattern is left out of the first: it stands between the two bytes of `é`.
 pub fn self_synchronisation()
-    ensures { (t p x y : List ℕ) → 0 < length p →
+    ensures from_bytes { (t p x y : List ℕ) → 0 < length p →
         encode_utf8_all t ≡ x ++ (encode_utf8_all p ++ y) → StandsAt p t (length x) }
+    ensures to_bytes { (t p : List ℕ) (i : ℕ) → StandsAt p t i →
+        (x y : List ℕ) × (encode_utf8_all t ≡ x ++ (encode_utf8_all p ++ y)) × (length x ≡ i) }
 {}

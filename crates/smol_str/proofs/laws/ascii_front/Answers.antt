@@ -1,5 +1,5 @@
-use Rattle.smol_str.proofs.CaseLemmas.{front-append}
+use Rattle.smol_str.proofs.CaseLemmas.{front-append, front-parts}
 use Rattle.smol_str.proofs.laws.ascii_front.Goals as goal
 
 pub returns : goal.returns
-returns c = front-append
+returns c = record { longest = front-append; parts = front-parts }

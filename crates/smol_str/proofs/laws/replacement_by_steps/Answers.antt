@@ -1,5 +1,11 @@
-use Rattle.smol_str.proofs.ReplaceLemmas.{replaced-matched, replaced-unmatched, replaced-between, replaced-end}
+use Rattle.smol_str.proofs.ReplaceLemmas.{replaced-matched, replaced-unmatched, replaced-passed, replaced-between, replaced-end}
 use Rattle.smol_str.proofs.laws.replacement_by_steps.Goals as goal
 
 pub returns : goal.returns
-returns c = record { matched = replaced-matched; unmatched = replaced-unmatched; between = replaced-between; end = replaced-end }
+returns c = record {
+  matched = replaced-matched;
+  unmatched = replaced-unmatched;
+  passed = replaced-passed;
+  between = replaced-between;
+  end = replaced-end;
+}

@@ -1,5 +1,5 @@
-use Rattle.smol_str.proofs.SyncLemmas.{StandsAt-bytes}
+use Rattle.smol_str.proofs.SyncLemmas.{StandsAt-bytes, bytes-StandsAt}
 use Rattle.smol_str.proofs.laws.self_synchronisation.Goals as goal
 
 pub returns : goal.returns
-returns c = StandsAt-bytes
+returns c = record { from_bytes = StandsAt-bytes; to_bytes = bytes-StandsAt }

@@ -1,0 +1,5 @@
+use Rattle.smol_str.proofs.CutLemmas.{first-shortest}
+use Rattle.smol_str.proofs.laws.first_match.Goals as goal
+
+pub returns : goal.returns
+returns c = first-shortest

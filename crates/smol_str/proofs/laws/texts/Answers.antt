@@ -1,0 +1,6 @@
+use Rattle.std.proofs.lemmas.Str.{encodes_same, chars-encodes}
+use Rattle.smol_str.proofs.BufferLemmas.{padded-same}
+use Rattle.smol_str.proofs.laws.texts.Goals as goal
+
+pub returns : goal.returns
+returns c = record { one_text = encodes_same; back = chars-encodes; buffers = padded-same }
