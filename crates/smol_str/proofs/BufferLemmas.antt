@@ -1,5 +1,5 @@
 -- A short text in a buffer.
-use Rattle.std.proofs.Common.{◌≡◌, ℕ, ◌+◌, ◌-◌, ◌≤◌, List, ◌++◌, length, take, drop, replicate, refl, sym, ◌∙◌, ap, arith, length-take-le, encode_utf8_all, nat_eq, ◌↔◌, IsTrue}
+use Rattle.std.proofs.Common.{◌≡◌, ℕ, ◌+◌, ◌-◌, ◌≤◌, List, ◌++◌, length, take, drop, replicate, refl, sym, ◌∙◌, ap, arith, length-take-le, encode_utf8_all, nat_eq, ◌↔◌, Bool, IsTrue}
 use Rattle.std.specs.Cmp.Lexicographic.{pointwise, bytes_decides}
 use Rattle.std.proofs.lemmas.Bool.Decides.{Decides-eqb}
 use Rattle.std.specs.Str.{chars, IsUtf8}
@@ -7,7 +7,7 @@ use Rattle.std.proofs.lemmas.Str.{encodes-chars, encodes_same, chars-append, IsU
 use Rattle.std.proofs.lemmas.List.{drop-drop, drop-replicate, take-append-drop, take_at}
 use Rattle.smol_str.specs.declared.buffer.TheConstants.{INLINE_CAP}
 use Rattle.smol_str.specs.Text.{size, IsShort}
-use Rattle.smol_str.specs.Buffer.{IsBuffer, padded}
+use Rattle.smol_str.specs.Buffer.{IsBuffer, HaveOneBuffer, padded}
 
 -- the length is the size of the text
 pub len-size : (len : ℕ) (buf : List ℕ) → IsBuffer len buf → length buf ≡ INLINE_CAP → len ≡ size (chars (take len buf))
@@ -63,9 +63,19 @@ other-views m n xs ys h k p q other = (
   (λ v. absurd (other (same-buffers m n xs ys h k p q v).0)),
 )
 
--- texts of one size with one padded buffer
+-- texts are equal exactly where their sizes and padded buffers are
 pub padded-same : (s t : List ℕ) → size s ≡ size t → padded (encode_utf8_all s) ≡ padded (encode_utf8_all t) → s ≡ t
 padded-same s t e h =
     let left = take_at (encode_utf8_all s) (replicate (INLINE_CAP - size s) 0) (size s) refl in
     let right = take_at (encode_utf8_all t) (replicate (INLINE_CAP - size t) 0) (size s) (sym e) in
     encodes_same s t (sym left ∙ ap (take (size s)) h ∙ right)
+
+pub HaveOneBuffer-same : (s t : List ℕ) → (s ≡ t) ↔ HaveOneBuffer s t
+HaveOneBuffer-same s t = (
+  (λ e. record { size = ap size e; bytes = ap (λ u. padded (encode_utf8_all u)) e }),
+  (λ h. padded-same s t h.size h.bytes),
+)
+
+-- a test for equal texts tests the buffers
+pub test-HaveOneBuffer : (b : Bool) (s t : List ℕ) → IsTrue b ↔ (s ≡ t) → IsTrue b ↔ HaveOneBuffer s t
+test-HaveOneBuffer b s t h = ((λ y. (HaveOneBuffer-same s t).0 (h.0 y)), (λ o. h.1 ((HaveOneBuffer-same s t).1 o)))

@@ -8,7 +8,9 @@ ghost use Rattle.std.specs.Cmp.{on_per, on_equiv, on_po, on_total, partial_equiv
 ghost use Rattle.std.specs.Cmp.Lexicographic.{pointwise, nat_list_eq_equiv, nat_list_cmp_total, texts_po, texts_ties, slice_cmp};
 ghost use Rattle.std.specs.Cmp.Rules.{hashing};
 ghost use Rattle.std.specs.Hash as fed;
+ghost use Rattle.smol_str.specs.Buffer.{HaveOneBuffer};
 
+use super::place::Place;
 use super::{Repr, SmolStr};
 use std::cmp::Ordering;
 use std::hash::{Hash, Hasher};
@@ -54,6 +56,8 @@ impl PartialEq for SmolStr {
     fn eq(&self, other: &SmolStr) -> bool
         ensures answer { result ≡ pointwise nat_eq self.now.text other.now.text }
         ensures texts { IsTrue result ↔ (self.now.text ≡ other.now.text) }
+        ensures inline_buffers { self.now.place ≡ Place.Inline → other.now.place ≡ Place.Inline →
+            IsTrue result ↔ HaveOneBuffer self.now.text other.now.text }
     {
         match (&self.repr, &other.repr) {
             (Repr::Inline(left), Repr::Inline(right)) => left.same(right),

@@ -20,7 +20,7 @@ use std::str::Utf8Error;
 /// Why bytes made no value.
 #[derive(Debug, Drop)]
 pub enum FromUtf8Fault {
-    /// The bytes are not UTF-8; std's fault says where they stop to be.
+    /// The bytes are not UTF-8; std's error says where the valid bytes end.
     NotUtf8(Utf8Error),
     /// The bytes are UTF-8, and memory was refused.
     OutOfMemory,
