@@ -8,6 +8,7 @@ use Rattle.std.proofs.lemmas.List.{take_at, take-append-le, append_cancel_left}
 use Rattle.std.proofs.lemmas.Slice.Eq.{starts_is}
 use Rattle.std.specs.Prelude.{All}
 use Rattle.std.proofs.lemmas.List.Elements.{All-nil, All-cons, All-head, All-tail}
+pub use Rattle.smol_str.proofs.ListLemmas.{head_same, tail_same}
 use Rattle.smol_str.specs.Cut.{Occurs, but_last, IsFirstAfter, joined_by, IsCutAt, IsSpelled, IsCutBetween, IsCut}
 use Rattle.smol_str.specs.Replace.{first_match, cut_at, spell, cut_between, cut}
 
@@ -55,12 +56,6 @@ early p q x y some more e =
     let reads : take (length p) (q ++ but_last p) ≡ p =
     sym (take-append-le (length p) (q ++ but_last p) (last_part p ++ y) long) ∙ ap (take (length p)) (sym (e ∙ parts p q y)) ∙ take_at p x (length p) refl in
     ([], drop (length p) (q ++ but_last p), sym (take-append-drop (length p) (q ++ but_last p)) ∙ ap (λ s. s ++ drop (length p) (q ++ but_last p)) reads)
-
-pub head_same : (c d : ℕ) (s t : List ℕ) → c ∷ s ≡ d ∷ t → c ≡ d
-head_same c d s t e = cc
-
-pub tail_same : (c d : ℕ) (s t : List ℕ) → c ∷ s ≡ d ∷ t → s ≡ t
-tail_same c d s t e = cc
 
 -- there is one first match
 pub one_first : (p q q' x y : List ℕ) → 0 < length p → q ++ (p ++ x) ≡ q' ++ (p ++ y) → IsFirstAfter p q → IsFirstAfter p q' → q ≡ q'

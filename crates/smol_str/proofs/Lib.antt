@@ -1,3 +1,5 @@
+pub mod CallerLemmas
+pub mod ListLemmas
 pub mod BlankLemmas
 pub mod TextLemmas
 pub mod BufferLemmas

@@ -3,7 +3,7 @@ use Rattle.std.proofs.Common.{◌≡◌, ℕ, ◌+◌, ◌≤◌, ◌<◌, ◌/�
 use lib.Utf8.{encode, encodes, next}
 use Rattle.std.proofs.lemmas.Str.{cons_from_encodes, encodes-append}
 use Rattle.smol_str.specs.Cut.{StandsAt}
-use Rattle.smol_str.proofs.CutLemmas.{head_same, tail_same}
+use Rattle.smol_str.proofs.ListLemmas.{head_same, tail_same}
 use Rattle.smol_str.proofs.Utf8Lemmas.{Form, one, two, three, four, form}
 
 -- the bytes begin with those of p: then the text begins with p

@@ -1,5 +1,6 @@
 pub mod Text
 pub mod Meaning
+pub mod Keys
 pub mod Buffer
 pub mod ValueArms
 pub mod Faults
