@@ -1,4 +1,4 @@
--- Blank runs: the constant's slices, and the test for a run.
+-- For `blank_slice` and the places: the constant's slices, and the test for a run.
 use Rattle.std.proofs.Common.{◌≡◌, ℕ, zero, suc, ◌+◌, ◌-◌, ◌<◌, ◌≤◌, List, [], ◌∷◌, ◌++◌, length, take, drop, replicate, get_or, refl, ◌∙◌, ap, Bool, true, false, ◌&&◌, ◌==◌, arith, length-append}
 use Rattle.std.specs.List.{list_all}
 use Rattle.std.specs.Str.{IsAscii}
@@ -20,7 +20,8 @@ get_or-same (suc n) c (suc i) h = get_or-same n c i h
 
 pub IsAscii-blank_run : (a b : ℕ) → IsAscii (blank_run a b)
 IsAscii-blank_run a b =
-    IsAscii-append (replicate a 10) (replicate b 32) (λ i. get_or-same a 10 i (omega arith)) (λ i. get_or-same b 32 i (omega arith))
+    IsAscii-append (replicate a 10) (replicate b 32) (λ i. get_or-same a 10 i (omega arith))
+    (λ i. get_or-same b 32 i (omega arith))
 
 -- the shorter run inside a longer one
 pub slice-blank_run : (n m a b : ℕ) → a ≤ n → b ≤ m → take (a + b) (drop (n - a) (blank_run n m)) ≡ blank_run a b
@@ -29,8 +30,10 @@ slice-blank_run n m a b la lb =
     let front : n - a ≤ length newlines = rw (length-replicate {A = ℕ} n 10) (omega arith) in
     let left : n - (n - a) ≡ a = omega arith in
     let short : List ℕ = replicate a 10 in
-    let seam : take (length short + b) (short ++ replicate m 32) ≡ short ++ take b (replicate m 32) = take-append-add short (replicate m 32) b in
-    let kept : take (a + b) (short ++ replicate m 32) ≡ short ++ take b (replicate m 32) = rw (length-replicate {A = ℕ} a 10) at seam in
+    let seam : take (length short + b) (short ++ replicate m 32) ≡ short ++ take b (replicate m 32) =
+    take-append-add short (replicate m 32) b in
+    let kept : take (a + b) (short ++ replicate m 32) ≡ short ++ take b (replicate m 32) =
+    rw (length-replicate {A = ℕ} a 10) at seam in
     let spaces : take b (replicate {A = ℕ} m 32) ≡ replicate b 32 = take-replicate {X = ℕ} b m 32 lb in
     rw (drop-append-le (n - a) (replicate n 10) (replicate m 32) front, drop-replicate {X = ℕ} (n - a) n 10, left)
     (kept ∙ ap (λ s. short ++ s) spaces)
@@ -57,17 +60,20 @@ all_same-replicate k (suc n) h = rw h (all_same-replicate k n h)
 pub leading_newlines-blank_run : (a b : ℕ) → leading_newlines (blank_run a b) ≡ a
 leading_newlines-blank_run zero zero = refl
 leading_newlines-blank_run zero (suc b) = refl
-leading_newlines-blank_run (suc a) b = let e : leading_newlines (blank_run a b) ≡ a = leading_newlines-blank_run a b in omega (arith, e)
+leading_newlines-blank_run (suc a) b =
+    let e : leading_newlines (blank_run a b) ≡ a = leading_newlines-blank_run a b in omega (arith, e)
 
 from_tests_step : (x : ℕ) (xs : List ℕ) (b : Bool) → (x == 10) ≡ b →
-    (all_spaces (drop (leading_newlines xs) xs) ≡ true → xs ≡ blank_run (leading_newlines xs) (length xs - leading_newlines xs)) →
+    (all_spaces (drop (leading_newlines xs) xs) ≡ true →
+    xs ≡ blank_run (leading_newlines xs) (length xs - leading_newlines xs)) →
     all_spaces (drop (leading_newlines (x ∷ xs)) (x ∷ xs)) ≡ true →
     x ∷ xs ≡ blank_run (leading_newlines (x ∷ xs)) (length (x ∷ xs) - leading_newlines (x ∷ xs))
 from_tests_step x xs true e rest h =
     let k : 1 + leading_newlines xs ≡ suc (leading_newlines xs) = omega arith in
     let d : suc (length xs) - suc (leading_newlines xs) ≡ length xs - leading_newlines xs = omega arith in
     let tail : xs ≡ blank_run (leading_newlines xs) (length xs - leading_newlines xs) = rest (rw (e, k) at h) in
-    let all : x ∷ xs ≡ 10 ∷ blank_run (leading_newlines xs) (length xs - leading_newlines xs) = rw (same_char x 10 e) (ap (λ t. 10 ∷ t) tail) in
+    let all : x ∷ xs ≡ 10 ∷ blank_run (leading_newlines xs) (length xs - leading_newlines xs) =
+    rw (same_char x 10 e) (ap (λ t. 10 ∷ t) tail) in
     rw (e, k, d) all
 from_tests_step x xs false e rest h =
     let all : x ∷ xs ≡ replicate (length (x ∷ xs)) 32 = all_same 32 (x ∷ xs) (rw e at h) in
@@ -75,13 +81,22 @@ from_tests_step x xs false e rest h =
     rw (e, k) all
 
 -- newlines in front, and spaces behind them
-pub blank_run-from_tests : (t : List ℕ) → all_spaces (drop (leading_newlines t) t) ≡ true → t ≡ blank_run (leading_newlines t) (length t - leading_newlines t)
+pub blank_run-from_tests : (t : List ℕ) → all_spaces (drop (leading_newlines t) t) ≡ true →
+    t ≡ blank_run (leading_newlines t) (length t - leading_newlines t)
 blank_run-from_tests [] h = refl
 blank_run-from_tests (x ∷ xs) h = from_tests_step x xs (x == 10) refl (blank_run-from_tests xs) h
 
-pub IsBlankRun-from_tests : (t : List ℕ) (n : ℕ) → n ≡ leading_newlines t → n ≤ BLANK_NEWLINES → length t - n ≤ BLANK_SPACES → all_spaces (drop n t) ≡ true → IsBlankRun t
+pub IsBlankRun-from_tests : (t : List ℕ) (n : ℕ) → n ≡ leading_newlines t → n ≤ BLANK_NEWLINES →
+    length t - n ≤ BLANK_SPACES → all_spaces (drop n t) ≡ true → IsBlankRun t
 IsBlankRun-from_tests t n e few_newlines few_spaces all =
-    record { newlines = n; spaces = length t - n; few_newlines = few_newlines; few_spaces = few_spaces; reads = rw e (blank_run-from_tests t (rw e at all)) }
+    record {
+      newlines = n;
+      spaces = length t - n;
+      few_newlines = few_newlines;
+      few_spaces = few_spaces;
+      reads =
+          rw e (blank_run-from_tests t (rw e at all));
+    }
 
 -- what the tests say of a blank run
 pub record Passes (t : List ℕ) : Type 0 where
@@ -94,7 +109,8 @@ passes_at a b la lb =
     let n : leading_newlines (blank_run a b) ≡ a = leading_newlines-blank_run a b in
     let l : length (blank_run a b) ≡ a + b = length-blank_run a b in
     let newlines : List ℕ = replicate a 10 in
-    let d : drop (length newlines) (newlines ++ replicate b 32) ≡ replicate b 32 = drop-append_seam newlines (replicate b 32) in
+    let d : drop (length newlines) (newlines ++ replicate b 32) ≡ replicate b 32 =
+    drop-append_seam newlines (replicate b 32) in
     record {
       newlines = omega (arith, n);
       spaces = omega (arith, n, l);

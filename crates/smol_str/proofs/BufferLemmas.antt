@@ -1,4 +1,4 @@
--- A short text in a buffer.
+-- For `InlineText` and equality: a short text in its buffer.
 use Rattle.std.proofs.Common.{◌≡◌, ℕ, ◌+◌, ◌-◌, ◌≤◌, List, ◌++◌, length, take, drop, replicate, refl, sym, ◌∙◌, ap, arith, length-take-le, encode_utf8_all, nat_eq, ◌↔◌, Bool, IsTrue}
 use Rattle.std.specs.Cmp.Lexicographic.{pointwise, bytes_decides}
 use Rattle.std.proofs.lemmas.Bool.Decides.{Decides-eqb}
@@ -12,9 +12,11 @@ use Rattle.smol_str.specs.Buffer.{IsBuffer, HaveOneBuffer, padded}
 -- the length is the size of the text
 pub len-size : (len : ℕ) (buf : List ℕ) → IsBuffer len buf → length buf ≡ INLINE_CAP → len ≡ size (chars (take len buf))
 len-size len buf h all =
-    rw (encodes-chars (take len buf) h.utf8) (omega (arith, h.within, all, length-take-le len buf (omega (arith, h.within, all))))
+    rw (encodes-chars (take len buf) h.utf8)
+    (omega (arith, h.within, all, length-take-le len buf (omega (arith, h.within, all))))
 
-pub IsShort-buffer : (len : ℕ) (buf : List ℕ) → IsBuffer len buf → length buf ≡ INLINE_CAP → IsShort (chars (take len buf))
+pub IsShort-buffer : (len : ℕ) (buf : List ℕ) → IsBuffer len buf → length buf ≡ INLINE_CAP →
+    IsShort (chars (take len buf))
 IsShort-buffer len buf h all = omega (arith, h.within, len-size len buf h all)
 
 -- after the bytes were written behind the text
@@ -25,7 +27,8 @@ IsBuffer-write len m old new bytes h u within front back =
     record {
       within = within;
       utf8 = rw front (IsUtf8-append (take len old) bytes h.utf8 u);
-      zeros = back ∙ sym (drop-drop m len old) ∙ ap (drop m) h.zeros ∙ drop-replicate m (INLINE_CAP - len) 0 ∙ ap (λ n. replicate n 0) left;
+      zeros = back ∙ sym (drop-drop m len old) ∙ ap (drop m) h.zeros ∙ drop-replicate m (INLINE_CAP - len) 0
+          ∙ ap (λ n. replicate n 0) left;
     }
 
 pub chars-write : (len m : ℕ) (old new bytes : List ℕ) → IsBuffer len old → take (len + m) new ≡ take len old ++ bytes →
@@ -33,14 +36,16 @@ pub chars-write : (len m : ℕ) (old new bytes : List ℕ) → IsBuffer len old 
 chars-write len m old new bytes h front = rw front (chars-append (take len old) bytes h.utf8)
 
 -- the whole buffer
-pub buffer-padded : (len : ℕ) (buf : List ℕ) → IsBuffer len buf → length buf ≡ INLINE_CAP → buf ≡ padded (encode_utf8_all (chars (take len buf)))
+pub buffer-padded : (len : ℕ) (buf : List ℕ) → IsBuffer len buf → length buf ≡ INLINE_CAP →
+    buf ≡ padded (encode_utf8_all (chars (take len buf)))
 buffer-padded len buf h all =
     let bytes : encode_utf8_all (chars (take len buf)) ≡ take len buf = encodes-chars (take len buf) h.utf8 in
     let size : length (take len buf) ≡ len = length-take-le len buf (omega (arith, h.within, all)) in
     rw (bytes, size, ← h.zeros) (sym (take-append-drop len buf))
 
 -- two short texts are equal exactly where their lengths and whole buffers are
-pub same-buffers : (m n : ℕ) (xs ys : List ℕ) → IsBuffer m xs → IsBuffer n ys → length xs ≡ INLINE_CAP → length ys ≡ INLINE_CAP →
+pub same-buffers : (m n : ℕ) (xs ys : List ℕ) → IsBuffer m xs → IsBuffer n ys → length xs ≡ INLINE_CAP →
+    length ys ≡ INLINE_CAP →
     chars (take m xs) ≡ chars (take n ys) → (m ≡ n) × (xs ≡ ys)
 same-buffers m n xs ys h k p q e = (
   (len-size m xs h p ∙ ap size e ∙ sym (len-size n ys k q)),
@@ -48,7 +53,8 @@ same-buffers m n xs ys h k p q e = (
 )
 
 -- the test of whole buffers, at one length
-pub same-views : (m n : ℕ) (xs ys : List ℕ) → IsBuffer m xs → IsBuffer n ys → length xs ≡ INLINE_CAP → length ys ≡ INLINE_CAP → m ≡ n →
+pub same-views : (m n : ℕ) (xs ys : List ℕ) → IsBuffer m xs → IsBuffer n ys → length xs ≡ INLINE_CAP →
+    length ys ≡ INLINE_CAP → m ≡ n →
     IsTrue (pointwise nat_eq xs ys) ↔ (chars (take m xs) ≡ chars (take n ys))
 same-views m n xs ys h k p q e = (
   (λ b. let s : xs ≡ ys = (bytes_decides xs ys).0 b in rw (e, s)),
@@ -56,7 +62,8 @@ same-views m n xs ys h k p q e = (
 )
 
 -- the test of the lengths, where they differ
-pub other-views : (m n : ℕ) (xs ys : List ℕ) → IsBuffer m xs → IsBuffer n ys → length xs ≡ INLINE_CAP → length ys ≡ INLINE_CAP → ¬ (m ≡ n) →
+pub other-views : (m n : ℕ) (xs ys : List ℕ) → IsBuffer m xs → IsBuffer n ys → length xs ≡ INLINE_CAP →
+    length ys ≡ INLINE_CAP → ¬ (m ≡ n) →
     IsTrue (nat_eq m n) ↔ (chars (take m xs) ≡ chars (take n ys))
 other-views m n xs ys h k p q other = (
   (λ b. absurd (other ((Decides-eqb m n).0 b))),

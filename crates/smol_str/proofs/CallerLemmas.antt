@@ -9,7 +9,7 @@ use Rattle.std.specs.Str.{chars, all_scalars, bytes_eq, IsUtf8}
 use Rattle.std.specs.HashMap.{HashMap, Updates}
 use Rattle.std.proofs.lemmas.Bool.{false_from_ne_true}
 use Rattle.std.proofs.lemmas.Slice.Eq.{bytes_eq-Decides}
-use Rattle.std.proofs.lemmas.Str.{chars-encodes, encodes-chars}
+use Rattle.std.proofs.lemmas.Str.{chars-encodes, chars_from_encodes, encodes-chars}
 use Rattle.smol_str.specs.declared.buffer.TheConstants.{INLINE_CAP}
 use Rattle.smol_str.specs.declared.value.place.Place.TheVariants.{Inline}
 use Rattle.smol_str.specs.Text.{size, IsShort, IsResident, is_short}
@@ -40,7 +40,8 @@ IsResident-few bs u few = inl (IsShort-chars bs u few)
 pub IsShort-front : (s t : List ℕ) → IsShort (s ++ t) → IsShort s
 IsShort-front s t short = omega (arith, short, size-append s t)
 
-pub ruleset texts = (chars-encodes, encodes-chars, chars-as_str, length-as_str, size-chars, IsResident-few, IsShort-front)
+pub ruleset texts =
+    (chars-encodes, chars_from_encodes, encodes-chars, chars-as_str, length-as_str, size-chars, IsResident-few, IsShort-front)
 
 -- ---- builders
 
@@ -80,10 +81,12 @@ pub ruleset builders = (texts, appended-twice, appended-nothing, OnHeap-long)
 
 -- ---- a loop over a list, at its item x, number i: `builder.push_str(..)` with the bytes bs of the piece f x
 
-module _ {X : Type 0} (f : X → List ℕ) (xs : List X) (i : ℕ) (x : X) (bs : List ℕ) (here : i < length xs) (item : x ≡ get_or xs i x)
+module _ {X : Type 0} (f : X →
+    List ℕ) (xs : List X) (i : ℕ) (x : X) (bs : List ℕ) (here : i < length xs) (item : x ≡ get_or xs i x)
     (scalars : IsTrue (all_scalars (f x))) (lent : bs ≡ encode_utf8_all (f x)) where
   -- the step
-  pub appended-more : (start old new : Draft) → old ≡ appended start (flat_map f (take i xs)) → new ≡ appended old (chars bs) →
+  pub appended-more : (start old new : Draft) → old ≡ appended start (flat_map f (take i xs)) →
+      new ≡ appended old (chars bs) →
       new ≡ appended start (flat_map f (take (i + 1) xs))
   appended-more start old new so_far push =
       let piece = chars-as_str (f x) bs scalars lent in
@@ -102,7 +105,8 @@ module _ {X : Type 0} (f : X → List ℕ) (xs : List X) (i : ℕ) (x : X) (bs :
 -- ---- maps with values as keys
 
 -- a change at a key leaves what the map has at every other text
-pub value_at-others : {V S : Type 0} (m n : HashMap Meaning V S) (key : Meaning) (w : Option V) → Updates same_key m n key w →
+pub value_at-others : {V S : Type 0} (m n : HashMap Meaning V S) (key : Meaning) (w : Option V) →
+    Updates same_key m n key w →
     (t : List ℕ) → ¬ (t ≡ key.text) → value_at t n ≡ value_at t m
 value_at-others m n key w h t other =
     let apart : bytes_eq key.text t ≡ false =

@@ -1,4 +1,4 @@
--- ASCII case, character by character.
+-- For the laws of ASCII case: each holds character by character.
 use Rattle.std.proofs.Common.{◌≡◌, ℕ, ◌+◌, ◌<◌, List, [], ◌∷◌, ◌++◌, Bool, true, false, cond, ⊎_elim, map, refl, ap, ◌∙◌, arith, length-append}
 use Rattle.std.specs.Prelude.{All}
 use Rattle.std.specs.Char.{to_ascii_lowercase, to_ascii_uppercase, is_ascii, len_utf8, IsAsciiUppercase, IsAsciiLowercase}
@@ -31,10 +31,15 @@ upper_lower : (c : ℕ) → to_ascii_uppercase (to_ascii_lowercase c) ≡ to_asc
 upper_lower c = grind (arith, nat_tests)
 
 lower_left : (c : ℕ) → ¬ IsAsciiUppercase c → to_ascii_lowercase c ≡ c
-lower_left c h = ⊎_elim (λ l. grind (arith, nat_tests)) (λ l. ⊎_elim (λ k. absurd (h (l, omega arith))) (λ k. grind (arith, nat_tests)) (cases_lt c 91)) (cases_lt c 65)
+lower_left c h =
+    ⊎_elim (λ l. grind (arith, nat_tests))
+    (λ l. ⊎_elim (λ k. absurd (h (l, omega arith))) (λ k. grind (arith, nat_tests)) (cases_lt c 91)) (cases_lt c 65)
 
 upper_left : (c : ℕ) → ¬ IsAsciiLowercase c → to_ascii_uppercase c ≡ c
-upper_left c h = ⊎_elim (λ l. grind (arith, nat_tests)) (λ l. ⊎_elim (λ k. absurd (h (l, omega arith))) (λ k. grind (arith, nat_tests)) (cases_lt c 123)) (cases_lt c 97)
+upper_left c h =
+    ⊎_elim (λ l. grind (arith, nat_tests))
+    (λ l. ⊎_elim (λ k. absurd (h (l, omega arith))) (λ k. grind (arith, nat_tests)) (cases_lt c 123))
+    (cases_lt c 97)
 
 -- a letter of the other case is 32 away
 pub lower-capital : (c : ℕ) (t : List ℕ) → IsAsciiUppercase c → lower (c ∷ t) ≡ (c + 32) ∷ lower t
@@ -47,15 +52,25 @@ upper-small c t h = let one : to_ascii_uppercase (c + 32) ≡ c = grind (arith, 
 size-map : (f : ℕ → ℕ) → ((c : ℕ) → len_utf8 (f c) ≡ len_utf8 c) → (t : List ℕ) → size (map f t) ≡ size t
 size-map f same [] = refl
 size-map f same (c ∷ t) =
-    omega (arith, size-map f same t, same c, length-encode c, length-encode (f c), length-append (encode c) (encode_utf8_all t), length-append (encode (f c)) (encode_utf8_all (map f t)))
+    omega (
+      arith,
+      size-map f same t,
+      same c,
+      length-encode c,
+      length-encode (f c),
+      length-append (encode c) (encode_utf8_all t),
+      length-append (encode (f c)) (encode_utf8_all (map f t)),
+    )
 
 map-map : (f g h : ℕ → ℕ) → ((c : ℕ) → f (g c) ≡ h c) → (t : List ℕ) → map f (map g t) ≡ map h t
 map-map f g h same [] = refl
 map-map f g h same (c ∷ t) = ap (λ d. d ∷ map f (map g t)) (same c) ∙ ap (λ s. h c ∷ s) (map-map f g h same t)
 
-map-unchanged : (f : ℕ → ℕ) (P : ℕ → Type 0) → ((c : ℕ) → ¬ P c → f c ≡ c) → (t : List ℕ) → All (λ c. ¬ P c) t → map f t ≡ t
+map-unchanged : (f : ℕ → ℕ) (P : ℕ → Type 0) → ((c : ℕ) → ¬ P c → f c ≡ c) → (t : List ℕ) → All (λ c. ¬ P c) t →
+    map f t ≡ t
 map-unchanged f P same [] h = refl
-map-unchanged f P same (c ∷ t) h = ap (λ d. d ∷ map f t) (same c (All-head (λ d. ¬ P d) c t h)) ∙ ap (λ s. c ∷ s) (map-unchanged f P same t (All-tail (λ d. ¬ P d) c t h))
+map-unchanged f P same (c ∷ t) h = ap (λ d. d ∷ map f t) (same c (All-head (λ d. ¬ P d) c t h))
+    ∙ ap (λ s. c ∷ s) (map-unchanged f P same t (All-tail (λ d. ¬ P d) c t h))
 
 pub size-lower : (t : List ℕ) → size (lower t) ≡ size t
 size-lower t = size-map to_ascii_lowercase lower_len t
@@ -96,7 +111,8 @@ front-append (c ∷ a) r h k =
 abbrev Parts : List ℕ → List ℕ → Type 0
 Parts t a = (r : List ℕ) × (t ≡ a ++ r) × IsAsciiText a × BeginsPastAscii r
 
-parts_more : (c : ℕ) (t : List ℕ) → Parts t (front t) → (b : Bool) → is_ascii c ≡ b → Parts (c ∷ t) (cond b (c ∷ front t) [])
+parts_more : (c : ℕ) (t : List ℕ) → Parts t (front t) → (b : Bool) → is_ascii c ≡ b →
+    Parts (c ∷ t) (cond b (c ∷ front t) [])
 parts_more c t h true e =
     (h.0, ap (λ s. c ∷ s) h.1, All-cons (λ d. d < 0x80) c (front t) (ltb-true c 0x80 e) h.2, h.3)
 parts_more c t h false e = (c ∷ t, refl, All-nil (λ d. d < 0x80), ltb-false c 0x80 e)

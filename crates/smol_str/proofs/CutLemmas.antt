@@ -1,4 +1,4 @@
--- Each text has one cut at a pattern, and `cut` is it.
+-- For the laws of cuts and first matches: each text has one cut at a pattern, and `cut` is it.
 use Rattle.std.proofs.Common.{◌≡◌, ◌↔◌, ℕ, ◌+◌, ◌-◌, ◌<◌, ◌≤◌, zero, suc, min, List, [], ◌∷◌, ◌++◌, Bool, true, false, cond, Option, Some, None, ◌⊎◌, inl, inr, ⊎_elim, length, take, drop, option_map, unwrap_or, MatchOption, refl, sym, ap, ◌∙◌, subst, arith, length-append, append_assoc, append-nil, take-append-drop}
 use Rattle.std.specs.Prelude.{nat_eq}
 use Rattle.std.specs.List.{concat, starts_with, flat_map}
@@ -54,16 +54,24 @@ early : (p q x y : List ℕ) → 0 < length p → 0 < length q → p ++ x ≡ q 
 early p q x y some more e =
     let long : length p ≤ length (q ++ but_last p) = omega (arith, length-append q (but_last p), length_but_last p) in
     let reads : take (length p) (q ++ but_last p) ≡ p =
-    sym (take-append-le (length p) (q ++ but_last p) (last_part p ++ y) long) ∙ ap (take (length p)) (sym (e ∙ parts p q y)) ∙ take_at p x (length p) refl in
-    ([], drop (length p) (q ++ but_last p), sym (take-append-drop (length p) (q ++ but_last p)) ∙ ap (λ s. s ++ drop (length p) (q ++ but_last p)) reads)
+    sym (take-append-le (length p) (q ++ but_last p) (last_part p ++ y) long)
+    ∙ ap (take (length p)) (sym (e ∙ parts p q y)) ∙ take_at p x (length p) refl in (
+      [],
+      drop (length p) (q ++ but_last p),
+      sym (take-append-drop (length p) (q ++ but_last p))
+          ∙ ap (λ s. s ++ drop (length p) (q ++ but_last p)) reads,
+    )
 
 -- there is one first match
-pub one_first : (p q q' x y : List ℕ) → 0 < length p → q ++ (p ++ x) ≡ q' ++ (p ++ y) → IsFirstAfter p q → IsFirstAfter p q' → q ≡ q'
+pub one_first : (p q q' x y : List ℕ) → 0 < length p → q ++ (p ++ x) ≡ q' ++ (p ++ y) → IsFirstAfter p q →
+    IsFirstAfter p q' → q ≡ q'
 one_first p [] [] x y some e f g = refl
 one_first p [] (d ∷ q') x y some e f g = absurd (g (early p (d ∷ q') x y some (omega arith) e))
 one_first p (c ∷ q) [] x y some e f g = absurd (f (early p (c ∷ q) y x some (omega arith) (sym e)))
 one_first p (c ∷ q) (d ∷ q') x y some e f g =
-    let same : q ≡ q' = one_first p q q' x y some (tail_same c d (q ++ (p ++ x)) (q' ++ (p ++ y)) e) (not_later p c (q ++ but_last p) f) (not_later p d (q' ++ but_last p) g) in
+    let same : q ≡ q' =
+    one_first p q q' x y some (tail_same c d (q ++ (p ++ x)) (q' ++ (p ++ y)) e)
+    (not_later p c (q ++ but_last p) f) (not_later p d (q' ++ but_last p) g) in
     ap (λ k. k ∷ q) (head_same c d (q ++ (p ++ x)) (q' ++ (p ++ y)) e) ∙ ap (λ s. d ∷ s) same
 
 -- the first match is the one after the shortest text
@@ -82,11 +90,20 @@ first-shortest p q r some = (
       let later = parts p q r ∙ ap (λ x. x ++ (last_part p ++ r)) o.2 ∙ append_assoc o.0 (p ++ o.1) (last_part p ++ r)
       ∙ ap (λ x. o.0 ++ x) (append_assoc p o.1 (last_part p ++ r)) in
       let sizes = ap length o.2 in
-      omega (arith, least o.0 (o.1 ++ (last_part p ++ r)) later, sizes, length-append q (but_last p), length-append o.0 (p ++ o.1), length-append p o.1, length_but_last p)),
+      omega (
+        arith,
+        least o.0 (o.1 ++ (last_part p ++ r)) later,
+        sizes,
+        length-append q (but_last p),
+        length-append o.0 (p ++ o.1),
+        length-append p o.1,
+        length_but_last p,
+      )),
 )
 
 -- without its first piece a cut is a cut of what is left
-rest_cut : (t p : List ℕ) (n : ℕ) (q r : List ℕ) (rs : List (List ℕ)) → IsCutAt t p n (q ∷ r ∷ rs) → IsCutAt (joined_by p (r ∷ rs)) p (n - 1) (r ∷ rs)
+rest_cut : (t p : List ℕ) (n : ℕ) (q r : List ℕ) (rs : List (List ℕ)) → IsCutAt t p n (q ∷ r ∷ rs) →
+    IsCutAt (joined_by p (r ∷ rs)) p (n - 1) (r ∷ rs)
 rest_cut t p n q r rs h = record {
   some = omega arith;
   limited = omega (arith, h.limited);
@@ -95,28 +112,46 @@ rest_cut t p n q r rs h = record {
   complete = λ l. h.complete (omega (arith, h.limited));
 }
 
-pub IsCutAt-unique : (xs ys : List (List ℕ)) (t p : List ℕ) (n : ℕ) → 0 < length p → IsCutAt t p n xs → IsCutAt t p n ys → xs ≡ ys
+pub IsCutAt-unique : (xs ys : List (List ℕ)) (t p : List ℕ) (n : ℕ) → 0 < length p → IsCutAt t p n xs →
+    IsCutAt t p n ys → xs ≡ ys
 IsCutAt-unique [] ys t p n some h k = absurd (omega (arith, h.some))
 IsCutAt-unique (q ∷ []) [] t p n some h k = absurd (omega (arith, k.some))
-IsCutAt-unique (q ∷ []) (q' ∷ []) t p n some h k = ap (λ s. s ∷ []) (sym (joined_one p q) ∙ h.joined ∙ sym k.joined ∙ joined_one p q')
+IsCutAt-unique (q ∷ []) (q' ∷ []) t p n some h k =
+    ap (λ s. s ∷ []) (sym (joined_one p q) ∙ h.joined ∙ sym k.joined ∙ joined_one p q')
 IsCutAt-unique (q ∷ []) (q' ∷ r' ∷ rs') t p n some h k =
-    absurd (h.complete (omega (arith, k.limited)) (q', joined_by p (r' ∷ rs'), sym (joined_one p q) ∙ h.joined ∙ sym k.joined ∙ joined_more p q' r' rs'))
+    absurd (h.complete (omega (arith, k.limited)) (
+      q',
+      joined_by p (r' ∷ rs'),
+      sym (joined_one p q) ∙ h.joined
+          ∙ sym k.joined ∙ joined_more p q' r' rs',
+    ))
 IsCutAt-unique (q ∷ r ∷ rs) [] t p n some h k = absurd (omega (arith, k.some))
 IsCutAt-unique (q ∷ r ∷ rs) (q' ∷ []) t p n some h k =
-    absurd (k.complete (omega (arith, h.limited)) (q, joined_by p (r ∷ rs), sym (joined_one p q') ∙ k.joined ∙ sym h.joined ∙ joined_more p q r rs))
+    absurd (k.complete (omega (arith, h.limited)) (
+      q,
+      joined_by p (r ∷ rs),
+      sym (joined_one p q') ∙ k.joined
+          ∙ sym h.joined ∙ joined_more p q r rs,
+    ))
 IsCutAt-unique (q ∷ r ∷ rs) (q' ∷ r' ∷ rs') t p n some h k =
-    let whole : q ++ (p ++ joined_by p (r ∷ rs)) ≡ q' ++ (p ++ joined_by p (r' ∷ rs')) = sym (joined_more p q r rs) ∙ h.joined ∙ sym k.joined ∙ joined_more p q' r' rs' in
-    let same : q ≡ q' = one_first p q q' (joined_by p (r ∷ rs)) (joined_by p (r' ∷ rs')) some whole (All-head (IsFirstAfter p) q (but_last (r ∷ rs)) h.first) (All-head (IsFirstAfter p) q' (but_last (r' ∷ rs')) k.first) in
+    let whole : q ++ (p ++ joined_by p (r ∷ rs)) ≡ q' ++ (p ++ joined_by p (r' ∷ rs')) =
+    sym (joined_more p q r rs) ∙ h.joined ∙ sym k.joined ∙ joined_more p q' r' rs' in
+    let same : q ≡ q' =
+    one_first p q q' (joined_by p (r ∷ rs)) (joined_by p (r' ∷ rs')) some whole
+    (All-head (IsFirstAfter p) q (but_last (r ∷ rs)) h.first)
+    (All-head (IsFirstAfter p) q' (but_last (r' ∷ rs')) k.first) in
     let left : joined_by p (r' ∷ rs') ≡ joined_by p (r ∷ rs) =
     append_cancel_left p (joined_by p (r' ∷ rs')) (joined_by p (r ∷ rs))
-    (append_cancel_left q (p ++ joined_by p (r' ∷ rs')) (p ++ joined_by p (r ∷ rs)) (ap (λ s. s ++ (p ++ joined_by p (r' ∷ rs'))) same ∙ sym whole)) in
+    (append_cancel_left q (p ++ joined_by p (r' ∷ rs')) (p ++ joined_by p (r ∷ rs))
+    (ap (λ s. s ++ (p ++ joined_by p (r' ∷ rs'))) same ∙ sym whole)) in
     let more : r ∷ rs ≡ r' ∷ rs' =
     IsCutAt-unique (r ∷ rs) (r' ∷ rs') (joined_by p (r ∷ rs)) p (n - 1) some (rest_cut t p n q r rs h)
     (subst (λ (s : List ℕ). IsCutAt s p (n - 1) (r' ∷ rs')) left (rest_cut t p n q' r' rs' k)) in
     ap (λ s. s ∷ r ∷ rs) same ∙ ap (λ s. q' ∷ s) more
 
 -- a first match in front of a cut
-pub step : (t p q r : List ℕ) (n : ℕ) (pieces : List (List ℕ)) → t ≡ q ++ (p ++ r) → IsFirstAfter p q → IsCutAt r p n pieces → IsCutAt t p (n + 1) (q ∷ pieces)
+pub step : (t p q r : List ℕ) (n : ℕ) (pieces : List (List ℕ)) → t ≡ q ++ (p ++ r) → IsFirstAfter p q →
+    IsCutAt r p n pieces → IsCutAt t p (n + 1) (q ∷ pieces)
 step t p q r n [] e none h = absurd (omega (arith, h.some))
 step t p q r n (s ∷ ss) e none h = record {
   some = omega arith;
@@ -145,7 +180,8 @@ no_match t p n none = record {
 }
 
 -- an occurrence begins here or later
-pub occurs_cases : (p : List ℕ) (c : ℕ) (t a r : List ℕ) → c ∷ t ≡ a ++ (p ++ r) → ((y : List ℕ) × (c ∷ t ≡ p ++ y)) ⊎ Occurs p t
+pub occurs_cases : (p : List ℕ) (c : ℕ) (t a r : List ℕ) → c ∷ t ≡ a ++ (p ++ r) →
+    ((y : List ℕ) × (c ∷ t ≡ p ++ y)) ⊎ Occurs p t
 occurs_cases p c t [] r e = inl (r, e)
 occurs_cases p c t (d ∷ a) r e = inr (a, r, tail_same c d t (a ++ (p ++ r)) e)
 
@@ -168,24 +204,30 @@ First p t m = (t ≡ m.0 ++ (p ++ m.1)) × (IsFirstAfter p m.0)
 abbrev found_here : List ℕ → ℕ → List ℕ → Bool → Option (List ℕ × List ℕ) → Option (List ℕ × List ℕ)
 found_here p c t b o = cond b (Some ([], drop (length p) (c ∷ t))) (option_map (λ m. (c ∷ m.0, m.1)) o)
 
-first_step : (p : List ℕ) (c : ℕ) (t : List ℕ) → 0 < length p → (b : Bool) → starts_with nat_eq (c ∷ t) p ≡ b → (o : Option (List ℕ × List ℕ))
-    → MatchOption o (¬ Occurs p t) (First p t) → MatchOption (found_here p c t b o) (¬ Occurs p (c ∷ t)) (First p (c ∷ t))
+first_step : (p : List ℕ) (c : ℕ) (t : List ℕ) → 0 < length p → (b : Bool) → starts_with nat_eq (c ∷ t) p ≡ b →
+    (o : Option (List ℕ × List ℕ))
+    → MatchOption o (¬ Occurs p t) (First p t) →
+    MatchOption (found_here p c t b o) (¬ Occurs p (c ∷ t)) (First p (c ∷ t))
 first_step p c t some true e o h = (begins p (c ∷ t) e, too_long p some)
-first_step p c t some false e None h = λ o. ⊎_elim (λ x. begins_not p (c ∷ t) x.0 e x.1) h (occurs_cases p c t o.0 o.1 o.2)
+first_step p c t some false e None h =
+    λ o. ⊎_elim (λ x. begins_not p (c ∷ t) x.0 e x.1) h (occurs_cases p c t o.0 o.1 o.2)
 first_step p c t some false e (Some m) h = (
   ap (λ s. c ∷ s) h.0,
   λ o. ⊎_elim
       (λ x. begins_not p (c ∷ t) (x.0 ++ (last_part p ++ m.1)) e
-      (ap (λ s. c ∷ s) (h.0 ∙ parts p m.0 m.1) ∙ ap (λ s. s ++ (last_part p ++ m.1)) x.1 ∙ append_assoc p x.0 (last_part p ++ m.1)))
+      (ap (λ s. c ∷ s) (h.0 ∙ parts p m.0 m.1) ∙ ap (λ s. s ++ (last_part p ++ m.1)) x.1
+      ∙ append_assoc p x.0 (last_part p ++ m.1)))
       h.1
       (occurs_cases p c (m.0 ++ but_last p) o.0 o.1 o.2),
 )
 
 pub first_found : (p t : List ℕ) → 0 < length p → MatchOption (first_match p t) (¬ Occurs p t) (First p t)
 first_found p [] some = λ o. omega (arith, ap length o.2, length-append o.0 (p ++ o.1), length-append p o.1)
-first_found p (c ∷ t) some = first_step p c t some (starts_with nat_eq (c ∷ t) p) refl (first_match p t) (first_found p t some)
+first_found p (c ∷ t) some =
+    first_step p c t some (starts_with nat_eq (c ∷ t) p) refl (first_match p t) (first_found p t some)
 
-cut_step : (n : ℕ) (p t : List ℕ) (rec : (s : List ℕ) → IsCutAt s p n (cut_at n p s)) → (o : Option (List ℕ × List ℕ)) → MatchOption o (¬ Occurs p t) (First p t)
+cut_step : (n : ℕ) (p t : List ℕ) (rec : (s : List ℕ) → IsCutAt s p n (cut_at n p s)) →
+    (o : Option (List ℕ × List ℕ)) → MatchOption o (¬ Occurs p t) (First p t)
     → IsCutAt t p (n + 1) (unwrap_or (option_map (λ m. m.0 ∷ cut_at n p m.1) o) (t ∷ []))
 cut_step n p t rec None h = no_match t p (n + 1) h
 cut_step n p t rec (Some m) h = step t p m.0 m.1 n (cut_at n p m.1) h.0 h.1 (rec m.1)
@@ -194,10 +236,12 @@ pub IsCutAt-cut : (n : ℕ) (p t : List ℕ) → 0 < length p → IsCutAt t p n 
 IsCutAt-cut zero p t some = at_limit t p
 IsCutAt-cut (suc n) p t some =
     let next : suc n ≡ n + 1 = omega arith in
-    subst (λ (k : ℕ). IsCutAt t p k (cut_at (suc n) p t)) (sym next) (cut_step n p t (λ s. IsCutAt-cut n p s some) (first_match p t) (first_found p t some))
+    subst (λ (k : ℕ). IsCutAt t p k (cut_at (suc n) p t)) (sym next)
+    (cut_step n p t (λ s. IsCutAt-cut n p s some) (first_match p t) (first_found p t some))
 
 -- at the empty pattern
-one_spelling : (xs ys : List (List ℕ)) → length xs ≡ length ys → All One (but_last xs) → All One (but_last ys) → concat xs ≡ concat ys → xs ≡ ys
+one_spelling : (xs ys : List (List ℕ)) → length xs ≡ length ys → All One (but_last xs) → All One (but_last ys) →
+    concat xs ≡ concat ys → xs ≡ ys
 one_spelling [] [] l h k e = refl
 one_spelling [] (y ∷ ys) l h k e = absurd (omega arith)
 one_spelling (x ∷ xs) [] l h k e = absurd (omega arith)
@@ -207,12 +251,17 @@ one_spelling (x ∷ w ∷ xs) (y ∷ []) l h k e = absurd (omega arith)
 one_spelling (x ∷ w ∷ xs) (y ∷ z ∷ ys) l h k e =
     let n : length x ≡ length y = All-head One x (but_last (w ∷ xs)) h ∙ sym (All-head One y (but_last (z ∷ ys)) k) in
     let same : x ≡ y =
-    sym (take_at x (concat (w ∷ xs)) (length x) refl) ∙ ap (take (length x)) e ∙ take_at y (concat (z ∷ ys)) (length x) (sym n) in
+    sym (take_at x (concat (w ∷ xs)) (length x) refl) ∙ ap (take (length x)) e
+    ∙ take_at y (concat (z ∷ ys)) (length x) (sym n) in
     let left : concat (w ∷ xs) ≡ concat (z ∷ ys) =
     append_cancel_left x (concat (w ∷ xs)) (concat (z ∷ ys)) (e ∙ ap (λ s. s ++ concat (z ∷ ys)) (sym same)) in
-    ap (λ s. s ∷ w ∷ xs) same ∙ ap (λ s. y ∷ s) (one_spelling (w ∷ xs) (z ∷ ys) (omega arith) (All-tail One x (but_last (w ∷ xs)) h) (All-tail One y (but_last (z ∷ ys)) k) left)
+    ap (λ s. s ∷ w ∷ xs) same
+    ∙ ap (λ s. y ∷ s)
+    (one_spelling (w ∷ xs) (z ∷ ys) (omega arith) (All-tail One x (but_last (w ∷ xs)) h)
+    (All-tail One y (but_last (z ∷ ys)) k) left)
 
-one_between_at : (m : ℕ) (xs ys : List (List ℕ)) (t : List ℕ) → length xs ≡ m + 1 → length ys ≡ m + 1 → concat xs ≡ t → concat ys ≡ t → (0 < m → IsSpelled xs) → (0 < m → IsSpelled ys) → xs ≡ ys
+one_between_at : (m : ℕ) (xs ys : List (List ℕ)) (t : List ℕ) → length xs ≡ m + 1 → length ys ≡ m + 1 →
+    concat xs ≡ t → concat ys ≡ t → (0 < m → IsSpelled xs) → (0 < m → IsSpelled ys) → xs ≡ ys
 one_between_at m [] ys t l k e f g h = absurd (omega arith)
 one_between_at m (x ∷ xs) [] t l k e f g h = absurd (omega arith)
 one_between_at zero (x ∷ []) (y ∷ []) t l k e f g h = ap (λ s. s ∷ []) (sym (append-nil x) ∙ e ∙ sym f ∙ append-nil y)
@@ -225,7 +274,8 @@ one_between_at (suc m) (x ∷ xs) (y ∷ ys) t l k e f g h =
     ap (λ s. s ∷ xs) (a.0 ∙ sym b.0) ∙ ap (λ s. y ∷ s) (one_spelling xs ys (omega arith) a.1 b.1 same)
 
 pub IsCut-unique : (t p : List ℕ) (n : ℕ) (xs ys : List (List ℕ)) → IsCut t p n xs → IsCut t p n ys → xs ≡ ys
-IsCut-unique t [] n xs ys h k = one_between_at (min n (length t + 1)) xs ys t h.count k.count h.joined k.joined h.spelled k.spelled
+IsCut-unique t [] n xs ys h k =
+    one_between_at (min n (length t + 1)) xs ys t h.count k.count h.joined k.joined h.spelled k.spelled
 IsCut-unique t (c ∷ p) n xs ys h k = IsCutAt-unique xs ys t (c ∷ p) n (omega arith) h k
 
 length_spell : (n : ℕ) (t : List ℕ) → length (spell n t) ≡ min n (length t) + 1

@@ -1,4 +1,4 @@
--- A builder's text and kind.
+-- For the builder: its text and kind, before and after an append.
 use Rattle.std.proofs.Common.{◌≡◌, ℕ, ◌-◌, ◌<◌, ◌≤◌, List, ◌++◌, length, Bool, true, false, ◌&&◌, nat_le, cond, refl, arith, ◌⊎◌, inl, inr}
 use Rattle.std.specs.Str.{chars, IsUtf8}
 use Rattle.std.proofs.lemmas.Bool.Decides.{nat_tests}
@@ -39,7 +39,8 @@ short_front t u h =
 
 -- the kind after an append is that of the whole text
 pub kind_for-append : (n : ℕ) (t u : List ℕ) → kind_with (kind_for n t) (t ++ u) ≡ kind_for n (t ++ u)
-kind_for-append n t u = append_case (nat_le n INLINE_CAP) (is_short t) (is_short (t ++ u)) (t ++ u) (short_front t u) refl
+kind_for-append n t u =
+    append_case (nat_le n INLINE_CAP) (is_short t) (is_short (t ++ u)) (t ++ u) (short_front t u) refl
 
 heap_case : (fits is : Bool) → cond (fits && is) InBuffer OnHeap ≡ OnHeap → (fits ≡ false) ⊎ (is ≡ false)
 heap_case true true h = cc

@@ -1,4 +1,4 @@
--- Lists of any kind, for the lemmas of texts, cuts and builders.
+-- For the lemmas of texts, cuts and builders: lists of any kind.
 use Rattle.std.proofs.Common.{◌≡◌, ℕ, ◌+◌, ◌<◌, List, [], ◌∷◌, ◌++◌, length, take, drop, get_or, sym, ap, ◌∙◌}
 use Rattle.std.specs.List.{flat_map}
 use Rattle.std.proofs.lemmas.List.{append-nil, take_more, take-append-drop}

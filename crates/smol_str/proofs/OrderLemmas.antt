@@ -1,4 +1,4 @@
--- The order of texts is the order of their bytes.
+-- For comparisons and the law of byte order: the order of texts is the order of their bytes.
 use Rattle.std.proofs.Common.{◌≡◌, ℕ, ◌+◌, ◌/◌, ◌%◌, ◌<◌, List, [], ◌∷◌, ◌++◌, refl, ◌∙◌, ap, arith, ◌⊎◌, inl, inr}
 use lib.Utf8.{encode, encodes, next}
 use Rattle.smol_str.proofs.Utf8Lemmas.{Form, one, two, three, four, form}
@@ -22,7 +22,8 @@ less_head : (a b : ℕ) (xs ys : List ℕ) → a < b → slice_cmp nat_cmp (a �
 less_head a b xs ys h = rw (nat_cmp-less a b h)
 
 -- or is the same
-same_head : (a b : ℕ) (xs ys : List ℕ) → a ≡ b → slice_cmp nat_cmp xs ys ≡ Less → slice_cmp nat_cmp (a ∷ xs) (b ∷ ys) ≡ Less
+same_head : (a b : ℕ) (xs ys : List ℕ) → a ≡ b → slice_cmp nat_cmp xs ys ≡ Less →
+    slice_cmp nat_cmp (a ∷ xs) (b ∷ ys) ≡ Less
 same_head a b xs ys e h = rw (e, nat_cmp-same b) h
 
 -- a common front changes nothing
@@ -34,48 +35,65 @@ slice_cmp-front (a ∷ p) xs ys = rw (nat_cmp-same a) (slice_cmp-front p xs ys)
 split64 : (c d : ℕ) → c < d → (c / 64 < d / 64) ⊎ ((c / 64 ≡ d / 64) × (c % 64 < d % 64))
 split64 c d h = elim (cases_lt (c / 64) (d / 64)) [ inl l ↦ inl l | inr g ↦ inr (omega arith, omega arith) ]
 
-digits2 : (k c d : ℕ) (xs ys : List ℕ) → c < d → slice_cmp nat_cmp ((k + c / 64) ∷ next c ∷ xs) ((k + d / 64) ∷ next d ∷ ys) ≡ Less
+digits2 : (k c d : ℕ) (xs ys : List ℕ) → c < d →
+    slice_cmp nat_cmp ((k + c / 64) ∷ next c ∷ xs) ((k + d / 64) ∷ next d ∷ ys) ≡ Less
 digits2 k c d xs ys h =
     elim (split64 c d h) [
       | inl l ↦ less_head (k + c / 64) (k + d / 64) (next c ∷ xs) (next d ∷ ys) (omega arith)
-      | inr p ↦ same_head (k + c / 64) (k + d / 64) (next c ∷ xs) (next d ∷ ys) (omega (arith, p.0)) (less_head (next c) (next d) xs ys (omega (arith, p.1)))
+      | inr p ↦ same_head (k + c / 64) (k + d / 64) (next c ∷ xs) (next d ∷ ys) (omega (arith, p.0))
+          (less_head (next c) (next d) xs ys (omega (arith, p.1)))
     ]
 
 digits3 : (k c d : ℕ) (xs ys : List ℕ) → c < d →
-    slice_cmp nat_cmp ((k + c / 64 / 64) ∷ next (c / 64) ∷ next c ∷ xs) ((k + d / 64 / 64) ∷ next (d / 64) ∷ next d ∷ ys) ≡ Less
+    slice_cmp nat_cmp ((k + c / 64 / 64) ∷ next (c / 64) ∷ next c ∷ xs)
+    ((k + d / 64 / 64) ∷ next (d / 64) ∷ next d ∷ ys) ≡ Less
 digits3 k c d xs ys h =
     elim (split64 c d h) [
       | inl l ↦ digits2 k (c / 64) (d / 64) (next c ∷ xs) (next d ∷ ys) l
       | inr p ↦
-          same_head (k + c / 64 / 64) (k + d / 64 / 64) (next (c / 64) ∷ next c ∷ xs) (next (d / 64) ∷ next d ∷ ys) (ap (λ n. k + n / 64) p.0)
-          (same_head (next (c / 64)) (next (d / 64)) (next c ∷ xs) (next d ∷ ys) (ap next p.0) (less_head (next c) (next d) xs ys (omega (arith, p.1))))
+          same_head (k + c / 64 / 64) (k + d / 64 / 64) (next (c / 64) ∷ next c ∷ xs) (next (d / 64) ∷ next d ∷ ys)
+          (ap (λ n. k + n / 64) p.0)
+          (same_head (next (c / 64)) (next (d / 64)) (next c ∷ xs) (next d ∷ ys) (ap next p.0)
+          (less_head (next c) (next d) xs ys (omega (arith, p.1))))
     ]
 
 digits4 : (k c d : ℕ) (xs ys : List ℕ) → c < d →
-    slice_cmp nat_cmp ((k + c / 64 / 64 / 64) ∷ next (c / 64 / 64) ∷ next (c / 64) ∷ next c ∷ xs) ((k + d / 64 / 64 / 64) ∷ next (d / 64 / 64) ∷ next (d / 64) ∷ next d ∷ ys) ≡ Less
+    slice_cmp nat_cmp ((k + c / 64 / 64 / 64) ∷ next (c / 64 / 64) ∷ next (c / 64) ∷ next c ∷ xs)
+    ((k + d / 64 / 64 / 64) ∷ next (d / 64 / 64) ∷ next (d / 64) ∷ next d ∷ ys) ≡ Less
 digits4 k c d xs ys h =
     elim (split64 c d h) [
       | inl l ↦ digits3 k (c / 64) (d / 64) (next c ∷ xs) (next d ∷ ys) l
       | inr p ↦
-          same_head (k + c / 64 / 64 / 64) (k + d / 64 / 64 / 64) (next (c / 64 / 64) ∷ next (c / 64) ∷ next c ∷ xs) (next (d / 64 / 64) ∷ next (d / 64) ∷ next d ∷ ys) (ap (λ n. k + n / 64 / 64) p.0)
-          (same_head (next (c / 64 / 64)) (next (d / 64 / 64)) (next (c / 64) ∷ next c ∷ xs) (next (d / 64) ∷ next d ∷ ys) (ap (λ n. next (n / 64)) p.0)
-          (same_head (next (c / 64)) (next (d / 64)) (next c ∷ xs) (next d ∷ ys) (ap next p.0) (less_head (next c) (next d) xs ys (omega (arith, p.1)))))
+          same_head (k + c / 64 / 64 / 64) (k + d / 64 / 64 / 64) (next (c / 64 / 64) ∷ next (c / 64) ∷ next c ∷ xs)
+          (next (d / 64 / 64) ∷ next (d / 64) ∷ next d ∷ ys) (ap (λ n. k + n / 64 / 64) p.0)
+          (same_head (next (c / 64 / 64)) (next (d / 64 / 64)) (next (c / 64) ∷ next c ∷ xs)
+          (next (d / 64) ∷ next d ∷ ys) (ap (λ n. next (n / 64)) p.0)
+          (same_head (next (c / 64)) (next (d / 64)) (next c ∷ xs) (next d ∷ ys) (ap next p.0)
+          (less_head (next c) (next d) xs ys (omega (arith, p.1)))))
     ]
 
 -- the bytes of the lower character come first
-less_forms : (c d : ℕ) (xs ys : List ℕ) → c < d → Form c → Form d → slice_cmp nat_cmp (encode c ++ xs) (encode d ++ ys) ≡ Less
+less_forms : (c d : ℕ) (xs ys : List ℕ) → c < d → Form c → Form d →
+    slice_cmp nat_cmp (encode c ++ xs) (encode d ++ ys) ≡ Less
 less_forms c d xs ys h (one a e) (one b f) = rw (e, f) (less_head c d xs ys h)
 less_forms c d xs ys h (one a e) (two b b' f) = rw (e, f) (less_head c (192 + d / 64) xs (next d ∷ ys) (omega arith))
-less_forms c d xs ys h (one a e) (three b b' f) = rw (e, f) (less_head c (224 + d / 64 / 64) xs (next (d / 64) ∷ next d ∷ ys) (omega arith))
-less_forms c d xs ys h (one a e) (four b f) = rw (e, f) (less_head c (240 + d / 64 / 64 / 64) xs (next (d / 64 / 64) ∷ next (d / 64) ∷ next d ∷ ys) (omega arith))
+less_forms c d xs ys h (one a e) (three b b' f) =
+    rw (e, f) (less_head c (224 + d / 64 / 64) xs (next (d / 64) ∷ next d ∷ ys) (omega arith))
+less_forms c d xs ys h (one a e) (four b f) =
+    rw (e, f) (less_head c (240 + d / 64 / 64 / 64) xs (next (d / 64 / 64) ∷ next (d / 64) ∷ next d ∷ ys) (omega arith))
 less_forms c d xs ys h (two a a' e) (one b f) = absurd (omega arith)
 less_forms c d xs ys h (two a a' e) (two b b' f) = rw (e, f) (digits2 192 c d xs ys h)
-less_forms c d xs ys h (two a a' e) (three b b' f) = rw (e, f) (less_head (192 + c / 64) (224 + d / 64 / 64) (next c ∷ xs) (next (d / 64) ∷ next d ∷ ys) (omega arith))
-less_forms c d xs ys h (two a a' e) (four b f) = rw (e, f) (less_head (192 + c / 64) (240 + d / 64 / 64 / 64) (next c ∷ xs) (next (d / 64 / 64) ∷ next (d / 64) ∷ next d ∷ ys) (omega arith))
+less_forms c d xs ys h (two a a' e) (three b b' f) =
+    rw (e, f) (less_head (192 + c / 64) (224 + d / 64 / 64) (next c ∷ xs) (next (d / 64) ∷ next d ∷ ys) (omega arith))
+less_forms c d xs ys h (two a a' e) (four b f) =
+    rw (e, f) (less_head (192 + c / 64) (240 + d / 64 / 64 / 64) (next c ∷ xs)
+    (next (d / 64 / 64) ∷ next (d / 64) ∷ next d ∷ ys) (omega arith))
 less_forms c d xs ys h (three a a' e) (one b f) = absurd (omega arith)
 less_forms c d xs ys h (three a a' e) (two b b' f) = absurd (omega arith)
 less_forms c d xs ys h (three a a' e) (three b b' f) = rw (e, f) (digits3 224 c d xs ys h)
-less_forms c d xs ys h (three a a' e) (four b f) = rw (e, f) (less_head (224 + c / 64 / 64) (240 + d / 64 / 64 / 64) (next (c / 64) ∷ next c ∷ xs) (next (d / 64 / 64) ∷ next (d / 64) ∷ next d ∷ ys) (omega arith))
+less_forms c d xs ys h (three a a' e) (four b f) =
+    rw (e, f) (less_head (224 + c / 64 / 64) (240 + d / 64 / 64 / 64) (next (c / 64) ∷ next c ∷ xs)
+    (next (d / 64 / 64) ∷ next (d / 64) ∷ next d ∷ ys) (omega arith))
 less_forms c d xs ys h (four a e) (one b f) = absurd (omega arith)
 less_forms c d xs ys h (four a e) (two b b' f) = absurd (omega arith)
 less_forms c d xs ys h (four a e) (three b b' f) = absurd (omega arith)
@@ -85,7 +103,8 @@ encode-less : (c d : ℕ) (xs ys : List ℕ) → c < d → slice_cmp nat_cmp (en
 encode-less c d xs ys h = less_forms c d xs ys h (form c) (form d)
 
 -- a character has a byte
-some_bytes : (c : ℕ) (xs : List ℕ) → Form c → (slice_cmp nat_cmp [] (encode c ++ xs) ≡ Less) × (slice_cmp nat_cmp (encode c ++ xs) [] ≡ Greater)
+some_bytes : (c : ℕ) (xs : List ℕ) → Form c →
+    (slice_cmp nat_cmp [] (encode c ++ xs) ≡ Less) × (slice_cmp nat_cmp (encode c ++ xs) [] ≡ Greater)
 some_bytes c xs (one a e) = (rw e, rw e)
 some_bytes c xs (two a b e) = (rw e, rw e)
 some_bytes c xs (three a b e) = (rw e, rw e)
@@ -101,6 +120,7 @@ order-texts (c ∷ s) (d ∷ t) =
       | inr o ↦ elim o [
         | inl l ↦ rw (nat_cmp-less c d l) (encode-less c d (encodes s) (encodes t) l)
         | inr g ↦ rw (nat_cmp-greater c d g)
-            (nat_list_cmp_total.antisymm (encode c ++ encodes s) (encode d ++ encodes t) ∙ ap ordering_reverse (encode-less d c (encodes t) (encodes s) g))
+            (nat_list_cmp_total.antisymm (encode c ++ encodes s) (encode d ++ encodes t)
+            ∙ ap ordering_reverse (encode-less d c (encodes t) (encodes s) g))
       ]
     ]

@@ -1,4 +1,4 @@
--- What replacing makes of a text.
+-- For the laws of replacement: what replacing makes of a text.
 use Rattle.std.proofs.Common.{◌≡◌, ℕ, ◌+◌, ◌-◌, ◌<◌, ◌≤◌, zero, suc, min, List, [], ◌∷◌, ◌++◌, Option, Some, None, false, option_map, unwrap_or, length, refl, sym, ap, ◌∙◌, arith, length-append, append-nil}
 use Rattle.std.proofs.Common.{⊎_elim}
 use Rattle.std.proofs.lemmas.Bool.{cases_lt}
@@ -26,9 +26,16 @@ few_pieces : (p : List ℕ) (pieces : List (List ℕ)) → 0 < length p → leng
 few_pieces p [] some = omega arith
 few_pieces p (q ∷ []) some = omega arith
 few_pieces p (q ∷ r ∷ rs) some =
-    omega (arith, few_pieces p (r ∷ rs) some, ap length (joined_more p q r rs), length-append q (p ++ joined_by p (r ∷ rs)), length-append p (joined_by p (r ∷ rs)))
+    omega (
+      arith,
+      few_pieces p (r ∷ rs) some,
+      ap length (joined_more p q r rs),
+      length-append q (p ++ joined_by p (r ∷ rs)),
+      length-append p (joined_by p (r ∷ rs)),
+    )
 
-raised_at : (t p : List ℕ) (m n : ℕ) (pieces : List (List ℕ)) → length pieces < m + 1 → length pieces - 1 ≤ n → IsCutAt t p m pieces → IsCutAt t p n pieces
+raised_at : (t p : List ℕ) (m n : ℕ) (pieces : List (List ℕ)) → length pieces < m + 1 → length pieces - 1 ≤ n →
+    IsCutAt t p m pieces → IsCutAt t p n pieces
 raised_at t p m n pieces few enough h = record {
   some = h.some;
   limited = omega (arith, h.some);
@@ -52,13 +59,17 @@ whole_cut t (c ∷ p) n enough =
     (omega (arith, few_pieces (c ∷ p) (cut_at (no_limit t) (c ∷ p) t) (omega arith), ap length h.joined)) enough h
 
 pub replaced-enough : (t p w : List ℕ) (n : ℕ) → match_count t p ≤ n → replaced t p w n ≡ replaced_all t p w
-replaced-enough t p w n enough = ap (joined_by w) (IsCut-unique t p n (cut t p n) (cut t p (no_limit t)) (IsCut-cut t p n) (whole_cut t p n enough))
+replaced-enough t p w n enough =
+    ap (joined_by w) (IsCut-unique t p n (cut t p n) (cut t p (no_limit t)) (IsCut-cut t p n) (whole_cut t p n enough))
 
 -- for a body that replaces a match at a time
-pub replaced-matched : (t p w q r : List ℕ) (n : ℕ) → t ≡ q ++ (p ++ r) → IsFirstAfter p q → replaced t p w (n + 1) ≡ q ++ (w ++ replaced r p w n)
+pub replaced-matched : (t p w q r : List ℕ) (n : ℕ) → t ≡ q ++ (p ++ r) → IsFirstAfter p q →
+    replaced t p w (n + 1) ≡ q ++ (w ++ replaced r p w n)
 replaced-matched t [] w q r n e none = absurd (none ([], q ++ [], refl))
 replaced-matched t (c ∷ p) w q r n e none =
-    ap (joined_by w) (IsCut-unique t (c ∷ p) (n + 1) (cut t (c ∷ p) (n + 1)) (q ∷ cut r (c ∷ p) n) (IsCut-cut t (c ∷ p) (n + 1)) (step t (c ∷ p) q r n (cut r (c ∷ p) n) e none (IsCut-cut r (c ∷ p) n)))
+    ap (joined_by w)
+    (IsCut-unique t (c ∷ p) (n + 1) (cut t (c ∷ p) (n + 1)) (q ∷ cut r (c ∷ p) n) (IsCut-cut t (c ∷ p) (n + 1))
+    (step t (c ∷ p) q r n (cut r (c ∷ p) n) e none (IsCut-cut r (c ∷ p) n)))
     ∙ front (cut r (c ∷ p) n) (IsCutAt-cut n (c ∷ p) r (omega arith)).some
   where
     front : (pieces : List (List ℕ)) → 1 ≤ length pieces → joined_by w (q ∷ pieces) ≡ q ++ (w ++ joined_by w pieces)
@@ -68,27 +79,33 @@ replaced-matched t (c ∷ p) w q r n e none =
 pub replaced-unmatched : (t p w : List ℕ) (n : ℕ) → ¬ Occurs p t → replaced t p w n ≡ t
 replaced-unmatched t [] w n none = absurd (none ([], t, refl))
 replaced-unmatched t (c ∷ p) w n none =
-    ap (joined_by w) (IsCut-unique t (c ∷ p) n (cut t (c ∷ p) n) (t ∷ []) (IsCut-cut t (c ∷ p) n) (no_match t (c ∷ p) n none)) ∙ joined_one w t
+    ap (joined_by w)
+    (IsCut-unique t (c ∷ p) n (cut t (c ∷ p) n) (t ∷ []) (IsCut-cut t (c ∷ p) n) (no_match t (c ∷ p) n none))
+    ∙ joined_one w t
 
 -- a character at which no match begins
 abbrev taken : ℕ → List ℕ → List ℕ → Option (List ℕ × List ℕ) → List (List ℕ)
 taken n p t o = unwrap_or (option_map (λ m. m.0 ∷ cut_at n p m.1) o) (t ∷ [])
 
 kept_piece : (n c : ℕ) (p w t : List ℕ) (o : Option (List ℕ × List ℕ)) →
-    joined_by w (taken n p (c ∷ t) (option_map (λ (m : List ℕ × List ℕ). (c ∷ m.0, m.1)) o)) ≡ c ∷ joined_by w (taken n p t o)
+    joined_by w (taken n p (c ∷ t) (option_map (λ (m : List ℕ × List ℕ). (c ∷ m.0, m.1)) o))
+    ≡ c ∷ joined_by w (taken n p t o)
 kept_piece n c p w t None = refl
 kept_piece n c p w t (Some m) = refl
 
-kept_at : (n c : ℕ) (p w t : List ℕ) → starts_with nat_eq (c ∷ t) p ≡ false → joined_by w (cut_at n p (c ∷ t)) ≡ c ∷ joined_by w (cut_at n p t)
+kept_at : (n c : ℕ) (p w t : List ℕ) → starts_with nat_eq (c ∷ t) p ≡ false →
+    joined_by w (cut_at n p (c ∷ t)) ≡ c ∷ joined_by w (cut_at n p t)
 kept_at zero c p w t e = refl
 kept_at (suc n) c p w t e = rw e (kept_piece n c p w t (first_match p t))
 
-pub replaced-passed : (c : ℕ) (t p w : List ℕ) (n : ℕ) → ((r : List ℕ) → ¬ (c ∷ t ≡ p ++ r)) → replaced (c ∷ t) p w n ≡ c ∷ replaced t p w n
+pub replaced-passed : (c : ℕ) (t p w : List ℕ) (n : ℕ) → ((r : List ℕ) → ¬ (c ∷ t ≡ p ++ r)) →
+    replaced (c ∷ t) p w n ≡ c ∷ replaced t p w n
 replaced-passed c t [] w n none = absurd (none (c ∷ t) refl)
 replaced-passed c t (d ∷ p) w n none = kept_at n c (d ∷ p) w t (begins_nowhere (d ∷ p) (c ∷ t) none)
 
 -- how many pieces there are
-count_at : (t p : List ℕ) (n : ℕ) (xs : List (List ℕ)) → 0 < length p → match_count t p ≡ length (cut t p (no_limit t)) - 1 → IsCut t p n xs → n < match_count t p → length xs ≡ n + 1
+count_at : (t p : List ℕ) (n : ℕ) (xs : List (List ℕ)) → 0 < length p →
+    match_count t p ≡ length (cut t p (no_limit t)) - 1 → IsCut t p n xs → n < match_count t p → length xs ≡ n + 1
 count_at t [] n xs some is h below = absurd (omega arith)
 count_at t (c ∷ p) n xs some is h below =
     ⊎_elim
@@ -100,7 +117,11 @@ count_at t (c ∷ p) n xs some is h below =
       first = h.first;
       complete = λ k. h.complete l;
     } in
-    absurd (omega (arith, ap length (IsCut-unique t (c ∷ p) (no_limit t) xs (cut t (c ∷ p) (no_limit t)) all (IsCut-cut t (c ∷ p) (no_limit t))))))
+    absurd (omega (
+      arith,
+      ap length (IsCut-unique t (c ∷ p) (no_limit t) xs (cut t (c ∷ p) (no_limit t)) all
+          (IsCut-cut t (c ∷ p) (no_limit t))),
+    )))
     (λ l. omega (arith, h.limited))
     (cases_lt (length xs) (n + 1))
 
@@ -117,13 +138,19 @@ length-cut t p n =
     ⊎_elim
     (λ l. omega (arith, count_below t p n l))
     (λ l.
-    omega (arith, ap length (IsCut-unique t p n (cut t p n) (cut t p (no_limit t)) (IsCut-cut t p n) (whole_cut t p n l)), some_whole t p))
+    omega (
+      arith,
+      ap length (IsCut-unique t p n (cut t p n) (cut t p (no_limit t)) (IsCut-cut t p n) (whole_cut t p n l)),
+      some_whole t p,
+    ))
     (cases_lt n (match_count t p))
 
-pub length-IsCut : (t p : List ℕ) (n : ℕ) (pieces : List (List ℕ)) → IsCut t p n pieces → length pieces ≡ min n (match_count t p) + 1
+pub length-IsCut : (t p : List ℕ) (n : ℕ) (pieces : List (List ℕ)) → IsCut t p n pieces →
+    length pieces ≡ min n (match_count t p) + 1
 length-IsCut t p n pieces h = ap length (IsCut-unique t p n pieces (cut t p n) h (IsCut-cut t p n)) ∙ length-cut t p n
 
-pub replaced-cut : (t p w : List ℕ) (n : ℕ) (pieces : List (List ℕ)) → IsCut t p n pieces → replaced t p w n ≡ joined_by w pieces
+pub replaced-cut : (t p w : List ℕ) (n : ℕ) (pieces : List (List ℕ)) → IsCut t p n pieces →
+    replaced t p w n ≡ joined_by w pieces
 replaced-cut t p w n pieces h = ap (joined_by w) (IsCut-unique t p n (cut t p n) pieces (IsCut-cut t p n) h)
 
 -- no text has more matches than its limit allows
@@ -132,15 +159,18 @@ match_count-limit t p = omega (arith, length-cut t p (no_limit t))
 
 -- the empty pattern, a character at a time
 taken_between : (c : ℕ) (t w : List ℕ) (n : ℕ) → replaced (c ∷ t) [] w (suc n) ≡ w ++ (c ∷ replaced t [] w n)
-taken_between c t w zero = joined_more w [] (c ∷ t) [] ∙ ap (λ s. w ++ s) (joined_one w (c ∷ t)) ∙ ap (λ s. w ++ (c ∷ s)) (sym (joined_one w t))
-taken_between c t w (suc m) = joined_more w [] (c ∷ []) (spell m t) ∙ ap (λ s. w ++ s) (front (spell m t) (spell_some m t))
+taken_between c t w zero = joined_more w [] (c ∷ t) [] ∙ ap (λ s. w ++ s) (joined_one w (c ∷ t))
+    ∙ ap (λ s. w ++ (c ∷ s)) (sym (joined_one w t))
+taken_between c t w (suc m) = joined_more w [] (c ∷ []) (spell m t)
+    ∙ ap (λ s. w ++ s) (front (spell m t) (spell_some m t))
   where
     spell_some : (k : ℕ) (s : List ℕ) → 1 ≤ length (spell k s)
     spell_some zero s = omega arith
     spell_some (suc k) [] = omega arith
     spell_some (suc k) (d ∷ s) = omega arith
 
-    front : (pieces : List (List ℕ)) → 1 ≤ length pieces → joined_by w ((c ∷ []) ∷ pieces) ≡ c ∷ joined_by w ([] ∷ pieces)
+    front : (pieces : List (List ℕ)) → 1 ≤ length pieces →
+        joined_by w ((c ∷ []) ∷ pieces) ≡ c ∷ joined_by w ([] ∷ pieces)
     front [] l = absurd (omega arith)
     front (s ∷ ss) l = refl
 
@@ -149,7 +179,8 @@ taken_end w zero = joined_more w [] [] [] ∙ append-nil w
 taken_end w (suc n) = joined_more w [] [] [] ∙ append-nil w
 
 pub replaced-between : (c : ℕ) (t w : List ℕ) (n : ℕ) → replaced (c ∷ t) [] w (n + 1) ≡ w ++ (c ∷ replaced t [] w n)
-replaced-between c t w n = let next : n + 1 ≡ suc n = omega arith in ap (replaced (c ∷ t) [] w) next ∙ taken_between c t w n
+replaced-between c t w n = let next : n + 1 ≡ suc n = omega arith in
+    ap (replaced (c ∷ t) [] w) next ∙ taken_between c t w n
 
 pub replaced-end : (w : List ℕ) (n : ℕ) → replaced [] [] w (n + 1) ≡ w
 replaced-end w n = let next : n + 1 ≡ suc n = omega arith in ap (replaced [] [] w) next ∙ taken_end w n

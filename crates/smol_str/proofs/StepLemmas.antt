@@ -1,4 +1,4 @@
--- The steps of a builder, one by one.
+-- For `build`: the steps of a builder, one by one.
 use Rattle.std.proofs.Common.{◌≡◌, ℕ, ◌+◌, ◌<◌, List, ◌++◌, length, take, get_or, sym, ◌∙◌, ap, arith, ◌⊎◌, inl, inr}
 use Rattle.smol_str.specs.declared.buffer.TheConstants.{INLINE_CAP}
 use Rattle.smol_str.specs.declared.builder.steps.Step.{Step}
@@ -28,8 +28,10 @@ pub Kept-refused : (n i : ℕ) (steps : List Step) (s : Step) (old : Draft) → 
     Kept n i steps old → (appended old (step_text s)).kind ≡ OnHeap → (INLINE_CAP < n) ⊎ (¬ (IsShort (joined steps)))
 Kept-refused n i steps s old l e h r =
     let more = flat_map-more step_text steps i s l e in
-    let front : kind_with (kind_for n (joined (take i steps))) (joined (take i steps) ++ step_text s) ≡ OnHeap = rw (h.text, h.kind) at r in
-    let whole : kind_for n (joined (take (i + 1) steps)) ≡ OnHeap = rw more (sym (kind_for-append n (joined (take i steps)) (step_text s)) ∙ front) in
+    let front : kind_with (kind_for n (joined (take i steps))) (joined (take i steps) ++ step_text s) ≡ OnHeap =
+    rw (h.text, h.kind) at r in
+    let whole : kind_for n (joined (take (i + 1) steps)) ≡ OnHeap =
+    rw more (sym (kind_for-append n (joined (take i steps)) (step_text s)) ∙ front) in
     let parts = flat_map-parts step_text steps (i + 1) in
     elim (why_heap n (joined (take (i + 1) steps)) whole) [
       | inl large ↦ inl large

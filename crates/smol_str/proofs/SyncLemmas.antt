@@ -1,4 +1,5 @@
--- Where the bytes of a text that is not empty stand in the bytes of a text, its characters stand. It holds of every two lists of numbers.
+-- For the law of self-synchronisation: where the bytes of a text that is not empty stand in the bytes of a text,
+-- its characters stand. It holds of every two lists of numbers.
 use Rattle.std.proofs.Common.{◌≡◌, ℕ, ◌+◌, ◌≤◌, ◌<◌, ◌/◌, List, [], ◌∷◌, ◌++◌, ◌⊎◌, inl, inr, ⊎_elim, length, refl, sym, ap, ◌∙◌, arith, append_assoc}
 use lib.Utf8.{encode, encodes, next}
 use Rattle.std.proofs.lemmas.Str.{cons_from_encodes, encodes-append}
@@ -33,7 +34,15 @@ record Led (c : ℕ) : Type 0 where
 
 led_form : (c : ℕ) → Form c → Led c
 led_form c (one a e) = record { lead = c; rest = []; reads = e; leads = inl a; follows = tt }
-led_form c (two a b e) = record { lead = 192 + c / 64; rest = next c ∷ []; reads = e; leads = inr (omega arith); follows = ((omega arith, omega arith), tt) }
+led_form c (two a b e) =
+    record {
+      lead = 192 + c / 64;
+      rest = next c ∷ [];
+      reads = e;
+      leads = inr (omega arith);
+      follows =
+          ((omega arith, omega arith), tt);
+    }
 led_form c (three a b e) = record {
   lead = 224 + c / 64 / 64;
   rest = next (c / 64) ∷ next c ∷ [];
@@ -53,7 +62,8 @@ led : (c : ℕ) → Led c
 led c = led_form c (form c)
 
 -- a byte that leads stands behind those that follow
-behind : (s rest u : List ℕ) (b : ℕ) (v : List ℕ) → Follows s → Leads b → s ++ rest ≡ u ++ (b ∷ v) → (w : List ℕ) × (u ≡ s ++ w) × (rest ≡ w ++ (b ∷ v))
+behind : (s rest u : List ℕ) (b : ℕ) (v : List ℕ) → Follows s → Leads b → s ++ rest ≡ u ++ (b ∷ v) →
+    (w : List ℕ) × (u ≡ s ++ w) × (rest ≡ w ++ (b ∷ v))
 behind [] rest u b v f l e = (u, refl, e)
 behind (x ∷ s) rest [] b v f l e =
     let same : x ≡ b = head_same x b (s ++ rest) v e in
@@ -86,7 +96,8 @@ stands (c ∷ cs) (k ∷ ks) (d ∷ x) y some e =
       r.1,
       ap (λ z. c ∷ z) r.2,
       ap (λ z. z ++ encodes r.0) f.reads ∙ ap (λ z. f.lead ∷ (f.rest ++ z)) r.3 ∙ ap (λ z. f.lead ∷ z) (sym h.1)
-          ∙ ap (λ z. z ∷ x) (head_same f.lead d (f.rest ++ encodes cs) (x ++ (g.lead ∷ (g.rest ++ (encodes ks ++ y)))) whole),
+          ∙ ap (λ z. z ∷ x)
+          (head_same f.lead d (f.rest ++ encodes cs) (x ++ (g.lead ∷ (g.rest ++ (encodes ks ++ y)))) whole),
       r.4,
     )
 

@@ -1,4 +1,4 @@
--- Texts, their bytes and their places.
+-- For makers, conversions and comparisons: texts, their bytes and their places.
 use Rattle.std.proofs.Common.{◌≡◌, ℕ, ◌+◌, ◌<◌, ◌≤◌, inl, inr, ⊎_elim, List, [], ◌∷◌, ◌++◌, length, encode_utf8, encode_utf8_all, length-append, Bool, true, false, nat_le, nat_eq, Result, Ok, Err, OnOk, OnErr, is_ok, refl, sym, ◌∙◌, ap, arith}
 use Rattle.std.specs.Bool.{Decides}
 use Rattle.std.specs.Str.{chars, IsUtf8}
@@ -31,7 +31,14 @@ pub IsBlankRun-bytes : (bs : List ℕ) → IsUtf8 bs → IsBlankRun (chars bs) �
 IsBlankRun-bytes bs u r =
     let plain = encodes-IsAscii (blank_run r.newlines r.spaces) (IsAscii-blank_run r.newlines r.spaces) in
     let e : bs ≡ blank_run r.newlines r.spaces = sym (encodes-chars bs u) ∙ ap encode_utf8_all r.reads ∙ plain in
-    record { newlines = r.newlines; spaces = r.spaces; few_newlines = r.few_newlines; few_spaces = r.few_spaces; reads = e }
+    record {
+      newlines = r.newlines;
+      spaces = r.spaces;
+      few_newlines = r.few_newlines;
+      few_spaces =
+          r.few_spaces;
+      reads = e;
+    }
 
 -- no text is resident that is longer than the buffer, and whose bytes are no blank run
 pub not_resident : (bs : List ℕ) → IsUtf8 bs → INLINE_CAP < length bs → ¬ (IsBlankRun bs) → ¬ (IsResident (chars bs))
@@ -45,7 +52,8 @@ le_test a b = ((λ h. grind (arith, nat_tests)), (λ h. grind (arith, nat_tests)
 pub is_blank_run-Decides : (t : List ℕ) → Decides (is_blank_run t) (IsBlankRun t)
 unfolding is_blank_run
 is_blank_run-Decides t =
-    Decides-like _ (λ p. IsBlankRun-from_tests t (leading_newlines t) refl p.0 p.1.0 p.1.1) (λ r. let p = Passes-from_IsBlankRun t r in (p.newlines, (p.spaces, p.rest)))
+    Decides-like _ (λ p. IsBlankRun-from_tests t (leading_newlines t) refl p.0 p.1.0 p.1.1)
+    (λ r. let p = Passes-from_IsBlankRun t r in (p.newlines, (p.spaces, p.rest)))
     (Decides-and _ _ (le_test _ _) (Decides-and _ _ (le_test _ _) ((λ h. h), (λ h. h))))
 
 -- the test for a short text
@@ -70,19 +78,24 @@ place_of-blank t long run = rw (is_short-false t long, (is_blank_run-Decides t).
 
 pub place_of-heap : (t : List ℕ) → ¬ (IsResident t) → place_of t ≡ Heap
 unfolding place_of
-place_of-heap t away = rw (is_short-false t (λ short. away (inl short)), no_test t (λ run. away (inr run)) (is_blank_run t) refl)
+place_of-heap t away =
+    rw (is_short-false t (λ short. away (inl short)), no_test t (λ run. away (inr run)) (is_blank_run t) refl)
 
 -- a text that is not short is not Inline, and one that is no blank run not Static
 not_inline : (t : List ℕ) → ¬ (IsShort t) → (b : Bool) → is_blank_run t ≡ b → place_of t ≡ Inline → ⊥
 not_inline t long true e inline = let static = place_of-blank t long ((is_blank_run-Decides t).0 e) in cc
-not_inline t long false e inline = let heap = place_of-heap t (λ r. ⊎_elim long (λ run. let yes = (is_blank_run-Decides t).1 run in cc) r) in cc
+not_inline t long false e inline =
+    let heap =
+    place_of-heap t (λ r. ⊎_elim long (λ run. let yes = (is_blank_run-Decides t).1 run in cc) r) in cc
 
 elsewhere : (t : List ℕ) → ¬ (IsShort t) → place_of t ≡ Inline → ⊥
 elsewhere t long inline = not_inline t long (is_blank_run t) refl inline
 
 not_static : (t : List ℕ) → ¬ (IsBlankRun t) → (b : Bool) → is_short t ≡ b → place_of t ≡ Static → ⊥
 not_static t other true e static = let inline = place_of-short t (grind (arith, nat_tests)) in cc
-not_static t other false e static = let heap = place_of-heap t (λ r. ⊎_elim (λ short. let yes = is_short-true t short in cc) other r) in cc
+not_static t other false e static =
+    let heap =
+    place_of-heap t (λ r. ⊎_elim (λ short. let yes = is_short-true t short in cc) other r) in cc
 
 unblank : (t : List ℕ) → ¬ (IsBlankRun t) → place_of t ≡ Static → ⊥
 unblank t other static = not_static t other (is_short t) refl static
@@ -90,7 +103,9 @@ unblank t other static = not_static t other (is_short t) refl static
 -- a blank run is short, or else Static
 run_elsewhere : (t : List ℕ) → IsBlankRun t → (b : Bool) → is_short t ≡ b → place_of t ≡ Heap → ⊥
 run_elsewhere t run true e heap = let inline = place_of-short t (grind (arith, nat_tests)) in cc
-run_elsewhere t run false e heap = let static = place_of-blank t (λ short. let yes = is_short-true t short in cc) run in cc
+run_elsewhere t run false e heap =
+    let static =
+    place_of-blank t (λ short. let yes = is_short-true t short in cc) run in cc
 
 -- only a text that is not resident has the place Heap
 pub heap-not_resident : (t : List ℕ) → place_of t ≡ Heap → ¬ (IsResident t)
@@ -132,8 +147,10 @@ pub IsUtf8-rc_str_bytes : {Z : Type 0} (s : RcStr Z) → IsUtf8 (rc_str_bytes s)
 IsUtf8-rc_str_bytes s = IsUtf8-string_bytes s.text.value
 
 -- a text equals the text of some bytes exactly where its bytes equal them
-pub bytes_eq-chars : (t bs : List ℕ) → IsUtf8 bs → pointwise nat_eq (encode_utf8_all t) bs ≡ pointwise nat_eq t (chars bs)
-bytes_eq-chars t bs u = ap (pointwise nat_eq (encode_utf8_all t)) (sym (encodes-chars bs u)) ∙ bytes_eq-texts t (chars bs)
+pub bytes_eq-chars : (t bs : List ℕ) → IsUtf8 bs →
+    pointwise nat_eq (encode_utf8_all t) bs ≡ pointwise nat_eq t (chars bs)
+bytes_eq-chars t bs u = ap (pointwise nat_eq (encode_utf8_all t)) (sym (encodes-chars bs u))
+    ∙ bytes_eq-texts t (chars bs)
 
 pub chars-one : (c : ℕ) (bs : List ℕ) → IsUtf8 bs → bs ≡ encode_utf8 c → chars bs ≡ c ∷ []
 chars-one c bs u e = chars-of (c ∷ []) bs u (e ∙ sym (append-nil (encode_utf8 c)))

@@ -1,4 +1,4 @@
--- The four forms of a character's bytes.
+-- For byte order and self-synchronisation: the four forms of a character's bytes.
 use Rattle.std.proofs.Common.{◌≡◌, ℕ, ◌+◌, ◌/◌, ◌<◌, ◌≤◌, List, [], ◌∷◌, arith, true, false, inl, inr}
 use lib.Utf8.{encode, next}
 use lib.Dec.{ltb}
@@ -36,18 +36,21 @@ is_one c h = let t : ltb c 128 ≡ true = grind (arith, nat_tests) in rw t
 
 is_two : (c : ℕ) → 128 ≤ c → c < 2048 → encode c ≡ form2 c
 unfolding encode
-is_two c l h = let t : ltb c 128 ≡ false = grind (arith, nat_tests) in let u : ltb c 2048 ≡ true = grind (arith, nat_tests) in rw (t, u)
+is_two c l h = let t : ltb c 128 ≡ false = grind (arith, nat_tests) in
+    let u : ltb c 2048 ≡ true = grind (arith, nat_tests) in rw (t, u)
 
 is_three : (c : ℕ) → 2048 ≤ c → c < 65536 → encode c ≡ form3 c
 unfolding encode
 is_three c l h =
-    let t : ltb c 128 ≡ false = grind (arith, nat_tests) in let u : ltb c 2048 ≡ false = grind (arith, nat_tests) in let v : ltb c 65536 ≡ true = grind (arith, nat_tests) in
+    let t : ltb c 128 ≡ false = grind (arith, nat_tests) in let u : ltb c 2048 ≡ false = grind (arith, nat_tests) in
+    let v : ltb c 65536 ≡ true = grind (arith, nat_tests) in
     rw (t, u, v, div4096 c)
 
 is_four : (c : ℕ) → 65536 ≤ c → encode c ≡ form4 c
 unfolding encode
 is_four c l =
-    let t : ltb c 128 ≡ false = grind (arith, nat_tests) in let u : ltb c 2048 ≡ false = grind (arith, nat_tests) in let v : ltb c 65536 ≡ false = grind (arith, nat_tests) in
+    let t : ltb c 128 ≡ false = grind (arith, nat_tests) in let u : ltb c 2048 ≡ false = grind (arith, nat_tests) in
+    let v : ltb c 65536 ≡ false = grind (arith, nat_tests) in
     rw (t, u, v, div4096 c, div262144 c)
 
 pub form : (c : ℕ) → Form c

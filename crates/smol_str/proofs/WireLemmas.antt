@@ -1,4 +1,4 @@
--- No wire form begins another.
+-- For the laws of the wire form: none begins another, and bytes hold the form that they say.
 use Rattle.std.proofs.Common.{◌≡◌, ℕ, zero, suc, ◌+◌, ◌<◌, ◌≤◌, ◌^◌, inl, inr, lit<, List, [], ◌∷◌, ◌++◌, ⊎_elim, get_or, IsTrue, length, take, drop, refl, sym, ap, ◌∙◌, arith, length-append, append_assoc, take-append-drop}
 use Rattle.std.specs.Int.{to_le_bytes, from_le_bytes, w32}
 use Rattle.std.specs.Prelude.{All}
@@ -25,7 +25,9 @@ split t x = append_assoc (to_le_bytes w32 (size t)) (encode_utf8_all t) x
 pub stated_size : (t x : List ℕ) → HasWire t → stated (wire t ++ x) ≡ size t
 unfolding stated
 stated_size t x h =
-    ap (λ b. from_le_bytes w32 (take 4 b)) (split t x) ∙ ap (from_le_bytes w32) (take_at (to_le_bytes w32 (size t)) (encode_utf8_all t ++ x) 4 (four (size t))) ∙ from_le_bytes-to_le_bytes_4 (size t) h
+    ap (λ b. from_le_bytes w32 (take 4 b)) (split t x)
+    ∙ ap (from_le_bytes w32) (take_at (to_le_bytes w32 (size t)) (encode_utf8_all t ++ x) 4 (four (size t)))
+    ∙ from_le_bytes-to_le_bytes_4 (size t) h
 
 pub wire-apart : (s t x y : List ℕ) → HasWire s → HasWire t → wire s ++ x ≡ wire t ++ y → (s ≡ t) × (x ≡ y)
 wire-apart s t x y h k e =
@@ -34,7 +36,8 @@ wire-apart s t x y h k e =
     append_cancel_left (to_le_bytes w32 (size s)) (encode_utf8_all s ++ x) (encode_utf8_all t ++ y)
     (sym (split s x) ∙ e ∙ split t y ∙ ap (λ n. to_le_bytes w32 n ++ (encode_utf8_all t ++ y)) (sym sizes)) in
     let bytes : encode_utf8_all s ≡ encode_utf8_all t =
-    sym (take_at (encode_utf8_all s) x (size s) refl) ∙ ap (take (size s)) rest ∙ take_at (encode_utf8_all t) y (size s) (sym sizes) in
+    sym (take_at (encode_utf8_all s) x (size s) refl) ∙ ap (take (size s)) rest
+    ∙ take_at (encode_utf8_all t) y (size s) (sym sizes) in
     (encodes_same s t bytes, append_cancel_left (encode_utf8_all s) x y (rest ∙ ap (λ b. b ++ y) (sym bytes)))
 
 -- what is held, and what follows it
@@ -58,7 +61,8 @@ Holds-whole b t n h early =
 pub body-Holds : (b t : List ℕ) (n : ℕ) → Holds b t n → body b ≡ encode_utf8_all t
 body-Holds b t n h =
     let says : stated b ≡ size t = ap stated (held b t n h) ∙ stated_size t (drop n b) h.sized in
-    let back : drop 4 b ≡ encode_utf8_all t ++ drop n b = ap (drop 4) (held b t n h ∙ split t (drop n b)) ∙ drop_at (to_le_bytes w32 (size t)) (encode_utf8_all t ++ drop n b) 4 (four (size t)) in
+    let back : drop 4 b ≡ encode_utf8_all t ++ drop n b = ap (drop 4) (held b t n h ∙ split t (drop n b))
+    ∙ drop_at (to_le_bytes w32 (size t)) (encode_utf8_all t ++ drop n b) 4 (four (size t)) in
     (λ i. take (says i) (back i)) ∙ take_at (encode_utf8_all t) (drop n b) (size t) refl
 
 -- a form, and what follows it

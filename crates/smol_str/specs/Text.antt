@@ -50,7 +50,9 @@ is_short t = nat_le (size t) INLINE_CAP
 
 -- the test that decides `IsBlankRun`
 unfoldable pub is_blank_run : List ℕ → Bool
-is_blank_run t = nat_le (leading_newlines t) BLANK_NEWLINES && (nat_le (length t - leading_newlines t) BLANK_SPACES && all_spaces (drop (leading_newlines t) t))
+is_blank_run t =
+    nat_le (leading_newlines t) BLANK_NEWLINES
+    && (nat_le (length t - leading_newlines t) BLANK_SPACES && all_spaces (drop (leading_newlines t) t))
 
 -- in the value where the text is short, in the blank constant where it is a blank run, else on the heap
 unfoldable pub place_of : List ℕ → Place

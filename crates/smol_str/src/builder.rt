@@ -32,6 +32,7 @@ pub struct SmolStrBuilder {
     repr: BuilderRepr,
 }
 
+// Inline: the text lies in the builder's own buffer. Heap: in memory that was asked for.
 #[derive(Drop)]
 enum BuilderRepr {
     Inline(InlineText),

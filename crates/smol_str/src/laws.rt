@@ -43,8 +43,10 @@ pub fn places()
 /// ASCII case puts 32 between a capital letter and its small one, and leaves every other character.
 /// So it keeps the size, is stable, and leaves no letter of the other case.
 pub fn ascii_case()
-    ensures lower_of_capital { (c : ℕ) (t : List ℕ) → IsAsciiUppercase c → lower (c ∷ t) ≡ (c + 32) ∷ lower t }
-    ensures upper_of_small { (c : ℕ) (t : List ℕ) → IsAsciiUppercase c → upper ((c + 32) ∷ t) ≡ c ∷ upper t }
+    ensures lower_of_capital { (c : ℕ) (t : List ℕ) → IsAsciiUppercase c →
+        lower (c ∷ t) ≡ (c + 32) ∷ lower t }
+    ensures upper_of_small { (c : ℕ) (t : List ℕ) → IsAsciiUppercase c →
+        upper ((c + 32) ∷ t) ≡ c ∷ upper t }
 
     ensures lower_size { (t : List ℕ) → size (lower t) ≡ size t }
     ensures upper_size { (t : List ℕ) → size (upper t) ≡ size t }
@@ -65,7 +67,8 @@ pub fn ascii_case()
 /// Both premises are needed: `é` is no ASCII front, and the front of `ab` is longer than `a`.
 pub fn ascii_front()
     ensures longest { (a r : List ℕ) → IsAsciiText a → BeginsPastAscii r → front (a ++ r) ≡ a }
-    ensures parts { (t : List ℕ) → (r : List ℕ) × (t ≡ front t ++ r) × IsAsciiText (front t) × BeginsPastAscii r }
+    ensures parts { (t : List ℕ) →
+        (r : List ℕ) × (t ≡ front t ++ r) × IsAsciiText (front t) × BeginsPastAscii r }
 {}
 
 /// A pattern stands first after `q` exactly where it stands after no shorter text.
@@ -130,7 +133,8 @@ pub fn wire_forms()
     ensures body { (b t : List ℕ) (n : ℕ) → Holds b t n → body b ≡ encode_utf8_all t }
     ensures scalars { (b t : List ℕ) (n : ℕ) → Holds b t n → IsTrue (all_scalars t) }
 
-    ensures written { (t x : List ℕ) → HasWire t → IsTrue (all_scalars t) → Holds (wire t ++ x) t (size t + 4) }
+    ensures written { (t x : List ℕ) → HasWire t → IsTrue (all_scalars t) →
+        Holds (wire t ++ x) t (size t + 4) }
     ensures stated { (b t : List ℕ) → All (λ c. c < 2 ^ 8) b → ¬ HasEndedEarly b →
         body b ≡ encode_utf8_all t → IsTrue (all_scalars t) → Holds b t (size t + 4) }
 {}

@@ -21,8 +21,12 @@ use std::rc::RcStr;
 
 /// An immutable text that is small and cheap to make where it is short.
 ///
-/// A value means its text and its [`Place`]. The place follows from the text alone, but for a value
-/// that [`SmolStr::new_static`] made and its clones, which are in place Static whatever their text.
+/// A value means its text and its [`Place`]. The place follows from the text alone, but for *pinned*
+/// values: those that [`SmolStr::new_static`] made and their clones, which are in place Static
+/// whatever their text.
+///
+/// A text is *resident* where it has at most [`INLINE_CAP`] bytes or is a blank run, newlines and then
+/// spaces, few enough of each. A value of resident text never needs memory, so it is never refused.
 ///
 /// ```
 /// let token = SmolStr::new(alloc, "if")?;
@@ -34,6 +38,8 @@ pub struct SmolStr {
     repr: Repr,
 }
 
+// Inline: the text lies in the value itself. Static: in memory that lives as long as the program.
+// Heap: in memory that was asked for.
 #[derive(Drop)]
 enum Repr {
     Inline(InlineText),
@@ -92,7 +98,7 @@ impl SmolStr {
 
     /// The same text in the same place. Only a heap value's clone can be refused.
     pub fn clone(&self) -> Result<SmolStr, AllocError>
-        ensures same { IfOk result (λ copy. copy ≡ self.now) }
+        ensures ok { IfOk result (λ copy. copy ≡ self.now) }
         ensures refused { OnErr result (self.now.place ≡ Place.Heap) }
         ensures not_resident { OnErr result (¬ (IsResident self.now.text)) }
     {
@@ -138,7 +144,7 @@ impl SmolStr {
         matches!(self.repr, Repr::Heap(_))
     }
 
-    /// Where the text lies: where any value of the text does, or in place Static.
+    /// Where the text lies. It follows from the text, but for pinned values, which are in place Static.
     pub fn place(&self) -> Place
         ensures place { result ≡ self.now.place }
         ensures inline { self.now.place ≡ Place.Inline → IsShort self.now.text }
@@ -168,7 +174,7 @@ impl SmolStr {
         ensures { MatchOption result (¬ (IsResident (chars text.now))) (λ v. IsValueOf (chars text.now) v) }
     {
         if text.len() <= INLINE_CAP {
-            return Some(SmolStr::from_inline(InlineText::from_short(text)));
+            return Some(SmolStr::new_inline(text));
         }
         let run = blank_slice(text)?;
         Some(SmolStr {
@@ -214,7 +220,7 @@ impl Clone for SmolStr {
     ghost is_infallible = { λ s. ¬ (s.place ≡ Heap) };
 
     fn clone(&self) -> Result<SmolStr, AllocError>
-        ensures same { IfOk result (λ copy. copy ≡ self.now) }
+        ensures ok { IfOk result (λ copy. copy ≡ self.now) }
         ensures refused { OnErr result (self.now.place ≡ Place.Heap) }
         ensures not_resident { OnErr result (¬ (IsResident self.now.text)) }
     {

@@ -92,7 +92,8 @@ impl Ord for SmolStr {
 
     fn cmp(&self, other: &SmolStr) -> Ordering
         ensures texts { result ≡ slice_cmp nat_cmp self.now.text other.now.text }
-        ensures bytes { result ≡ slice_cmp nat_cmp (encode_utf8_all self.now.text) (encode_utf8_all other.now.text) }
+        ensures bytes { result ≡
+            slice_cmp nat_cmp (encode_utf8_all self.now.text) (encode_utf8_all other.now.text) }
     {
         self.as_str().cmp(other.as_str())
     }

@@ -2,4 +2,11 @@ use Rattle.smol_str.proofs.ReplaceLemmas.{replaced-cut, replaced-none, replaced-
 use Rattle.smol_str.proofs.laws.replacement.Goals as goal
 
 pub returns : goal.returns
-returns c = record { of_each_cut = replaced-cut; limit_zero = replaced-none; limit_beyond_matches = replaced-enough; by_itself = replaced-itself; pieces = length-IsCut; unlimited = match_count-limit }
+returns c = record {
+  of_each_cut = replaced-cut;
+  limit_zero = replaced-none;
+  limit_beyond_matches = replaced-enough;
+  by_itself = replaced-itself;
+  pieces = length-IsCut;
+  unlimited = match_count-limit;
+}

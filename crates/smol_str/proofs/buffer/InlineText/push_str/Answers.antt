@@ -13,7 +13,8 @@ pub invariant_of-self : goal.invariant_of-self
 invariant_of-self c =
     let len = len-size _ _ c.self.invariant c.self.told ∙ ap size c.self.view_is in
     let bytes = c.as_bytes.ensures.value in
-    IsBuffer-write _ _ _ _ c.args.text.now c.self.invariant c.utf8.text (omega (arith, len, c.requires)) (rw bytes at c.write_at.ensures.front) (rw bytes at c.write_at.ensures.back)
+    IsBuffer-write _ _ _ _ c.args.text.now c.self.invariant c.utf8.text (omega (arith, len, c.requires))
+    (rw bytes at c.write_at.ensures.front) (rw bytes at c.write_at.ensures.back)
 
 pub returns : goal.returns
 returns c =

@@ -15,7 +15,11 @@ pub returns-then-text-len-clause-ok : goal.returns-then-text-len-clause-ok
 returns-then-text-len-clause-ok c =
     let view = rw c.in-Inline.is at c.self.view_is in
     let room = rw c.len.ensures.len at c.if-text-len.true in
-    rw (← view, c.push_str-then-text-len.ensures, kind_with-short _ (IsShort-append _ _ c.utf8.text c.len.ensures.short room))
+    rw (
+      ← view,
+      c.push_str-then-text-len.ensures,
+      kind_with-short _ (IsShort-append _ _ c.utf8.text c.len.ensures.short room),
+    )
 
 pub returns-in_err-heap-in-Inline-clause-refused :
     goal.returns-in_err-heap-in-Inline-clause-refused
@@ -28,7 +32,8 @@ pub returns-in-Heap-clause-ok : goal.returns-in-Heap-clause-ok
 returns-in-Heap-clause-ok c =
     let view = rw c.in-Heap.is at c.self.view_is in
     OnOk-if c.push_str.result _ (λ ok.
-    let bytes : string_bytes c.push_str.new.self ≡ string_bytes c.in-Heap.heap ++ c.args.text.now = rw ok at c.push_str.ensures.bytes in
+    let bytes : string_bytes c.push_str.new.self ≡ string_bytes c.in-Heap.heap ++ c.args.text.now =
+    rw ok at c.push_str.ensures.bytes in
     rw (← view, bytes, chars-append (string_bytes c.in-Heap.heap) c.args.text.now (IsUtf8-string_bytes c.in-Heap.heap)))
 
 pub returns-in_ok-heap-in-Inline-clause-ok : goal.returns-in_ok-heap-in-Inline-clause-ok

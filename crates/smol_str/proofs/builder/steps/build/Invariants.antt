@@ -1,3 +1,4 @@
+-- What stays true while `build` takes its steps.
 use Rattle.smol_str.proofs.StepLemmas.{Kept}
 use Rattle.smol_str.proofs.builder.steps.build.Given as goal
 

@@ -11,4 +11,5 @@ returns-clause-texts c =
     let text = c.args.self.now.text in
     let other = c.args.other.now in
     let bytes = rw c.as_str.ensures.bytes at c.cmp.ensures in
-    bytes ∙ ap (slice_cmp nat_cmp (encode_utf8_all text)) (sym (encodes-chars other c.utf8.other)) ∙ order-texts text (chars other)
+    bytes ∙ ap (slice_cmp nat_cmp (encode_utf8_all text)) (sym (encodes-chars other c.utf8.other))
+    ∙ order-texts text (chars other)

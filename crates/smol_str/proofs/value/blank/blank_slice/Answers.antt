@@ -10,7 +10,8 @@ pub returns-then-newlines-gt-BLANK_NEWLINES-clause-run :
 returns-then-newlines-gt-BLANK_NEWLINES-clause-run c run =
     let passes = Passes-from_IsBlankRun c.args.text.now run in
     let bytes = c.as_bytes-bytes.ensures.value in
-    let count : c.count_leading_newlines-newlines.result ≡ leading_newlines c.args.text.now = rw bytes at c.count_leading_newlines-newlines.ensures.value in
+    let count : c.count_leading_newlines-newlines.result ≡ leading_newlines c.args.text.now =
+    rw bytes at c.count_leading_newlines-newlines.ensures.value in
     let len = ap length bytes in
     elim c.then-newlines-gt-BLANK_NEWLINES.branch [
       | then-newlines-gt-BLANK_NEWLINES-via-then-newlines-gt-BLANK_NEWLINES w ↦ omega arith
@@ -22,14 +23,19 @@ returns-then-newlines-gt-BLANK_NEWLINES-clause-run c run =
 pub returns-clause-run : goal.returns-clause-run
 returns-clause-run c =
     let bytes = c.as_bytes-bytes.ensures.value in
-    let count : c.count_leading_newlines-newlines.result ≡ leading_newlines c.args.text.now = rw bytes at c.count_leading_newlines-newlines.ensures.value in
+    let count : c.count_leading_newlines-newlines.result ≡ leading_newlines c.args.text.now =
+    rw bytes at c.count_leading_newlines-newlines.ensures.value in
     let spaces = rw take_rest at c.is_all_spaces.ensures in
-    rw (← bytes) (IsBlankRun-from_tests c.as_bytes-bytes.result.now c.count_leading_newlines-newlines.result c.count_leading_newlines-newlines.ensures.value (omega arith) (omega arith) (sym spaces ∙ c.if-not-is_all_spaces.false))
+    rw (← bytes)
+    (IsBlankRun-from_tests c.as_bytes-bytes.result.now c.count_leading_newlines-newlines.result
+    c.count_leading_newlines-newlines.ensures.value (omega arith) (omega arith) (sym spaces
+    ∙ c.if-not-is_all_spaces.false))
 
 pub returns-clause-reads : goal.returns-clause-reads
 returns-clause-reads c =
     let bytes = c.as_bytes-bytes.ensures.value in
     let spaces = rw take_rest at c.is_all_spaces.ensures in
     let front = c.count_leading_newlines-newlines.ensures.value in
-    let all : all_spaces (drop (leading_newlines c.as_bytes-bytes.result.now) c.as_bytes-bytes.result.now) ≡ true = rw (← front) (sym spaces ∙ c.if-not-is_all_spaces.false) in
+    let all : all_spaces (drop (leading_newlines c.as_bytes-bytes.result.now) c.as_bytes-bytes.result.now) ≡ true =
+    rw (← front) (sym spaces ∙ c.if-not-is_all_spaces.false) in
     c.slice_of_blank.ensures ∙ rw front (sym (blank_run-from_tests c.as_bytes-bytes.result.now all)) ∙ bytes

@@ -10,7 +10,8 @@ returns-in_default-clause-answer c =
     bytes ∙ bytes_eq-texts c.args.self.now.text c.args.other.now.text
 
 pub returns-in_default-clause-texts : goal.returns-in_default-clause-texts
-returns-in_default-clause-texts c = rw (returns-in_default-clause-answer c) (bytes_decides c.args.self.now.text c.args.other.now.text)
+returns-in_default-clause-texts c =
+    rw (returns-in_default-clause-answer c) (bytes_decides c.args.self.now.text c.args.other.now.text)
 
 pub returns-in_default-clause-inline_buffers : goal.returns-in_default-clause-inline_buffers
 returns-in_default-clause-inline_buffers c = λ _ _. test-HaveOneBuffer _ _ _ (returns-in_default-clause-texts c)
