@@ -2,11 +2,10 @@
 --     texts       a ruleset: from the bytes of `as_str` back to the text, and from bytes to sizes
 --     builders    a ruleset: appends after appends, and when a builder leaves its buffer
 --     appended-more, appended-refused     a loop that appends a piece for each item of a list
---     value_at-others                     a map with values as keys, after a change at one of them
-use Rattle.std.proofs.Common.{◌≡◌, ℕ, ◌+◌, ◌<◌, ◌≤◌, List, [], ◌++◌, length, take, drop, get_or, encode_utf8_all, refl, sym, ap, ◌∙◌, inl, arith, append_assoc, append-nil, Bool, true, false, cond, IsTrue, Option}
+--     key_of, same_key-other              a map with values as keys, at other texts than the one that changed
+use Rattle.std.proofs.Common.{◌≡◌, ℕ, ◌+◌, ◌<◌, ◌≤◌, List, [], ◌++◌, length, take, drop, get_or, encode_utf8_all, refl, sym, ap, ◌∙◌, inl, arith, append_assoc, append-nil, Bool, true, false, cond, IsTrue}
 use Rattle.std.specs.List.{flat_map}
 use Rattle.std.specs.Str.{chars, all_scalars, bytes_eq, IsUtf8}
-use Rattle.std.specs.HashMap.{HashMap, Updates}
 use Rattle.std.proofs.lemmas.Bool.{false_from_ne_true}
 use Rattle.std.proofs.lemmas.Slice.Eq.{bytes_eq-Decides}
 use Rattle.std.proofs.lemmas.Str.{chars-encodes, chars_from_encodes, encodes-chars}
@@ -14,7 +13,7 @@ use Rattle.smol_str.specs.declared.buffer.TheConstants.{INLINE_CAP}
 use Rattle.smol_str.specs.declared.value.place.Place.TheVariants.{Inline}
 use Rattle.smol_str.specs.Text.{size, IsShort, IsResident, is_short}
 use Rattle.smol_str.specs.Meaning.{Meaning}
-use Rattle.smol_str.specs.Keys.{same_key, value_at}
+use Rattle.smol_str.specs.Keys.{same_key}
 use Rattle.smol_str.specs.Draft.{Draft, Kind, InBuffer, OnHeap, kind_with, appended, empty_draft}
 use Rattle.smol_str.proofs.ListLemmas.{flat_map-more, flat_map-parts}
 use Rattle.smol_str.proofs.TextLemmas.{size-append, size-chars, IsShort-chars, is_short-true, is_short-false}
@@ -40,8 +39,16 @@ IsResident-few bs u few = inl (IsShort-chars bs u few)
 pub IsShort-front : (s t : List ℕ) → IsShort (s ++ t) → IsShort s
 IsShort-front s t short = omega (arith, short, size-append s t)
 
-pub ruleset texts =
-    (chars-encodes, chars_from_encodes, encodes-chars, chars-as_str, length-as_str, size-chars, IsResident-few, IsShort-front)
+pub ruleset texts = (
+  chars-encodes,
+  chars_from_encodes,
+  encodes-chars,
+  chars-as_str,
+  length-as_str,
+  size-chars,
+  IsResident-few,
+  IsShort-front,
+)
 
 -- ---- builders
 
@@ -104,11 +111,11 @@ module _ {X : Type 0} (f : X →
 
 -- ---- maps with values as keys
 
--- a change at a key leaves what the map has at every other text
-pub value_at-others : {V S : Type 0} (m n : HashMap Meaning V S) (key : Meaning) (w : Option V) →
-    Updates same_key m n key w →
-    (t : List ℕ) → ¬ (t ≡ key.text) → value_at t n ≡ value_at t m
-value_at-others m n key w h t other =
-    let apart : bytes_eq key.text t ≡ false =
-    false_from_ne_true (bytes_eq key.text t) (λ yes. other (sym ((bytes_eq-Decides key.text t).0 yes))) in
-    h.2 (record { text = t; place = Inline }) apart
+-- any key of the text t, for what a map's clause says of every key
+abbrev pub key_of : List ℕ → Meaning
+key_of t = record { text = t; place = Inline }
+
+-- a key of another text is another key: with it, `updates.2` of a change at `key` speaks of `value_at t`
+pub same_key-other : (key : Meaning) (t : List ℕ) → ¬ (t ≡ key.text) → same_key key (key_of t) ≡ false
+same_key-other key t other =
+    false_from_ne_true (bytes_eq key.text t) (λ yes. other (sym ((bytes_eq-Decides key.text t).0 yes)))
