@@ -106,7 +106,8 @@ impl InlineText {
     }
 }
 
-/// Overwrites the bytes from `start` on.
+/// Overwrites the bytes from `start` on. A free function: a write into a struct's array leaves
+/// unreadable goals.
 fn write_at(buf: &mut InlineBuffer, start: usize, bytes: &[u8])
     requires { start + length bytes.now ≤ INLINE_CAP }
     ensures front { take (start + length bytes.now) buf.new ≡ take start buf.old ++ bytes.now }

@@ -26,7 +26,7 @@ use std::rc::RcStr;
 /// whatever their text.
 ///
 /// A text is *resident* where it has at most [`INLINE_CAP`] bytes or is a blank run, newlines and then
-/// spaces, few enough of each. A value of resident text never needs memory, so it is never refused.
+/// spaces, few enough of each. To make a value of resident text takes no memory and is never refused.
 ///
 /// ```
 /// let token = SmolStr::new(alloc, "if")?;
