@@ -3,6 +3,7 @@
 --     builders    a ruleset: appends after appends, and when a builder leaves its buffer
 --     appended-more, appended-refused     a loop that appends a piece for each item of a list
 --     key_of, same_key-other              a map with values as keys, at other texts than the one that changed
+--     IsCut-cut, IsCut-unique, IsCutAt-step, IsCutAt-unmatched     that pieces are the cut of a text
 use Rattle.std.proofs.Common.{◌≡◌, ℕ, ◌+◌, ◌<◌, ◌≤◌, List, [], ◌++◌, length, take, drop, get_or, encode_utf8_all, refl, sym, ap, ◌∙◌, inl, arith, append_assoc, append-nil, Bool, true, false, cond, IsTrue}
 use Rattle.std.specs.List.{flat_map}
 use Rattle.std.specs.Str.{chars, all_scalars, bytes_eq, IsUtf8}
@@ -20,6 +21,8 @@ use Rattle.smol_str.proofs.TextLemmas.{size-append, size-chars, IsShort-chars, i
 use Rattle.smol_str.proofs.DraftLemmas.{kind_with-short, kind_with-long}
 -- whatever the result: for a clause on `Err` that holds anyway
 pub use Rattle.smol_str.proofs.TextLemmas.{OnErr-always}
+-- cuts: the one there is, a first match in front of a cut, and a text without a match
+pub use Rattle.smol_str.proofs.CutLemmas.{IsCut-cut, IsCut-unique, step as IsCutAt-step, no_match as IsCutAt-unmatched}
 
 -- ---- texts
 

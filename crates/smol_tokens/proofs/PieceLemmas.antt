@@ -6,7 +6,7 @@ use Rattle.std.proofs.lemmas.Bool.{eqb-true, eqb-false, ne_eqb}
 use Rattle.std.proofs.lemmas.List.Elements.{All-cons, All-head, All-tail}
 use Rattle.smol_str.specs.Cut.{Occurs, IsFirstAfter, but_last, IsCutAt, IsCut, joined_by}
 use Rattle.smol_str.specs.Replace.{cut, no_limit}
-use Rattle.smol_str.proofs.CutLemmas.{IsCut-cut, IsCut-unique, step, no_match}
+use Rattle.smol_str.proofs.CallerLemmas.{IsCut-cut, IsCut-unique, IsCutAt-step, IsCutAt-unmatched}
 use Rattle.smol_tokens.specs.Lines.{is_newline, newline, lines, without_empty_last}
 
 -- the pieces between newlines, an empty last one too
@@ -49,11 +49,11 @@ cut_step : (c : ℕ) (t : List ℕ) (m n : ℕ) (pieces : List (List ℕ)) → m
 cut_step c t m n pieces next true e h k =
     let starts : c ∷ t ≡ 10 ∷ t = ap (λ d. d ∷ t) (eqb-true c 10 e) in
     subst (λ (i : ℕ). IsCutAt (c ∷ t) newline i ([] ∷ pieces)) next
-    (step (c ∷ t) newline [] t m pieces starts nothing_there h)
+    (IsCutAt-step (c ∷ t) newline [] t m pieces starts nothing_there h)
 cut_step c t m n pieces next false e h k = begun c t n pieces (eqb-false c 10 e) k
 
 is_pieces : (t : List ℕ) (n : ℕ) → length t ≤ n → IsCutAt t newline n (pieces_of t)
-is_pieces [] n l = no_match [] newline n nothing_there
+is_pieces [] n l = IsCutAt-unmatched [] newline n nothing_there
 is_pieces (c ∷ t) n l =
     cut_step c t (n - 1) n (pieces_of t) (omega arith) (c == 10) refl
     (is_pieces t (n - 1) (omega arith)) (is_pieces t n (omega arith))
