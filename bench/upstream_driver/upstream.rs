@@ -1,0 +1,182 @@
+//! The operations over upstream's crate; `ours.rt.in` has the same names over ours.
+use smol_str::{SmolStr, SmolStrBuilder};
+use std::fmt::Write;
+use std::hash::{DefaultHasher, Hash, Hasher};
+
+/// Two texts of the input and the value of each.
+struct Case {
+    text: String,
+    other: String,
+    value: SmolStr,
+    other_value: SmolStr,
+}
+
+/// The input cut into texts of `size` bytes.
+fn cases(texts: &[u8], others: &[u8], size: usize) -> Vec<Case> {
+    let text = |bytes: &[u8]| str::from_utf8(bytes).unwrap().to_string();
+    let pairs = texts.chunks_exact(size).zip(others.chunks_exact(size));
+    let pairs = pairs.map(|(one, other)| (text(one), text(other)));
+    let case = |(text, other): (String, String)| Case {
+        value: SmolStr::new(&text),
+        other_value: SmolStr::new(&other),
+        text,
+        other,
+    };
+    pairs.map(case).collect()
+}
+
+/// FNV-1a, by bytes.
+struct Fnv(u64);
+
+impl Hasher for Fnv {
+    #[inline]
+    fn write(&mut self, bytes: &[u8]) {
+        let next = |hash: u64, byte: &u8| (hash ^ u64::from(*byte)).wrapping_mul(1099511628211);
+        self.0 = bytes.iter().fold(self.0, next);
+    }
+
+    #[inline]
+    fn finish(&self) -> u64 {
+        self.0
+    }
+}
+
+/// The length and one byte of a text.
+#[inline(always)]
+fn seen(text: &str, pick: usize) -> u64 {
+    let byte = text.as_bytes().get(pick).copied().unwrap_or(0);
+    u64::from(byte).wrapping_add(text.len() as u64)
+}
+
+#[inline(always)]
+fn told(answer: u64, pick: usize) -> u64 {
+    answer.wrapping_add(pick as u64)
+}
+
+#[inline(always)]
+fn number(order: std::cmp::Ordering) -> u64 {
+    (order as i8 + 2) as u64
+}
+
+#[inline(always)]
+fn hashed<H: Hasher>(value: &SmolStr, mut hasher: H, pick: usize) -> u64 {
+    value.hash(&mut hasher);
+    hasher.finish().wrapping_add(pick as u64)
+}
+
+#[inline(always)]
+fn new_inline(text: &str, pick: usize) -> u64 {
+    if text.len() > SmolStr::INLINE_CAP {
+        return 0;
+    }
+    seen(&SmolStr::new_inline(text), pick)
+}
+
+#[inline(always)]
+fn new_static(text: &str, pick: usize) -> u64 {
+    let literal = if text.len() > pick {
+        "a literal of some length"
+    } else {
+        "another"
+    };
+    seen(&SmolStr::new_static(literal), pick)
+}
+
+#[inline(always)]
+fn from_utf8(bytes: &[u8], pick: usize) -> u64 {
+    match SmolStr::from_utf8(bytes) {
+        Ok(value) => seen(&value, pick),
+        Err(_) => 0,
+    }
+}
+
+#[inline(always)]
+fn from_string(text: &str, pick: usize) -> u64 {
+    seen(&SmolStr::from(String::from(text)), pick)
+}
+
+#[inline(always)]
+fn from_char(text: &str, pick: usize) -> u64 {
+    match text.as_bytes().get(pick) {
+        Some(byte) => seen(&SmolStr::from(char::from(*byte)), pick),
+        None => 0,
+    }
+}
+
+#[inline(always)]
+fn push_str(case: &Case, pick: usize) -> u64 {
+    let mut builder = SmolStrBuilder::new();
+    builder.push_str(&case.text);
+    builder.push_str(&case.other);
+    builder.push_str(&case.text);
+    seen(&builder.finish(), pick)
+}
+
+#[inline(always)]
+fn push(text: &str, pick: usize) -> u64 {
+    let mut builder = SmolStrBuilder::new();
+    for byte in text.as_bytes() {
+        builder.push(char::from(*byte));
+    }
+    seen(&builder.finish(), pick)
+}
+
+#[inline(always)]
+fn with_capacity(text: &str, pick: usize) -> u64 {
+    let mut builder = SmolStrBuilder::with_capacity(100);
+    builder.push_str(text);
+    seen(&builder.finish(), pick)
+}
+
+#[inline(always)]
+fn display(out: &mut String, value: &SmolStr, pick: usize) -> u64 {
+    out.clear();
+    if write!(out, "{value}").is_err() {
+        return 0;
+    }
+    seen(out, pick)
+}
+
+/// So many rounds over all cases. Which byte is looked at changes from round to round, and the compiler knows
+/// none of them, so that a text must lie in memory and no two rounds are the same.
+#[inline(never)]
+fn run(cases: &[Case], (rounds, pick): (usize, usize), mut operation: impl FnMut(&Case, usize) -> u64) -> u64 {
+    let mut sum = 0u64;
+    for turn in 0..rounds {
+        for case in cases {
+            sum = sum.wrapping_add(operation(case, pick ^ (turn & 1)));
+        }
+    }
+    sum
+}
+
+/// So many rounds of an operation over the input; the sum of what it gave.
+pub fn bench_upstream(operation: &str, texts: &[u8], others: &[u8], size: usize, rounds: usize, pick: usize) -> u64 {
+    let (all, n) = (&cases(texts, others, size)[..], (rounds, pick));
+    let mut out = String::new();
+    match operation {
+        "loop" => run(all, n, |it, at| seen(&it.text, at)),
+        "string" => run(all, n, |it, at| seen(&String::from(it.text.as_str()), at)),
+        "new" => run(all, n, |it, at| seen(&SmolStr::new(&it.text), at)),
+        "new_inline" => run(all, n, |it, at| new_inline(&it.text, at)),
+        "new_static" => run(all, n, |it, at| new_static(&it.text, at)),
+        "as_str" => run(all, n, |it, at| seen(it.value.as_str(), at)),
+        "len" => run(all, n, |it, at| told(it.value.len() as u64, at)),
+        "clone" => run(all, n, |it, at| seen(&it.value.clone(), at)),
+        "eq" => run(all, n, |it, at| told(u64::from(it.value == it.other_value), at)),
+        "eq_str" => run(all, n, |it, at| told(u64::from(it.value == *it.other), at)),
+        "cmp" => run(all, n, |it, at| told(number(it.value.cmp(&it.other_value)), at)),
+        "cmp_str" => run(all, n, |it, at| told(number(it.value.as_str().cmp(&it.other)), at)),
+        "hash-fnv" => run(all, n, |it, at| hashed(&it.value, Fnv(0xcbf29ce484222325), at)),
+        "hash-sip" => run(all, n, |it, at| hashed(&it.value, DefaultHasher::new(), at)),
+        "from_utf8" => run(all, n, |it, at| from_utf8(it.text.as_bytes(), at)),
+        "from_string" => run(all, n, |it, at| from_string(&it.text, at)),
+        "into_string" => run(all, n, |it, at| seen(&String::from(it.value.clone()), at)),
+        "from_char" => run(all, n, |it, at| from_char(&it.text, at)),
+        "push_str" => run(all, n, |it, at| push_str(it, at)),
+        "push" => run(all, n, |it, at| push(&it.text, at)),
+        "with_capacity" => run(all, n, |it, at| with_capacity(&it.text, at)),
+        "display" => run(all, n, |it, at| display(&mut out, &it.value, at)),
+        _ => panic!("no operation {operation}"),
+    }
+}
