@@ -1,74 +1,124 @@
--- For `InlineText` and equality: a short text in its buffer.
-use Rattle.std.proofs.Common.{◌≡◌, ℕ, ◌+◌, ◌-◌, ◌≤◌, List, ◌++◌, length, take, drop, replicate, refl, sym, ◌∙◌, ap, arith, length-take-le, encode_utf8_all, nat_eq, ◌↔◌, Bool, IsTrue}
-use Rattle.std.specs.Cmp.Lexicographic.{pointwise, bytes_decides}
-use Rattle.std.proofs.lemmas.Bool.Decides.{Decides-eqb}
+-- For `InlineText` and equality: a short text in its buffer, with its length behind it.
+use Rattle.std.proofs.Common.{◌≡◌, ℕ, ◌+◌, ◌-◌, ◌≤◌, List, [], ◌∷◌, ◌++◌, length, take, drop, set, get_or, replicate, sym, ◌∙◌, ap, arith, encode_utf8_all, append_assoc, length-append, refl, nat_eq, ◌↔◌, Bool, IsTrue}
 use Rattle.std.specs.Str.{chars, IsUtf8}
+use Rattle.std.specs.Cmp.Lexicographic.{pointwise, bytes_decides}
 use Rattle.std.proofs.lemmas.Str.{encodes-chars, encodes_same, chars-append, IsUtf8-append}
-use Rattle.std.proofs.lemmas.List.{drop-drop, drop-replicate, take-append-drop, take_at}
+use Rattle.std.proofs.lemmas.List.{drop-drop, drop-replicate, take_at, drop_at, get_or_at, set_at, length-replicate, drop-append-le}
 use Rattle.smol_str.specs.declared.buffer.TheConstants.{INLINE_CAP}
 use Rattle.smol_str.specs.Text.{size, IsShort}
-use Rattle.smol_str.specs.Buffer.{IsBuffer, HaveOneBuffer, padded}
+use Rattle.smol_str.specs.Buffer.{IsPacked, HaveOneBuffer, padded, packed, unpacked}
+use Rattle.smol_str.specs.Words.{put_at}
+
+pub length-padded : (bytes : List ℕ) → length bytes ≤ INLINE_CAP → length (padded bytes) ≡ INLINE_CAP
+length-padded bytes h = omega (arith, length-append {A = ℕ}, length-replicate {A = ℕ} (INLINE_CAP - length bytes) 0)
+
+pub length-packed : (bytes : List ℕ) → length bytes ≤ INLINE_CAP → length (packed bytes) ≡ INLINE_CAP + 1
+length-packed bytes h = omega (arith, length-append (padded bytes) (length bytes ∷ []), length-padded bytes h)
+
+-- what is packed can be read back
+pub last-packed : (bytes : List ℕ) → length bytes ≤ INLINE_CAP → get_or (packed bytes) INLINE_CAP 0 ≡ length bytes
+last-packed bytes h = get_or_at (padded bytes) (length bytes) [] 0 INLINE_CAP (length-padded bytes h)
+
+behind : List ℕ → List ℕ
+behind bytes = replicate (INLINE_CAP - length bytes) 0 ++ (length bytes ∷ [])
+
+packed-behind : (bytes : List ℕ) → packed bytes ≡ bytes ++ behind bytes
+unfolding behind
+packed-behind bytes = append_assoc bytes (replicate (INLINE_CAP - length bytes) 0) (length bytes ∷ [])
+
+front-packed : (bytes : List ℕ) → take (length bytes) (packed bytes) ≡ bytes
+front-packed bytes = ap (take (length bytes)) (packed-behind bytes) ∙ take_at bytes (behind bytes) (length bytes) refl
+
+pub unpacked-packed : (all bytes : List ℕ) → length bytes ≤ INLINE_CAP → all ≡ packed bytes → unpacked all ≡ bytes
+unpacked-packed all bytes h e = ap unpacked e ∙ ap (λ n. take n (packed bytes)) (last-packed bytes h)
+    ∙ front-packed bytes
+
+pub IsPacked-packed : (all bytes : List ℕ) → IsUtf8 bytes → length bytes ≤ INLINE_CAP → all ≡ packed bytes →
+    IsPacked all
+IsPacked-packed all bytes u h e =
+    let b = unpacked-packed all bytes h e in
+    record { utf8 = rw b u; within = rw b h; reads = rw b e }
 
 -- the length is the size of the text
-pub len-size : (len : ℕ) (buf : List ℕ) → IsBuffer len buf → length buf ≡ INLINE_CAP → len ≡ size (chars (take len buf))
-len-size len buf h all =
-    rw (encodes-chars (take len buf) h.utf8)
-    (omega (arith, h.within, all, length-take-le len buf (omega (arith, h.within, all))))
+len-bytes : (all : List ℕ) → IsPacked all → get_or all INLINE_CAP 0 ≡ length (unpacked all)
+len-bytes all h = ap (λ r. get_or r INLINE_CAP 0) h.reads ∙ last-packed (unpacked all) h.within
 
-pub IsShort-buffer : (len : ℕ) (buf : List ℕ) → IsBuffer len buf → length buf ≡ INLINE_CAP →
-    IsShort (chars (take len buf))
-IsShort-buffer len buf h all = omega (arith, h.within, len-size len buf h all)
+pub len-size : (all : List ℕ) → IsPacked all → get_or all INLINE_CAP 0 ≡ size (chars (unpacked all))
+len-size all h = rw (encodes-chars (unpacked all) h.utf8) (len-bytes all h)
 
--- after the bytes were written behind the text
-pub IsBuffer-write : (len m : ℕ) (old new bytes : List ℕ) → IsBuffer len old → IsUtf8 bytes → len + m ≤ INLINE_CAP →
-    take (len + m) new ≡ take len old ++ bytes → drop (len + m) new ≡ drop (len + m) old → IsBuffer (len + m) new
-IsBuffer-write len m old new bytes h u within front back =
-    let left : (INLINE_CAP - len) - m ≡ INLINE_CAP - (len + m) = omega arith in
-    record {
-      within = within;
-      utf8 = rw front (IsUtf8-append (take len old) bytes h.utf8 u);
-      zeros = back ∙ sym (drop-drop m len old) ∙ ap (drop m) h.zeros ∙ drop-replicate m (INLINE_CAP - len) 0
-          ∙ ap (λ n. replicate n 0) left;
-    }
+pub IsShort-packed : (all : List ℕ) → IsPacked all → IsShort (chars (unpacked all))
+IsShort-packed all h = rw (encodes-chars (unpacked all) h.utf8) h.within
 
-pub chars-write : (len m : ℕ) (old new bytes : List ℕ) → IsBuffer len old → take (len + m) new ≡ take len old ++ bytes →
-    chars (take (len + m) new) ≡ chars (take len old) ++ chars bytes
-chars-write len m old new bytes h front = rw front (chars-append (take len old) bytes h.utf8)
+-- what stands behind an appended text: fewer zeros, and the old length
+drop-packed : (old : List ℕ) (m : ℕ) → length old + m ≤ INLINE_CAP →
+    drop (length old + m) (packed old) ≡ replicate (INLINE_CAP - (length old + m)) 0 ++ (length old ∷ [])
+unfolding behind
+drop-packed old m h =
+    let left : (INLINE_CAP - length old) - m ≡ INLINE_CAP - (length old + m) = omega arith in
+    sym (drop-drop m (length old) (packed old))
+    ∙ ap (drop m) (ap (drop (length old)) (packed-behind old) ∙ drop_at old (behind old) (length old) refl)
+    ∙ drop-append-le m _ (length old ∷ []) (omega (arith, length-replicate {A = ℕ} (INLINE_CAP - length old) 0))
+    ∙ ap (λ t. t ++ (length old ∷ [])) (drop-replicate m (INLINE_CAP - length old) 0 ∙ ap (λ n. replicate n 0) left)
+
+put-packed : (old bytes : List ℕ) → length old + length bytes ≤ INLINE_CAP →
+    set (put_at (packed old) (length old) bytes) INLINE_CAP (length old + length bytes) ≡ packed (old ++ bytes)
+put-packed old bytes h =
+    let both = length-append old bytes in
+    let long = rw both at (length-padded (old ++ bytes) (omega (arith, both, h))) in
+    let zeros : List ℕ = replicate (INLINE_CAP - (length old + length bytes)) 0 in
+    let spread : old ++ (bytes ++ (zeros ++ (length old ∷ []))) ≡ ((old ++ bytes) ++ zeros) ++ (length old ∷ []) =
+    sym (append_assoc old bytes (zeros ++ (length old ∷ [])))
+    ∙ sym (append_assoc (old ++ bytes) zeros (length old ∷ [])) in
+    rw (front-packed old, drop-packed old (length bytes) h, spread, both)
+    (set_at ((old ++ bytes) ++ zeros) (length old) [] (length old + length bytes) INLINE_CAP long)
+
+-- after a text was appended: its bytes behind the others, and then the length
+append-packed : (n : ℕ) (old mid bytes : List ℕ) → IsPacked old → n ≡ get_or old INLINE_CAP 0 →
+    n + length bytes ≤ INLINE_CAP → mid ≡ put_at old n bytes →
+    (length (unpacked old ++ bytes) ≤ INLINE_CAP) ×
+    (set mid INLINE_CAP (n + length bytes) ≡ packed (unpacked old ++ bytes))
+append-packed n old mid bytes h e room put =
+    let len : n ≡ length (unpacked old) = e ∙ len-bytes old h in
+    let within : length (unpacked old) + length bytes ≤ INLINE_CAP = omega (arith, room, len) in
+    let whole = ap (λ r. put_at r (length (unpacked old)) bytes) h.reads in (
+      omega (arith, within, length-append (unpacked old) bytes),
+      rw (put, len, whole) (put-packed (unpacked old) bytes within),
+    )
+
+pub IsPacked-append : (old mid bytes : List ℕ) → IsPacked old → IsUtf8 bytes →
+    get_or old INLINE_CAP 0 + length bytes ≤ INLINE_CAP →
+    mid ≡ put_at old (get_or old INLINE_CAP 0) bytes →
+    IsPacked (set mid INLINE_CAP (get_or old INLINE_CAP 0 + length bytes))
+IsPacked-append old mid bytes h u room put =
+    let all = append-packed (get_or old INLINE_CAP 0) old mid bytes h refl room put in
+    IsPacked-packed _ (unpacked old ++ bytes) (IsUtf8-append (unpacked old) bytes h.utf8 u) all.0 all.1
+
+pub view-append : (old mid bytes : List ℕ) → IsPacked old → IsUtf8 bytes →
+    get_or old INLINE_CAP 0 + length bytes ≤ INLINE_CAP →
+    mid ≡ put_at old (get_or old INLINE_CAP 0) bytes →
+    chars (unpacked (set mid INLINE_CAP (get_or old INLINE_CAP 0 + length bytes))) ≡ chars
+    (unpacked old) ++ chars bytes
+view-append old mid bytes h u room put =
+    let all = append-packed (get_or old INLINE_CAP 0) old mid bytes h refl room put in
+    ap chars (unpacked-packed _ (unpacked old ++ bytes) all.0 all.1) ∙ chars-append (unpacked old) bytes h.utf8
 
 -- the whole buffer
-pub buffer-padded : (len : ℕ) (buf : List ℕ) → IsBuffer len buf → length buf ≡ INLINE_CAP →
-    buf ≡ padded (encode_utf8_all (chars (take len buf)))
-buffer-padded len buf h all =
-    let bytes : encode_utf8_all (chars (take len buf)) ≡ take len buf = encodes-chars (take len buf) h.utf8 in
-    let size : length (take len buf) ≡ len = length-take-le len buf (omega (arith, h.within, all)) in
-    rw (bytes, size, ← h.zeros) (sym (take-append-drop len buf))
+pub buffer-padded : (all : List ℕ) → IsPacked all →
+    take INLINE_CAP all ≡ padded (encode_utf8_all (chars (unpacked all)))
+buffer-padded all h =
+    ap (take INLINE_CAP) h.reads
+    ∙ take_at (padded (unpacked all)) (length (unpacked all) ∷ []) INLINE_CAP (length-padded (unpacked all) h.within)
+    ∙ ap padded (sym (encodes-chars (unpacked all) h.utf8))
 
--- two short texts are equal exactly where their lengths and whole buffers are
-pub same-buffers : (m n : ℕ) (xs ys : List ℕ) → IsBuffer m xs → IsBuffer n ys → length xs ≡ INLINE_CAP →
-    length ys ≡ INLINE_CAP →
-    chars (take m xs) ≡ chars (take n ys) → (m ≡ n) × (xs ≡ ys)
-same-buffers m n xs ys h k p q e = (
-  (len-size m xs h p ∙ ap size e ∙ sym (len-size n ys k q)),
-  (buffer-padded m xs h p ∙ ap (λ t. padded (encode_utf8_all t)) e ∙ sym (buffer-padded n ys k q)),
-)
-
--- the test of whole buffers, at one length
-pub same-views : (m n : ℕ) (xs ys : List ℕ) → IsBuffer m xs → IsBuffer n ys → length xs ≡ INLINE_CAP →
-    length ys ≡ INLINE_CAP → m ≡ n →
-    IsTrue (pointwise nat_eq xs ys) ↔ (chars (take m xs) ≡ chars (take n ys))
-same-views m n xs ys h k p q e = (
-  (λ b. let s : xs ≡ ys = (bytes_decides xs ys).0 b in rw (e, s)),
-  (λ v. (bytes_decides xs ys).1 (same-buffers m n xs ys h k p q v).1),
-)
-
--- the test of the lengths, where they differ
-pub other-views : (m n : ℕ) (xs ys : List ℕ) → IsBuffer m xs → IsBuffer n ys → length xs ≡ INLINE_CAP →
-    length ys ≡ INLINE_CAP → ¬ (m ≡ n) →
-    IsTrue (nat_eq m n) ↔ (chars (take m xs) ≡ chars (take n ys))
-other-views m n xs ys h k p q other = (
-  (λ b. absurd (other ((Decides-eqb m n).0 b))),
-  (λ v. absurd (other (same-buffers m n xs ys h k p q v).0)),
-)
+-- two short texts are equal exactly where all that is packed is
+pub same-texts : (xs ys : List ℕ) → IsPacked xs → IsPacked ys →
+    IsTrue (pointwise nat_eq xs ys) ↔ (chars (unpacked xs) ≡ chars (unpacked ys))
+same-texts xs ys h k =
+    let bytes = λ (e : chars (unpacked xs) ≡ chars (unpacked ys)).
+    sym (encodes-chars (unpacked xs) h.utf8) ∙ ap encode_utf8_all e ∙ encodes-chars (unpacked ys) k.utf8 in (
+      (λ b. let s : xs ≡ ys = (bytes_decides xs ys).0 b in rw s),
+      (λ e. (bytes_decides xs ys).1 (h.reads ∙ ap packed (bytes e) ∙ sym k.reads)),
+    )
 
 -- texts are equal exactly where their sizes and padded buffers are
 pub padded-same : (s t : List ℕ) → size s ≡ size t → padded (encode_utf8_all s) ≡ padded (encode_utf8_all t) → s ≡ t

@@ -3,6 +3,8 @@ pub mod ListLemmas
 pub mod BlankLemmas
 pub mod TextLemmas
 pub mod BufferLemmas
+pub mod WordLemmas
+pub mod WordOrderLemmas
 pub mod OrderLemmas
 pub mod DraftLemmas
 pub mod StepLemmas

@@ -8,26 +8,26 @@ use Rattle.std.specs.declared.cmp.Ordering.TheVariants.{Less, Equal, Greater}
 use Rattle.std.proofs.lemmas.Bool.Decides.{nat_tests}
 use Rattle.std.proofs.lemmas.Bool.{cases_order, cases_lt}
 
-nat_cmp-less : (a b : ℕ) → a < b → nat_cmp a b ≡ Less
+pub nat_cmp-less : (a b : ℕ) → a < b → nat_cmp a b ≡ Less
 nat_cmp-less a b h = grind (arith, nat_tests)
 
-nat_cmp-same : (a : ℕ) → nat_cmp a a ≡ Equal
+pub nat_cmp-same : (a : ℕ) → nat_cmp a a ≡ Equal
 nat_cmp-same a = grind (arith, nat_tests)
 
-nat_cmp-greater : (a b : ℕ) → b < a → nat_cmp a b ≡ Greater
+pub nat_cmp-greater : (a b : ℕ) → b < a → nat_cmp a b ≡ Greater
 nat_cmp-greater a b h = grind (arith, nat_tests)
 
 -- the first byte decides
-less_head : (a b : ℕ) (xs ys : List ℕ) → a < b → slice_cmp nat_cmp (a ∷ xs) (b ∷ ys) ≡ Less
+pub less_head : (a b : ℕ) (xs ys : List ℕ) → a < b → slice_cmp nat_cmp (a ∷ xs) (b ∷ ys) ≡ Less
 less_head a b xs ys h = rw (nat_cmp-less a b h)
 
 -- or is the same
-same_head : (a b : ℕ) (xs ys : List ℕ) → a ≡ b → slice_cmp nat_cmp xs ys ≡ Less →
+pub same_head : (a b : ℕ) (xs ys : List ℕ) → a ≡ b → slice_cmp nat_cmp xs ys ≡ Less →
     slice_cmp nat_cmp (a ∷ xs) (b ∷ ys) ≡ Less
 same_head a b xs ys e h = rw (e, nat_cmp-same b) h
 
 -- a common front changes nothing
-slice_cmp-front : (p xs ys : List ℕ) → slice_cmp nat_cmp (p ++ xs) (p ++ ys) ≡ slice_cmp nat_cmp xs ys
+pub slice_cmp-front : (p xs ys : List ℕ) → slice_cmp nat_cmp (p ++ xs) (p ++ ys) ≡ slice_cmp nat_cmp xs ys
 slice_cmp-front [] xs ys = refl
 slice_cmp-front (a ∷ p) xs ys = rw (nat_cmp-same a) (slice_cmp-front p xs ys)
 

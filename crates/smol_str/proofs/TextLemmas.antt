@@ -3,7 +3,7 @@ use Rattle.std.proofs.Common.{◌≡◌, ℕ, ◌+◌, ◌<◌, ◌≤◌, inl, 
 use Rattle.std.specs.Bool.{Decides}
 use Rattle.std.specs.Str.{chars, IsUtf8}
 use Rattle.std.specs.Cmp.Lexicographic.{pointwise, bytes_decides}
-use Rattle.std.proofs.lemmas.Str.{encodes-chars, chars-IsAscii, encodes-IsAscii, encodes_same, encodes-append, chars_from_encodes, IsUtf8-string_bytes}
+use Rattle.std.proofs.lemmas.Str.{encodes-chars, chars-IsAscii, encodes-IsAscii, encodes_same, encodes-append, chars_from_encodes, length-encode, len_utf8_bounds, IsUtf8-string_bytes}
 use Rattle.std.proofs.lemmas.List.{append-nil}
 use Rattle.std.specs.Rc.{rc_str_bytes}
 use Rattle.std.specs.declared.rc.RcStr.{RcStr}
@@ -164,3 +164,10 @@ OnErr-always (Err e) P h = h
 pub OnOk-if : {T E : Type 0} (r : Result T E) (P : Type 0) → (is_ok r ≡ true → P) → OnOk r P
 OnOk-if (Ok x) P h = h refl
 OnOk-if (Err e) P h = tt
+
+-- the bytes of a character
+pub short_encode : (c : ℕ) → length (encode_utf8 c) ≤ INLINE_CAP
+short_encode c = let few = len_utf8_bounds c in omega (arith, length-encode c, few.1)
+
+pub IsShort-one : (c : ℕ) → IsShort (c ∷ [])
+IsShort-one c = rw (append-nil (encode_utf8 c)) (short_encode c)

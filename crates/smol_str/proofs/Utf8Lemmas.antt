@@ -30,23 +30,23 @@ pub data Form (c : ℕ) : Type 0 where
   three : 2048 ≤ c → c < 65536 → encode c ≡ form3 c → Form c
   four : 65536 ≤ c → encode c ≡ form4 c → Form c
 
-is_one : (c : ℕ) → c < 128 → encode c ≡ form1 c
+pub is_one : (c : ℕ) → c < 128 → encode c ≡ form1 c
 unfolding encode
 is_one c h = let t : ltb c 128 ≡ true = grind (arith, nat_tests) in rw t
 
-is_two : (c : ℕ) → 128 ≤ c → c < 2048 → encode c ≡ form2 c
+pub is_two : (c : ℕ) → 128 ≤ c → c < 2048 → encode c ≡ form2 c
 unfolding encode
 is_two c l h = let t : ltb c 128 ≡ false = grind (arith, nat_tests) in
     let u : ltb c 2048 ≡ true = grind (arith, nat_tests) in rw (t, u)
 
-is_three : (c : ℕ) → 2048 ≤ c → c < 65536 → encode c ≡ form3 c
+pub is_three : (c : ℕ) → 2048 ≤ c → c < 65536 → encode c ≡ form3 c
 unfolding encode
 is_three c l h =
     let t : ltb c 128 ≡ false = grind (arith, nat_tests) in let u : ltb c 2048 ≡ false = grind (arith, nat_tests) in
     let v : ltb c 65536 ≡ true = grind (arith, nat_tests) in
     rw (t, u, v, div4096 c)
 
-is_four : (c : ℕ) → 65536 ≤ c → encode c ≡ form4 c
+pub is_four : (c : ℕ) → 65536 ≤ c → encode c ≡ form4 c
 unfolding encode
 is_four c l =
     let t : ltb c 128 ≡ false = grind (arith, nat_tests) in let u : ltb c 2048 ≡ false = grind (arith, nat_tests) in

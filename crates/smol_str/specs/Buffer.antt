@@ -1,5 +1,5 @@
 -- The buffer of a short text.
-use Rattle.std.specs.Prelude.{◌≡◌, ℕ, ◌-◌, ◌≤◌, List, ◌++◌, length, take, drop, replicate, encode_utf8_all}
+use Rattle.std.specs.Prelude.{◌≡◌, ℕ, ◌-◌, ◌≤◌, List, [], ◌∷◌, ◌++◌, length, take, get_or, replicate, encode_utf8_all}
 use Rattle.std.specs.Str.{IsUtf8}
 use Rattle.smol_str.specs.Text.{size}
 use Rattle.smol_str.specs.declared.buffer.TheConstants.{INLINE_CAP}
@@ -13,8 +13,16 @@ pub record HaveOneBuffer (s t : List ℕ) : Type 0 where
   pub size : size s ≡ size t
   pub bytes : padded (encode_utf8_all s) ≡ padded (encode_utf8_all t)
 
--- the first `len` bytes are UTF-8, and zeros follow to the buffer's end
-pub record IsBuffer (len : ℕ) (buf : List ℕ) : Type 0 where
-  pub within : len ≤ INLINE_CAP
-  pub utf8 : IsUtf8 (take len buf)
-  pub zeros : drop len buf ≡ replicate (INLINE_CAP - len) 0
+-- the buffer, and behind it how many bytes it holds
+abbrev pub packed : List ℕ → List ℕ
+packed bytes = padded bytes ++ (length bytes ∷ [])
+
+-- the bytes that it holds
+abbrev pub unpacked : List ℕ → List ℕ
+unpacked buf = take (get_or buf INLINE_CAP 0) buf
+
+-- they are UTF-8, zeros follow to the buffer's end, and then their length
+pub record IsPacked (buf : List ℕ) : Type 0 where
+  pub utf8 : IsUtf8 (unpacked buf)
+  pub within : length (unpacked buf) ≤ INLINE_CAP
+  pub reads : buf ≡ packed (unpacked buf)

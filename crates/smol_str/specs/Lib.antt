@@ -2,6 +2,7 @@ pub mod Text
 pub mod Meaning
 pub mod Keys
 pub mod Buffer
+pub mod Words
 pub mod ValueArms
 pub mod Faults
 pub mod Draft

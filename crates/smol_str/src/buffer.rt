@@ -1,10 +1,16 @@
 //! A short text in a buffer of its own.
-ghost use Rattle.std.specs.Prelude.{◌≡◌, ◌↔◌, IsTrue, ◌+◌, ◌≤◌, [], ◌++◌, length, take, drop, encode_utf8_all};
+ghost use Rattle.std.specs.Prelude.{◌≡◌, ◌↔◌, IsTrue, ◌+◌, ◌≤◌, [], ◌∷◌, ◌++◌, length, encode_utf8_all};
 ghost use Rattle.std.specs.Str.{chars, all_scalars};
+ghost use Rattle.std.specs.Ordering.{nat_cmp};
+ghost use Rattle.std.specs.Cmp.Lexicographic.{slice_cmp};
 ghost use Rattle.smol_str.specs.Text.{size, IsShort};
 ghost use Rattle.smol_str.specs.Buffer.{padded};
 
+mod words;
+
+use std::cmp::Ordering;
 use std::marker::Model;
+use words::{order_words, pack, pack_char, same_words, write_at};
 
 /// The most bytes of a text that lies in the value itself.
 pub const INLINE_CAP: usize = 23;
@@ -12,106 +18,133 @@ pub const INLINE_CAP: usize = 23;
 /// The whole buffer of a short text: its bytes, and then zeros.
 pub type InlineBuffer = [u8; INLINE_CAP];
 
+/// A short text as it is kept: the buffer, and behind it the length, together whole words.
+const PACKED_LEN: usize = INLINE_CAP + 1;
+
+type Packed = [u8; PACKED_LEN];
+
 /// A text of at most [`INLINE_CAP`] bytes; the bytes past its end are zero.
+///
+/// It is aligned, so that it is moved and compared by words.
 #[derive(Drop)]
 pub(crate) struct InlineText {
-    len: u8,
-    buf: InlineBuffer,
+    align: [u64; 0],
+    packed: Packed,
 }
 
 impl Model for InlineText {
-    ghost use Rattle.std.specs.Prelude.{ℕ, List, take};
-    ghost use Rattle.std.specs.Str.{chars, all_scalars};
-    ghost use Rattle.smol_str.specs.Buffer.{IsBuffer};
+    ghost use Rattle.std.specs.Prelude.{ℕ, List};
+    ghost use Rattle.std.specs.Str.{chars};
+    ghost use Rattle.smol_str.specs.Buffer.{IsPacked, unpacked};
 
     ghost Value = { List ℕ };
 
-    ghost view = { λ s. chars (take s.len s.buf) };
+    ghost view = { λ s. chars (unpacked s.packed) };
 
-    ghost invariant = { λ s. IsBuffer s.len s.buf };
+    ghost invariant = { λ s. IsPacked s.packed };
 }
 
 impl InlineText {
     /// The empty text.
+    #[inline(always)]
     pub(crate) fn new() -> InlineText
         ensures { result ≡ [] }
     {
         InlineText {
-            len: 0,
-            buf: [0; INLINE_CAP],
+            align: [],
+            packed: [0; PACKED_LEN],
         }
     }
 
     /// A copy of a short text.
+    #[inline(always)]
     pub(crate) fn from_short(text: &str) -> InlineText
         requires { length text.now ≤ INLINE_CAP }
         ensures { result ≡ chars text.now }
     {
-        let mut short = InlineText::new();
-        short.push_str(text);
-        short
+        InlineText {
+            align: [],
+            packed: pack(text.as_bytes()),
+        }
+    }
+
+    /// The text of one character.
+    #[inline(always)]
+    pub(crate) fn from_char(character: char) -> InlineText
+        ensures { result ≡ character ∷ [] }
+    {
+        InlineText {
+            align: [],
+            packed: pack_char(character),
+        }
     }
 
     /// The text, as std's `str`.
+    #[inline(always)]
     pub(crate) fn as_str(&self) -> &str
         ensures bytes { result.now ≡ encode_utf8_all self.now }
         ensures scalars { IsTrue (all_scalars self.now) }
         ensures short { IsShort self.now }
     {
-        let bytes = &self.buf[..self.len as usize];
+        let bytes = &self.packed[..self.packed[INLINE_CAP] as usize];
         unsafe { str::from_utf8_unchecked(bytes) }
     }
 
     /// The length in bytes.
+    #[inline(always)]
     pub(crate) fn len(&self) -> usize
         ensures len { result ≡ size self.now }
         ensures short { IsShort self.now }
     {
-        self.len as usize
+        self.packed[INLINE_CAP] as usize
     }
 
     /// The whole buffer.
+    #[inline(always)]
     pub(crate) fn buffer(&self) -> &InlineBuffer
         ensures { result.now ≡ padded (encode_utf8_all self.now) }
     {
-        &self.buf
+        self.packed.first_chunk::<INLINE_CAP>().unwrap()
     }
 
     /// A copy, which cannot be refused.
+    #[inline(always)]
     pub(crate) fn duplicate(&self) -> InlineText
         ensures copy { result ≡ self.now }
         ensures short { IsShort self.now }
     {
         InlineText {
-            len: self.len,
-            buf: self.buf,
+            align: [],
+            packed: self.packed,
         }
     }
 
-    /// Whether the texts are equal, by their lengths and whole buffers: the bytes past a text's end
+    /// Whether the texts are equal, by their whole buffers and lengths: the bytes past a text's end
     /// are zero.
+    #[inline(always)]
     pub(crate) fn same(&self, other: &InlineText) -> bool
         ensures { IsTrue result ↔ (self.now ≡ other.now) }
     {
-        self.len == other.len && self.buf == other.buf
+        same_words(&self.packed, &other.packed)
+    }
+
+    /// The order of the texts, by their whole buffers and lengths: where one text begins with the
+    /// other, the bytes behind it are no less than zeros.
+    #[inline(always)]
+    pub(crate) fn order(&self, other: &InlineText) -> Ordering
+        ensures { result ≡ slice_cmp nat_cmp self.now other.now }
+    {
+        order_words(&self.packed, &other.packed)
     }
 
     /// Appends a text for which there is room.
+    #[inline(always)]
     pub(crate) fn push_str(&mut self, text: &str)
         requires { size self.old + length text.now ≤ INLINE_CAP }
         ensures { self.new ≡ self.old ++ chars text.now }
     {
-        write_at(&mut self.buf, self.len as usize, text.as_bytes());
-        self.len += text.len() as u8;
+        let len = self.packed[INLINE_CAP] as usize;
+        write_at(&mut self.packed, len, text.as_bytes());
+        self.packed[INLINE_CAP] = (len + text.len()) as u8;
     }
-}
-
-/// Overwrites the bytes from `start` on. A free function: a write into a struct's array leaves
-/// unreadable goals.
-fn write_at(buf: &mut InlineBuffer, start: usize, bytes: &[u8])
-    requires { start + length bytes.now ≤ INLINE_CAP }
-    ensures front { take (start + length bytes.now) buf.new ≡ take start buf.old ++ bytes.now }
-    ensures back { drop (start + length bytes.now) buf.new ≡ drop (start + length bytes.now) buf.old }
-{
-    buf[start..start + bytes.len()].copy_from_slice(bytes);
 }

@@ -1,5 +1,5 @@
 //! The builder of a text.
-ghost use Rattle.std.specs.Prelude.{◌≡◌, ◌↔◌, ◌<◌, [], ◌∷◌, ◌++◌, IsSome, IfSome, IfOk, IfErr, OnOk, OnErr, IsTrue, encode_utf8_all};
+ghost use Rattle.std.specs.Prelude.{◌≡◌, ◌↔◌, ◌<◌, ◌≤◌, [], ◌∷◌, ◌++◌, length, IsSome, IfSome, IfOk, IfErr, OnOk, OnErr, IsTrue, encode_utf8_all};
 ghost use Rattle.std.specs.Str.{chars, all_scalars};
 ghost use Rattle.std.specs.String.{string_bytes};
 ghost use Rattle.smol_str.specs.Text.{size, IsShort, IsResident};
@@ -53,6 +53,7 @@ impl Model for SmolStrBuilder {
 
 impl SmolStrBuilder {
     /// An empty builder, which takes no memory.
+    #[inline(always)]
     pub fn new(alloc: Global) -> SmolStrBuilder
         ensures { result ≡ empty_draft InBuffer }
     {
@@ -82,6 +83,7 @@ impl SmolStrBuilder {
     }
 
     /// The text so far, as std's `str`.
+    #[inline(always)]
     pub fn as_str(&self) -> &str
         ensures bytes { result.now ≡ encode_utf8_all self.now.text }
         ensures scalars { IsTrue (all_scalars self.now.text) }
@@ -94,6 +96,7 @@ impl SmolStrBuilder {
     }
 
     /// The length of the text in bytes, not in characters.
+    #[inline(always)]
     pub fn len(&self) -> usize
         ensures { result ≡ size self.now.text }
     {
@@ -122,6 +125,7 @@ impl SmolStrBuilder {
     /// Appends a character.
     ///
     /// It is refused with [`AllocError`] where the heap has no room, and the builder is as before.
+    #[inline(always)]
     pub fn push(&mut self, character: char) -> Result<(), AllocError>
         ensures ok { OnOk result (self.new ≡ appended self.old (character ∷ [])) }
         ensures unchanged { OnErr result (self.new ≡ self.old) }
@@ -135,6 +139,7 @@ impl SmolStrBuilder {
     /// Appends a text.
     ///
     /// It is refused with [`AllocError`] where the heap has no room, and the builder is as before.
+    #[inline(always)]
     pub fn push_str(&mut self, text: &str) -> Result<(), AllocError>
         ensures ok { OnOk result (self.new ≡ appended self.old (chars text.now)) }
         ensures unchanged { OnErr result (self.new ≡ self.old) }
@@ -160,6 +165,7 @@ impl SmolStrBuilder {
     /// Builders with one text therefore finish to equal values in the same place, however each was
     /// filled. A resident text needs no memory. Any other is refused where the heap has no room for
     /// the value, and the builder is given back.
+    #[inline(always)]
     pub fn finish(self) -> Result<SmolStr, SmolStrBuilder>
         ensures ok { IfOk result (λ v. IsValueOf self.text v) }
         ensures back { IfErr result (λ back. back ≡ self) }
@@ -198,10 +204,13 @@ impl From<SmolStrBuilder> for AllocError {
 }
 
 /// Both texts, one after the other, on the heap.
+#[inline(never)]
 fn both_on_heap(alloc: Global, first: &str, second: &str) -> Result<String, AllocError>
+    requires { length first.now ≤ INLINE_CAP }
     ensures { IfOk result (λ s. string_bytes s ≡ first.now ++ second.now) }
 {
-    let mut heap = String::from_str(alloc, first)?;
+    let mut heap = String::with_capacity(alloc, first.len() + second.len())?;
+    heap.push_str(first)?;
     heap.push_str(second)?;
     Ok(heap)
 }

@@ -67,7 +67,21 @@ impl SmolStr {
     ///
     /// Resident text needs no memory; any other is refused with [`AllocError`] where the heap has
     /// no room for it, and nothing is made.
+    #[inline(always)]
     pub fn new(alloc: Global, text: &str) -> Result<SmolStr, AllocError>
+        ensures ok { IfOk result (λ v. IsValueOf (chars text.now) v) }
+        ensures refused { OnErr result (¬ (IsResident (chars text.now))) }
+    {
+        if text.len() <= INLINE_CAP {
+            return Ok(SmolStr::from_inline(InlineText::from_short(text)));
+        }
+        SmolStr::new_long(alloc, text)
+    }
+
+    /// A value of a text of more than [`INLINE_CAP`] bytes: apart, so that the short way is small
+    /// enough to stand at each call.
+    #[inline(never)]
+    fn new_long(alloc: Global, text: &str) -> Result<SmolStr, AllocError>
         ensures ok { IfOk result (λ v. IsValueOf (chars text.now) v) }
         ensures refused { OnErr result (¬ (IsResident (chars text.now))) }
     {
@@ -79,6 +93,7 @@ impl SmolStr {
     }
 
     /// A value of a text of at most [`INLINE_CAP`] bytes, which needs no memory.
+    #[inline(always)]
     pub fn new_inline(text: &str) -> SmolStr
         requires { length text.now ≤ INLINE_CAP }
         ensures { IsValueOf (chars text.now) result }
@@ -87,6 +102,7 @@ impl SmolStr {
     }
 
     /// A value that refers to `text` where it stands, in place Static whatever its length.
+    #[inline(always)]
     pub fn new_static(text: &'static str) -> SmolStr
         ensures text { result.text ≡ chars text.now }
         ensures place { result.place ≡ Place.Static }
@@ -97,6 +113,7 @@ impl SmolStr {
     }
 
     /// The same text in the same place. Only a heap value's clone can be refused.
+    #[inline(always)]
     pub fn clone(&self) -> Result<SmolStr, AllocError>
         ensures ok { IfOk result (λ copy. copy ≡ self.now) }
         ensures refused { OnErr result (self.now.place ≡ Place.Heap) }
@@ -111,6 +128,7 @@ impl SmolStr {
     }
 
     /// The text, as std's `str`.
+    #[inline(always)]
     pub fn as_str(&self) -> &str
         ensures bytes { result.now ≡ encode_utf8_all self.now.text }
         ensures scalars { IsTrue (all_scalars self.now.text) }
@@ -123,20 +141,26 @@ impl SmolStr {
     }
 
     /// The length of the text in bytes, not in characters.
+    #[inline(always)]
     pub fn len(&self) -> usize
         ensures { result ≡ size self.now.text }
     {
-        self.as_str().len()
+        match &self.repr {
+            Repr::Inline(text) => text.len(),
+            _ => self.as_str().len(),
+        }
     }
 
     /// Whether the text has no bytes.
+    #[inline(always)]
     pub fn is_empty(&self) -> bool
         ensures { IsTrue result ↔ (size self.now.text ≡ 0) }
     {
-        self.as_str().is_empty()
+        self.len() == 0
     }
 
     /// Whether the text lies in memory that was asked for; resident text never does.
+    #[inline(always)]
     pub fn is_heap_allocated(&self) -> bool
         ensures heap { IsTrue result ↔ (self.now.place ≡ Place.Heap) }
         ensures not_resident { IsTrue result → ¬ (IsResident self.now.text) }
@@ -145,6 +169,7 @@ impl SmolStr {
     }
 
     /// Where the text lies. It follows from the text, but for pinned values, which are in place Static.
+    #[inline(always)]
     pub fn place(&self) -> Place
         ensures place { result ≡ self.now.place }
         ensures inline { self.now.place ≡ Place.Inline → IsShort self.now.text }
@@ -183,6 +208,7 @@ impl SmolStr {
     }
 
     /// The value that keeps a short text in its buffer.
+    #[inline(always)]
     pub(crate) fn from_inline(text: InlineText) -> SmolStr
         requires { IsShort text }
         ensures { IsValueOf text result }
@@ -193,6 +219,7 @@ impl SmolStr {
     }
 
     /// The value that keeps a text on the heap.
+    #[inline(always)]
     pub(crate) fn from_heap(text: RcStr) -> SmolStr
         requires { ¬ (IsResident (chars (rc_str_bytes text))) }
         ensures { IsValueOf (chars (rc_str_bytes text)) result }

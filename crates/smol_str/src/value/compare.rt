@@ -12,18 +12,26 @@ ghost use Rattle.smol_str.specs.Buffer.{HaveOneBuffer};
 
 use super::place::Place;
 use super::{Repr, SmolStr};
+use crate::buffer::{INLINE_CAP, InlineText};
 use std::cmp::Ordering;
 use std::hash::{Hash, Hasher};
 
 impl SmolStr {
     /// Whether the texts are equal; it stands for `==` with a `str`, either way round.
+    #[inline(always)]
     pub fn eq_str(&self, other: &str) -> bool
         ensures { IsTrue result ↔ (self.now.text ≡ chars other.now) }
     {
-        self.as_str() == other
+        match &self.repr {
+            Repr::Inline(text) if other.len() <= INLINE_CAP => {
+                text.same(&InlineText::from_short(other))
+            }
+            _ => self.as_str() == other,
+        }
     }
 
     /// Whether the texts are equal; it stands for `==` with a `String`, either way round.
+    #[inline(always)]
     pub fn eq_string(&self, other: &String) -> bool
         ensures { IsTrue result ↔ (self.now.text ≡ chars (string_bytes other.now)) }
     {
@@ -31,11 +39,17 @@ impl SmolStr {
     }
 
     /// The order of the texts, by their characters, which is also that of their bytes.
+    #[inline(always)]
     pub fn cmp_str(&self, other: &str) -> Ordering
         ensures texts { result ≡ slice_cmp nat_cmp self.now.text (chars other.now) }
         ensures bytes { result ≡ slice_cmp nat_cmp (encode_utf8_all self.now.text) other.now }
     {
-        self.as_str().cmp(other)
+        match &self.repr {
+            Repr::Inline(text) if other.len() <= INLINE_CAP => {
+                text.order(&InlineText::from_short(other))
+            }
+            _ => self.as_str().cmp(other),
+        }
     }
 
     /// The order of the texts, as [`SmolStr::cmp_str`].
@@ -53,6 +67,7 @@ impl PartialEq for SmolStr {
 
     ghost laws = { on_per (λ x. x.text) (partial_equiv_from_equiv nat_list_eq_equiv) };
 
+    #[inline(always)]
     fn eq(&self, other: &SmolStr) -> bool
         ensures answer { result ≡ pointwise nat_eq self.now.text other.now.text }
         ensures texts { IsTrue result ↔ (self.now.text ≡ other.now.text) }
@@ -90,12 +105,16 @@ impl Ord for SmolStr {
 
     ghost matches_eq = { λ x y. texts_ties x.text y.text };
 
+    #[inline(always)]
     fn cmp(&self, other: &SmolStr) -> Ordering
         ensures texts { result ≡ slice_cmp nat_cmp self.now.text other.now.text }
         ensures bytes { result ≡
             slice_cmp nat_cmp (encode_utf8_all self.now.text) (encode_utf8_all other.now.text) }
     {
-        self.as_str().cmp(other.as_str())
+        match (&self.repr, &other.repr) {
+            (Repr::Inline(left), Repr::Inline(right)) => left.order(right),
+            _ => self.as_str().cmp(other.as_str()),
+        }
     }
 }
 

@@ -11,6 +11,7 @@ ghost use Rattle.smol_str.specs.Faults.{AfterFromUtf8Fault};
 
 use super::place::Place;
 use super::{Repr, SmolStr};
+use crate::buffer::InlineText;
 use std::alloc::{AllocError, Global};
 use std::borrow::CowStr;
 use std::boxed::BoxedStr;
@@ -148,9 +149,9 @@ impl SmolStr {
 impl From<char> for SmolStr {
     ghost from_gives = { λ character value. IsValueOf (character ∷ []) value };
 
+    #[inline(always)]
     fn from(character: char) -> SmolStr {
-        let mut buf = [0; 4];
-        SmolStr::new_inline(character.encode_utf8(&mut buf))
+        SmolStr::from_inline(InlineText::from_char(character))
     }
 }
 

@@ -1,0 +1,283 @@
+-- For the functions of `buffer::words` that read, pack and overwrite bytes: bytes as words.
+use Rattle.std.proofs.Common.{◌≡◌, ℕ, zero, suc, ◌+◌, ◌-◌, ◌*◌, ◌^◌, ◌/◌, ◌<◌, ◌≤◌, List, [], ◌∷◌, ◌++◌, length, take, drop, get_or, replicate, sym, ◌∙◌, ap, arith, refl, inl, inr, length-take, length-drop, nat_eq, ◌&&◌}
+use Rattle.std.specs.Int.{w64, w32, to_le_bytes, from_le_bytes}
+use Rattle.std.specs.Cmp.Lexicographic.{pointwise, bytes_decides}
+use Rattle.std.proofs.Math.Nat.{div-div-eq-div-mul, pow-succ', mul-le-mul_left}
+use Rattle.std.proofs.Math.Seq.{take-add, take-append-add}
+use Rattle.std.proofs.lemmas.Nat.{le_bytes_8, pow-add}
+use Rattle.std.proofs.lemmas.Bool.{cases_lt}
+use Rattle.std.proofs.lemmas.Bool.Decides.{Decides-and, Decides-like, Decides-eqb, same_from_decides}
+use Rattle.std.proofs.lemmas.List.{take_at, drop_at, take_all, take-take, drop-take, drop-drop, take-append-le, take-append-drop, append_assoc, length-take-le, get_or-drop, get_or-take, get_or_past, get_or_append_left}
+use Rattle.smol_str.specs.declared.buffer.TheConstants.{INLINE_CAP}
+use Rattle.smol_str.specs.Buffer.{packed, padded}
+use Rattle.smol_str.specs.Words.{word, put_at}
+use Rattle.smol_str.proofs.BufferLemmas.{last-packed, length-padded, length-packed}
+use Rattle.smol_str.proofs.Utf8Lemmas.{Form, one, two, three, four, form}
+use lib.Utf8.{encode}
+
+abbrev pub AreBytes : List ℕ → Type 0
+AreBytes xs = (i : ℕ) → get_or xs i 0 < 256
+
+-- the first byte is the lowest
+word-first : (k : ℕ) (xs : List ℕ) (at : ℕ) → word (suc k) xs at ≡ get_or xs at 0 + 256 * word k xs (at + 1)
+unfolding word
+word-first zero xs at = let e : at + 0 ≡ at = omega arith in rw e (omega arith)
+word-first (suc k) xs at =
+    let e : at + suc k ≡ (at + 1) + k = omega arith in
+    let rest = word-first k xs at in
+    rw (e, pow-succ' 256 k) (omega (arith, rest))
+
+-- past the end
+word-past : (k : ℕ) (xs : List ℕ) (at : ℕ) → length xs ≤ at + k → word (suc k) xs at ≡ word k xs at
+unfolding word
+word-past k xs at h = rw (get_or_past xs (at + k) 0 h) (omega arith)
+
+pub word-none : (k : ℕ) (xs : List ℕ) (at : ℕ) → length xs ≤ at → word k xs at ≡ 0
+unfolding word
+word-none zero xs at h = refl
+word-none (suc k) xs at h = word-past k xs at (omega (arith, h)) ∙ word-none k xs at h
+
+pub word-few : (m k : ℕ) (xs : List ℕ) → length xs ≤ k → word (m + k) xs 0 ≡ word k xs 0
+unfolding word
+word-few zero k xs h = let e : 0 + k ≡ k = omega arith in ap (λ n. word n xs 0) e
+word-few (suc m) k xs h = let e : suc m + k ≡ suc (m + k) = omega arith in ap (λ n. word n xs 0) e
+    ∙ word-past (m + k) xs 0 (omega (arith, h)) ∙ word-few m k xs h
+
+-- without its lowest bytes
+shift_once : (x m p : ℕ) → x < 256 → (x + 256 * m) / (256 * p) ≡ m / p
+shift_once x m p h =
+    let one : (x + 256 * m) / 256 ≡ m = omega arith in
+    sym (div-div-eq-div-mul (x + 256 * m) 256 p) ∙ ap (λ n. n / p) one
+
+power_more : (j : ℕ) → 2 ^ (8 * suc j) ≡ 256 * 2 ^ (8 * j)
+power_more j = let e : 8 * suc j ≡ 8 + 8 * j = omega arith in rw e (pow-add 2 8 (8 * j))
+
+pub word-shift : (j k : ℕ) (xs : List ℕ) (at to : ℕ) → AreBytes xs → length xs ≤ at + k → at + j ≡ to →
+    word k xs at / 2 ^ (8 * j) ≡ word k xs to
+word-shift zero k xs at to b h e = let f : to ≡ at = omega arith in rw f (omega arith)
+word-shift (suc j) k xs at to b h e =
+    let first : word k xs at ≡ get_or xs at 0 + 256 * word k xs (at + 1) = sym (word-past k xs at h)
+    ∙ word-first k xs at in
+    rw (first, power_more j) (shift_once (get_or xs at 0) (word k xs (at + 1)) (2 ^ (8 * j)) (b at))
+    ∙ word-shift j k xs (at + 1) to b (omega (arith, h)) (omega (arith, e))
+
+pub word-below : (k : ℕ) (xs : List ℕ) (at : ℕ) → AreBytes xs → word k xs at < 256 ^ k
+unfolding word
+word-below zero xs at b = omega arith
+word-below (suc k) xs at b =
+    let most : get_or xs (at + k) 0 ≤ 255 = omega (arith, b (at + k)) in
+    let more : 256 ^ k * get_or xs (at + k) 0 ≤ 256 ^ k * 255 = mul-le-mul_left (256 ^ k) most in
+    omega (arith, more, word-below k xs at b, pow-succ' 256 k)
+
+-- fewer than eight bytes, by two halves
+pub word-halves : (xs : List ℕ) → AreBytes xs → 4 ≤ length xs → length xs < 8 →
+    word 8 xs 0 ≡ word 4 xs 0 + 4294967296 * (word 4 xs (length xs - 4) / 2 ^ (8 * (8 - length xs)))
+unfolding word
+word-halves xs b h small = rw (word-shift (8 - length xs) 4 xs (length xs - 4) 4 b (omega arith) (omega arith))
+    (omega arith)
+
+-- the numbers that std reads, and the bytes that it writes
+part : (n : ℕ) (xs : List ℕ) (at i : ℕ) → i < n → get_or (take n (drop at xs)) i 0 ≡ get_or xs (at + i) 0
+part n xs at i h = get_or-take n (drop at xs) i 0 h ∙ get_or-drop at xs i 0
+
+pub read-four : (xs : List ℕ) (at : ℕ) → from_le_bytes w32 (take 4 (drop at xs)) ≡ word 4 xs at
+unfolding word
+read-four xs at =
+    let p = λ (i : ℕ) (h : i < 4). part 4 xs at i h in
+    omega (arith, p 0 (omega arith), p 1 (omega arith), p 2 (omega arith), p 3 (omega arith))
+
+pub read-eight : (xs : List ℕ) (at : ℕ) → from_le_bytes w64 (take 8 (drop at xs)) ≡ word 8 xs at
+unfolding word
+read-eight xs at =
+    let p = λ (i : ℕ) (h : i < 8). part 8 xs at i h in
+    omega (
+      arith,
+      p 0 (omega arith),
+      p 1 (omega arith),
+      p 2 (omega arith),
+      p 3 (omega arith),
+      p 4 (omega arith),
+      p 5 (omega arith),
+      p 6 (omega arith),
+      p 7 (omega arith),
+    )
+
+pub bytes-part : (n : ℕ) (xs : List ℕ) (at : ℕ) → AreBytes xs → AreBytes (take n (drop at xs))
+bytes-part n xs at b i =
+    elim (cases_lt i n) [
+      | inl l ↦ rw (part n xs at i l) (b (at + i))
+      | inr g ↦ rw (get_or_past (take n (drop at xs)) i 0 (omega (arith, g, length-take n (drop at xs))))
+          (omega arith)
+    ]
+
+pub length-part : (n : ℕ) (xs : List ℕ) (at : ℕ) → at + n ≤ length xs → length (take n (drop at xs)) ≡ n
+length-part n xs at h = omega (arith, h, length-take n (drop at xs), length-drop at xs)
+
+pub write-eight : (xs : List ℕ) (at : ℕ) → AreBytes xs → at + 8 ≤ length xs →
+    to_le_bytes w64 (word 8 xs at) ≡ take 8 (drop at xs)
+write-eight xs at b h =
+    le_bytes_8 (take 8 (drop at xs)) (word 8 xs at) (length-part 8 xs at h) (bytes-part 8 xs at b)
+    (sym (read-eight xs at))
+
+-- a packed text, byte by byte
+get_or-zeros : (xs : List ℕ) (m k : ℕ) → get_or (xs ++ replicate m 0) k 0 ≡ get_or xs k 0
+get_or-zeros [] zero k = refl
+get_or-zeros [] (suc m) zero = refl
+get_or-zeros [] (suc m) (suc k) = get_or-zeros [] m k
+get_or-zeros (x ∷ xs) m zero = refl
+get_or-zeros (x ∷ xs) m (suc k) = get_or-zeros xs m k
+
+get_or-packed : (bytes : List ℕ) (k : ℕ) → length bytes ≤ INLINE_CAP → k < INLINE_CAP →
+    get_or (packed bytes) k 0 ≡ get_or bytes k 0
+get_or-packed bytes k h l =
+    get_or_append_left (padded bytes) (length bytes ∷ []) 0 k (omega (arith, length-padded bytes h))
+    ∙ get_or-zeros bytes (INLINE_CAP - length bytes) k
+
+bytes-packed : (bytes : List ℕ) → AreBytes bytes → length bytes ≤ INLINE_CAP → AreBytes (packed bytes)
+bytes-packed bytes b h i =
+    elim (cases_lt i INLINE_CAP) [
+      | inl l ↦ rw (get_or-packed bytes i h l) (b i)
+      | inr g ↦ elim (cases_lt INLINE_CAP i) [
+        | inl past ↦ rw (get_or_past (packed bytes) i 0 (omega (arith, past, length-packed bytes h))) (omega arith)
+        | inr here ↦ let e : i ≡ INLINE_CAP = omega arith in rw (e, last-packed bytes h) (omega (arith, h))
+      ]
+    ]
+
+-- and word by word
+word-same : (k : ℕ) (xs ys : List ℕ) (at : ℕ) → ((j : ℕ) → j < k → get_or xs (at + j) 0 ≡ get_or ys (at + j) 0) →
+    word k xs at ≡ word k ys at
+unfolding word
+word-same zero xs ys at h = refl
+word-same (suc k) xs ys at h = rw (h k (omega arith), word-same k xs ys at (λ j l. h j (omega (arith, l))))
+
+word-front : (k : ℕ) (bytes : List ℕ) (at : ℕ) → length bytes ≤ INLINE_CAP → at + k ≤ INLINE_CAP →
+    word k (packed bytes) at ≡ word k bytes at
+word-front k bytes at h l = word-same k (packed bytes) bytes at
+    (λ j j_low. get_or-packed bytes (at + j) h (omega (arith, l, j_low)))
+
+word-last : (bytes : List ℕ) (at : ℕ) → length bytes ≤ INLINE_CAP → at + 7 ≡ INLINE_CAP →
+    word 8 (packed bytes) at ≡ word 8 bytes at + 2 ^ 56 * length bytes
+unfolding word
+word-last bytes at h e =
+    let front = word-front 7 bytes at h (omega (arith, e)) in
+    let past = word-past 7 bytes at (omega (arith, h, e)) in
+    rw (front, past, e, last-packed bytes h)
+
+pub word-free : (bytes : List ℕ) (at : ℕ) → AreBytes bytes → length bytes ≤ at + 7 → word 8 bytes at < 2 ^ 56
+word-free bytes at b h = rw (word-past 7 bytes at h) (word-below 7 bytes at b)
+
+-- the step of a loop that packs
+take-end : (xs ys zs : List ℕ) (n m : ℕ) → length xs ≡ n → length ys ≡ m → take (n + m) (xs ++ (ys ++ zs)) ≡ xs ++ ys
+take-end xs ys zs n m e f = rw (← e) (take-append-add xs (ys ++ zs) m ∙ ap (λ t. xs ++ t) (take_at ys zs m f))
+
+pub pack-step : (new old bytes : List ℕ) (at w n : ℕ) → AreBytes bytes → length bytes ≤ INLINE_CAP →
+    at + 8 ≤ INLINE_CAP + 1 → at + 8 ≤ length old →
+    take at old ≡ take at (packed bytes) → w ≡ word 8 bytes at → (at + 8 ≤ INLINE_CAP → n ≡ w) →
+    (INLINE_CAP < at + 8 → n ≡ w + 2 ^ 56 * length bytes) →
+    new ≡ put_at old at (to_le_bytes w64 n) → take (at + 8) new ≡ take (at + 8) (packed bytes)
+pack-step new old bytes at w n b h within long front e middle last put =
+    let number : n ≡ word 8 (packed bytes) at =
+    elim (cases_lt INLINE_CAP (at + 8)) [
+      | inl l ↦ last l ∙ ap (λ m. m + 2 ^ 56 * length bytes) e ∙ sym (word-last bytes at h (omega (arith, l, within)))
+      | inr g ↦ middle (omega (arith, g)) ∙ e ∙ sym (word-front 8 bytes at h (omega (arith, g)))
+    ] in
+    let eight = write-eight (packed bytes) at (bytes-packed bytes b h)
+    (omega (arith, within, length-packed bytes h)) in
+    let whole = length-part 8 (packed bytes) at (omega (arith, within, length-packed bytes h)) in
+    let begun : take (at + 8) (put_at old at (to_le_bytes w64 n)) ≡ take at old ++ to_le_bytes w64 n =
+    take-end (take at old) (to_le_bytes w64 n) _ at 8 (length-take-le at old (omega (arith, long))) refl in
+    rw put (begun ∙ rw (front, number, eight) (sym (take-add at 8 (packed bytes))))
+
+-- one word of two lists
+same-word : (xs ys : List ℕ) (at : ℕ) → take (at + 8) xs ≡ take (at + 8) ys →
+    (take at xs ≡ take at ys) × (word 8 xs at ≡ word 8 ys at)
+same-word xs ys at e =
+    let here : take 8 (drop at xs) ≡ take 8 (drop at ys) =
+    sym (drop-take at 8 xs) ∙ ap (drop at) e ∙ drop-take at 8 ys in (
+      (sym (take-take at (at + 8) xs (omega arith)) ∙ ap (take at) e ∙ take-take at (at + 8) ys (omega arith)),
+      (sym (read-eight xs at) ∙ ap (from_le_bytes w64) here ∙ read-eight ys at),
+    )
+
+more-same : (xs ys : List ℕ) (at : ℕ) → AreBytes xs → AreBytes ys → at + 8 ≤ length xs → at + 8 ≤ length ys →
+    take at xs ≡ take at ys → word 8 xs at ≡ word 8 ys at → take (at + 8) xs ≡ take (at + 8) ys
+more-same xs ys at b c h k front same =
+    let here : take 8 (drop at xs) ≡ take 8 (drop at ys) = sym (write-eight xs at b h) ∙ ap (to_le_bytes w64) same
+    ∙ write-eight ys at c k in
+    take-add at 8 xs ∙ rw (front, here) (sym (take-add at 8 ys))
+
+-- the step of a loop that compares
+pub same-step : (xs ys : List ℕ) (at : ℕ) → AreBytes xs → AreBytes ys → at + 8 ≤ length xs → at + 8 ≤ length ys →
+    (pointwise nat_eq (take at xs) (take at ys) && nat_eq (word 8 xs at) (word 8 ys at)) ≡ pointwise nat_eq
+    (take (at + 8) xs) (take (at + 8) ys)
+same-step xs ys at b c h k =
+    let both = Decides-and _ _ (bytes_decides (take at xs) (take at ys))
+    (Decides-eqb (word 8 xs at) (word 8 ys at)) in
+    same_from_decides _ _ (Decides-like _ (λ p. more-same xs ys at b c h k p.0 p.1) (same-word xs ys at) both)
+    (bytes_decides (take (at + 8) xs) (take (at + 8) ys))
+
+-- a character's bytes
+bytes-form : (c : ℕ) → c < 1114112 → Form c → AreBytes (encode c)
+bytes-form c h (one a e) zero = rw e (omega arith)
+bytes-form c h (one a e) (suc i) = rw e (omega arith)
+bytes-form c h (two a b e) zero = rw e (omega arith)
+bytes-form c h (two a b e) (suc zero) = rw e (omega arith)
+bytes-form c h (two a b e) (suc (suc i)) = rw e (omega arith)
+bytes-form c h (three a b e) zero = rw e (omega arith)
+bytes-form c h (three a b e) (suc zero) = rw e (omega arith)
+bytes-form c h (three a b e) (suc (suc zero)) = rw e (omega arith)
+bytes-form c h (three a b e) (suc (suc (suc i))) = rw e (omega arith)
+bytes-form c h (four a e) zero = rw e (omega arith)
+bytes-form c h (four a e) (suc zero) = rw e (omega arith)
+bytes-form c h (four a e) (suc (suc zero)) = rw e (omega arith)
+bytes-form c h (four a e) (suc (suc (suc zero))) = rw e (omega arith)
+bytes-form c h (four a e) (suc (suc (suc (suc i)))) = rw e (omega arith)
+
+pub bytes-encode : (c : ℕ) → c < 1114112 → AreBytes (encode c)
+bytes-encode c h i = bytes-form c h (form c) i
+
+-- the first k bytes and the last, which may overlap, are all
+drop-end : (xs ys zs : List ℕ) (n m : ℕ) → length xs ≡ n → length ys ≡ m → drop (n + m) (xs ++ (ys ++ zs)) ≡ zs
+drop-end xs ys zs n m e f = sym (drop-drop m n (xs ++ (ys ++ zs))) ∙ ap (drop m) (drop_at xs (ys ++ zs) n e)
+    ∙ drop_at ys zs m f
+
+front-end : (r bytes : List ℕ) (s k m : ℕ) → length bytes ≡ m + k → m ≤ k → s ≤ length r →
+    take (s + m) (take s r ++ (take k bytes ++ drop k (drop s r))) ≡ take s r ++ take m bytes
+front-end r bytes s k m e h l =
+    let long : length (take s r) ≡ s = length-take-le s r l in
+    let part : length (take k bytes) ≡ k = length-take-le k bytes (omega (arith, e)) in
+    ap (λ n. take (n + m) (take s r ++ (take k bytes ++ drop k (drop s r)))) (sym long)
+    ∙ take-append-add (take s r) (take k bytes ++ drop k (drop s r)) m
+    ∙ ap (λ t. take s r ++ t)
+    (take-append-le m (take k bytes) (drop k (drop s r)) (omega (arith, part, h)) ∙ take-take m k bytes h)
+
+back-end : (r bytes : List ℕ) (s k m : ℕ) → length bytes ≡ m + k → s ≤ length r →
+    drop k (drop (s + m) (take s r ++ (take k bytes ++ drop k (drop s r)))) ≡ drop (s + length bytes) r
+back-end r bytes s k m e l =
+    let w : List ℕ = take s r ++ (take k bytes ++ drop k (drop s r)) in
+    let part : length (take k bytes) ≡ k = length-take-le k bytes (omega (arith, e)) in
+    let turn : (s + m) + k ≡ (s + k) + m = omega arith in
+    let all : s + (k + m) ≡ s + length bytes = omega (arith, e) in
+    drop-drop k (s + m) w ∙ ap (λ n. drop n w) turn ∙ sym (drop-drop m (s + k) w)
+    ∙ ap (drop m) (drop-end (take s r) (take k bytes) (drop k (drop s r)) s k (length-take-le s r l) part)
+    ∙ drop-drop m k (drop s r) ∙ drop-drop (k + m) s r ∙ ap (λ n. drop n r) all
+
+pub two-ends : (r bytes y z : List ℕ) (s k m a b : ℕ) → length bytes ≡ m + k → m ≤ k → s ≤ length r →
+    y ≡ take k bytes → z ≡ drop m bytes → a ≡ k → b ≡ k →
+    take (s + m) (take s r ++ (y ++ drop a (drop s r))) ++
+    (z ++ drop b (drop (s + m) (take s r ++ (y ++ drop a (drop s r))))) ≡ put_at r s bytes
+two-ends r bytes y z s k m a b e h l f g p q =
+    let after : List ℕ = drop (s + length bytes) r in
+    rw (
+      f,
+      g,
+      p,
+      q,
+      front-end r bytes s k m e h l,
+      back-end r bytes s k m e l,
+      append_assoc (take s r) (take m bytes) (drop m bytes ++ after),
+      ← append_assoc (take m bytes) (drop m bytes) after,
+      take-append-drop m bytes,
+    )
+
+pub whole : (n : ℕ) (xs ys : List ℕ) → length xs ≤ n → length ys ≤ n → take n xs ≡ take n ys → xs ≡ ys
+whole n xs ys h k e = sym (take_all n xs h) ∙ e ∙ take_all n ys k

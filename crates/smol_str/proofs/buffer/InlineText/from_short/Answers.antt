@@ -1,0 +1,7 @@
+use Rattle.std.proofs.Common.{ap}
+use Rattle.std.specs.Str.{chars}
+use Rattle.smol_str.proofs.BufferLemmas.{unpacked-packed}
+use Rattle.smol_str.proofs.buffer.InlineText.from_short.Goals as goal
+
+pub returns : goal.returns
+returns c = ap chars (unpacked-packed _ c.args.text.now c.requires (rw c.as_bytes.ensures.value at c.pack.ensures))

@@ -1,0 +1,7 @@
+use Rattle.std.proofs.Common.{◌∙◌}
+use Rattle.smol_str.proofs.WordOrderLemmas.{order-packed}
+use Rattle.smol_str.proofs.buffer.InlineText.order.Goals as goal
+
+pub returns : goal.returns
+returns c = rw (← c.self.view_is, ← c.other.view_is)
+    (c.order_words.ensures ∙ order-packed _ _ c.self.invariant c.other.invariant)

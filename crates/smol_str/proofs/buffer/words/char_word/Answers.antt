@@ -1,0 +1,21 @@
+use Rattle.std.proofs.Common.{arith}
+use Rattle.smol_str.specs.Words.{word}
+use Rattle.smol_str.proofs.Utf8Lemmas.{is_one, is_two, is_three, is_four}
+use Rattle.smol_str.proofs.buffer.words.char_word.Goals as goal
+
+pub returns-then-code-lt128 : goal.returns-then-code-lt128
+unfolding word
+returns-then-code-lt128 c = rw (is_one c.args.character c.if-code-lt128.true) (omega arith)
+
+pub returns-then-code-lt2048 : goal.returns-then-code-lt2048
+unfolding word
+returns-then-code-lt2048 c = rw (is_two c.args.character c.if-code-lt128.false c.if-code-lt2048.true) (omega arith)
+
+pub returns-then-code-lt65536 : goal.returns-then-code-lt65536
+unfolding word
+returns-then-code-lt65536 c = rw (is_three c.args.character c.if-code-lt2048.false c.if-code-lt65536.true)
+    (omega arith)
+
+pub returns : goal.returns
+unfolding word
+returns c = rw (is_four c.args.character c.if-code-lt65536.false) (omega arith)

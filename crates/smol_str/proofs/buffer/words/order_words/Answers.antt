@@ -1,0 +1,36 @@
+use Rattle.std.proofs.Common.{◌≡◌, ◌*◌, ◌+◌, ◌∙◌, sym, arith, drop}
+use Rattle.std.specs.Ordering.{nat_cmp}
+use Rattle.std.specs.Cmp.Lexicographic.{slice_cmp}
+use Rattle.std.proofs.lemmas.List.{drop_all}
+use Rattle.smol_str.specs.declared.buffer.TheConstants.{PACKED_LEN}
+use Rattle.smol_str.specs.declared.buffer.words.TheConstants.{WORDS}
+use Rattle.smol_str.proofs.WordOrderLemmas.{order-differ, order-same}
+use Rattle.smol_str.proofs.buffer.words.order_words.Goals as goal
+
+pub returns-then-a-b : goal.returns-then-a-b
+returns-then-a-b c =
+    c.cmp.ensures
+    ∙ sym (c.loop-i.invariant
+    ∙ order-differ c.args.left.now c.args.right.now (8 * c.loop-i.i) _ _ c.fits-left c.fits-right
+    (omega (arith, c.told-left, c.loop-i-test.true))
+    (omega (arith, c.told-right, c.loop-i-test.true)) c.read_ordered-a.ensures c.read_ordered-b.ensures c.if-a-b.true)
+
+pub loop-i-preserved : goal.loop-i-preserved
+loop-i-preserved c =
+    let next : 8 * (c.loop-i.i + 1) ≡ 8 * c.loop-i.i + 8 = omega arith in
+    rw next (c.loop-i.invariant
+    ∙ order-same c.args.left.now c.args.right.now (8 * c.loop-i.i) _ _ c.fits-left c.fits-right
+    (omega (arith, c.told-left, c.loop-i-test.true))
+    (omega (arith, c.told-right, c.loop-i-test.true)) c.read_ordered-a.ensures c.read_ordered-b.ensures c.if-a-b.false)
+
+pub returns : goal.returns
+returns c =
+    let left = c.args.left.now in
+    let right = c.args.right.now in
+    let end : c.loop-i.i ≡ WORDS = omega (arith, c.loop-i-test.false, c.loop-i.auto.i-end) in
+    let rest : slice_cmp nat_cmp left right ≡ slice_cmp nat_cmp (drop PACKED_LEN left)
+    (drop PACKED_LEN right) = rw end at c.loop-i.invariant in
+    sym (rest ∙ rw (
+      drop_all PACKED_LEN left (omega (arith, c.told-left)),
+      drop_all PACKED_LEN right (omega (arith, c.told-right)),
+    ))

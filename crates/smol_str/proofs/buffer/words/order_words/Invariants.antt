@@ -1,0 +1,8 @@
+use Rattle.std.proofs.Common.{◌≡◌, ◌*◌, drop}
+use Rattle.std.specs.Ordering.{nat_cmp}
+use Rattle.std.specs.Cmp.Lexicographic.{slice_cmp}
+use Rattle.smol_str.proofs.buffer.words.order_words.Given as goal
+
+abbrev pub invariant-loop-i : goal.invariant-loop-i
+invariant-loop-i l = slice_cmp nat_cmp l.left l.right ≡ slice_cmp nat_cmp (drop (8 * l.i) l.left)
+    (drop (8 * l.i) l.right)

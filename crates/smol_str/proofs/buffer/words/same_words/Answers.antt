@@ -1,0 +1,29 @@
+use Rattle.std.proofs.Common.{◌≡◌, ◌*◌, ◌+◌, ◌∙◌, arith, take, nat_eq}
+use Rattle.std.specs.Cmp.Lexicographic.{pointwise}
+use Rattle.std.proofs.lemmas.List.{take_all}
+use Rattle.smol_str.specs.declared.buffer.TheConstants.{PACKED_LEN}
+use Rattle.smol_str.specs.declared.buffer.words.TheConstants.{WORDS}
+use Rattle.smol_str.proofs.WordLemmas.{same-step}
+use Rattle.smol_str.proofs.buffer.words.same_words.Goals as goal
+
+pub loop-i-preserved : goal.loop-i-preserved
+loop-i-preserved c =
+    let left = c.args.left.now in
+    let right = c.args.right.now in
+    let next : 8 * (c.loop-i.i + 1) ≡ 8 * c.loop-i.i + 8 = omega arith in
+    rw (next, c.loop-i.invariant, c.read_u64.ensures, c.read_u64-in-loop-i.ensures)
+    (same-step left right (8 * c.loop-i.i) c.fits-left c.fits-right
+    (omega (arith, c.told-left, c.loop-i-test.true))
+    (omega (arith, c.told-right, c.loop-i-test.true)))
+
+pub returns : goal.returns
+returns c =
+    let left = c.args.left.now in
+    let right = c.args.right.now in
+    let end : c.loop-i.i ≡ WORDS = omega (arith, c.loop-i-test.false, c.loop-i.auto.i-end) in
+    let all : c.loop-i.same ≡ pointwise nat_eq (take PACKED_LEN left)
+    (take PACKED_LEN right) = rw end at c.loop-i.invariant in
+    all ∙ rw (
+      take_all PACKED_LEN left (omega (arith, c.told-left)),
+      take_all PACKED_LEN right (omega (arith, c.told-right)),
+    )

@@ -1,0 +1,241 @@
+//! Short texts by whole words.
+//!
+//! A text of `n` bytes is packed with the zeros behind it and its length into whole words:
+//!
+//! ```text
+//!             0             n                INLINE_CAP
+//!             +-------------+----------------+---+
+//!     bytes   | the text    | zeros          | n |    PACKED_LEN bytes in all
+//!             +-------------+----------------+---+
+//!     words   | 0   | 1   | ..   | WORDS - 1     |
+//!             +-----+-----+------+---------------+
+//! ```
+//!
+//! So two texts are equal where their words are, and the first words that differ order them: behind a
+//! text that begins another stand zeros, and then the lesser length. A text is written by words too,
+//! since a value that is filled byte by byte waits where it is moved by words at once.
+ghost use Rattle.std.specs.Prelude.{◌≡◌, ◌+◌, ◌*◌, ◌^◌, ◌<◌, ◌≤◌, length, take, drop, nat_eq, encode_utf8};
+ghost use Rattle.std.specs.Ordering.{nat_cmp};
+ghost use Rattle.std.specs.Cmp.Lexicographic.{pointwise, slice_cmp};
+ghost use Rattle.std.specs.Int.{w64, to_le_bytes, from_be_bytes};
+ghost use Rattle.smol_str.specs.Buffer.{packed};
+ghost use Rattle.smol_str.specs.Words.{word, put_at};
+
+use super::{INLINE_CAP, PACKED_LEN, Packed};
+use std::cmp::Ordering;
+
+/// How many words a packed text is.
+const WORDS: usize = PACKED_LEN / 8;
+
+// An INLINE_CAP of 15, 23, 31, 39 .. fills whole words; no other can be packed.
+const _: () = prove!(PACKED_LEN % 8 == 0);
+
+// A packed text has its length in one byte.
+const _: () = prove!(INLINE_CAP < 256);
+
+/// The text's bytes, zeros, and the length.
+#[inline(always)]
+pub(super) fn pack(bytes: &[u8]) -> Packed
+    requires { length bytes.now ≤ INLINE_CAP }
+    ensures { result ≡ packed bytes.now }
+{
+    let mut buf = [0; PACKED_LEN];
+    for i in 0..WORDS {
+        let word = word_at(bytes, 8 * i);
+        put_word(&mut buf, 8 * i, with_length(word, 8 * i, bytes.len()));
+    }
+    buf
+}
+
+/// The same for the text of one character.
+#[inline(always)]
+pub(super) fn pack_char(character: char) -> Packed
+    ensures { result ≡ packed (encode_utf8 character) }
+{
+    let mut buf = [0; PACKED_LEN];
+    for i in 0..WORDS {
+        let word = char_word_at(character, i);
+        put_word(
+            &mut buf,
+            8 * i,
+            with_length(word, 8 * i, character.len_utf8()),
+        );
+    }
+    buf
+}
+
+/// Overwrites eight bytes.
+#[inline(always)]
+fn put_word(buf: &mut Packed, start: usize, word: u64)
+    requires { start + 8 ≤ PACKED_LEN }
+    ensures { buf.new ≡ put_at buf.old start (to_le_bytes w64 word) }
+{
+    buf[start..start + 8].copy_from_slice(&word.to_le_bytes());
+}
+
+/// The word that stands at `at` where its last byte may be the length.
+#[inline(always)]
+fn with_length(word: u64, at: usize, len: usize) -> u64
+    requires room { at + 8 ≤ PACKED_LEN }
+    requires len { len ≤ INLINE_CAP }
+    requires free { INLINE_CAP < at + 8 → word < 2 ^ 56 }
+    ensures front { at + 8 ≤ INLINE_CAP → result ≡ word }
+    ensures last { INLINE_CAP < at + 8 → result ≡ word + 2 ^ 56 * len }
+{
+    if at + 8 > INLINE_CAP {
+        return word + ((len as u64) << 56);
+    }
+    word
+}
+
+/// Eight bytes from `at` on, with zeros past the end.
+#[inline(always)]
+fn word_at(bytes: &[u8], at: usize) -> u64
+    ensures { result ≡ word 8 bytes.now at }
+{
+    let len = bytes.len();
+    if at >= len {
+        return 0;
+    }
+    if len - at >= 8 {
+        return read_u64(bytes, at);
+    }
+    if len >= 8 {
+        return read_u64(bytes, len - 8) >> (8 * (8 - (len - at)));
+    }
+    front_word(bytes) >> (8 * at)
+}
+
+/// All of the bytes, which are fewer than eight.
+#[inline(always)]
+fn front_word(bytes: &[u8]) -> u64
+    requires { length bytes.now < 8 }
+    ensures { result ≡ word 8 bytes.now 0 }
+{
+    let len = bytes.len();
+    if len >= 4 {
+        return read_u32(bytes, 0) + ((read_u32(bytes, len - 4) >> (8 * (8 - len))) << 32);
+    }
+    match len {
+        0 => 0,
+        1 => bytes[0] as u64,
+        2 => bytes[0] as u64 + bytes[1] as u64 * 0x100,
+        _ => bytes[0] as u64 + bytes[1] as u64 * 0x100 + bytes[2] as u64 * 0x1_0000,
+    }
+}
+
+#[inline(always)]
+fn read_u64(bytes: &[u8], at: usize) -> u64
+    requires { at + 8 ≤ length bytes.now }
+    ensures { result ≡ word 8 bytes.now at }
+{
+    u64::from_le_bytes(*bytes[at..].first_chunk::<8>().unwrap())
+}
+
+#[inline(always)]
+fn read_u32(bytes: &[u8], at: usize) -> u64
+    requires { at + 4 ≤ length bytes.now }
+    ensures { result ≡ word 4 bytes.now at }
+{
+    u32::from_le_bytes(*bytes[at..].first_chunk::<4>().unwrap()) as u64
+}
+
+/// The word of number `i` of a character's bytes, with zeros past their end.
+#[inline(always)]
+fn char_word_at(character: char, i: usize) -> u64
+    ensures { result ≡ word 8 (encode_utf8 character) (8 * i) }
+{
+    if i == 0 {
+        return char_word(character);
+    }
+    0
+}
+
+/// A character's bytes.
+#[inline(always)]
+fn char_word(character: char) -> u64
+    ensures { result ≡ word 8 (encode_utf8 character) 0 }
+{
+    let code = character as u32 as u64;
+    let last = (0x80 + code % 0x40) * 0x100;
+    if code < 0x80 {
+        return code;
+    }
+    if code < 0x800 {
+        return 0xc0 + code / 0x40 + last;
+    }
+    let middle = (0x80 + code / 0x40 % 0x40) * 0x100;
+    if code < 0x1_0000 {
+        return 0xe0 + code / 0x1000 + middle + last * 0x100;
+    }
+    let second = (0x80 + code / 0x1000 % 0x40) * 0x100;
+    0xf0 + code / 0x4_0000 + second + middle * 0x100 + last * 0x1_0000
+}
+
+/// Whether the words are equal: no word decides alone, so that nothing branches.
+#[inline(always)]
+pub(super) fn same_words(left: &Packed, right: &Packed) -> bool
+    ensures { result ≡ pointwise nat_eq left.now right.now }
+{
+    let mut same = true;
+    for i in 0..WORDS {
+        same &= read_u64(left, 8 * i) == read_u64(right, 8 * i);
+    }
+    same
+}
+
+/// The order of the bytes: of the first words that differ.
+#[inline(always)]
+pub(super) fn order_words(left: &Packed, right: &Packed) -> Ordering
+    ensures { result ≡ slice_cmp nat_cmp left.now right.now }
+{
+    for i in 0..WORDS {
+        let (a, b) = (read_ordered(left, 8 * i), read_ordered(right, 8 * i));
+        if a != b {
+            return a.cmp(&b);
+        }
+    }
+    Ordering::Equal
+}
+
+/// Eight bytes as one number, the first the highest, so that it is ordered as they are.
+#[inline(always)]
+fn read_ordered(buf: &Packed, at: usize) -> u64
+    requires { at + 8 ≤ PACKED_LEN }
+    ensures { result ≡ from_be_bytes w64 (take 8 (drop at buf.now)) }
+{
+    u64::from_be_bytes(*buf[at..].first_chunk::<8>().unwrap())
+}
+
+/// Overwrites the bytes from `start` on: few of them by two parts of one size, which may overlap.
+#[inline(always)]
+pub(super) fn write_at(buf: &mut Packed, start: usize, bytes: &[u8])
+    requires { start + length bytes.now ≤ INLINE_CAP }
+    ensures { buf.new ≡ put_at buf.old start bytes.now }
+{
+    let len = bytes.len();
+    if len > 16 {
+        buf[start..start + len].copy_from_slice(bytes);
+    } else if len >= 8 {
+        put_ends::<8>(buf, start, bytes);
+    } else if len >= 4 {
+        put_ends::<4>(buf, start, bytes);
+    } else if len >= 2 {
+        put_ends::<2>(buf, start, bytes);
+    } else if len == 1 {
+        buf[start] = bytes[0];
+    }
+}
+
+/// Overwrites the bytes from `start` on, by the first `K` and the last.
+#[inline(always)]
+fn put_ends<const K: usize>(buf: &mut Packed, start: usize, bytes: &[u8])
+    requires room { start + length bytes.now ≤ INLINE_CAP }
+    requires least { K ≤ length bytes.now }
+    requires most { length bytes.now ≤ K + K }
+    ensures { buf.new ≡ put_at buf.old start bytes.now }
+{
+    let rest = bytes.len() - K;
+    buf[start..start + K].copy_from_slice(&bytes[..K]);
+    buf[start + rest..start + bytes.len()].copy_from_slice(&bytes[rest..]);
+}
