@@ -1,5 +1,5 @@
 -- For the functions of `buffer::words` that read, pack and overwrite bytes: bytes as words.
-use Rattle.std.proofs.Common.{◌≡◌, ℕ, zero, suc, ◌+◌, ◌-◌, ◌*◌, ◌^◌, ◌/◌, ◌<◌, ◌≤◌, List, [], ◌∷◌, ◌++◌, length, take, drop, get_or, replicate, sym, ◌∙◌, ap, arith, refl, inl, inr, length-take, length-drop, nat_eq, ◌&&◌}
+use Rattle.std.proofs.Common.{◌≡◌, ℕ, zero, suc, ◌+◌, ◌-◌, ◌*◌, ◌^◌, ◌/◌, ◌<◌, ◌≤◌, List, [], ◌∷◌, ◌++◌, length, take, drop, get_or, replicate, sym, ◌∙◌, ap, arith, refl, inl, inr, length-take, length-drop, nat_eq, ◌&&◌, set, length-append}
 use Rattle.std.specs.Int.{w64, w32, to_le_bytes, from_le_bytes}
 use Rattle.std.specs.Cmp.Lexicographic.{pointwise, bytes_decides}
 use Rattle.std.proofs.Math.Nat.{div-div-eq-div-mul, pow-succ', mul-le-mul_left}
@@ -7,11 +7,11 @@ use Rattle.std.proofs.Math.Seq.{take-add, take-append-add}
 use Rattle.std.proofs.lemmas.Nat.{le_bytes_8, pow-add}
 use Rattle.std.proofs.lemmas.Bool.{cases_lt}
 use Rattle.std.proofs.lemmas.Bool.Decides.{Decides-and, Decides-like, Decides-eqb, same_from_decides}
-use Rattle.std.proofs.lemmas.List.{take_at, drop_at, take_all, take-take, drop-take, drop-drop, take-append-le, take-append-drop, append_assoc, length-take-le, get_or-drop, get_or-take, get_or_past, get_or_append_left}
+use Rattle.std.proofs.lemmas.List.{take_at, drop_at, take_all, take-take, drop-take, drop-drop, take-append-le, take-append-drop, append_assoc, length-take-le, get_or-drop, get_or-take, get_or_past, set_at, length-replicate}
 use Rattle.smol_str.specs.declared.buffer.TheConstants.{INLINE_CAP}
 use Rattle.smol_str.specs.Buffer.{packed, padded}
 use Rattle.smol_str.specs.Words.{word, put_at}
-use Rattle.smol_str.proofs.BufferLemmas.{last-packed, length-padded, length-packed}
+use Rattle.smol_str.proofs.BufferLemmas.{length-padded}
 use Rattle.smol_str.proofs.Utf8Lemmas.{Form, one, two, three, four, form}
 use lib.Utf8.{encode}
 
@@ -119,7 +119,7 @@ write-eight xs at b h =
     le_bytes_8 (take 8 (drop at xs)) (word 8 xs at) (length-part 8 xs at h) (bytes-part 8 xs at b)
     (sym (read-eight xs at))
 
--- a packed text, byte by byte
+-- bytes with zeros behind them
 get_or-zeros : (xs : List ℕ) (m k : ℕ) → get_or (xs ++ replicate m 0) k 0 ≡ get_or xs k 0
 get_or-zeros [] zero k = refl
 get_or-zeros [] (suc m) zero = refl
@@ -127,66 +127,50 @@ get_or-zeros [] (suc m) (suc k) = get_or-zeros [] m k
 get_or-zeros (x ∷ xs) m zero = refl
 get_or-zeros (x ∷ xs) m (suc k) = get_or-zeros xs m k
 
-get_or-packed : (bytes : List ℕ) (k : ℕ) → length bytes ≤ INLINE_CAP → k < INLINE_CAP →
-    get_or (packed bytes) k 0 ≡ get_or bytes k 0
-get_or-packed bytes k h l =
-    get_or_append_left (padded bytes) (length bytes ∷ []) 0 k (omega (arith, length-padded bytes h))
-    ∙ get_or-zeros bytes (INLINE_CAP - length bytes) k
+abbrev pub zeroed : List ℕ → List ℕ
+zeroed bytes = bytes ++ replicate (INLINE_CAP + 1 - length bytes) 0
 
-bytes-packed : (bytes : List ℕ) → AreBytes bytes → length bytes ≤ INLINE_CAP → AreBytes (packed bytes)
-bytes-packed bytes b h i =
-    elim (cases_lt i INLINE_CAP) [
-      | inl l ↦ rw (get_or-packed bytes i h l) (b i)
-      | inr g ↦ elim (cases_lt INLINE_CAP i) [
-        | inl past ↦ rw (get_or_past (packed bytes) i 0 (omega (arith, past, length-packed bytes h))) (omega arith)
-        | inr here ↦ let e : i ≡ INLINE_CAP = omega arith in rw (e, last-packed bytes h) (omega (arith, h))
-      ]
-    ]
+length-zeroed : (bytes : List ℕ) → length bytes ≤ INLINE_CAP → length (zeroed bytes) ≡ INLINE_CAP + 1
+length-zeroed bytes h = omega (arith, length-append {A = ℕ}, length-replicate {A = ℕ} (INLINE_CAP + 1 - length bytes) 0)
 
--- and word by word
-word-same : (k : ℕ) (xs ys : List ℕ) (at : ℕ) → ((j : ℕ) → j < k → get_or xs (at + j) 0 ≡ get_or ys (at + j) 0) →
-    word k xs at ≡ word k ys at
+word-same : (k : ℕ) (xs ys : List ℕ) (at : ℕ) → ((j : ℕ) → get_or xs j 0 ≡ get_or ys j 0) → word k xs at ≡ word k ys at
 unfolding word
 word-same zero xs ys at h = refl
-word-same (suc k) xs ys at h = rw (h k (omega arith), word-same k xs ys at (λ j l. h j (omega (arith, l))))
-
-word-front : (k : ℕ) (bytes : List ℕ) (at : ℕ) → length bytes ≤ INLINE_CAP → at + k ≤ INLINE_CAP →
-    word k (packed bytes) at ≡ word k bytes at
-word-front k bytes at h l = word-same k (packed bytes) bytes at
-    (λ j j_low. get_or-packed bytes (at + j) h (omega (arith, l, j_low)))
-
-word-last : (bytes : List ℕ) (at : ℕ) → length bytes ≤ INLINE_CAP → at + 7 ≡ INLINE_CAP →
-    word 8 (packed bytes) at ≡ word 8 bytes at + 2 ^ 56 * length bytes
-unfolding word
-word-last bytes at h e =
-    let front = word-front 7 bytes at h (omega (arith, e)) in
-    let past = word-past 7 bytes at (omega (arith, h, e)) in
-    rw (front, past, e, last-packed bytes h)
-
-pub word-free : (bytes : List ℕ) (at : ℕ) → AreBytes bytes → length bytes ≤ at + 7 → word 8 bytes at < 2 ^ 56
-word-free bytes at b h = rw (word-past 7 bytes at h) (word-below 7 bytes at b)
+word-same (suc k) xs ys at h = rw (h (at + k), word-same k xs ys at h)
 
 -- the step of a loop that packs
 take-end : (xs ys zs : List ℕ) (n m : ℕ) → length xs ≡ n → length ys ≡ m → take (n + m) (xs ++ (ys ++ zs)) ≡ xs ++ ys
 take-end xs ys zs n m e f = rw (← e) (take-append-add xs (ys ++ zs) m ∙ ap (λ t. xs ++ t) (take_at ys zs m f))
 
-pub pack-step : (new old bytes : List ℕ) (at w n : ℕ) → AreBytes bytes → length bytes ≤ INLINE_CAP →
-    at + 8 ≤ INLINE_CAP + 1 → at + 8 ≤ length old →
-    take at old ≡ take at (packed bytes) → w ≡ word 8 bytes at → (at + 8 ≤ INLINE_CAP → n ≡ w) →
-    (INLINE_CAP < at + 8 → n ≡ w + 2 ^ 56 * length bytes) →
-    new ≡ put_at old at (to_le_bytes w64 n) → take (at + 8) new ≡ take (at + 8) (packed bytes)
-pack-step new old bytes at w n b h within long front e middle last put =
-    let number : n ≡ word 8 (packed bytes) at =
-    elim (cases_lt INLINE_CAP (at + 8)) [
-      | inl l ↦ last l ∙ ap (λ m. m + 2 ^ 56 * length bytes) e ∙ sym (word-last bytes at h (omega (arith, l, within)))
-      | inr g ↦ middle (omega (arith, g)) ∙ e ∙ sym (word-front 8 bytes at h (omega (arith, g)))
-    ] in
-    let eight = write-eight (packed bytes) at (bytes-packed bytes b h)
-    (omega (arith, within, length-packed bytes h)) in
-    let whole = length-part 8 (packed bytes) at (omega (arith, within, length-packed bytes h)) in
+pub pack-step : (new old bytes : List ℕ) (at n : ℕ) → AreBytes bytes → length bytes ≤ INLINE_CAP →
+    at + 8 ≤ INLINE_CAP + 1 → at + 8 ≤ length old → take at old ≡ take at (zeroed bytes) → n ≡ word 8 bytes at →
+    new ≡ put_at old at (to_le_bytes w64 n) → take (at + 8) new ≡ take (at + 8) (zeroed bytes)
+pack-step new old bytes at n b h within long front e put =
+    let zeros = λ (i : ℕ). get_or-zeros bytes (INLINE_CAP + 1 - length bytes) i in
+    let number : n ≡ word 8 (zeroed bytes) at = e ∙ sym (word-same 8 (zeroed bytes) bytes at zeros) in
+    let are : AreBytes (zeroed bytes) = λ i. rw (zeros i) (b i) in
+    let eight = write-eight (zeroed bytes) at are (omega (arith, within, length-zeroed bytes h)) in
     let begun : take (at + 8) (put_at old at (to_le_bytes w64 n)) ≡ take at old ++ to_le_bytes w64 n =
     take-end (take at old) (to_le_bytes w64 n) _ at 8 (length-take-le at old (omega (arith, long))) refl in
-    rw put (begun ∙ rw (front, number, eight) (sym (take-add at 8 (packed bytes))))
+    rw put (begun ∙ rw (front, number, eight) (sym (take-add at 8 (zeroed bytes))))
+
+-- its end: all words are written, and then the length
+replicate-last : (m : ℕ) → replicate {A = ℕ} (suc m) 0 ≡ replicate m 0 ++ (0 ∷ [])
+replicate-last zero = refl
+replicate-last (suc m) = ap (λ t. 0 ∷ t) (replicate-last m)
+
+pub pack-end : (buf bytes : List ℕ) → length buf ≡ INLINE_CAP + 1 → length bytes ≤ INLINE_CAP →
+    take (INLINE_CAP + 1) buf ≡ take (INLINE_CAP + 1) (zeroed bytes) → set buf INLINE_CAP (length bytes) ≡ packed bytes
+pack-end buf bytes long h e =
+    let n : ℕ = INLINE_CAP - length bytes in
+    let more : INLINE_CAP + 1 - length bytes ≡ suc n = omega (arith, h) in
+    let last : zeroed bytes ≡ padded bytes ++ (0 ∷ []) =
+    ap (λ m. bytes ++ replicate m 0) more ∙ ap (λ t. bytes ++ t) (replicate-last n)
+    ∙ sym (append_assoc bytes (replicate n 0) (0 ∷ [])) in
+    let all : buf ≡ zeroed bytes =
+    sym (take_all (INLINE_CAP + 1) buf (omega (arith, long))) ∙ e
+    ∙ take_all (INLINE_CAP + 1) (zeroed bytes) (omega (arith, length-zeroed bytes h)) in
+    rw (all, last) (set_at (padded bytes) 0 [] (length bytes) INLINE_CAP (length-padded bytes h))
 
 -- one word of two lists
 same-word : (xs ys : List ℕ) (at : ℕ) → take (at + 8) xs ≡ take (at + 8) ys →
@@ -278,6 +262,3 @@ two-ends r bytes y z s k m a b e h l f g p q =
       ← append_assoc (take m bytes) (drop m bytes) after,
       take-append-drop m bytes,
     )
-
-pub whole : (n : ℕ) (xs ys : List ℕ) → length xs ≤ n → length ys ≤ n → take n xs ≡ take n ys → xs ≡ ys
-whole n xs ys h k e = sym (take_all n xs h) ∙ e ∙ take_all n ys k

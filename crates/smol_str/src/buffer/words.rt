@@ -41,9 +41,9 @@ pub(super) fn pack(bytes: &[u8]) -> Packed
 {
     let mut buf = [0; PACKED_LEN];
     for i in 0..WORDS {
-        let word = word_at(bytes, 8 * i);
-        put_word(&mut buf, 8 * i, with_length(word, 8 * i, bytes.len()));
+        put_word(&mut buf, 8 * i, word_at(bytes, 8 * i));
     }
+    buf[INLINE_CAP] = bytes.len() as u8;
     buf
 }
 
@@ -54,13 +54,9 @@ pub(super) fn pack_char(character: char) -> Packed
 {
     let mut buf = [0; PACKED_LEN];
     for i in 0..WORDS {
-        let word = char_word_at(character, i);
-        put_word(
-            &mut buf,
-            8 * i,
-            with_length(word, 8 * i, character.len_utf8()),
-        );
+        put_word(&mut buf, 8 * i, char_word_at(character, i));
     }
+    buf[INLINE_CAP] = character.len_utf8() as u8;
     buf
 }
 
@@ -71,21 +67,6 @@ fn put_word(buf: &mut Packed, start: usize, word: u64)
     ensures { buf.new ≡ put_at buf.old start (to_le_bytes w64 word) }
 {
     buf[start..start + 8].copy_from_slice(&word.to_le_bytes());
-}
-
-/// The word that stands at `at` where its last byte may be the length.
-#[inline(always)]
-fn with_length(word: u64, at: usize, len: usize) -> u64
-    requires room { at + 8 ≤ PACKED_LEN }
-    requires len { len ≤ INLINE_CAP }
-    requires free { INLINE_CAP < at + 8 → word < 2 ^ 56 }
-    ensures front { at + 8 ≤ INLINE_CAP → result ≡ word }
-    ensures last { INLINE_CAP < at + 8 → result ≡ word + 2 ^ 56 * len }
-{
-    if at + 8 > INLINE_CAP {
-        return word + ((len as u64) << 56);
-    }
-    word
 }
 
 /// Eight bytes from `at` on, with zeros past the end.

@@ -22,12 +22,7 @@ impl SmolStr {
     pub fn eq_str(&self, other: &str) -> bool
         ensures { IsTrue result ↔ (self.now.text ≡ chars other.now) }
     {
-        match &self.repr {
-            Repr::Inline(text) if other.len() <= INLINE_CAP => {
-                text.same(&InlineText::from_short(other))
-            }
-            _ => self.as_str() == other,
-        }
+        self.as_str() == other
     }
 
     /// Whether the texts are equal; it stands for `==` with a `String`, either way round.
