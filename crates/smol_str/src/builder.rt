@@ -7,6 +7,7 @@ ghost use Rattle.smol_str.specs.Buffer.{padded};
 ghost use Rattle.smol_str.specs.Meaning.{IsValueOf};
 ghost use Rattle.smol_str.specs.Draft.{InBuffer, OnHeap, empty_draft, appended, kind_for};
 
+mod compare;
 pub mod steps;
 
 use crate::buffer::{INLINE_CAP, InlineBuffer, InlineText};
@@ -160,6 +161,22 @@ impl SmolStrBuilder {
         }
     }
 
+    /// The same text in the same kind, with the builder's own allocator.
+    ///
+    /// Only a builder on the heap can be refused a clone. The clone has the room that its text needs,
+    /// and none that a larger capacity left over.
+    pub fn clone(&self) -> Result<SmolStrBuilder, AllocError>
+        ensures same { IfOk result (λ copy. copy ≡ self.now) }
+        ensures refused { OnErr result (self.now.kind ≡ OnHeap) }
+    {
+        let alloc = self.alloc;
+        let repr = match &self.repr {
+            BuilderRepr::Inline(text) => BuilderRepr::Inline(text.duplicate()),
+            BuilderRepr::Heap(text) => BuilderRepr::Heap(String::from_str(alloc, text.as_str())?),
+        };
+        Ok(SmolStrBuilder { alloc, repr })
+    }
+
     /// The value of the text, in the place of the text wherever the builder kept it.
     ///
     /// Builders with one text therefore finish to equal values in the same place, however each was
@@ -182,6 +199,20 @@ impl SmolStrBuilder {
                 }),
             },
         }
+    }
+}
+
+/// For containers of builders; the same as [`SmolStrBuilder::clone`].
+impl Clone for SmolStrBuilder {
+    ghost is_clone = { λ b copy. copy ≡ b };
+
+    ghost is_infallible = { λ b. b.kind ≡ InBuffer };
+
+    fn clone(&self) -> Result<SmolStrBuilder, AllocError>
+        ensures same { IfOk result (λ copy. copy ≡ self.now) }
+        ensures refused { OnErr result (self.now.kind ≡ OnHeap) }
+    {
+        SmolStrBuilder::clone(self)
     }
 }
 
