@@ -2,23 +2,33 @@
 --     texts       a ruleset: from the bytes of `as_str` back to the text, and from bytes to sizes
 --     builders    a ruleset: appends after appends, and when a builder leaves its buffer
 --     appended-more, appended-refused     a loop that appends a piece for each item of a list
+--     collecting  a ruleset: collecting and extending from an iterator that gives a list
 --     key_of, same_key-other              a map with values as keys, at other texts than the one that changed
 --     IsCut-cut, IsCut-unique, IsCutAt-step, IsCutAt-unmatched     that pieces are the cut of a text
-use Rattle.std.proofs.Common.{◌≡◌, ℕ, ◌+◌, ◌<◌, ◌≤◌, List, [], ◌++◌, length, take, drop, get_or, encode_utf8_all, refl, sym, ap, ◌∙◌, inl, arith, append_assoc, append-nil, Bool, true, false, cond, IsTrue}
+use Rattle.std.proofs.Common.{◌≡◌, ℕ, ◌+◌, ◌<◌, ◌≤◌, String, Global, Bor, Option, Result, Ok, Err, IfOk, IsOk, OnOk, OnErr, subst, List, [], ◌++◌, length, take, drop, get_or, encode_utf8_all, refl, sym, ap, ◌∙◌, inl, append-nil, false, IsTrue}
 use Rattle.std.specs.List.{flat_map}
 use Rattle.std.specs.Str.{chars, all_scalars, bytes_eq, IsUtf8}
 use Rattle.std.proofs.lemmas.Bool.{false_from_ne_true}
+use Rattle.std.proofs.lemmas.Iterator.{YieldsList, YieldsList-from_chars, YieldsList-from_slice}
+use Rattle.std.proofs.lemmas.Iterator.Adapters.{YieldsList-from_vec}
 use Rattle.std.proofs.lemmas.Slice.Eq.{bytes_eq-Decides}
 use Rattle.std.proofs.lemmas.Str.{chars-encodes, chars_from_encodes, encodes-chars}
 use Rattle.smol_str.specs.declared.buffer.TheConstants.{INLINE_CAP}
 use Rattle.smol_str.specs.declared.value.place.Place.TheVariants.{Inline}
-use Rattle.smol_str.specs.Text.{size, IsShort, IsResident, is_short}
-use Rattle.smol_str.specs.Meaning.{Meaning}
+use Rattle.smol_str.specs.Text.{size, IsShort, IsResident}
+use Rattle.smol_str.specs.Meaning.{Meaning, IsValueOf}
 use Rattle.smol_str.specs.Keys.{same_key}
 use Rattle.smol_str.specs.Draft.{Draft, Kind, InBuffer, OnHeap, kind_with, appended, empty_draft}
+use Rattle.smol_str.specs.Joined.{joined, char_text, str_text, string_text, string_ref_text}
+use Rattle.smol_str.specs.Collect.{AppendedAll, Collected, Outgrown}
 use Rattle.smol_str.proofs.ListLemmas.{flat_map-more, flat_map-parts}
-use Rattle.smol_str.proofs.TextLemmas.{size-append, size-chars, IsShort-chars, is_short-true, is_short-false}
-use Rattle.smol_str.proofs.DraftLemmas.{kind_with-short, kind_with-long}
+use Rattle.smol_str.proofs.TextLemmas.{size-chars, IsShort-chars}
+use Rattle.smol_str.proofs.DraftLemmas.{kind_with-short}
+use Rattle.smol_str.proofs.CollectLemmas.{joined-chars, joined-drained, not_short-outgrown}
+-- each front of a short text is short
+pub use Rattle.smol_str.proofs.TextLemmas.{IsShort-front}
+-- appending twice is appending the joined text; a new builder leaves its buffer only for a text that is not short
+pub use Rattle.smol_str.proofs.DraftLemmas.{appended-twice, OnHeap-long}
 -- whatever the result: for a clause on `Err` that holds anyway
 pub use Rattle.smol_str.proofs.TextLemmas.{OnErr-always}
 -- cuts: the one there is, a first match in front of a cut, and a text without a match
@@ -38,10 +48,6 @@ length-as_str t bs e = ap length e
 pub IsResident-few : (bs : List ℕ) → IsUtf8 bs → length bs ≤ INLINE_CAP → IsResident (chars bs)
 IsResident-few bs u few = inl (IsShort-chars bs u few)
 
--- each front of a short text is short
-pub IsShort-front : (s t : List ℕ) → IsShort (s ++ t) → IsShort s
-IsShort-front s t short = omega (arith, short, size-append s t)
-
 pub ruleset texts = (
   chars-encodes,
   chars_from_encodes,
@@ -55,23 +61,6 @@ pub ruleset texts = (
 
 -- ---- builders
 
-kind_by_test : (s t : List ℕ) (b : Bool) → is_short s ≡ b →
-    kind_with (cond b InBuffer OnHeap) (s ++ t) ≡ kind_with InBuffer (s ++ t)
-kind_by_test s t true e = refl
-kind_by_test s t false e =
-    sym (kind_with-long (s ++ t) (λ short. let front = is_short-true s (IsShort-front s t short) in cc))
-
-kind_with-twice : (k : Kind) (s t : List ℕ) → kind_with (kind_with k s) (s ++ t) ≡ kind_with k (s ++ t)
-kind_with-twice OnHeap s t = refl
-kind_with-twice InBuffer s t = kind_by_test s t (is_short s) refl
-
--- appending twice is appending the joined text
-pub appended-twice : (b : Draft) (t u : List ℕ) → appended (appended b t) u ≡ appended b (t ++ u)
-appended-twice b t u =
-    let whole = append_assoc b.text t u in
-    let kinds = kind_with-twice b.kind (b.text ++ t) u ∙ ap (kind_with b.kind) whole in
-    (λ i. record { text = whole i; kind = kinds i })
-
 kind_with-same : (k : Kind) (t : List ℕ) → (k ≡ InBuffer → IsShort t) → kind_with k t ≡ k
 kind_with-same InBuffer t short = kind_with-short t (short refl)
 kind_with-same OnHeap t short = refl
@@ -82,10 +71,6 @@ appended-nothing b short =
     let whole = append-nil b.text in
     let kinds = ap (kind_with b.kind) whole ∙ kind_with-same b.kind b.text short in
     (λ i. record { text = whole i; kind = kinds i })
-
--- a new builder leaves its buffer only for a text that is not short
-pub OnHeap-long : (t : List ℕ) → (appended (empty_draft InBuffer) t).kind ≡ OnHeap → ¬ (IsShort t)
-OnHeap-long t heap = λ short. let stays = kind_with-short t short in cc
 
 pub ruleset builders = (texts, appended-twice, appended-nothing, OnHeap-long)
 
@@ -122,3 +107,105 @@ key_of t = record { text = t; place = Inline }
 pub same_key-other : (key : Meaning) (t : List ℕ) → ¬ (t ≡ key.text) → same_key key (key_of t) ≡ false
 same_key-other key t other =
     false_from_ne_true (bytes_eq key.text t) (λ yes. other (sym ((bytes_eq-Decides key.text t).0 yes)))
+
+-- ---- collecting
+
+-- from an iterator that gives a list, as the lemmas `YieldsList-from_..` of std say: a value of its texts, one after
+-- another; refused only where these are not short; a builder with these at its end
+module _ {S A B : Type 0} {steps : S → Option A → S → Type 0} {s : S} (h : B → List ℕ) {v : A → B} {all : List B} where
+  pub collected : {E : Type 0} (r : Result Meaning E)
+      → IfOk r (Collected (λ x. h (v x)) steps s) → YieldsList steps v s all → IfOk r (λ m. IsValueOf (joined h all) m)
+  collected (Ok m) (xs, d, is) gives = subst (λ t. IsValueOf t m) (joined-drained h v xs all d gives) is
+  collected (Err e) is gives = tt
+
+  pub refused : {T E : Type 0} (r : Result T E)
+      → OnErr r (Outgrown (λ x. h (v x)) steps s) → YieldsList steps v s all → OnErr r (¬ (IsShort (joined h all)))
+  refused (Ok x) out gives = tt
+  refused (Err e) out gives = not_short-outgrown h v all out gives
+
+  pub extended : {T E : Type 0} (r : Result T E) (old new : Draft)
+      → OnOk r (AppendedAll (λ x. h (v x)) steps s old new) → YieldsList steps v s all
+      → OnOk r (new ≡ appended old (joined h all))
+  extended (Ok x) old new (xs, d, is) gives = is ∙ ap (appended old) (joined-drained h v xs all d gives)
+  extended (Err e) old new is gives = tt
+
+-- the same of each kind of item; a character is a text by itself
+module _ {S E : Type 0} {steps : S → Option ℕ → S → Type 0} {s : S} {all : List ℕ} where
+  pub chars_collected : (r : Result Meaning E)
+      → IfOk r (Collected char_text steps s) → YieldsList steps (λ c. c) s all → IfOk r (λ m. IsValueOf all m)
+  chars_collected r is gives =
+      subst (λ t. IfOk r (λ m. IsValueOf t m)) (joined-chars all) (collected char_text r is gives)
+
+  pub chars_refused : {T : Type 0} (r : Result T E)
+      → OnErr r (Outgrown char_text steps s) → YieldsList steps (λ c. c) s all → OnErr r (¬ (IsShort all))
+  chars_refused r out gives = subst (λ t. OnErr r (¬ (IsShort t))) (joined-chars all) (refused char_text r out gives)
+
+  pub chars_extended : {T : Type 0} (r : Result T E) (old new : Draft) → OnOk r (AppendedAll char_text steps s old new)
+      → YieldsList steps (λ c. c) s all → OnOk r (new ≡ appended old all)
+  chars_extended r old new is gives =
+      subst (λ t. OnOk r (new ≡ appended old t)) (joined-chars all) (extended char_text r old new is gives)
+
+module _ {S E : Type 0} {steps : S → Option (Bor (List ℕ)) → S → Type 0} {s : S} {all : List (List ℕ)} where
+  pub strs_collected : (r : Result Meaning E) → IfOk r (Collected str_text steps s)
+      → YieldsList steps (λ x. x.now) s all → IfOk r (λ m. IsValueOf (joined chars all) m)
+  strs_collected r is gives = collected chars r is gives
+
+  pub strs_refused : {T : Type 0} (r : Result T E) → OnErr r (Outgrown str_text steps s)
+      → YieldsList steps (λ x. x.now) s all → OnErr r (¬ (IsShort (joined chars all)))
+  strs_refused r out gives = refused chars r out gives
+
+  pub strs_extended : {T : Type 0} (r : Result T E) (old new : Draft)
+      → OnOk r (AppendedAll str_text steps s old new)
+      → YieldsList steps (λ x. x.now) s all → OnOk r (new ≡ appended old (joined chars all))
+  strs_extended r old new is gives = extended chars r old new is gives
+
+module _ {S E : Type 0} {steps : S → Option (String Global) → S → Type 0} {s : S} {all : List (String Global)} where
+  pub strings_collected : (r : Result Meaning E) → IfOk r (Collected string_text steps s)
+      → YieldsList steps (λ x. x) s all → IfOk r (λ m. IsValueOf (joined string_text all) m)
+  strings_collected r is gives = collected string_text r is gives
+
+  pub strings_refused : {T : Type 0} (r : Result T E) → OnErr r (Outgrown string_text steps s)
+      → YieldsList steps (λ x. x) s all → OnErr r (¬ (IsShort (joined string_text all)))
+  strings_refused r out gives = refused string_text r out gives
+
+module _ {S E : Type 0} {steps : S → Option (Bor (String Global)) → S → Type 0} {s : S}
+    {all : List (String Global)} where
+  pub string_refs_collected : (r : Result Meaning E) → IfOk r (Collected string_ref_text steps s)
+      → YieldsList steps (λ x. x.now) s all → IfOk r (λ m. IsValueOf (joined string_text all) m)
+  string_refs_collected r is gives = collected string_text r is gives
+
+  pub string_refs_refused : {T : Type 0} (r : Result T E) → OnErr r (Outgrown string_ref_text steps s)
+      → YieldsList steps (λ x. x.now) s all → OnErr r (¬ (IsShort (joined string_text all)))
+  string_refs_refused r out gives = refused string_text r out gives
+
+  pub string_refs_extended : {T : Type 0} (r : Result T E) (old new : Draft)
+      → OnOk r (AppendedAll string_ref_text steps s old new)
+      → YieldsList steps (λ x. x.now) s all → OnOk r (new ≡ appended old (joined string_text all))
+  string_refs_extended r old new is gives = extended string_text r old new is gives
+
+-- the characters of a text that is short by its bytes: never refused
+pub short_is_ok : {S T E : Type 0} {steps : S → Option ℕ → S → Type 0} {s : S} {bs : List ℕ} (r : Result T E)
+    → OnErr r (Outgrown char_text steps s) → YieldsList steps (λ c. c) s (chars bs)
+    → IsUtf8 bs → length bs ≤ INLINE_CAP → IsOk r
+short_is_ok (Ok x) out gives u short = refl
+short_is_ok (Err e) out gives u short =
+    absurd (chars_refused {T = ℕ} (Err e) out gives (IsShort-chars _ u short))
+
+-- for `search (rules, collecting)` at a caller's goal
+pub ruleset collecting = (
+  chars_collected,
+  chars_refused,
+  chars_extended,
+  strs_collected,
+  strs_refused,
+  strs_extended,
+  strings_collected,
+  strings_refused,
+  string_refs_collected,
+  string_refs_refused,
+  string_refs_extended,
+  short_is_ok,
+  YieldsList-from_chars,
+  YieldsList-from_slice,
+  YieldsList-from_vec,
+)

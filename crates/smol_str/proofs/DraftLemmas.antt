@@ -1,11 +1,11 @@
 -- For the builder: its text and kind, before and after an append.
-use Rattle.std.proofs.Common.{◌≡◌, ℕ, ◌-◌, ◌<◌, ◌≤◌, List, ◌++◌, length, Bool, true, false, ◌&&◌, nat_le, cond, refl, arith, ◌⊎◌, inl, inr}
+use Rattle.std.proofs.Common.{◌≡◌, ℕ, ◌-◌, ◌<◌, ◌≤◌, List, ◌++◌, length, Bool, true, false, ◌&&◌, nat_le, cond, refl, sym, ap, ◌∙◌, append_assoc, arith, ◌⊎◌, inl, inr}
 use Rattle.std.specs.Str.{chars, IsUtf8}
 use Rattle.std.proofs.lemmas.Bool.Decides.{nat_tests}
 use Rattle.smol_str.specs.declared.buffer.TheConstants.{INLINE_CAP}
 use Rattle.smol_str.specs.Text.{size, is_short, IsShort}
-use Rattle.smol_str.specs.Draft.{InBuffer, OnHeap, kind_with, kind_for}
-use Rattle.smol_str.proofs.TextLemmas.{size-append, size-chars, is_short-true, is_short-false}
+use Rattle.smol_str.specs.Draft.{Draft, Kind, InBuffer, OnHeap, kind_with, kind_for, appended, empty_draft}
+use Rattle.smol_str.proofs.TextLemmas.{size-append, size-chars, is_short-true, is_short-false, IsShort-front}
 
 -- the bytes fit in the room that is left, or they do not
 pub IsShort-append : (t bs : List ℕ) → IsUtf8 bs → IsShort t → length bs ≤ INLINE_CAP - size t → IsShort (t ++ chars bs)
@@ -54,3 +54,24 @@ why_heap n t h =
       | inl e ↦ inl (grind (arith, nat_tests))
       | inr e ↦ inr (λ s. let k = is_short-true t s in cc)
     ]
+
+kind_by_test : (s t : List ℕ) (b : Bool) → is_short s ≡ b →
+    kind_with (cond b InBuffer OnHeap) (s ++ t) ≡ kind_with InBuffer (s ++ t)
+kind_by_test s t true e = refl
+kind_by_test s t false e =
+    sym (kind_with-long (s ++ t) (λ short. let front = is_short-true s (IsShort-front s t short) in cc))
+
+kind_with-twice : (k : Kind) (s t : List ℕ) → kind_with (kind_with k s) (s ++ t) ≡ kind_with k (s ++ t)
+kind_with-twice OnHeap s t = refl
+kind_with-twice InBuffer s t = kind_by_test s t (is_short s) refl
+
+-- appending twice is appending the joined text
+pub appended-twice : (b : Draft) (t u : List ℕ) → appended (appended b t) u ≡ appended b (t ++ u)
+appended-twice b t u =
+    let whole = append_assoc b.text t u in
+    let kinds = kind_with-twice b.kind (b.text ++ t) u ∙ ap (kind_with b.kind) whole in
+    (λ i. record { text = whole i; kind = kinds i })
+
+-- a new builder leaves its buffer only for a text that is not short
+pub OnHeap-long : (t : List ℕ) → (appended (empty_draft InBuffer) t).kind ≡ OnHeap → ¬ (IsShort t)
+OnHeap-long t heap = λ short. let stays = kind_with-short t short in cc

@@ -7,6 +7,7 @@ pub mod WordLemmas
 pub mod WordOrderLemmas
 pub mod OrderLemmas
 pub mod DraftLemmas
+pub mod CollectLemmas
 pub mod StepLemmas
 pub mod CaseLemmas
 pub mod CutLemmas

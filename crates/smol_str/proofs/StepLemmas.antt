@@ -1,39 +1,34 @@
--- For `build`: the steps of a builder, one by one.
-use Rattle.std.proofs.Common.{◌≡◌, ℕ, ◌+◌, ◌<◌, List, ◌++◌, length, take, get_or, sym, ◌∙◌, ap, arith, ◌⊎◌, inl, inr}
+-- For `build`: the steps of a list as items.
+use Rattle.std.proofs.Common.{◌≡◌, ℕ, ◌<◌, List, [], ◌∷◌, ◌++◌, Option, refl, sym, ◌∙◌, ap, ◌⊎◌, inl, inr}
+use Rattle.std.proofs.iter.Next.{Yields-more}
+use Rattle.std.proofs.lemmas.Iterator.{YieldsList}
 use Rattle.smol_str.specs.declared.buffer.TheConstants.{INLINE_CAP}
-use Rattle.smol_str.specs.declared.builder.steps.Step.{Step}
 use Rattle.smol_str.specs.Text.{IsShort}
-use Rattle.smol_str.specs.Draft.{Draft, OnHeap, kind_with, kind_for, appended}
-use Rattle.smol_str.specs.Steps.{joined, step_text}
-use Rattle.smol_str.proofs.ListLemmas.{flat_map-more, flat_map-parts}
-use Rattle.smol_str.proofs.TextLemmas.{size-append}
+use Rattle.smol_str.specs.Draft.{Draft, OnHeap, empty_draft, kind_for, appended}
+use Rattle.smol_str.specs.Joined.{joined}
+use Rattle.smol_str.specs.Collect.{AppendedAll, StoppedAt}
 use Rattle.smol_str.proofs.DraftLemmas.{kind_for-append, why_heap}
+use Rattle.smol_str.proofs.CollectLemmas.{appended-last, joined-drained, not_short-outgrown}
 
--- after the first i steps: their text, and its kind for the capacity
-pub record Kept (n i : ℕ) (steps : List Step) (b : Draft) : Type 0 where
-  pub text : b.text ≡ joined (take i steps)
-  pub kind : b.kind ≡ kind_for n (joined (take i steps))
+module _ {S A B : Type 0} {steps : S → Option A → S → Type 0} {s : S} (n : ℕ) (h : B → List ℕ) (v : A → B) where
+  -- where a builder of capacity n stops, the capacity is large or the texts of all items are not short
+  pub why_stopped : (all : List B) (new : Draft) → StoppedAt (λ x. h (v x)) steps s (empty_draft (kind_for n [])) new
+      → YieldsList steps v s all → (INLINE_CAP < n) ⊎ (¬ (IsShort (joined h all)))
+  why_stopped all new (xs, x, rest, run, is, heap) gives =
+      let f : A → List ℕ = λ y. h (v y) in
+      let came = xs ++ x ∷ [] in
+      let last = appended-last f (empty_draft (kind_for n [])) new (appended new (f x)) xs x is refl in
+      let kind : kind_for n (joined f came) ≡ OnHeap =
+      sym (kind_for-append n [] (joined f came)) ∙ sym (ap (λ b. b.kind) last) ∙ heap in
+      elim (why_heap n (joined f came) kind) [
+        | inl large ↦ inl large
+        | inr long ↦
+            let calls = Yields-more steps s xs run.0 x rest run.1 run.2 in
+            inr (not_short-outgrown h v all (came, rest, calls, long) gives)
+      ]
 
-pub Kept-step : (n i : ℕ) (steps : List Step) (s : Step) (old new : Draft) → i < length steps → s ≡ get_or steps i s →
-    Kept n i steps old → new ≡ appended old (step_text s) → Kept n (i + 1) steps new
-Kept-step n i steps s old new l e h a =
-    let more = flat_map-more step_text steps i s l e in
-    record {
-      text = ap (λ b. b.text) a ∙ rw (h.text, more);
-      kind = ap (λ b. b.kind) a ∙ rw (h.text, h.kind, more) (kind_for-append n (joined (take i steps)) (step_text s));
-    }
-
--- where a step would be on the heap, the capacity is large or the whole text is not short
-pub Kept-refused : (n i : ℕ) (steps : List Step) (s : Step) (old : Draft) → i < length steps → s ≡ get_or steps i s →
-    Kept n i steps old → (appended old (step_text s)).kind ≡ OnHeap → (INLINE_CAP < n) ⊎ (¬ (IsShort (joined steps)))
-Kept-refused n i steps s old l e h r =
-    let more = flat_map-more step_text steps i s l e in
-    let front : kind_with (kind_for n (joined (take i steps))) (joined (take i steps) ++ step_text s) ≡ OnHeap =
-    rw (h.text, h.kind) at r in
-    let whole : kind_for n (joined (take (i + 1) steps)) ≡ OnHeap =
-    rw more (sym (kind_for-append n (joined (take i steps)) (step_text s)) ∙ front) in
-    let parts = flat_map-parts step_text steps (i + 1) in
-    elim (why_heap n (joined (take (i + 1) steps)) whole) [
-      | inl large ↦ inl large
-      | inr long ↦ inr (λ short. long (let all = rw (parts, size-append) at short in omega (arith, all)))
-    ]
+  -- a builder that took all items has their texts
+  pub text-appended : (all : List B) (old new : Draft) → old ≡ empty_draft (kind_for n [])
+      → AppendedAll (λ x. h (v x)) steps s old new → YieldsList steps v s all → new.text ≡ joined h all
+  text-appended all old new empty (xs, d, is) gives =
+      ap (λ b. b.text) is ∙ ap (λ b. b.text ++ joined (λ x. h (v x)) xs) empty ∙ joined-drained h v xs all d gives

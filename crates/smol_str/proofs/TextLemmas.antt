@@ -171,3 +171,7 @@ short_encode c = let few = len_utf8_bounds c in omega (arith, length-encode c, f
 
 pub IsShort-one : (c : ℕ) → IsShort (c ∷ [])
 IsShort-one c = rw (append-nil (encode_utf8 c)) (short_encode c)
+
+-- each front of a short text is short
+pub IsShort-front : (s t : List ℕ) → IsShort (s ++ t) → IsShort s
+IsShort-front s t short = omega (arith, short, size-append s t)

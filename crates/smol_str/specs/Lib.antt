@@ -7,7 +7,9 @@ pub mod ValueArms
 pub mod Faults
 pub mod Draft
 pub mod BuilderArms
+pub mod Joined
 pub mod Steps
+pub mod Collect
 pub mod TextExamples
 pub mod DraftExamples
 pub mod Case

@@ -1,16 +1,15 @@
--- The text of a list of steps.
-use Rattle.std.specs.Prelude.{ℕ, List, [], ◌∷◌}
-use Rattle.std.specs.List.{flat_map}
-use Rattle.std.specs.Str.{chars}
-use Rattle.std.specs.String.{string_bytes}
+-- The text of a step; that of a list of steps is `joined step_text`.
+use Rattle.std.specs.Prelude.{ℕ, List}
+use denote.Ref.{Bor}
 use Rattle.smol_str.specs.declared.builder.steps.Step.{Step}
 use Rattle.smol_str.specs.declared.builder.steps.Step.TheVariants.{Push, PushStr}
+use Rattle.smol_str.specs.Joined.{char_text, string_text}
 
 -- the text that a step appends
 abbrev pub step_text : Step → List ℕ
-step_text (Push c) = c ∷ []
-step_text (PushStr s) = chars (string_bytes s)
+step_text (Push c) = char_text c
+step_text (PushStr s) = string_text s
 
--- the steps' texts, one after another
-abbrev pub joined : List Step → List ℕ
-joined steps = flat_map step_text steps
+-- that of a borrowed step
+abbrev pub step_ref_text : Bor Step → List ℕ
+step_ref_text s = step_text s.now

@@ -7,6 +7,7 @@
 
 mod buffer;
 mod builder;
+mod collect;
 pub mod laws;
 #[cfg(test)]
 mod tests;
@@ -15,6 +16,7 @@ mod value;
 pub use buffer::{INLINE_CAP, InlineBuffer};
 pub use builder::SmolStrBuilder;
 pub use builder::steps::{Step, build};
+pub use collect::{Piece, StrPiece, StringRefPiece};
 pub use value::SmolStr;
 pub use value::blank::{BLANK_NEWLINES, BLANK_SPACES};
 pub use value::convert::FromUtf8Fault;

@@ -1,12 +1,13 @@
 //! Building by a list of steps.
-ghost use Rattle.std.specs.Prelude.{◌≡◌, ◌<◌, ◌⊎◌, IfOk, OnOk, OnErr};
+ghost use Rattle.std.specs.Prelude.{◌<◌, ◌⊎◌, IfOk, OnErr};
 ghost use Rattle.smol_str.specs.Text.{IsShort};
 ghost use Rattle.smol_str.specs.Meaning.{IsValueOf};
-ghost use Rattle.smol_str.specs.Draft.{OnHeap, appended};
-ghost use Rattle.smol_str.specs.Steps.{step_text, joined};
+ghost use Rattle.smol_str.specs.Joined.{joined};
+ghost use Rattle.smol_str.specs.Steps.{step_text, step_ref_text};
 
 use super::SmolStrBuilder;
 use crate::buffer::INLINE_CAP;
+use crate::collect::{Piece, append_all};
 use crate::value::SmolStr;
 use std::alloc::{AllocError, Global};
 
@@ -32,27 +33,22 @@ pub enum Step {
 /// assert_eq!(rt; ab.as_str(), "ab");
 /// ```
 pub fn build(alloc: Global, capacity: usize, steps: &[Step]) -> Result<SmolStr, AllocError>
-    ensures ok { IfOk result (λ v. IsValueOf (joined steps.now) v) }
-    ensures refused { OnErr result ((INLINE_CAP < capacity) ⊎ (¬ (IsShort (joined steps.now)))) }
+    ensures ok { IfOk result (λ v. IsValueOf (joined step_text steps.now) v) }
+    ensures refused { OnErr result ((INLINE_CAP < capacity) ⊎ (¬ (IsShort (joined step_text steps.now)))) }
 {
     let mut builder = SmolStrBuilder::with_capacity(alloc, capacity)?;
-    for step in steps {
-        apply(&mut builder, step)?;
-    }
-    match builder.finish() {
-        Ok(value) => Ok(value),
-        Err(_) => Err(AllocError),
-    }
+    append_all(&mut builder, steps.iter())?;
+    Ok(builder.finish()?)
 }
 
-/// Appends the text of a step.
-fn apply(builder: &mut SmolStrBuilder, step: &Step) -> Result<(), AllocError>
-    ensures ok { OnOk result (builder.new ≡ appended builder.old (step_text step.now)) }
-    ensures unchanged { OnErr result (builder.new ≡ builder.old) }
-    ensures refused { OnErr result ((appended builder.old (step_text step.now)).kind ≡ OnHeap) }
-{
-    match step {
-        Step::Push(character) => builder.push(*character),
-        Step::PushStr(text) => builder.push_str(text.as_str()),
+/// So that steps are appended as other items are.
+impl<'a> Piece for &'a Step {
+    ghost text = { step_ref_text };
+
+    fn append_to(&self, builder: &mut SmolStrBuilder) -> Result<(), AllocError> {
+        match *self {
+            Step::Push(character) => builder.push(*character),
+            Step::PushStr(text) => builder.push_str(text.as_str()),
+        }
     }
 }

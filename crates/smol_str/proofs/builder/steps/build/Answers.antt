@@ -1,15 +1,30 @@
-use Rattle.smol_str.proofs.StepLemmas.{Kept-step, Kept-refused}
+use Rattle.std.proofs.Common.{inl, inr}
+use Rattle.std.proofs.lemmas.Iterator.{YieldsList-from_slice}
+use Rattle.smol_str.specs.Steps.{step_text}
 use Rattle.smol_str.proofs.TextLemmas.{OnErr-always}
+use Rattle.smol_str.proofs.StepLemmas.{why_stopped, text-appended}
 use Rattle.smol_str.proofs.builder.steps.build.Goals as goal
 
-pub returns-in_err-apply-clause-refused : goal.returns-in_err-apply-clause-refused
-returns-in_err-apply-clause-refused c =
-    let why =
-    Kept-refused c.args.capacity _ _ _ c.loop-step.builder c.loop-step-test.true c.step-item.is
-    c.loop-step.invariant c.in_err-apply.ensures.refused in
-    OnErr-always c.from_residual-in_err-apply.result _ why
+pub returns-in_err-append_all-clause-refused : goal.returns-in_err-append_all-clause-refused
+returns-in_err-append_all-clause-refused c =
+    let stopped = rw c.in_ok-builder.ensures.ok at c.in_err-append_all.ensures.stopped in
+    let gives = YieldsList-from_slice c.args.steps.now c.iter.ensures.rest in
+    let why = why_stopped c.args.capacity step_text (λ x. x.now) c.args.steps.now c.append_all.new.builder stopped gives in
+    OnErr-always c.from_residual-in_err-append_all.result _ why
 
-pub loop-step-preserved : goal.loop-step-preserved
-loop-step-preserved c =
-    Kept-step c.args.capacity _ _ _ c.loop-step.builder c.apply.new.builder c.loop-step-test.true c.step-item.is
-    c.loop-step.invariant c.in_ok-apply.ensures.ok
+pub returns-in_err-finish-clause-refused : goal.returns-in_err-finish-clause-refused
+returns-in_err-finish-clause-refused c =
+    let gives = YieldsList-from_slice c.args.steps.now c.iter.ensures.rest in
+    let empty = c.in_ok-builder.ensures.ok in
+    let all = c.in_ok-append_all.ensures.ok in
+    let text = text-appended c.args.capacity step_text (λ x. x.now) c.args.steps.now c.in_ok-builder.builder c.append_all.new.builder empty all gives in
+    let away = rw text at c.in_err-finish.ensures.refused in
+    OnErr-always c.from_residual-in_err-finish.result _ (inr (λ short. away (inl short)))
+
+pub returns-clause-ok : goal.returns-clause-ok
+returns-clause-ok c =
+    let gives = YieldsList-from_slice c.args.steps.now c.iter.ensures.rest in
+    let empty = c.in_ok-builder.ensures.ok in
+    let all = c.in_ok-append_all.ensures.ok in
+    let text = text-appended c.args.capacity step_text (λ x. x.now) c.args.steps.now c.in_ok-builder.builder c.append_all.new.builder empty all gives in
+    rw text at c.in_ok-finish.ensures.ok

@@ -1,0 +1,7 @@
+use Rattle.std.proofs.Common.{◌≡◌}
+use Rattle.smol_str.specs.Draft.{appended}
+use Rattle.smol_str.specs.Joined.{joined}
+use Rattle.smol_str.proofs.collect.append_all.Given as goal
+
+abbrev pub invariant-loop-piece : goal.invariant-loop-piece
+invariant-loop-piece g l = l.builder ≡ appended l.fn.builder (joined g.P.Piece.text l.yielded)
