@@ -1,0 +1,4 @@
+//! Callers of the library, each proved by the library's contracts alone.
+#![tactic(auto)]
+
+pub mod collecting;
