@@ -1,14 +1,16 @@
 -- For `show` and `push_answer`: the bytes of answer lines, one after another.
-use Rattle.std.proofs.Common.{◌≡◌, ℕ, ◌<◌, ◌^◌, List, ◌∷◌, ◌++◌, refl, sym, ap, ◌∙◌, codes, encode_utf8_all}
-use Rattle.std.proofs.Common.{append_assoc}
+use Rattle.std.proofs.Common.{◌≡◌, ℕ, ◌<◌, ◌^◌, List, [], ◌∷◌, ◌++◌, refl, sym, ap, ◌∙◌, codes, encode_utf8_all}
 use Rattle.std.specs.Fmt.{decimal}
 use Rattle.std.specs.List.{flat_map}
+use Rattle.std.proofs.lemmas.List.{append-nil}
+use Rattle.std.proofs.lemmas.List.Concat.{flat_map-append}
 use Rattle.std.proofs.lemmas.Str.{encodes-append, encodes-IsAscii}
 use Rattle.std.proofs.lemmas.Fmt.{IsAscii-decimal}
 use Rattle.smol_str.specs.declared.value.place.Place.{Place}
 use Rattle.smol_str.specs.declared.value.place.Place.TheVariants.{Inline, Static, Heap}
-use Rattle.smol_tokens.specs.Lines.{lines}
-use Rattle.smol_tokens.specs.Report.{place_word, answer_line}
+use Rattle.smol_str.specs.Text.{size}
+use Rattle.smol_str.specs.Meaning.{Meaning, IsValueOf}
+use Rattle.smol_tokens.specs.Report.{place_word, answer_line, answer}
 
 encodes-place_word : (place : Place) → encode_utf8_all (place_word place) ≡ place_word place
 unfolding lib.Utf8.encode
@@ -25,12 +27,16 @@ encodes-answer_line place n t small =
     let digits : encode_utf8_all (decimal n) ≡ decimal n = encodes-IsAscii (decimal n) (IsAscii-decimal n small) in
     simp (encodes-append, encodes-place_word, digits)
 
--- what is out, and then the next line's answer
-pub report-more : (f : List ℕ → List ℕ) (all out new rest line after : List ℕ)
-    → all ≡ out ++ encode_utf8_all (flat_map f (lines rest)) → lines rest ≡ line ∷ lines after
-    → new ≡ out ++ encode_utf8_all (f line) → all ≡ new ++ encode_utf8_all (flat_map f (lines after))
-report-more f all out new rest line after so_far cut is =
-    so_far ∙ ap (λ ls. out ++ encode_utf8_all (flat_map f ls)) cut
-    ∙ ap (λ l. out ++ l) (encodes-append (f line) (flat_map f (lines after)))
-    ∙ sym (append_assoc out (encode_utf8_all (f line)) (encode_utf8_all (flat_map f (lines after))))
-    ∙ ap (λ l. l ++ encode_utf8_all (flat_map f (lines after))) (sym is)
+-- the answer line of a value of the text
+pub answer_line-value : (t : List ℕ) (v : Meaning) → IsValueOf t v → answer_line v.place (size v.text) v.text ≡ answer t
+answer_line-value t v is = rw (is.text, is.place) refl
+
+-- what is out, and one item's answer after it
+pub report-last : {A : Type 0} (f : A → List ℕ) (items : List A) (x : A) (out new : List ℕ)
+    → out ≡ encode_utf8_all (flat_map f items) → new ≡ out ++ encode_utf8_all (f x)
+    → new ≡ encode_utf8_all (flat_map f (items ++ x ∷ []))
+report-last f items x out new so_far is =
+    let more : flat_map f (items ++ x ∷ []) ≡ flat_map f items ++ f x =
+    flat_map-append f items (x ∷ []) ∙ ap (λ t. flat_map f items ++ t) (append-nil (f x)) in
+    is ∙ ap (λ bytes. bytes ++ encode_utf8_all (f x)) so_far ∙ sym (encodes-append (flat_map f items) (f x))
+    ∙ ap encode_utf8_all (sym more)

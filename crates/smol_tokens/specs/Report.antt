@@ -16,7 +16,7 @@ use Rattle.smol_str.specs.Replace.{replaced_all}
 use Rattle.smol_tokens.specs.Lines.{lines}
 use Rattle.smol_tokens.specs.Tally.{tally}
 use Rattle.smol_tokens.specs.declared.mode.Mode.{Mode}
-use Rattle.smol_tokens.specs.declared.mode.Mode.TheVariants.{Show}
+use Rattle.smol_tokens.specs.declared.mode.Mode.TheVariants.{Show, Join}
 
 -- the word for a place
 abbrev pub place_word : Place → List ℕ
@@ -63,3 +63,4 @@ tokens_report t = flat_map count_line (tally (map (λ line. (line, 1)) (lines t)
 -- what is written in each mode
 abbrev pub report : Mode → List ℕ → List ℕ
 report Show t = show_report t
+report Join t = join_report t

@@ -1,5 +1,6 @@
 //! The lines of a text, one after another.
 ghost use Rattle.std.specs.Prelude.{◌≡◌, ◌<◌, [], ◌∷◌, length, MatchOption, IfSome};
+ghost use Rattle.std.specs.Iterator.{YieldsFirstBy, item_count};
 ghost use Rattle.std.specs.Str.{chars};
 ghost use Rattle.smol_tokens.specs.Lines.{lines};
 
@@ -18,5 +19,34 @@ pub fn first_line(text: &str) -> Option<(&str, &str)>
     match text.split_once('\n') {
         Some(cut) => Some(cut),
         None => Some((text, "")),
+    }
+}
+
+/// The lines of a text in order, without their newlines.
+#[derive(Drop)]
+pub struct Lines<'a> {
+    rest: &'a str,
+}
+
+impl<'a> Lines<'a> {
+    /// All lines of a text.
+    pub fn of(text: &'a str) -> Lines<'a>
+        ensures { result.rest.now ≡ text.now }
+    {
+        Lines { rest: text }
+    }
+}
+
+impl<'a> Iterator for Lines<'a> {
+    type Item = &'a str;
+
+    ghost next_gives = { YieldsFirstBy (λ line. chars line.now) (λ s. lines (chars s.rest.now)) };
+
+    ghost remaining = { item_count (λ s. lines (chars s.rest.now)) };
+
+    fn next(&mut self) -> Option<&'a str> {
+        let (line, after) = first_line(self.rest)?;
+        self.rest = after;
+        Some(line)
     }
 }

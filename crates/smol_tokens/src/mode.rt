@@ -8,6 +8,8 @@ ghost use Rattle.smol_tokens.specs.Words.{asked_mode};
 pub enum Mode {
     /// For each line, the place of its text, its length in bytes and the text.
     Show,
+    /// The same once, of all lines joined without their newlines; also where there is no line.
+    Join,
 }
 
 /// Reads the words after the program's name: none, or the word of a mode. It takes no memory, and
@@ -18,6 +20,7 @@ pub fn mode_of(words: Vec<String>) -> Option<Mode>
     match words.as_slice() {
         [] => Some(Mode::Show),
         [word] if word.as_str() == "show" => Some(Mode::Show),
+        [word] if word.as_str() == "join" => Some(Mode::Join),
         _ => None,
     }
 }

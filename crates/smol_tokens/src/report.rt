@@ -2,9 +2,10 @@
 ghost use Rattle.std.specs.Prelude.{◌≡◌, ◌++◌, IfOk, OnOk, encode_utf8_all};
 ghost use Rattle.std.specs.Str.{chars};
 ghost use Rattle.std.specs.String.{string_bytes};
-ghost use Rattle.smol_tokens.specs.Report.{place_word, answer, show_report, report};
+ghost use Rattle.smol_str.specs.Text.{size};
+ghost use Rattle.smol_tokens.specs.Report.{place_word, answer_line, show_report, join_report, report};
 
-use crate::lines::first_line;
+use crate::lines::Lines;
 use crate::mode::Mode;
 use smol_str::{Place, SmolStr};
 use std::alloc::{AllocError, Global};
@@ -15,6 +16,7 @@ pub fn make_report(alloc: Global, mode: Mode, text: &str) -> Result<String, Allo
 {
     match mode {
         Mode::Show => show(alloc, text),
+        Mode::Join => join(alloc, text),
     }
 }
 
@@ -23,20 +25,27 @@ fn show(alloc: Global, text: &str) -> Result<String, AllocError>
     ensures { IfOk result (λ out. string_bytes out ≡ encode_utf8_all (show_report (chars text.now))) }
 {
     let mut out = String::new(alloc);
-    let mut rest = text;
-    while let Some((line, after)) = first_line(rest) {
-        push_answer(alloc, &mut out, line)?;
-        rest = after;
+    for line in Lines::of(text) {
+        push_answer(&mut out, SmolStr::new(alloc, line)?)?;
     }
     Ok(out)
 }
 
-/// Appends the answer line of a line; it makes no text of its own for it.
-fn push_answer(alloc: Global, out: &mut String, line: &str) -> Result<(), AllocError>
-    ensures { OnOk result
-        (string_bytes out.new ≡ string_bytes out.old ++ encode_utf8_all (answer (chars line.now))) }
+/// One answer line: of all lines joined.
+fn join(alloc: Global, text: &str) -> Result<String, AllocError>
+    ensures { IfOk result (λ out. string_bytes out ≡ encode_utf8_all (join_report (chars text.now))) }
 {
-    let value = SmolStr::new(alloc, line)?;
+    let value = SmolStr::from_strs(alloc, Lines::of(text))?;
+    let mut out = String::new(alloc);
+    push_answer(&mut out, value)?;
+    Ok(out)
+}
+
+/// Appends the answer line of a value; it makes no text of its own for it.
+fn push_answer(out: &mut String, value: SmolStr) -> Result<(), AllocError>
+    ensures { OnOk result (string_bytes out.new ≡ string_bytes out.old
+        ++ encode_utf8_all (answer_line value.place (size value.text) value.text)) }
+{
     let place = word_of(value.place());
     let size = value.len();
     let text = value.as_str();
