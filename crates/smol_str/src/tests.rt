@@ -2,6 +2,7 @@
 
 mod built;
 mod calls;
+mod collect;
 mod compare;
 mod convert;
 mod keys;

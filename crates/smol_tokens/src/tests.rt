@@ -1,4 +1,5 @@
 //! Tests of what no clause says: outside values, readers and writers that fail, and memory refused.
+mod join;
 mod refuse;
 mod refused;
 mod show;

@@ -10,25 +10,29 @@ use std::alloc::Global;
 use std::process::Abort;
 use std::test::Fail;
 
-/// Each input, and the length of the report on it.
-const INPUTS: [(&[u8], usize); 4] = [
-    (b"", 0),
-    (b"if\n\nx\n", 12 + 10 + 11),
-    (b"aaaaaaaaaaaaaaaaaaaaaaaa", 33),
-    (&[b'a'; 5000], 5011),
+/// Each input, and the lengths of the reports on it in modes Show and Join.
+const INPUTS: [(&[u8], usize, usize); 4] = [
+    (b"", 0, 10),
+    (b"if\n\nx\n", 12 + 10 + 11, 13),
+    (b"aaaaaaaaaaaaaaaaaaaaaaaa", 33, 33),
+    (&[b'a'; 5000], 5011, 5011),
 ];
 
 #[test]
 fn each_request_in_turn(rt: HostRuntime) -> Result<(), Fail> {
     let alloc = rt.alloc();
-    for (input, wanted) in INPUTS {
-        let refusals = count_refusals(|nth| {
-            start_counts(alloc);
-            let was_refused = assert_run(&rt, alloc, input, wanted, nth)?;
-            assert_eq!(rt; count_blocks(alloc), 0, "a run leaks");
-            Ok(was_refused)
-        })?;
-        assert_eq!(rt; refusals > 0, can_refuse(alloc) && !input.is_empty());
+    for (input, shown, joined) in INPUTS {
+        for is_join in [false, true] {
+            let wanted = if is_join { joined } else { shown };
+            let refusals = count_refusals(|nth| {
+                start_counts(alloc);
+                let mode = if is_join { Mode::Join } else { Mode::Show };
+                let was_refused = assert_run(&rt, alloc, mode, input, wanted, nth)?;
+                assert_eq!(rt; count_blocks(alloc), 0, "a run leaks");
+                Ok(was_refused)
+            })?;
+            assert_eq!(rt; refusals > 0, can_refuse(alloc) && wanted > 0);
+        }
     }
     Ok(())
 }
@@ -37,6 +41,7 @@ fn each_request_in_turn(rt: HostRuntime) -> Result<(), Fail> {
 fn assert_run(
     rt: &impl Abort,
     alloc: Global,
+    mode: Mode,
     input: &[u8],
     wanted: usize,
     nth: u32,
@@ -45,7 +50,7 @@ fn assert_run(
     let mut writer = empty_drip(alloc, 4096, 0, Failure::TakesNone);
     writer.taken = Vec::with_capacity(alloc, wanted)?;
     refuse_one(alloc, nth);
-    let answer = run(alloc, Mode::Show, &mut reader, &mut writer);
+    let answer = run(alloc, mode, &mut reader, &mut writer);
     let was_refused = end_refusals(alloc);
     match answer {
         Ok(()) => assert_eq!(rt; writer.taken.len(), wanted),

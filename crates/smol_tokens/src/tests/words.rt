@@ -23,13 +23,17 @@ fn modes(rt: HostRuntime) -> Result<(), Fail> {
             "{words:?}"
         );
     }
-    let wrong: [&[&str]; 6] = [
+    let join = mode_of(strings(rt.alloc(), &["join"])?);
+    assert!(rt; matches!(join, Some(Mode::Join)));
+    let wrong: [&[&str]; 8] = [
         &["Show"],
         &[""],
         &["show", "x"],
         &["show", "show"],
         &["x", "show"],
         &["show "],
+        &["join", "x"],
+        &["show", "join"],
     ];
     for words in wrong {
         assert!(rt; mode_of(strings(rt.alloc(), words)?).is_none(), "{words:?}");
