@@ -15,3 +15,4 @@ pub mod ReplaceLemmas
 pub mod WireLemmas
 pub mod Utf8Lemmas
 pub mod SyncLemmas
+pub mod StreamLemmas

@@ -19,3 +19,4 @@ pub mod Wire
 pub mod CutExamples
 pub mod CaseExamples
 pub mod WireExamples
+pub mod Stream

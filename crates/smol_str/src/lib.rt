@@ -9,6 +9,7 @@ mod buffer;
 mod builder;
 mod collect;
 pub mod laws;
+pub mod stream;
 #[cfg(test)]
 mod tests;
 mod value;

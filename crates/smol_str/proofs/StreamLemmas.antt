@@ -1,0 +1,20 @@
+-- A beginning of what is written in two parts: for `serialize`, which writes a size and then a text.
+use Rattle.std.proofs.Common.{ℕ, List, ◌++◌, Option, sym, ap, ◌∙◌, append_assoc}
+use Rattle.std.specs.Io.KnownBytes.{Appends}
+use Rattle.std.proofs.KnownBytes.{Appends-trans}
+use Rattle.smol_str.specs.Stream.{AppendsBeginning}
+
+module _ (first second : List ℕ) where
+  pub beginning-of_first : (a b : Option (List ℕ)) → AppendsBeginning a b first
+      → AppendsBeginning a b (first ++ second)
+  beginning-of_first a b p =
+      (p.0, p.1 ++ second, ap (λ l. l ++ second) p.2 ∙ append_assoc p.0 p.1 second, p.3)
+
+  pub beginning-of_second : (a b c : Option (List ℕ)) → Appends a b first → AppendsBeginning b c second
+      → AppendsBeginning a c (first ++ second)
+  beginning-of_second a b c p q = (
+    first ++ q.0,
+    q.1,
+    ap (λ l. first ++ l) q.2 ∙ sym (append_assoc first q.0 q.1),
+    Appends-trans a b c first q.0 p q.3,
+  )

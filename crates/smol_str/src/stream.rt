@@ -1,0 +1,115 @@
+//! Reading and writing by single calls, for the wire form and for programs.
+//!
+//! std's own `read_exact`, `read_to_end` and `write_all` go on after `Interrupted`, which a reader or
+//! a writer may answer without end; these give every error back at once. A reader or writer that
+//! does not tell its bytes is claimed nothing of.
+ghost use Rattle.std.specs.Prelude.{◌≡◌, ◌<◌, ◌≤◌, length, take, IfOk, OnOk, OnErr, IfSome};
+ghost use Rattle.std.specs.Io.KnownBytes.{Appends, Consumes, IsAtEnd};
+ghost use Rattle.smol_str.specs.Stream.{AppendsBeginning};
+ghost use Rattle.smol_str.specs.declared.stream.ReadFault.TheVariants.{OutOfMemory, Io};
+
+use std::alloc::{AllocError, Global};
+use std::io;
+use std::io::{ErrorKind, Read, Write};
+
+/// The most bytes that one `read` is asked for by [`read_up_to`] and [`read_all`].
+pub const PIECE: usize = 4096;
+
+/// Why bytes were not read; how many of them were consumed is left open.
+#[derive(Debug, Drop)]
+pub enum ReadFault {
+    /// Memory was refused.
+    OutOfMemory,
+    /// The reader failed.
+    Io(io::Error),
+}
+
+impl From<io::Error> for ReadFault {
+    ghost from_gives = { λ error fault. fault ≡ Io error };
+
+    fn from(error: io::Error) -> ReadFault {
+        ReadFault::Io(error)
+    }
+}
+
+impl From<AllocError> for ReadFault {
+    ghost from_gives = { λ error fault. fault ≡ OutOfMemory };
+
+    fn from(_error: AllocError) -> ReadFault {
+        ReadFault::OutOfMemory
+    }
+}
+
+/// Fills `buf` from its front, each step by one `read` into what is left of it, and answers how many
+/// bytes came: fewer than `buf` has only where the reader is at its end.
+///
+/// An empty `buf` makes no `read`.
+pub fn fill<R: Read>(reader: &mut R, buf: &mut [u8]) -> Result<usize, io::Error>
+    ensures within { IfOk result (λ n. n ≤ length buf.old) }
+    ensures bytes { IfOk result (λ n.
+        Consumes (R.remaining reader.old) (R.remaining reader.new) (take n buf.new)) }
+    ensures end { IfOk result (λ n. n < length buf.old → IsAtEnd (R.remaining reader.new)) }
+{
+    let mut filled = 0;
+    while filled < buf.len() {
+        let n = reader.read(&mut buf[filled..])?;
+        if n == 0 {
+            return Ok(filled);
+        }
+        filled += n;
+    }
+    Ok(filled)
+}
+
+/// Reads `limit` bytes, or all that there are where these are fewer, by pieces of at most [`PIECE`]
+/// bytes. Memory is asked for by what came, and not by `limit`.
+pub fn read_up_to<R: Read>(
+    alloc: Global,
+    reader: &mut R,
+    limit: usize,
+) -> Result<Vec<u8>, ReadFault>
+    ensures within { IfOk result (λ all. length all.items ≤ limit) }
+    ensures bytes { IfOk result (λ all.
+        Consumes (R.remaining reader.old) (R.remaining reader.new) all.items) }
+    ensures end { IfOk result (λ all. length all.items < limit → IsAtEnd (R.remaining reader.new)) }
+{
+    let mut all = Vec::new(alloc);
+    let mut piece = [0u8; PIECE];
+    while all.len() < limit {
+        let room = PIECE.min(limit - all.len());
+        let n = fill(reader, &mut piece[..room])?;
+        all.extend_from_slice(&piece[..n])?;
+        if n < room {
+            return Ok(all);
+        }
+    }
+    Ok(all)
+}
+
+/// Reads to the end, by pieces of at most [`PIECE`] bytes.
+pub fn read_all<R: Read>(alloc: Global, reader: &mut R) -> Result<Vec<u8>, ReadFault>
+    ensures bytes { IfOk result (λ all.
+        Consumes (R.remaining reader.old) (R.remaining reader.new) all.items) }
+    ensures end { OnOk result (IsAtEnd (R.remaining reader.new)) }
+    ensures whole { IfOk result (λ all. IfSome (R.remaining reader.old) (λ input. all.items ≡ input)) }
+{
+    read_up_to(alloc, reader, usize::MAX)
+}
+
+/// Writes all of `bytes`, each step by one `write` of what is left; a `write` that takes no byte
+/// is the error `WriteZero`. After an error a beginning of `bytes` was written.
+pub fn write_steps<W: Write>(writer: &mut W, bytes: &[u8]) -> Result<(), io::Error>
+    ensures ok { OnOk result (Appends (W.contents writer.old) (W.contents writer.new) bytes.now) }
+    ensures beginning { OnErr result
+        (AppendsBeginning (W.contents writer.old) (W.contents writer.new) bytes.now) }
+{
+    let mut rest = bytes;
+    while !rest.is_empty() {
+        let n = writer.write(rest)?;
+        if n == 0 {
+            return Err(io::Error::from(ErrorKind::WriteZero));
+        }
+        rest = &rest[n..];
+    }
+    Ok(())
+}
