@@ -16,3 +16,4 @@ pub mod WireLemmas
 pub mod Utf8Lemmas
 pub mod SyncLemmas
 pub mod StreamLemmas
+pub mod BorshLemmas

@@ -20,3 +20,4 @@ pub mod CutExamples
 pub mod CaseExamples
 pub mod WireExamples
 pub mod Stream
+pub mod WireFaults

@@ -5,6 +5,7 @@
 //! at most [`BLANK_SPACES`] spaces. A [`SmolStrBuilder`] makes a text piece by piece.
 #![tactic(auto)]
 
+pub mod borsh;
 mod buffer;
 mod builder;
 mod collect;

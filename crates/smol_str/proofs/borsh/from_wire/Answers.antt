@@ -1,0 +1,19 @@
+use Rattle.std.proofs.Common.{◌≡◌, ◌<◌, ◌^◌, IsTrue, length, arith, sym, ap, ◌∙◌, subst}
+use Rattle.std.specs.Str.{encode_utf8_all, all_scalars}
+use Rattle.std.proofs.lemmas.Str.{encodes-chars, scalars-chars}
+use Rattle.std.proofs.lemmas.List.Elements.{All-from_get_or}
+use Rattle.smol_str.specs.Wire.{Holds}
+use Rattle.smol_str.proofs.WireLemmas.{Holds-stated}
+use Rattle.smol_str.proofs.borsh.from_wire.Goals as goal
+
+pub returns-clause-ok : goal.returns-clause-ok
+returns-clause-ok c =
+    let b = c.args.bytes.now in
+    let found = c.in-Some.body.now in
+    let (utf8, value) = c.in_ok-value.ensures.ok in
+    let is : found ≡ encode_utf8_all c.in_ok-value.value.text =
+    sym (encodes-chars found utf8) ∙ ap encode_utf8_all (sym value.text) in
+    let bytes = All-from_get_or (λ c. c < 2 ^ 8) b 0 (λ i _. omega (arith, c.type_inv.bytes i)) in
+    let scalars = subst (λ t. IsTrue (all_scalars t)) (sym value.text) (scalars-chars found utf8) in
+    subst (λ n. Holds b c.in_ok-value.value.text n) (omega (arith, ap length is))
+    (Holds-stated b _ bytes c.in-Some.ensures.0 (sym c.in-Some.ensures.1 ∙ is) scalars)

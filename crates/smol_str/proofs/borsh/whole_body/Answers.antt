@@ -1,0 +1,18 @@
+use Rattle.std.proofs.Common.{inr, ⊎_elim, take, arith, sym}
+use Rattle.smol_str.proofs.BorshLemmas.{stated-of_prefix}
+use Rattle.smol_str.proofs.borsh.whole_body.Goals as goal
+
+pub returns-then-rest-size : goal.returns-then-rest-size
+returns-then-rest-size c =
+    let says = stated-of_prefix _ _ _ _ c.split_at.ensures.front c.copy_from_slice.ensures.after
+    c.size_in-size.ensures.read in
+    inr (omega (arith, says, c.if-rest-size.true, c.if-bytes-lt4.false, c.split_at.ensures.back_len))
+
+pub returns : goal.returns
+returns c =
+    let says = stated-of_prefix _ _ _ _ c.split_at.ensures.front c.copy_from_slice.ensures.after
+    c.size_in-size.ensures.read in (
+      ⊎_elim (λ s. omega (arith, c.if-bytes-lt4.false))
+          (λ s. omega (arith, says, c.if-rest-size.false, c.split_at.ensures.back_len)),
+      (λ i. take (sym says i) (c.split_at.ensures.back i)),
+    )

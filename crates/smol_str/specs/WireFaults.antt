@@ -1,0 +1,90 @@
+-- What stands after the wire form was written or read, and after each fault.
+--     AfterEncodeFault      of a writer
+--     AfterReadFault        of a reader
+--     AfterFromWireFault    of bytes
+-- A reader gives a size first, and then a body of this size.
+--     HasReadSize           the size came
+--     HasReadBody           the body came, and is the text of a value
+--     AfterBodyFault        it did not, or is no text, or memory was refused
+-- And the faults that other calls' faults become.
+--     of_read_fault         of a reader that was read by pieces
+--     of_utf8_fault         of bytes that were to be a value's text
+use Rattle.std.specs.Prelude.{◌≡◌, ℕ, ◌+◌, ◌<◌, ◌^◌, List, length, take, Option, IfSome, ⊤}
+use Rattle.std.specs.Int.{to_le_bytes, w32}
+use Rattle.std.specs.Str.{chars, IsUtf8}
+use Rattle.std.specs.declared.str.Utf8Error.{Utf8Error}
+use Rattle.std.specs.Io.KnownBytes.{Consumes, IsAtEnd, Keeps}
+use Rattle.smol_str.specs.declared.borsh.fault.EncodeFault.{EncodeFault}
+use Rattle.smol_str.specs.declared.borsh.fault.EncodeFault.TheVariants.{TooLong, Io as WriteFailed}
+use Rattle.smol_str.specs.declared.borsh.fault.DecodeFault.{DecodeFault}
+use Rattle.smol_str.specs.declared.borsh.fault.DecodeFault.TheVariants.{Ended, NotUtf8, OutOfMemory, Io as ReadFailed}
+use Rattle.smol_str.specs.declared.stream.ReadFault.{ReadFault}
+use Rattle.smol_str.specs.declared.stream.ReadFault.TheVariants.{OutOfMemory as NoMemoryToRead, Io as ReaderFailed}
+use Rattle.smol_str.specs.declared.value.convert.FromUtf8Fault.{FromUtf8Fault}
+use Rattle.smol_str.specs.declared.value.convert.FromUtf8Fault.TheVariants.{NotUtf8 as BytesNotUtf8, OutOfMemory as NoMemoryForText}
+use Rattle.smol_str.specs.declared.buffer.TheConstants.{INLINE_CAP}
+use Rattle.smol_str.specs.Text.{IsResident}
+use Rattle.smol_str.specs.Meaning.{Meaning, IsValueOf}
+use Rattle.smol_str.specs.Faults.{IsUtf8FaultOf}
+use Rattle.smol_str.specs.Stream.{AppendsBeginning, EndsBelow}
+use Rattle.smol_str.specs.Wire.{stated, HasEndedEarly, body}
+
+-- too long: the value has no form, and nothing was written; else it has, and a beginning of it was written
+abbrev pub AfterEncodeFault : List ℕ → Type 0 → Option (List ℕ) → Option (List ℕ) → EncodeFault → Type 0
+AfterEncodeFault form HasForm held holds TooLong = (¬ HasForm) × Keeps held holds
+AfterEncodeFault form HasForm held holds (WriteFailed e) = HasForm × AppendsBeginning held holds form
+
+-- the body is not UTF-8, and the fault is its own
+abbrev pub IsRefusedBody : List ℕ → Utf8Error → Type 0
+IsRefusedBody bytes e = (¬ (IsUtf8 bytes)) × IsUtf8FaultOf bytes e
+
+-- ended: the bytes had ended early, and none is left; not UTF-8: the size and the whole body were consumed and no more,
+-- and the body is not UTF-8; out of memory: the size that was stated is above INLINE_CAP
+abbrev pub AfterReadFault : Option (List ℕ) → Option (List ℕ) → DecodeFault → Type 0
+AfterReadFault input left Ended = IfSome input HasEndedEarly × IsAtEnd left
+AfterReadFault input left (NotUtf8 e) =
+    IfSome input (λ b. (¬ (HasEndedEarly b)) × IsRefusedBody (body b) e × Consumes input left (take (4 + stated b) b))
+AfterReadFault input left OutOfMemory = IfSome input (λ b. INLINE_CAP < stated b)
+AfterReadFault input left (ReadFailed e) = ⊤
+
+-- ended: the bytes have; else the body is there, and is not UTF-8, or is that of a text that is not resident; no reader
+-- is asked, and so none fails
+abbrev pub AfterFromWireFault : List ℕ → DecodeFault → Type 0
+AfterFromWireFault b Ended = HasEndedEarly b
+AfterFromWireFault b (NotUtf8 e) = (¬ (HasEndedEarly b)) × IsRefusedBody (body b) e
+AfterFromWireFault b OutOfMemory = (¬ (HasEndedEarly b)) × IsUtf8 (body b) × (¬ (IsResident (chars (body b))))
+AfterFromWireFault b (ReadFailed e) = ⊥
+
+-- the reader lost four bytes, which state the size n
+abbrev pub HasReadSize : Option (List ℕ) → Option (List ℕ) → ℕ → Type 0
+HasReadSize input left n = (n < 2 ^ 32) × Consumes input left (to_le_bytes w32 n)
+
+-- the reader lost n bytes, which are the value's text
+pub record HasReadBody (input left : Option (List ℕ)) (n : ℕ) (v : Meaning) : Type 0 where
+  pub body : List ℕ
+  pub whole : length body ≡ n
+  pub utf8 : IsUtf8 body
+  pub bytes : Consumes input left body
+  pub value : IsValueOf (chars body) v
+
+-- the reader lost n bytes, which are not UTF-8
+pub record HasReadNoText (input left : Option (List ℕ)) (n : ℕ) (e : Utf8Error) : Type 0 where
+  pub body : List ℕ
+  pub whole : length body ≡ n
+  pub refused : IsRefusedBody body e
+  pub bytes : Consumes input left body
+
+-- after reading a body of n bytes
+abbrev pub AfterBodyFault : Option (List ℕ) → Option (List ℕ) → ℕ → DecodeFault → Type 0
+AfterBodyFault input left n Ended = EndsBelow input left n
+AfterBodyFault input left n (NotUtf8 e) = HasReadNoText input left n e
+AfterBodyFault input left n OutOfMemory = INLINE_CAP < n
+AfterBodyFault input left n (ReadFailed e) = ⊤
+
+abbrev pub of_read_fault : ReadFault → DecodeFault
+of_read_fault NoMemoryToRead = OutOfMemory
+of_read_fault (ReaderFailed e) = ReadFailed e
+
+abbrev pub of_utf8_fault : FromUtf8Fault → DecodeFault
+of_utf8_fault (BytesNotUtf8 e) = NotUtf8 e
+of_utf8_fault NoMemoryForText = OutOfMemory

@@ -1,0 +1,70 @@
+//! Why a value was not written, or not read.
+ghost use Rattle.std.specs.Prelude.{◌≡◌};
+ghost use Rattle.smol_str.specs.WireFaults.{of_read_fault, of_utf8_fault};
+ghost use Rattle.smol_str.specs.declared.borsh.fault.EncodeFault.TheVariants.{Io as WriteFailed};
+ghost use Rattle.smol_str.specs.declared.borsh.fault.DecodeFault.TheVariants.{Io as ReadFailed};
+
+use crate::stream::ReadFault;
+use crate::value::convert::FromUtf8Fault;
+use std::io;
+use std::str::Utf8Error;
+
+/// Why a value was not written.
+#[derive(Debug, Drop)]
+pub enum EncodeFault {
+    /// The text has more than 4294967295 bytes, and so no wire form.
+    TooLong,
+    /// The writer failed, or took no byte.
+    Io(io::Error),
+}
+
+/// Why no value was read.
+#[derive(Debug, Drop)]
+pub enum DecodeFault {
+    /// The bytes end before the size does, or before as many bytes as it states.
+    Ended,
+    /// The body is not UTF-8; std's fault says where the valid bytes end.
+    NotUtf8(Utf8Error),
+    /// Memory was refused.
+    OutOfMemory,
+    /// The reader failed.
+    Io(io::Error),
+}
+
+impl From<io::Error> for EncodeFault {
+    ghost from_gives = { λ error fault. fault ≡ WriteFailed error };
+
+    fn from(error: io::Error) -> EncodeFault {
+        EncodeFault::Io(error)
+    }
+}
+
+impl From<io::Error> for DecodeFault {
+    ghost from_gives = { λ error fault. fault ≡ ReadFailed error };
+
+    fn from(error: io::Error) -> DecodeFault {
+        DecodeFault::Io(error)
+    }
+}
+
+impl From<ReadFault> for DecodeFault {
+    ghost from_gives = { λ error fault. fault ≡ of_read_fault error };
+
+    fn from(fault: ReadFault) -> DecodeFault {
+        match fault {
+            ReadFault::OutOfMemory => DecodeFault::OutOfMemory,
+            ReadFault::Io(error) => DecodeFault::Io(error),
+        }
+    }
+}
+
+impl From<FromUtf8Fault> for DecodeFault {
+    ghost from_gives = { λ error fault. fault ≡ of_utf8_fault error };
+
+    fn from(fault: FromUtf8Fault) -> DecodeFault {
+        match fault {
+            FromUtf8Fault::NotUtf8(error) => DecodeFault::NotUtf8(error),
+            FromUtf8Fault::OutOfMemory => DecodeFault::OutOfMemory,
+        }
+    }
+}
