@@ -9,7 +9,7 @@ use Rattle.smol_tokens.specs.declared.mode.Mode.{Mode}
 use Rattle.smol_tokens.specs.declared.fault.RunFault.{RunFault}
 use Rattle.smol_tokens.specs.declared.fault.RunFault.TheVariants.{NotUtf8, OutOfMemory, Io}
 use Rattle.smol_tokens.specs.Report.{report}
-use Rattle.smol_tokens.specs.Stream.{AppendsBeginning}
+use Rattle.smol_str.specs.Stream.{AppendsBeginning}
 
 -- of the reader: what it had (input), and what it has left; of the writer: what it held, and what it holds now
 module _ (mode : Mode) (input left held holds : Option (List ℕ)) where

@@ -4,7 +4,7 @@ ghost use Rattle.smol_tokens.specs.FaultLine.{line_of};
 ghost use Rattle.smol_tokens.specs.ReadFaults.{run_fault};
 ghost use Rattle.smol_tokens.specs.declared.fault.RunFault.TheVariants.{OutOfMemory, Io};
 
-use crate::stream::ReadFault;
+use smol_str::stream::ReadFault;
 use std::alloc::AllocError;
 use std::io;
 

@@ -10,7 +10,6 @@ mod lines;
 mod mode;
 mod report;
 mod run;
-mod stream;
 #[cfg(test)]
 mod tests;
 

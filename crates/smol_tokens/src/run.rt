@@ -5,7 +5,7 @@ ghost use Rattle.smol_tokens.specs.Faults.{WroteReport, AfterFault};
 use crate::fault::RunFault;
 use crate::mode::Mode;
 use crate::report::make_report;
-use crate::stream::{read_all, write_steps};
+use smol_str::stream::{read_all, write_steps};
 use std::alloc::Global;
 use std::io::{Read, Write};
 
