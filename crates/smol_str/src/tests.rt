@@ -10,6 +10,10 @@ mod large;
 mod places;
 mod print;
 mod refuse;
+mod streams;
+mod wire;
+mod wire_faults;
+mod wire_memory;
 
 use std::alloc::{AllocError, Global};
 

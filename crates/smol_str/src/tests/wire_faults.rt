@@ -1,0 +1,126 @@
+//! Bytes that hold no wire form, and readers and writers that fail.
+use super::streams::{Failure, empty_drip, trickle_of};
+use super::wire::{ROWS, form_of, text_of};
+use crate::borsh::{BorshDeserialize, BorshSerialize, DecodeFault, EncodeFault, from_wire};
+use crate::{INLINE_CAP, SmolStr};
+use std::alloc::Global;
+use std::io::ErrorKind;
+use std::process::Abort;
+use std::test::Fail;
+
+#[derive(Clone, Copy, PartialEq, Eq, Debug)]
+enum Kind {
+    Ended,
+    NotUtf8,
+    OutOfMemory,
+    Io(ErrorKind),
+}
+
+fn kind_of(fault: &DecodeFault) -> Kind {
+    match fault {
+        DecodeFault::Ended => Kind::Ended,
+        DecodeFault::NotUtf8(_) => Kind::NotUtf8,
+        DecodeFault::OutOfMemory => Kind::OutOfMemory,
+        DecodeFault::Io(error) => Kind::Io(error.kind()),
+    }
+}
+
+/// The size 30, and bytes that are not UTF-8.
+const NOISE: &[u8] = b"\x1e\0\0\0\xc1\x8a\x5f\xe2\x3a\x9e\x3b\xaa\x01\x08\x6f\x2f\xc0\x32\xab\xe1\
+\x9a\x2f\x4a\x3f\x25\x0d\x8a\x2a\x19\x11\xf0\x7f\x0e\x80";
+
+/// Bytes, the fault, and how many of them a reader has left.
+const REFUSED: [(&[u8], Kind, usize); 8] = [
+    (b"", Kind::Ended, 0),
+    (b"\0\0\0", Kind::Ended, 0),
+    (b"\x05\0\0\0\xff", Kind::Ended, 0),
+    (b"\xff\xff\xff\xffabc", Kind::Ended, 0),
+    (b"\x18\0\0\0aaaaaaaaaaaaaaaaaaaaaaa", Kind::Ended, 0),
+    (b"\x03\0\0\0\xf0\x9f\x8f", Kind::NotUtf8, 0),
+    (b"\x01\0\0\0\xc3\xa9", Kind::NotUtf8, 1),
+    (NOISE, Kind::NotUtf8, 0),
+];
+
+#[test]
+fn refused(rt: HostRuntime) {
+    for (bytes, kind, left) in REFUSED {
+        assert_refused(&rt, rt.alloc(), bytes, kind, left);
+    }
+}
+
+// Each form of the table, cut after every byte.
+#[test]
+fn cut_short(rt: HostRuntime) -> Result<(), Fail> {
+    for row in ROWS {
+        let form = form_of(rt.alloc(), row)?;
+        for end in 0..form.len() {
+            assert_refused(&rt, rt.alloc(), &form[..end], Kind::Ended, 0);
+        }
+    }
+    Ok(())
+}
+
+/// Both calls answer this fault, whatever the reader's steps.
+fn assert_refused(rt: &impl Abort, alloc: Global, bytes: &[u8], kind: Kind, left: usize) {
+    match from_wire(alloc, bytes) {
+        Err(fault) => assert_eq!(rt; kind_of(&fault), kind, "{bytes:?}"),
+        Ok(_) => assert!(rt; false, "{bytes:?}"),
+    }
+    for step in [1, usize::MAX] {
+        let mut reader = trickle_of(bytes, step, 0);
+        match SmolStr::deserialize_reader(alloc, &mut reader) {
+            Err(fault) => assert_eq!(rt; kind_of(&fault), kind, "{bytes:?}, by {step}"),
+            Ok(_) => assert!(rt; false, "{bytes:?}, by {step}"),
+        }
+        assert_eq!(rt; reader.rest.len(), left, "{bytes:?}, by {step}");
+    }
+}
+
+// A byte a call: each byte of the form is a call, and no call comes after the last.
+#[test]
+fn fails_at_each_read(rt: HostRuntime) -> Result<(), Fail> {
+    for row in ROWS {
+        let form = form_of(rt.alloc(), row)?;
+        let whole = form.len();
+        for fails_at in 1..=whole {
+            let mut reader = trickle_of(form.as_slice(), 1, fails_at);
+            match SmolStr::deserialize_reader(rt.alloc(), &mut reader) {
+                Err(fault) => {
+                    assert_eq!(rt; kind_of(&fault), Kind::Io(ErrorKind::Interrupted));
+                }
+                Ok(_) => assert!(rt; false, "{form:?}, at call {fails_at}"),
+            }
+            assert_eq!(rt; reader.calls, fails_at, "{form:?}");
+        }
+        let mut reader = trickle_of(form.as_slice(), 1, whole.saturating_add(1));
+        let _ = SmolStr::deserialize_reader(rt.alloc(), &mut reader)?;
+        assert_eq!(rt; reader.calls, whole, "{form:?}");
+    }
+    Ok(())
+}
+
+#[test]
+fn fails_at_each_write(rt: HostRuntime) -> Result<(), Fail> {
+    let alloc = rt.alloc();
+    for row in ROWS {
+        let value = SmolStr::new(alloc, text_of(alloc, row)?.as_str())?;
+        let form = form_of(alloc, row)?;
+        for (failure, kind) in [
+            (Failure::Interrupted, ErrorKind::Interrupted),
+            (Failure::TakesNone, ErrorKind::WriteZero),
+        ] {
+            for written in 0..form.len() {
+                let mut writer = empty_drip(alloc, 1, written.saturating_add(1), failure);
+                match value.serialize(&mut writer) {
+                    Err(EncodeFault::Io(error)) => assert_eq!(rt; error.kind(), kind),
+                    _ => assert!(rt; false, "{form:?}, {failure:?} after {written}"),
+                }
+                assert_eq!(rt; writer.taken.as_slice(), &form[..written], "{failure:?}");
+            }
+            let mut writer = empty_drip(alloc, 1, form.len().saturating_add(1), failure);
+            value.serialize(&mut writer)?;
+            assert_eq!(rt; writer.calls, form.len(), "{form:?}");
+        }
+    }
+    Ok(())
+}
