@@ -3,6 +3,7 @@
 --     builders    a ruleset: appends after appends, and when a builder leaves its buffer
 --     appended-more, appended-refused     a loop that appends a piece for each item of a list
 --     collecting  a ruleset: collecting and extending from an iterator that gives a list
+--     form_is_whole, form-..              bytes that are a wire form: both calls read its text
 --     key_of, same_key-other              a map with values as keys, at other texts than the one that changed
 --     IsCut-cut, IsCut-unique, IsCutAt-step, IsCutAt-unmatched     that pieces are the cut of a text
 use Rattle.std.proofs.Common.{◌≡◌, ℕ, ◌+◌, ◌<◌, ◌≤◌, String, Global, Bor, Option, Result, Ok, Err, IfOk, IsOk, OnOk, OnErr, subst, List, [], ◌++◌, length, take, drop, get_or, encode_utf8_all, refl, sym, ap, ◌∙◌, inl, append-nil, false, IsTrue}
@@ -25,6 +26,8 @@ use Rattle.smol_str.proofs.ListLemmas.{flat_map-more, flat_map-parts}
 use Rattle.smol_str.proofs.TextLemmas.{size-chars, IsShort-chars}
 use Rattle.smol_str.proofs.DraftLemmas.{kind_with-short}
 use Rattle.smol_str.proofs.CollectLemmas.{joined-chars, joined-drained, not_short-outgrown}
+use Rattle.smol_str.specs.Wire.{HasWire, wire, Holds, HasEndedEarly, body}
+use Rattle.smol_str.proofs.WireLemmas.{wire-apart, Holds-one, Holds-whole, body-Holds, Holds-written}
 -- each front of a short text is short
 pub use Rattle.smol_str.proofs.TextLemmas.{IsShort-front}
 -- appending twice is appending the joined text; a new builder leaves its buffer only for a text that is not short
@@ -209,3 +212,26 @@ pub ruleset collecting = (
   YieldsList-from_slice,
   YieldsList-from_vec,
 )
+
+-- ---- wire forms: bytes that are the form of t, and what follows it
+
+module _ (b t x : List ℕ) (sized : HasWire t) (scalars : IsTrue (all_scalars t)) (is : b ≡ wire t ++ x) where
+  form_is_held : Holds b t (size t + 4)
+  form_is_held = subst (λ s. Holds s t (size t + 4)) (sym is) (Holds-written t x sized scalars)
+
+  pub form_is_whole : ¬ HasEndedEarly b
+  form_is_whole = Holds-whole b t (size t + 4) form_is_held
+
+  pub form-utf8 : IsUtf8 (body b)
+  form-utf8 = (t, (scalars, sym (body-Holds b t (size t + 4) form_is_held)))
+
+  pub form-text : chars (body b) ≡ t
+  form-text = ap chars (body-Holds b t (size t + 4) form_is_held) ∙ chars-encodes t scalars
+
+  -- what `from_wire` finds in them
+  pub form-held : (u : List ℕ) (n : ℕ) → Holds b u n → (u ≡ t) × (n ≡ size t + 4)
+  form-held u n h = Holds-one b u t n (size t + 4) h form_is_held
+
+  -- what `deserialize_reader` consumes of them, and leaves
+  pub form-read : (u r : List ℕ) → HasWire u → b ≡ wire u ++ r → (u ≡ t) × (r ≡ x)
+  form-read u r fits e = wire-apart u t r x fits sized (sym e ∙ is)

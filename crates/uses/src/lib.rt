@@ -2,3 +2,4 @@
 #![tactic(auto)]
 
 pub mod collecting;
+pub mod wire;
