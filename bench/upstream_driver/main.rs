@@ -73,6 +73,8 @@ const SHORT: &[Row] = &[
     ("push 10 times", "push", 10, Same),
     ("with_capacity 100, 5", "with_capacity", 5, Same),
     ("display 20", "display", 20, Same),
+    ("serialize 10 into a Vec", "serialize", 10, Same),
+    ("from_wire 10", "from_wire", 10, Same),
 ];
 
 /// Rows of static and heap texts.
@@ -92,6 +94,7 @@ const LONG: &[Row] = &[
     ("from_string 30", "from_string", 30, Same),
     ("push_str 3 times 20", "push_str", 20, Same),
     ("display 40", "display", 40, Same),
+    ("from_wire 100", "from_wire", 100, Same),
 ];
 
 /// So few that the values of both sides stay in the first cache.

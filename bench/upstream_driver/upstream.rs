@@ -1,14 +1,18 @@
 //! The operations over upstream's crate; `ours.rt.in` has the same names over ours.
+//!
+//! The wire form is borsh's of a string by hand, in upstream's steps: the crate borsh is not asked for.
 use smol_str::{SmolStr, SmolStrBuilder};
 use std::fmt::Write;
 use std::hash::{DefaultHasher, Hash, Hasher};
+use std::io::{self, ErrorKind, Read, Write as _};
 
-/// Two texts of the input and the value of each.
+/// Two texts of the input, the value of each, and the wire form of the first.
 struct Case {
     text: String,
     other: String,
     value: SmolStr,
     other_value: SmolStr,
+    form: Vec<u8>,
 }
 
 /// The input cut into texts of `size` bytes.
@@ -19,6 +23,7 @@ fn cases(texts: &[u8], others: &[u8], size: usize) -> Vec<Case> {
     let case = |(text, other): (String, String)| Case {
         value: SmolStr::new(&text),
         other_value: SmolStr::new(&other),
+        form: form_of(&SmolStr::new(&text)).unwrap(),
         text,
         other,
     };
@@ -137,6 +142,60 @@ fn display(out: &mut String, value: &SmolStr, pick: usize) -> u64 {
     seen(out, pick)
 }
 
+/// The wire form, in a `Vec` that begins empty.
+#[inline(always)]
+fn form_of(value: &SmolStr) -> io::Result<Vec<u8>> {
+    let mut form = Vec::new();
+    let size = u32::try_from(value.len()).map_err(|_| ErrorKind::InvalidInput)?;
+    form.write_all(&size.to_le_bytes())?;
+    form.write_all(value.as_bytes())?;
+    Ok(form)
+}
+
+#[inline(always)]
+fn serialize(value: &SmolStr, pick: usize) -> u64 {
+    match form_of(value) {
+        Ok(form) => u64::from(form.get(pick).copied().unwrap_or(0)).wrapping_add(form.len() as u64),
+        Err(_) => 0,
+    }
+}
+
+/// A body that may be inline goes through a buffer, a longer one into a `Vec` that grows up to the stated size.
+#[inline(always)]
+fn read_value(reader: &mut &[u8]) -> io::Result<SmolStr> {
+    let mut prefix = [0; 4];
+    reader.read_exact(&mut prefix)?;
+    let size = u32::from_le_bytes(prefix) as usize;
+    if size < SmolStr::INLINE_CAP {
+        let mut buffer = [0; SmolStr::INLINE_CAP];
+        reader.read_exact(&mut buffer[..size])?;
+        let text = str::from_utf8(&buffer[..size]).map_err(|e| io::Error::new(ErrorKind::InvalidData, e.to_string()))?;
+        return Ok(SmolStr::new_inline(text));
+    }
+    let mut body = vec![0; size.min(4096)];
+    let mut filled = 0;
+    while filled < size {
+        if filled == body.len() {
+            body.resize(body.len().saturating_mul(2).min(size), 0);
+        }
+        match reader.read(&mut body[filled..])? {
+            0 => return Err(ErrorKind::UnexpectedEof.into()),
+            n => filled += n,
+        }
+    }
+    let text = String::from_utf8(body).map_err(|e| io::Error::new(ErrorKind::InvalidData, e.to_string()))?;
+    Ok(SmolStr::from(text))
+}
+
+#[inline(always)]
+fn wire_read(form: &[u8], pick: usize) -> u64 {
+    let mut reader = form;
+    match read_value(&mut reader) {
+        Ok(value) => seen(&value, pick).wrapping_add((form.len() - reader.len()) as u64),
+        Err(_) => 0,
+    }
+}
+
 /// So many rounds over all cases. Which byte is looked at changes from round to round, and the compiler knows
 /// none of them, so that a text must lie in memory and no two rounds are the same.
 #[inline(never)]
@@ -177,6 +236,8 @@ pub fn bench_upstream(operation: &str, texts: &[u8], others: &[u8], size: usize,
         "push" => run(all, n, |it, at| push(&it.text, at)),
         "with_capacity" => run(all, n, |it, at| with_capacity(&it.text, at)),
         "display" => run(all, n, |it, at| display(&mut out, &it.value, at)),
+        "serialize" => run(all, n, |it, at| serialize(&it.value, at)),
+        "from_wire" => run(all, n, |it, at| wire_read(&it.form, at)),
         _ => panic!("no operation {operation}"),
     }
 }
