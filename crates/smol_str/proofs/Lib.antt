@@ -13,6 +13,7 @@ pub mod CaseLemmas
 pub mod CutLemmas
 pub mod ReplaceLemmas
 pub mod WireLemmas
+mod JsonLemmas
 pub mod Utf8Lemmas
 pub mod SyncLemmas
 pub mod StreamLemmas

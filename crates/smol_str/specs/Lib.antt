@@ -16,6 +16,7 @@ pub mod Case
 pub mod Cut
 pub mod Replace
 pub mod Wire
+pub mod Json
 pub mod CutExamples
 pub mod CaseExamples
 pub mod WireExamples

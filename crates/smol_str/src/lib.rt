@@ -9,6 +9,7 @@ pub mod borsh;
 mod buffer;
 mod builder;
 mod collect;
+pub mod json;
 pub mod laws;
 pub mod stream;
 #[cfg(test)]

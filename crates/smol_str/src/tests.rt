@@ -5,6 +5,7 @@ mod calls;
 mod collect;
 mod compare;
 mod convert;
+mod json;
 mod keys;
 mod large;
 mod places;

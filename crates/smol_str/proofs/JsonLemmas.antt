@@ -1,0 +1,38 @@
+-- JSON strings, for module `json`.
+use Rattle.std.proofs.Common.{String, Global, string_bytes, rules, ◌≡◌, ℕ, List, Some, Result, Ok, Err, IfOk, sym, ap, ◌∙◌}
+use Rattle.std.specs.Str.{chars}
+use Rattle.std.proofs.lemmas.Str.{encodes-chars, encodes_same, IsUtf8-string_bytes}
+use Rattle.serde_json.specs.Data as json
+use Rattle.serde_json.specs.Read.{read}
+use Rattle.serde_json.specs.View.{view}
+use Rattle.serde_json.specs.declared.value.Value as value
+use Rattle.smol_str.specs.Text.{place_of}
+use Rattle.smol_str.specs.Meaning.{Meaning, IsValueOf}
+use Rattle.smol_str.specs.Json.{json_value, IsJsonOf}
+
+view-String : (s : String Global) → view (value.String s) ≡ json.string (string_bytes s)
+view-String s = search (rules, value.the_lemmas)
+
+-- a string value is the JSON value of its text
+pub view-chars : (v : value.Value) (s : String Global) → v ≡ value.String s → view v ≡ json_value (chars (string_bytes s))
+view-chars v s is =
+    let text = encodes-chars (string_bytes s) (IsUtf8-string_bytes s) in
+    ap view is ∙ view-String s ∙ ap json.string (sym text)
+
+-- two texts with one JSON value are one
+pub json_value-same : (s t : List ℕ) → json_value s ≡ json_value t → s ≡ t
+json_value-same s t e = encodes_same s t cc
+
+pub IsJsonOf-IsValueOf : (t : List ℕ) (v : Meaning) → IsValueOf t v → IsJsonOf (json_value t) v
+IsJsonOf-IsValueOf t v h = record { text = ap json_value (sym h.text); place = h.place ∙ ap place_of (sym h.text) }
+
+pub IsValueOf-IsJsonOf : (t : List ℕ) (v : Meaning) → IsJsonOf (json_value t) v → IsValueOf t v
+IsValueOf-IsJsonOf t v h =
+    let text = json_value-same v.text t (sym h.text) in
+    record { text = text; place = h.place ∙ ap place_of text }
+
+-- a value of what bytes read as, where that is the JSON value of t
+pub IsValueOf-read : {E : Type 0} (r : Result Meaning E) (d : json.Data) (bs t : List ℕ) → read bs ≡ Some d →
+    IfOk r (IsJsonOf d) → read bs ≡ Some (json_value t) → IfOk r (λ v. IsValueOf t v)
+IsValueOf-read (Ok v) d bs t e h f = let same : d ≡ json_value t = cc in IsValueOf-IsJsonOf t v (rw same at h)
+IsValueOf-read (Err x) d bs t e h f = tt

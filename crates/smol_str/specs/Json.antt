@@ -1,0 +1,38 @@
+-- The JSON value of a text, and when each fault comes.
+--     json_value t      the JSON string of the text t
+--     IsJsonOf d v      d is the JSON value of v's text, and v keeps it in its place
+--     IsOther d         d is another JSON value than a string
+-- JSON values, and which text reads as which, are those of `serde_json`.
+use Rattle.std.specs.Prelude.{◌≡◌, ⊤, ℕ, List, Some, None, encode_utf8_all}
+use Rattle.serde_json.specs.Data as json
+use Rattle.serde_json.specs.Read.{read}
+use Rattle.smol_str.specs.declared.json.JsonFault.{JsonFault}
+use Rattle.smol_str.specs.declared.json.JsonFault.TheVariants.{NotString, Json, OutOfMemory}
+use Rattle.smol_str.specs.Text.{IsResident, place_of}
+use Rattle.smol_str.specs.Meaning.{Meaning}
+
+-- the string value with that text
+abbrev pub json_value : List ℕ → json.Data
+json_value t = json.string (encode_utf8_all t)
+
+-- a value that was made of a JSON value
+pub record IsJsonOf (d : json.Data) (v : Meaning) : Type 0 where
+  pub text : d ≡ json_value v.text
+  pub place : v.place ≡ place_of v.text
+
+-- null, a truth value, a number, a list or an object
+abbrev pub IsOther : json.Data → Type 0
+IsOther (json.string bytes) = ⊥
+IsOther _ = ⊤
+
+-- of a JSON value: it is no string; or it is the string of a text that is not resident
+abbrev pub AfterValueFault : json.Data → JsonFault → Type 0
+AfterValueFault d NotString = IsOther d
+AfterValueFault d (Json e) = ⊥
+AfterValueFault d OutOfMemory = (t : List ℕ) × (d ≡ json_value t) × (¬ (IsResident t))
+
+-- of the bytes of a text: they read as another value than a string, or as none
+abbrev pub AfterJsonFault : List ℕ → JsonFault → Type 0
+AfterJsonFault bytes NotString = (d : json.Data) × (read bytes ≡ Some d) × IsOther d
+AfterJsonFault bytes (Json e) = read bytes ≡ None
+AfterJsonFault bytes OutOfMemory = ⊤
