@@ -69,6 +69,7 @@ const SHORT: &[Row] = &[
     ("from_string 10", "from_string", 10, Same),
     ("into_string 20", "into_string", 20, Same),
     ("from a char", "from_char", 5, Same),
+    ("from_chars 10", "from_chars", 10, Same),
     ("push_str 3 times 5", "push_str", 5, Same),
     ("push 10 times", "push", 10, Same),
     ("with_capacity 100, 5", "with_capacity", 5, Same),
