@@ -166,7 +166,7 @@ impl SmolStrBuilder {
     /// Only a builder on the heap can be refused a clone. The clone has the room that its text needs,
     /// and none that a larger capacity left over.
     pub fn clone(&self) -> Result<SmolStrBuilder, AllocError>
-        ensures same { IfOk result (λ copy. copy ≡ self.now) }
+        ensures ok { IfOk result (λ copy. copy ≡ self.now) }
         ensures refused { OnErr result (self.now.kind ≡ OnHeap) }
     {
         let alloc = self.alloc;
@@ -209,7 +209,7 @@ impl Clone for SmolStrBuilder {
     ghost is_infallible = { λ b. b.kind ≡ InBuffer };
 
     fn clone(&self) -> Result<SmolStrBuilder, AllocError>
-        ensures same { IfOk result (λ copy. copy ≡ self.now) }
+        ensures ok { IfOk result (λ copy. copy ≡ self.now) }
         ensures refused { OnErr result (self.now.kind ≡ OnHeap) }
     {
         SmolStrBuilder::clone(self)
