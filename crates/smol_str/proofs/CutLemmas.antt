@@ -20,11 +20,11 @@ pub joined_more : (p q r : List ℕ) (rs : List (List ℕ)) → joined_by p (q �
 joined_more p q r rs = ap (λ xs. q ++ xs) (append_assoc p r (flat_map (λ y. p ++ y) rs))
 
 -- what stands nowhere in a text stands nowhere in its tail
-not_later : (p : List ℕ) (c : ℕ) (t : List ℕ) → ¬ Occurs p (c ∷ t) → ¬ Occurs p t
+pub not_later : (p : List ℕ) (c : ℕ) (t : List ℕ) → ¬ Occurs p (c ∷ t) → ¬ Occurs p t
 not_later p c t none o = none (c ∷ o.0, o.1, ap (λ xs. c ∷ xs) o.2)
 
 -- the last item, as a list
-abbrev last_part : List ℕ → List ℕ
+abbrev pub last_part : List ℕ → List ℕ
 last_part [] = []
 last_part (x ∷ []) = x ∷ []
 last_part (x ∷ y ∷ rest) = last_part (y ∷ rest)
@@ -35,12 +35,12 @@ two_parts (x ∷ []) = refl
 two_parts (x ∷ y ∷ rest) = ap (λ s. x ∷ s) (two_parts (y ∷ rest))
 
 -- q followed by p is q and p without its last character, and then that character
-parts : (p q x : List ℕ) → q ++ (p ++ x) ≡ (q ++ but_last p) ++ (last_part p ++ x)
+pub parts : (p q x : List ℕ) → q ++ (p ++ x) ≡ (q ++ but_last p) ++ (last_part p ++ x)
 parts p q x =
     ap (λ s. q ++ (s ++ x)) (sym (two_parts p)) ∙ ap (λ s. q ++ s) (append_assoc (but_last p) (last_part p) x)
     ∙ sym (append_assoc q (but_last p) (last_part p ++ x))
 
-length_but_last : {X : Type 0} (p : List X) → length (but_last p) ≡ length p - 1
+pub length_but_last : {X : Type 0} (p : List X) → length (but_last p) ≡ length p - 1
 length_but_last [] = refl
 length_but_last (x ∷ []) = omega arith
 length_but_last (x ∷ y ∷ rest) = omega (arith, length_but_last (y ∷ rest))

@@ -18,3 +18,7 @@ pub mod Utf8Lemmas
 pub mod SyncLemmas
 pub mod StreamLemmas
 pub mod BorshLemmas
+pub mod SplitLemmas
+pub mod MatchLemmas
+pub mod LaneLemmas
+pub mod ConvertLemmas

@@ -4,6 +4,7 @@
 --     IsFirstAfter p q         in q followed by p, p stands first at the end
 --     joined_by p pieces       the pieces in a row, with p between each two
 --     IsCut t p n pieces       the pieces of t, cut at p at most n times
+--     IsNextMatch a b p i      in a followed by b, the first p that begins in b has i bytes before it
 --     but_last xs              xs without its last item
 -- The last item of xs, as an option, is std's `last_or None xs`.
 use Rattle.std.specs.Prelude.{◌≡◌, ℕ, ◌+◌, ◌<◌, ◌≤◌, min, List, [], ◌∷◌, ◌++◌, ⊤, length, None, All, IfSome}
@@ -27,6 +28,14 @@ but_last (x ∷ y ∷ rest) = x ∷ but_last (y ∷ rest)
 -- p stands nowhere in q followed by all of p but its last character
 abbrev pub IsFirstAfter : List ℕ → List ℕ → Type 0
 IsFirstAfter p q = ¬ Occurs p (q ++ but_last p)
+
+-- the first match of p in b, where i counts the bytes of a too
+pub record IsNextMatch (a b p : List ℕ) (i : ℕ) : Type 0 where
+  pub before : List ℕ
+  pub after : List ℕ
+  pub reads : b ≡ before ++ (p ++ after)
+  pub place : size (a ++ before) ≡ i
+  pub first : IsFirstAfter p before
 
 -- `pieces.join(p)`
 abbrev pub joined_by : List ℕ → List (List ℕ) → List ℕ

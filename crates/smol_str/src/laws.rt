@@ -13,7 +13,7 @@ ghost use Rattle.std.specs.Char.{IsAsciiUppercase, IsAsciiLowercase};
 ghost use Rattle.smol_str.specs.Text.{size, IsShort, IsBlankRun, IsResident, place_of};
 ghost use Rattle.smol_str.specs.Buffer.{padded};
 ghost use Rattle.smol_str.specs.Case.{lower, upper, front, IsAsciiText, BeginsPastAscii};
-ghost use Rattle.smol_str.specs.Cut.{Occurs, StandsAt, IsFirstAfter, IsCut, joined_by};
+ghost use Rattle.smol_str.specs.Cut.{Occurs, StandsAt, IsFirstAfter, IsNextMatch, IsCut, joined_by};
 ghost use Rattle.smol_str.specs.Replace.{cut, no_limit, match_count, replaced, replaced_all};
 ghost use Rattle.smol_str.specs.Wire.{HasWire, wire, Holds, HasEndedEarly, body};
 
@@ -117,6 +117,15 @@ pub fn replacement_by_steps()
     ensures between { (c : ℕ) (t w : List ℕ) (n : ℕ) →
         replaced (c ∷ t) [] w (n + 1) ≡ w ++ (c ∷ replaced t [] w n) }
     ensures end { (w : List ℕ) (n : ℕ) → replaced [] [] w (n + 1) ≡ w }
+{}
+
+/// At most one place is that of the next match, and where there is one the pattern stands.
+///
+/// The empty pattern is left out of the first: nothing comes before its first match.
+pub fn next_match()
+    ensures one { (a b p : List ℕ) (i j : ℕ) → 0 < length p →
+        IsNextMatch a b p i → IsNextMatch a b p j → i ≡ j }
+    ensures stands { (a b p : List ℕ) (i : ℕ) → IsNextMatch a b p i → Occurs p b }
 {}
 
 /// Wire forms can be told apart, bytes hold at most one, and they hold it where they say so.

@@ -10,6 +10,7 @@ mod buffer;
 mod builder;
 mod collect;
 pub mod json;
+pub mod kernel;
 pub mod laws;
 pub mod stream;
 #[cfg(test)]

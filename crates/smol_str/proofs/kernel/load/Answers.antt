@@ -1,0 +1,9 @@
+use Rattle.std.proofs.Common.{w8}
+use Rattle.std.proofs.lemmas.Simd.{chunk-fits, below_from_Fits}
+use Rattle.smol_str.proofs.kernel.load.Goals as goal
+use lib.Lanes.{chunk}
+
+pub returns-clause-fits : goal.returns-clause-fits
+returns-clause-fits c =
+    below_from_Fits w8 (chunk c.args.at 16 c.args.bytes.now)
+    (chunk-fits w8 c.args.at 16 c.args.bytes.now c.type_inv.bytes)

@@ -1,0 +1,188 @@
+//! The loops over the bytes of a text: ASCII case by sixteen lanes, and the search for a pattern.
+ghost use Rattle.std.specs.Prelude.{◌≡◌, ◌↔◌, ◌<◌, ◌≤◌, ◌+◌, ℕ, List, [], ◌∷◌, ◌++◌, Some, None, false, length, take, drop, slice_index, encode_utf8_all};
+ghost use Rattle.std.specs.Str.{IsCharBoundary, chars};
+ghost use Rattle.std.specs.Simd.Lanes.{Each1, put_chunk};
+ghost use Rattle.memchr.specs.Find.{FindsNeedle};
+ghost use Rattle.smol_str.specs.Text.{size};
+ghost use Rattle.smol_str.specs.Buffer.{padded};
+ghost use Rattle.smol_str.specs.Case.{lower, upper, front};
+ghost use Rattle.smol_str.specs.Convert.{converted, IsConverted};
+ghost use Rattle.smol_str.specs.Cut.{Occurs, IsNextMatch};
+
+use crate::buffer::{INLINE_CAP, InlineBuffer};
+use memchr::{memchr, memmem};
+use std::simd::prelude::*;
+
+/// How many bytes are mapped at a time.
+const LANES: usize = 16;
+
+/// A case of ASCII letters.
+#[derive(Clone, Copy, PartialEq, Eq, Debug)]
+pub enum AsciiCase {
+    /// A to Z become a to z.
+    Lower,
+    /// a to z become A to Z.
+    Upper,
+}
+
+/// The ASCII front of a short text in a case: its bytes and then zeros, and how many bytes it has.
+///
+/// The front is what comes before the first character past ASCII.
+///
+/// ```
+/// let (buffer, len) = convert_while_ascii("ABCé", AsciiCase::Lower);
+/// assert_eq!(rt; &buffer[..len], b"abc");
+/// ```
+pub fn convert_while_ascii(text: &str, case: AsciiCase) -> (InlineBuffer, usize)
+    requires { length text.now ≤ INLINE_CAP }
+    ensures bytes { result.0 ≡ padded (encode_utf8_all (converted case (front (chars text.now)))) }
+    ensures len { result.1 ≡ length (front (chars text.now)) }
+{
+    let bytes = text.as_bytes();
+    let mut buffer = [0; INLINE_CAP];
+    let at = convert_chunks(bytes, case, &mut buffer);
+    let len = convert_bytes(bytes, case, &mut buffer, at);
+    (buffer, len)
+}
+
+/// The byte place of the first match of a pattern at or after `from`, `None` where there is none.
+///
+/// Both the answer and the place behind the match are character boundaries: the clauses speak of the
+/// characters before `from`, `a`, and those from there on, `b`.
+///
+/// ```
+/// assert_eq!(rt; next_match("foo_bar_baz", 5, "ba"), Some(8));
+/// ```
+pub fn next_match(text: &str, from: usize, pattern: &str) -> Option<usize>
+    requires boundary { IsCharBoundary text.now from }
+    requires not_empty { 0 < length pattern.now }
+    ensures found { (a b : List ℕ) → chars text.now ≡ a ++ b → size a ≡ from →
+        (i : ℕ) → (result ≡ Some i) ↔ IsNextMatch a b (chars pattern.now) i }
+    ensures none { (a b : List ℕ) → chars text.now ≡ a ++ b → size a ≡ from →
+        (result ≡ None) ↔ (¬ Occurs (chars pattern.now) b) }
+{
+    let found = find_bytes(bytes_from(text, from), pattern.as_bytes())?;
+    Some(from + found)
+}
+
+/// Maps chunks of sixteen bytes, up to one that is not ASCII; answers how many bytes are done.
+fn convert_chunks(bytes: &[u8], case: AsciiCase, buffer: &mut InlineBuffer) -> usize
+    requires short { length bytes.now ≤ INLINE_CAP }
+    requires empty { buffer.old ≡ padded [] }
+    ensures { IsConverted case bytes.now buffer.new result }
+{
+    let mut at = 0;
+    while bytes.len() - at >= LANES {
+        let lanes = load(bytes, at);
+        if has_high(lanes) {
+            return at;
+        }
+        store(buffer, at, convert_lanes(lanes, case));
+        at += LANES;
+    }
+    at
+}
+
+/// Maps bytes from `start` on, up to one that is not ASCII; answers how many bytes are done.
+fn convert_bytes(bytes: &[u8], case: AsciiCase, buffer: &mut InlineBuffer, start: usize) -> usize
+    requires short { length bytes.now ≤ INLINE_CAP }
+    requires begun { IsConverted case bytes.now buffer.old start }
+    ensures all { IsConverted case bytes.now buffer.new result }
+    ensures stops { result < length bytes.now → 128 ≤ slice_index bytes.now result }
+{
+    let mut at = start;
+    while at < bytes.len() && bytes[at] < 128 {
+        buffer[at] = convert_byte(bytes[at], case);
+        at += 1;
+    }
+    at
+}
+
+/// A byte in a case.
+fn convert_byte(byte: u8, case: AsciiCase) -> u8
+    ensures { result ∷ [] ≡ converted case (byte ∷ []) }
+{
+    match case {
+        AsciiCase::Lower => byte.to_ascii_lowercase(),
+        AsciiCase::Upper => byte.to_ascii_uppercase(),
+    }
+}
+
+/// The lanes in a case.
+fn convert_lanes(lanes: u8x16, case: AsciiCase) -> u8x16
+    requires long { length lanes ≡ LANES }
+    requires bytes { Each1 (λ x. x < 256) lanes }
+    ensures { result ≡ converted case lanes }
+{
+    match case {
+        AsciiCase::Lower => lower_lanes(lanes),
+        AsciiCase::Upper => upper_lanes(lanes),
+    }
+}
+
+/// The lanes with A to Z as a to z.
+fn lower_lanes(lanes: u8x16) -> u8x16
+    requires long { length lanes ≡ LANES }
+    requires bytes { Each1 (λ x. x < 256) lanes }
+    ensures { result ≡ lower lanes }
+{
+    let capital = lanes.simd_ge(u8x16::splat(b'A')) & lanes.simd_le(u8x16::splat(b'Z'));
+    capital.select(lanes + u8x16::splat(32), lanes)
+}
+
+/// The lanes with a to z as A to Z.
+fn upper_lanes(lanes: u8x16) -> u8x16
+    requires long { length lanes ≡ LANES }
+    requires bytes { Each1 (λ x. x < 256) lanes }
+    ensures { result ≡ upper lanes }
+{
+    let small = lanes.simd_ge(u8x16::splat(b'a')) & lanes.simd_le(u8x16::splat(b'z'));
+    small.select(lanes - u8x16::splat(32), lanes)
+}
+
+/// Whether a lane is past ASCII.
+fn has_high(lanes: u8x16) -> bool
+    requires { length lanes ≡ LANES }
+    ensures { result ≡ false → Each1 (λ x. x < 128) lanes }
+{
+    lanes.simd_gt(u8x16::splat(127)).any()
+}
+
+/// The sixteen bytes from a place on.
+fn load(bytes: &[u8], at: usize) -> u8x16
+    requires { at + LANES ≤ length bytes.now }
+    ensures lanes { result ≡ take LANES (drop at bytes.now) }
+    ensures long { length result ≡ LANES }
+    ensures fits { Each1 (λ x. x < 256) result }
+{
+    u8x16::from_slice(&bytes[at..])
+}
+
+/// Stores the lanes from a place on.
+fn store(out: &mut [u8], at: usize, lanes: u8x16)
+    requires room { at + LANES ≤ length out.old }
+    requires long { length lanes ≡ LANES }
+    ensures { out.new ≡ put_chunk at out.old lanes }
+{
+    lanes.copy_to_slice(&mut out[at..]);
+}
+
+/// The bytes of a text from a place on: a function, so that the clause reads as a list's end.
+fn bytes_from(text: &str, from: usize) -> &[u8]
+    requires { from ≤ length text.now }
+    ensures { result.now ≡ drop from text.now }
+{
+    &text.as_bytes()[from..]
+}
+
+/// The first place at which the wanted bytes stand: by a search for one byte, or for several.
+fn find_bytes(bytes: &[u8], wanted: &[u8]) -> Option<usize>
+    requires { 0 < length wanted.now }
+    ensures { FindsNeedle bytes.now wanted.now 0 result }
+{
+    if wanted.len() == 1 {
+        memchr(wanted[0], bytes)
+    } else {
+        memmem::find(bytes, wanted)
+    }
+}
