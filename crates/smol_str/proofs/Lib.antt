@@ -20,5 +20,10 @@ pub mod StreamLemmas
 pub mod BorshLemmas
 pub mod SplitLemmas
 pub mod MatchLemmas
+pub mod ReplacingLemmas
 pub mod LaneLemmas
 pub mod ConvertLemmas
+pub mod PushLemmas
+pub mod ByteLemmas
+pub mod CasingLemmas
+pub mod FullCaseLemmas

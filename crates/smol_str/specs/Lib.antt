@@ -15,6 +15,7 @@ pub mod DraftExamples
 pub mod Case
 pub mod Cut
 pub mod Replace
+pub mod Replacing
 pub mod Convert
 pub mod Wire
 pub mod Json

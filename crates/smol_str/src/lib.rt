@@ -13,6 +13,7 @@ pub mod json;
 pub mod kernel;
 pub mod laws;
 pub mod stream;
+mod str_ext;
 #[cfg(test)]
 mod tests;
 mod value;
@@ -21,6 +22,7 @@ pub use buffer::{INLINE_CAP, InlineBuffer};
 pub use builder::SmolStrBuilder;
 pub use builder::steps::{Step, build};
 pub use collect::{Piece, StrPiece, StringRefPiece};
+pub use str_ext::StrExt;
 pub use value::SmolStr;
 pub use value::blank::{BLANK_NEWLINES, BLANK_SPACES};
 pub use value::convert::FromUtf8Fault;

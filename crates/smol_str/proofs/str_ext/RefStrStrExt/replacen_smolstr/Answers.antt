@@ -1,0 +1,16 @@
+use Rattle.std.specs.Str.{chars}
+use Rattle.smol_str.specs.Replace.{cut}
+use Rattle.smol_str.proofs.CutLemmas.{IsCut-cut}
+use Rattle.smol_str.proofs.ReplacingLemmas.{joined-text}
+use Rattle.smol_str.proofs.str_ext.RefStrStrExt.replacen_smolstr.Goals as goal
+
+pub returns-clause-cut : goal.returns-clause-cut
+returns-clause-cut c =
+    let t = chars c.args.self.now.now in
+    let p = chars c.args.from.now in
+    (cut t p c.args.count, IsCut-cut t p c.args.count)
+
+pub returns-clause-text : goal.returns-clause-text
+returns-clause-text c = λ pieces h.
+    let t = chars c.args.self.now.now in
+    joined-text c.replace.result t (chars c.args.from.now) _ c.args.count pieces h c.replace.ensures.ok

@@ -1,0 +1,25 @@
+use Rattle.std.proofs.Common.{refl, [], arith}
+use Rattle.std.specs.Str.{chars}
+use Rattle.std.proofs.lemmas.Bool.Decides.{nat_tests}
+use Rattle.std.proofs.lemmas.Str.{IsCharBoundary-start}
+use Rattle.smol_str.proofs.ReplacingLemmas.{chars-empty}
+use Rattle.smol_str.proofs.MatchLemmas.{some_char}
+use Rattle.smol_str.proofs.FullCaseLemmas.{none-found, alone-nil, alone-lower}
+use Rattle.smol_str.proofs.str_ext.full.has_context.Goals as goal
+
+pub next_match-requires-clause-boundary : goal.next_match-requires-clause-boundary
+next_match-requires-clause-boundary c = IsCharBoundary-start c.args.text.now c.utf8.text
+
+pub returns-then-not-is_empty-clause-alone : goal.returns-then-not-is_empty-clause-alone
+returns-then-not-is_empty-clause-alone c = λ no.
+    let none = none-found c.next_match.result c.is_some.result c.is_some.ensures no in
+    alone-lower c.args.case (chars c.args.text.now) c.in-Lower.is
+    ((c.next_match.ensures.none [] (chars c.args.text.now) refl refl).0 none)
+
+pub returns-then-not-is_empty-clause-some : goal.returns-then-not-is_empty-clause-some
+returns-then-not-is_empty-clause-some c = λ yes.
+    some_char c.args.text.now c.utf8.text (grind (arith, nat_tests))
+
+pub returns-else-not-is_empty-clause-alone : goal.returns-else-not-is_empty-clause-alone
+returns-else-not-is_empty-clause-alone c = λ no.
+    rw (chars-empty c.args.text.now (grind (arith, nat_tests))) (alone-nil c.args.case)

@@ -1,0 +1,37 @@
+use Rattle.std.specs.Str.{chars}
+use Rattle.smol_str.specs.Convert.{mapped}
+use Rattle.smol_str.proofs.TextLemmas.{OnErr-always}
+use Rattle.smol_str.proofs.FullCaseLemmas.{mapped-append, mapped-nil}
+use Rattle.smol_str.proofs.PushLemmas.{grown-appended, mapped-start, mapped-more, mapped-refused, mapped-all}
+use Rattle.std.proofs.lemmas.Iterator.{YieldsList-from_chars}
+use Rattle.std.proofs.lemmas.Iterator.Consumers.{YieldsList-so_far, YieldsList-turn, YieldsList-end}
+use Rattle.smol_str.proofs.str_ext.full.push_mapped.Goals as goal
+
+pub loop-character-init : goal.loop-character-init
+loop-character-init c =
+    mapped-start (mapped c.args.case) (mapped-append c.args.case) c.args.builder.now (mapped-nil c.args.case) c.requires
+
+pub push_letters-requires : goal.push_letters-requires
+push_letters-requires c = grown-appended _ _ _ c.requires c.loop-character.invariant
+
+pub loop-character-preserved : goal.loop-character-preserved
+loop-character-preserved c =
+    mapped-more (mapped c.args.case) (mapped-append c.args.case) _ _ _ _ _ _
+    c.loop-character.invariant c.letters_of.ensures c.in_ok-push_letters.ensures.ok
+
+pub returns-in_err-push_letters-clause-refused : goal.returns-in_err-push_letters-clause-refused
+returns-in_err-push_letters-clause-refused c =
+    let characters = YieldsList-from_chars c.args.text.now c.utf8.text cc in
+    let so_far = YieldsList-so_far characters c.loop-character.yielded _ c.loop-character.yielded_by in
+    let turn = YieldsList-turn characters c.loop-character.yielded _ c.loop-character.yielded_by _ _
+    c.in-Some.character c.in-Some.is c.next.ensures.steps in
+    OnErr-always c.from_residual.result _
+    (mapped-refused (mapped c.args.case) (mapped-append c.args.case) _ _ _ _ _ _
+    c.loop-character.invariant c.letters_of.ensures so_far turn.0 turn.1 c.in_err-push_letters.ensures.refused)
+
+pub returns-clause-ok : goal.returns-clause-ok
+returns-clause-ok c =
+    let characters = YieldsList-from_chars c.args.text.now c.utf8.text cc in
+    let all = YieldsList-end characters c.loop-character.yielded _ c.loop-character.yielded_by _ _
+    c.in-None.is c.next.ensures.steps in
+    mapped-all (mapped c.args.case) (mapped-append c.args.case) _ _ _ _ c.loop-character.invariant all.0

@@ -1,0 +1,8 @@
+use Rattle.std.proofs.Common.{◌-◌}
+use Rattle.std.specs.Str.{chars}
+use Rattle.smol_str.specs.Replacing.{IsReplacing}
+use Rattle.smol_str.proofs.str_ext.replace.push_matches.Given as goal
+
+abbrev pub invariant-loop-taken : goal.invariant-loop-taken
+invariant-loop-taken l =
+    IsReplacing (chars l.text) (chars l.from) (chars l.to) l.count (l.count - l.taken) l.builder l.place

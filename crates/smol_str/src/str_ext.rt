@@ -1,0 +1,146 @@
+//! New texts of a `str`, as values: its matches replaced, or its case changed.
+ghost use Rattle.std.specs.Prelude.{◌≡◌, ℕ, List, ◌++◌, IfOk, OnErr};
+ghost use Rattle.std.specs.Str.{chars};
+ghost use Rattle.smol_str.specs.Text.{IsShort, place_of};
+ghost use Rattle.smol_str.specs.Meaning.{IsValueOf};
+ghost use Rattle.smol_str.specs.Case.{lower, upper, front, lowercased, uppercased, IsAsciiText};
+ghost use Rattle.smol_str.specs.Cut.{IsCut, joined_by};
+ghost use Rattle.smol_str.specs.Replace.{no_limit, replaced, replaced_all};
+
+mod bytes;
+mod case;
+mod full;
+mod replace;
+
+use crate::builder::SmolStrBuilder;
+use crate::kernel::AsciiCase;
+use crate::value::SmolStr;
+use case::to_ascii_case;
+use full::to_full_case;
+use replace::{replace, replace_all};
+use std::alloc::{AllocError, Global};
+
+/// Calls of a `str` whose answer is a new text, as a [`SmolStr`].
+///
+/// Each answers the text that Rust's `str` does in its call of the same beginning, in the place of
+/// that text. The answer is built in a builder, so a short one takes no memory, however long the text
+/// is that the call reads; a call that is refused memory answers [`AllocError`] and makes nothing.
+///
+/// ```
+/// let line = "Let x = 1";
+/// let keyword = line.replacen_smolstr(alloc, "Let", "let", 1)?;
+/// assert_eq!(rt; keyword.as_str(), "let x = 1");
+/// ```
+pub trait StrExt {
+    /// The text that the calls read.
+    ghost content: { Self → List ℕ };
+
+    /// The text with `to` in place of the first `count` matches of `from`, as `str::replacen`.
+    ///
+    /// Matches are taken from the left, and the search goes on behind each. The empty pattern matches
+    /// before each character and at the end.
+    fn replacen_smolstr(
+        &self,
+        alloc: Global,
+        from: &str,
+        to: &str,
+        count: usize,
+    ) -> Result<SmolStr, AllocError>
+        ensures ok { IfOk result (λ v.
+            IsValueOf (replaced (content self.now) (chars from.now) (chars to.now) count) v) }
+        ensures cut { (pieces : List (List ℕ)) × IsCut (content self.now) (chars from.now) count pieces }
+        ensures text { (pieces : List (List ℕ)) →
+            IsCut (content self.now) (chars from.now) count pieces →
+            IfOk result (λ v. v.text ≡ joined_by (chars to.now) pieces) }
+        ensures refused { OnErr result
+            (¬ (IsShort (replaced (content self.now) (chars from.now) (chars to.now) count))) };
+
+    /// The text with `to` in place of each match of `from`, as `str::replace`.
+    fn replace_smolstr(&self, alloc: Global, from: &str, to: &str) -> Result<SmolStr, AllocError>
+        ensures ok { IfOk result (λ v.
+            IsValueOf (replaced_all (content self.now) (chars from.now) (chars to.now)) v) }
+        ensures cut { (pieces : List (List ℕ)) ×
+            IsCut (content self.now) (chars from.now) (no_limit (content self.now)) pieces }
+        ensures text { (pieces : List (List ℕ)) →
+            IsCut (content self.now) (chars from.now) (no_limit (content self.now)) pieces →
+            IfOk result (λ v. v.text ≡ joined_by (chars to.now) pieces) }
+        ensures refused { OnErr result
+            (¬ (IsShort (replaced_all (content self.now) (chars from.now) (chars to.now)))) };
+
+    /// The text with A to Z as a to z, as `str::to_ascii_lowercase`. No short text is refused.
+    fn to_ascii_lowercase_smolstr(&self, alloc: Global) -> Result<SmolStr, AllocError>
+        ensures ok { IfOk result (λ v. IsValueOf (lower (content self.now)) v) }
+        ensures refused { OnErr result (¬ (IsShort (content self.now))) };
+
+    /// The text with a to z as A to Z, as `str::to_ascii_uppercase`. No short text is refused.
+    fn to_ascii_uppercase_smolstr(&self, alloc: Global) -> Result<SmolStr, AllocError>
+        ensures ok { IfOk result (λ v. IsValueOf (upper (content self.now)) v) }
+        ensures refused { OnErr result (¬ (IsShort (content self.now))) };
+
+    /// The text in lower case as Unicode maps it, as `str::to_lowercase`: `Σ` at the end of a word
+    /// becomes `ς`, in short texts too.
+    ///
+    /// No short ASCII text is refused. Any other may be, one with `Σ` even where the answer is short.
+    fn to_lowercase_smolstr(&self, alloc: Global) -> Result<SmolStr, AllocError>
+        ensures ok { IfOk result (λ v. IsValueOf (lowercased (content self.now)) v) }
+        ensures ascii { IsAsciiText (content self.now) →
+            IfOk result (λ v. IsValueOf (lower (content self.now)) v) }
+        ensures front { IfOk result (λ v.
+            (r : List ℕ) × (v.text ≡ lower (front (content self.now)) ++ r)) }
+        ensures place { IfOk result (λ v. v.place ≡ place_of v.text) }
+        ensures refused { OnErr result (¬ (IsAsciiText (content self.now) × IsShort (content self.now))) };
+
+    /// The text in upper case as Unicode maps it, as `str::to_uppercase`: `ß` becomes `SS`.
+    ///
+    /// No short ASCII text is refused.
+    fn to_uppercase_smolstr(&self, alloc: Global) -> Result<SmolStr, AllocError>
+        ensures ok { IfOk result (λ v. IsValueOf (uppercased (content self.now)) v) }
+        ensures ascii { IsAsciiText (content self.now) →
+            IfOk result (λ v. IsValueOf (upper (content self.now)) v) }
+        ensures front { IfOk result (λ v.
+            (r : List ℕ) × (v.text ≡ upper (front (content self.now)) ++ r)) }
+        ensures place { IfOk result (λ v. v.place ≡ place_of v.text) }
+        ensures refused { OnErr result (¬ (IsAsciiText (content self.now) × IsShort (content self.now))) };
+}
+
+impl StrExt for &str {
+    ghost content = { λ s. chars s.now };
+
+    fn replacen_smolstr(
+        &self,
+        alloc: Global,
+        from: &str,
+        to: &str,
+        count: usize,
+    ) -> Result<SmolStr, AllocError> {
+        replace(alloc, self, from, to, count)
+    }
+
+    fn replace_smolstr(&self, alloc: Global, from: &str, to: &str) -> Result<SmolStr, AllocError> {
+        replace_all(alloc, self, from, to)
+    }
+
+    fn to_ascii_lowercase_smolstr(&self, alloc: Global) -> Result<SmolStr, AllocError> {
+        to_ascii_case(alloc, self, AsciiCase::Lower)
+    }
+
+    fn to_ascii_uppercase_smolstr(&self, alloc: Global) -> Result<SmolStr, AllocError> {
+        to_ascii_case(alloc, self, AsciiCase::Upper)
+    }
+
+    fn to_lowercase_smolstr(&self, alloc: Global) -> Result<SmolStr, AllocError> {
+        to_full_case(alloc, self, AsciiCase::Lower)
+    }
+
+    fn to_uppercase_smolstr(&self, alloc: Global) -> Result<SmolStr, AllocError> {
+        to_full_case(alloc, self, AsciiCase::Upper)
+    }
+}
+
+/// The value of a builder's text.
+fn finished(builder: SmolStrBuilder) -> Result<SmolStr, AllocError>
+    ensures ok { IfOk result (λ v. IsValueOf builder.text v) }
+    ensures refused { OnErr result (¬ (IsShort builder.text)) }
+{
+    Ok(builder.finish()?)
+}

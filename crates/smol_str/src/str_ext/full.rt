@@ -1,0 +1,127 @@
+//! Full case: the ASCII front of a short text by lanes, its rest by the mapping of each character,
+//! and every other text by std's mapping of a whole text.
+ghost use Rattle.std.specs.Prelude.{◌≡◌, ◌<◌, ◌≤◌, [], ◌∷◌, ◌++◌, false, length, IfOk, OnOk, OnErr, IsTrue};
+ghost use Rattle.std.specs.Option.{option_to_list};
+ghost use Rattle.std.specs.Str.{chars};
+ghost use Rattle.std.specs.String.{string_bytes};
+ghost use Rattle.std.specs.Char.Iter.{case_mapping_chars};
+ghost use Rattle.smol_str.specs.Text.{IsShort};
+ghost use Rattle.smol_str.specs.Meaning.{IsValueOf};
+ghost use Rattle.smol_str.specs.Draft.{OnHeap, grown, appended};
+ghost use Rattle.smol_str.specs.Case.{IsAsciiText};
+ghost use Rattle.smol_str.specs.Convert.{full_case, mapped, IsMappedAlone};
+
+use super::case::push_front;
+use super::finished;
+use crate::buffer::INLINE_CAP;
+use crate::builder::SmolStrBuilder;
+use crate::kernel::{AsciiCase, next_match};
+use crate::value::SmolStr;
+use std::alloc::{AllocError, Global};
+use std::char::ToLowercase;
+
+/// The text in a case, as Unicode maps it.
+pub(super) fn to_full_case(
+    alloc: Global,
+    text: &str,
+    case: AsciiCase,
+) -> Result<SmolStr, AllocError>
+    ensures ok { IfOk result (λ v. IsValueOf (full_case case (chars text.now)) v) }
+    ensures refused { OnErr result (¬ (IsAsciiText (chars text.now) × IsShort (chars text.now))) }
+{
+    if text.len() <= INLINE_CAP {
+        short_full_case(alloc, text, case)
+    } else {
+        whole_full_case(alloc, text, case)
+    }
+}
+
+/// The same of a short text, with no memory while the answer is short, unless a character has to be
+/// mapped by what stands around it.
+fn short_full_case(alloc: Global, text: &str, case: AsciiCase) -> Result<SmolStr, AllocError>
+    requires { length text.now ≤ INLINE_CAP }
+    ensures ok { IfOk result (λ v. IsValueOf (full_case case (chars text.now)) v) }
+    ensures refused { OnErr result (¬ (IsAsciiText (chars text.now) × IsShort (chars text.now))) }
+{
+    let mut builder = SmolStrBuilder::new(alloc);
+    let rest = push_front(&mut builder, text, case)?;
+    if has_context(rest, case) {
+        return whole_full_case(alloc, text, case);
+    }
+    push_mapped(&mut builder, rest, case)?;
+    finished(builder)
+}
+
+/// Whether a character is mapped by what stands around it.
+fn has_context(text: &str, case: AsciiCase) -> bool
+    ensures alone { result ≡ false → IsMappedAlone case (chars text.now) }
+    ensures some { IsTrue result → 0 < length (chars text.now) }
+{
+    match case {
+        AsciiCase::Lower => !text.is_empty() && next_match(text, 0, "Σ").is_some(),
+        AsciiCase::Upper => false,
+    }
+}
+
+/// The text in a case by std's mapping of a whole text, which takes memory.
+fn whole_full_case(alloc: Global, text: &str, case: AsciiCase) -> Result<SmolStr, AllocError>
+    ensures { IfOk result (λ v. IsValueOf (full_case case (chars text.now)) v) }
+{
+    let whole = whole_text(alloc, text, case)?;
+    SmolStr::new(alloc, whole.as_str())
+}
+
+/// The whole text in a case, as a `String`.
+fn whole_text(alloc: Global, text: &str, case: AsciiCase) -> Result<String, AllocError>
+    ensures { IfOk result (λ s. chars (string_bytes s) ≡ full_case case (chars text.now)) }
+{
+    match case {
+        AsciiCase::Lower => text.to_lowercase(alloc),
+        AsciiCase::Upper => text.to_uppercase(alloc),
+    }
+}
+
+/// Appends what each character of a text is mapped to.
+fn push_mapped(builder: &mut SmolStrBuilder, text: &str, case: AsciiCase) -> Result<(), AllocError>
+    requires { builder.old ≡ grown builder.old.text }
+    ensures ok { OnOk result (builder.new ≡ appended builder.old (mapped case (chars text.now))) }
+    ensures refused { OnErr result ((appended builder.old (mapped case (chars text.now))).kind ≡ OnHeap) }
+{
+    for character in text.chars() {
+        push_letters(builder, letters_of(character, case))?;
+    }
+    Ok(())
+}
+
+/// What a character is mapped to; std has one type for both cases.
+fn letters_of(character: char, case: AsciiCase) -> ToLowercase
+    ensures { case_mapping_chars result ≡ mapped case (character ∷ []) }
+{
+    match case {
+        AsciiCase::Lower => character.to_lowercase(),
+        AsciiCase::Upper => character.to_uppercase(),
+    }
+}
+
+/// Appends the letters that one character is mapped to: at most three.
+fn push_letters(builder: &mut SmolStrBuilder, mut letters: ToLowercase) -> Result<(), AllocError>
+    requires { builder.old ≡ grown builder.old.text }
+    ensures ok { OnOk result (builder.new ≡ appended builder.old (case_mapping_chars letters)) }
+    ensures refused { OnErr result ((appended builder.old (case_mapping_chars letters)).kind ≡ OnHeap) }
+{
+    push_some(builder, letters.next())?;
+    push_some(builder, letters.next())?;
+    push_some(builder, letters.next())
+}
+
+/// Appends a character where there is one.
+fn push_some(builder: &mut SmolStrBuilder, letter: Option<char>) -> Result<(), AllocError>
+    requires { builder.old ≡ grown builder.old.text }
+    ensures ok { OnOk result (builder.new ≡ appended builder.old (option_to_list letter)) }
+    ensures refused { OnErr result ((appended builder.old (option_to_list letter)).kind ≡ OnHeap) }
+{
+    match letter {
+        Some(letter) => builder.push(letter),
+        None => Ok(()),
+    }
+}

@@ -1,0 +1,178 @@
+//! Replacement: byte for byte, or by pieces pushed into one builder.
+ghost use Rattle.std.specs.Prelude.{◌≡◌, ◌<◌, ℕ, List, [], ◌∷◌, ◌++◌, length, MatchOption, IfOk, OnOk, OnErr};
+ghost use Rattle.std.specs.Str.{IsCharBoundary, chars};
+ghost use Rattle.smol_str.specs.Text.{size, IsShort};
+ghost use Rattle.smol_str.specs.Meaning.{IsValueOf};
+ghost use Rattle.smol_str.specs.Draft.{OnHeap, grown, appended};
+ghost use Rattle.smol_str.specs.Replace.{replaced, replaced_all};
+ghost use Rattle.smol_str.specs.Replacing.{IsReplacing};
+
+use super::bytes::replace_byte;
+use super::finished;
+use crate::builder::SmolStrBuilder;
+use crate::kernel::next_match;
+use crate::value::SmolStr;
+use std::alloc::{AllocError, Global};
+
+/// The text with each match of a pattern replaced: no text has so many that a limit of `usize::MAX`
+/// leaves one out.
+pub(super) fn replace_all(
+    alloc: Global,
+    text: &str,
+    from: &str,
+    to: &str,
+) -> Result<SmolStr, AllocError>
+    ensures ok { IfOk result (λ v.
+        IsValueOf (replaced_all (chars text.now) (chars from.now) (chars to.now)) v) }
+    ensures refused { OnErr result
+        (¬ (IsShort (replaced_all (chars text.now) (chars from.now) (chars to.now)))) }
+{
+    replace(alloc, text, from, to, usize::MAX)
+}
+
+/// The text with the first `count` matches of a pattern replaced.
+pub(super) fn replace(
+    alloc: Global,
+    text: &str,
+    from: &str,
+    to: &str,
+    count: usize,
+) -> Result<SmolStr, AllocError>
+    ensures ok { IfOk result (λ v.
+        IsValueOf (replaced (chars text.now) (chars from.now) (chars to.now) count) v) }
+    ensures refused { OnErr result
+        (¬ (IsShort (replaced (chars text.now) (chars from.now) (chars to.now) count))) }
+{
+    if from.len() == 1 && to.len() == 1 {
+        replace_byte(alloc, text, from.as_bytes()[0], to.as_bytes()[0], count)
+    } else {
+        replace_pieces(alloc, text, from, to, count)
+    }
+}
+
+/// The same by the pieces between matches, pushed into one builder.
+fn replace_pieces(
+    alloc: Global,
+    text: &str,
+    from: &str,
+    to: &str,
+    count: usize,
+) -> Result<SmolStr, AllocError>
+    ensures ok { IfOk result (λ v.
+        IsValueOf (replaced (chars text.now) (chars from.now) (chars to.now) count) v) }
+    ensures refused { OnErr result
+        (¬ (IsShort (replaced (chars text.now) (chars from.now) (chars to.now) count))) }
+{
+    let mut builder = SmolStrBuilder::new(alloc);
+    let place = push_replaced(&mut builder, text, from, to, count)?;
+    builder.push_str(&text[place..])?;
+    finished(builder)
+}
+
+/// Appends the text up to the last match that is replaced; answers where the rest begins.
+fn push_replaced(
+    builder: &mut SmolStrBuilder,
+    text: &str,
+    from: &str,
+    to: &str,
+    count: usize,
+) -> Result<usize, AllocError>
+    requires { builder.old ≡ grown [] }
+    ensures ok { IfOk result (λ place.
+        IsReplacing (chars text.now) (chars from.now) (chars to.now) count 0 builder.new place) }
+    ensures refused { OnErr result
+        (¬ (IsShort (replaced (chars text.now) (chars from.now) (chars to.now) count))) }
+{
+    if from.is_empty() {
+        push_between(builder, text, to, count)
+    } else {
+        push_matches(builder, text, from, to, count)
+    }
+}
+
+/// Appends the new text before each of the first `count` characters, and at the end where the limit
+/// goes past them; answers where the rest begins.
+fn push_between(
+    builder: &mut SmolStrBuilder,
+    text: &str,
+    to: &str,
+    count: usize,
+) -> Result<usize, AllocError>
+    requires { builder.old ≡ grown [] }
+    ensures ok { IfOk result (λ place.
+        IsReplacing (chars text.now) [] (chars to.now) count 0 builder.new place) }
+    ensures refused { OnErr result (¬ (IsShort (replaced (chars text.now) [] (chars to.now) count))) }
+{
+    let mut place = 0;
+    for taken in 0..count {
+        match char_at(text, place) {
+            Some(character) => {
+                push_before(builder, to, character)?;
+                place += character.len_utf8();
+            }
+            None => {
+                builder.push_str(to)?;
+                return Ok(place);
+            }
+        }
+    }
+    Ok(place)
+}
+
+/// The character at a place, `None` at the end.
+fn char_at(text: &str, place: usize) -> Option<char>
+    requires { IsCharBoundary text.now place }
+    ensures { (a b : List ℕ) → chars text.now ≡ a ++ b → size a ≡ place →
+        MatchOption result (b ≡ []) (λ c. (r : List ℕ) × (b ≡ c ∷ r)) }
+{
+    text[place..].chars().next()
+}
+
+/// Appends a text and a character.
+fn push_before(builder: &mut SmolStrBuilder, text: &str, character: char) -> Result<(), AllocError>
+    ensures ok { OnOk result (builder.new ≡ appended builder.old (chars text.now ++ (character ∷ []))) }
+    ensures refused { OnErr result
+        ((appended builder.old (chars text.now ++ (character ∷ []))).kind ≡ OnHeap) }
+{
+    builder.push_str(text)?;
+    builder.push(character)
+}
+
+/// Appends what stands before each of the first `count` matches, and the new text; answers where the
+/// rest begins.
+fn push_matches(
+    builder: &mut SmolStrBuilder,
+    text: &str,
+    from: &str,
+    to: &str,
+    count: usize,
+) -> Result<usize, AllocError>
+    requires some { 0 < length from.now }
+    requires empty { builder.old ≡ grown [] }
+    ensures ok { IfOk result (λ place.
+        IsReplacing (chars text.now) (chars from.now) (chars to.now) count 0 builder.new place) }
+    ensures refused { OnErr result
+        (¬ (IsShort (replaced (chars text.now) (chars from.now) (chars to.now) count))) }
+{
+    let mut place = 0;
+    for taken in 0..count {
+        match next_match(text, place, from) {
+            Some(found) => {
+                push_two(builder, &text[place..found], to)?;
+                place = found + from.len();
+            }
+            None => return Ok(place),
+        }
+    }
+    Ok(place)
+}
+
+/// Appends two texts.
+fn push_two(builder: &mut SmolStrBuilder, first: &str, second: &str) -> Result<(), AllocError>
+    ensures ok { OnOk result (builder.new ≡ appended builder.old (chars first.now ++ chars second.now)) }
+    ensures refused { OnErr result
+        ((appended builder.old (chars first.now ++ chars second.now)).kind ≡ OnHeap) }
+{
+    builder.push_str(first)?;
+    builder.push_str(second)
+}
