@@ -6,6 +6,7 @@ mod collect;
 mod compare;
 mod convert;
 mod json;
+mod kernel;
 mod keys;
 mod large;
 mod places;
@@ -15,6 +16,9 @@ mod streams;
 mod wire;
 mod wire_faults;
 mod wire_memory;
+mod refused_str_ext;
+mod replace;
+mod str_ext;
 
 use std::alloc::{AllocError, Global};
 
@@ -25,4 +29,26 @@ fn repeated(alloc: Global, text: &str, times: usize) -> Result<String, AllocErro
         all.push_str(text)?;
     }
     Ok(all)
+}
+
+/// Every text of at most so many characters out of `a`, `b` and `é`.
+fn small_texts(alloc: Global, longest: usize) -> Result<Vec<String>, AllocError> {
+    let mut texts = Vec::new(alloc);
+    texts.push(String::new(alloc))?;
+    let mut begin = 0;
+    for _ in 0..longest {
+        let end = texts.len();
+        for at in begin..end {
+            for character in ['a', 'b', 'é'] {
+                let mut text = String::new(alloc);
+                if let Some(shorter) = texts.get(at) {
+                    text.push_str(shorter.as_str())?;
+                }
+                text.push(character)?;
+                texts.push(text)?;
+            }
+        }
+        begin = end;
+    }
+    Ok(texts)
 }

@@ -1,0 +1,166 @@
+//! Replacement, against outside rows and std's own.
+use super::{repeated, small_texts};
+use crate::{Place, StrExt};
+use std::alloc::Global;
+use std::process::Abort;
+use std::test::Fail;
+
+/// A text, a pattern, what stands in its place, at most how often, and the answer.
+const ROWS: [(&str, &str, &str, usize, &str); 19] = [
+    ("foo_bar_baz", "ba", "do", usize::MAX, "foo_dor_doz"),
+    ("foo_bar_baz", "ba", "do", 1, "foo_dor_baz"),
+    ("foo_bar_baz", "o", "u", 1, "fuo_bar_baz"),
+    ("foo_bar_baz", "o", "u", 0, "foo_bar_baz"),
+    ("aaa", "aa", "b", usize::MAX, "ba"),
+    ("ééé", "éé", "b", usize::MAX, "bé"),
+    ("é", "©", "x", usize::MAX, "é"),
+    ("banana", "an", "", usize::MAX, "ba"),
+    ("abc", "", "-", 2, "-a-bc"),
+    ("abc", "", "-", usize::MAX, "-a-b-c-"),
+    ("é", "", "-", usize::MAX, "-é-"),
+    ("é", "", "-", 1, "-é"),
+    ("é", "", "-", 0, "é"),
+    ("", "", "x", usize::MAX, "x"),
+    ("abcabc", "c", "cc", usize::MAX, "abccabcc"),
+    ("abab", "ab", "b", usize::MAX, "bb"),
+    ("aaaa", "a", "b", 2, "bbaa"),
+    ("aaaa", "a", "b", usize::MAX, "bbbb"),
+    ("xb", "x", "a", usize::MAX, "ab"),
+];
+
+#[test]
+fn rows(rt: HostRuntime) -> Result<(), Fail> {
+    let alloc = rt.alloc();
+    for (text, from, to, count, wanted) in ROWS {
+        let value = text.replacen_smolstr(alloc, from, to, count)?;
+        assert_eq!(rt; value.as_str(), wanted, "{from} by {to} in {text}");
+        assert_eq!(rt; value.place(), Place::Inline, "{from} by {to} in {text}");
+        if count == usize::MAX {
+            let value = text.replace_smolstr(alloc, from, to)?;
+            assert_eq!(rt; value.as_str(), wanted, "{from} by {to} in {text}");
+        }
+    }
+    Ok(())
+}
+
+/// A text so many times, a pattern, what stands in its place, at most how often, the answer as
+/// texts so many times, one after another, and its place.
+type LongRow = (
+    (&'static str, usize),
+    &'static str,
+    &'static str,
+    usize,
+    [(&'static str, usize); 2],
+    Place,
+);
+
+const LONG: [LongRow; 6] = [
+    (
+        ("x", 24),
+        "x",
+        " ",
+        usize::MAX,
+        [(" ", 24), ("", 0)],
+        Place::Static,
+    ),
+    (
+        ("a", 24),
+        "aa",
+        "b",
+        usize::MAX,
+        [("b", 12), ("", 0)],
+        Place::Inline,
+    ),
+    (("x", 24), "x", "y", 23, [("y", 23), ("x", 1)], Place::Heap),
+    (
+        ("a", 23),
+        "a",
+        "b",
+        usize::MAX,
+        [("b", 23), ("", 0)],
+        Place::Inline,
+    ),
+    (
+        ("ab", 2500),
+        "b",
+        "é",
+        100,
+        [("aé", 100), ("ab", 2400)],
+        Place::Heap,
+    ),
+    (
+        ("a", 5000),
+        "a",
+        "b",
+        usize::MAX,
+        [("b", 5000), ("", 0)],
+        Place::Heap,
+    ),
+];
+
+#[test]
+fn long_rows(rt: HostRuntime) -> Result<(), Fail> {
+    let alloc = rt.alloc();
+    for ((piece, times), from, to, count, parts, place) in LONG {
+        let text = repeated(alloc, piece, times)?;
+        let mut wanted = String::new(alloc);
+        for (part, times) in parts {
+            wanted.push_str(repeated(alloc, part, times)?.as_str())?;
+        }
+        let value = text.as_str().replacen_smolstr(alloc, from, to, count)?;
+        assert_eq!(rt; value.as_str(), wanted.as_str(), "{from} by {to}");
+        assert_eq!(rt; value.place(), place, "{from} by {to}");
+    }
+    Ok(())
+}
+
+/// What is put in place of matches, in turn.
+const TOS: [&str; 3] = ["", "x", "éé"];
+
+/// The most characters of a text that is tried with every limit.
+const EVERY_LIMIT: usize = 5;
+
+// Every small text with every small pattern; the longest are tried with one limit each.
+#[test]
+fn replaces_as_std_does(rt: HostRuntime) -> Result<(), Fail> {
+    let alloc = rt.alloc();
+    let texts = small_texts(alloc, 7)?;
+    let patterns = small_texts(alloc, 3)?;
+    for (i, text) in texts.iter().enumerate() {
+        let text = text.as_str();
+        for (j, pattern) in patterns.iter().enumerate() {
+            let turn = i.wrapping_add(j);
+            if text.chars().count() <= EVERY_LIMIT {
+                for count in 0..=9usize {
+                    assert_replaced(&rt, alloc, text, pattern.as_str(), turn % 3, count)?;
+                }
+            } else {
+                assert_replaced(&rt, alloc, text, pattern.as_str(), turn % 3, turn % 10)?;
+            }
+        }
+    }
+    Ok(())
+}
+
+fn assert_replaced(
+    rt: &impl Abort,
+    alloc: Global,
+    text: &str,
+    from: &str,
+    turn: usize,
+    count: usize,
+) -> Result<(), Fail> {
+    let to = TOS.get(turn).ok_or("no such text")?;
+    let value = text.replacen_smolstr(alloc, from, to, count)?;
+    let wanted = text.replacen(alloc, from, to, count)?;
+    assert_eq!(rt;
+        value.as_str(),
+        wanted.as_str(),
+        "{from} by {to} in {text}, at most {count}"
+    );
+    if count == 9 {
+        let value = text.replace_smolstr(alloc, from, to)?;
+        assert_eq!(rt; value.as_str(), wanted.as_str(), "{from} by {to} in {text}");
+    }
+    Ok(())
+}
