@@ -12,8 +12,8 @@ mod collect;
 pub mod json;
 pub mod kernel;
 pub mod laws;
-pub mod stream;
 mod str_ext;
+pub mod stream;
 #[cfg(test)]
 mod tests;
 mod value;

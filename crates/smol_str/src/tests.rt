@@ -12,13 +12,13 @@ mod large;
 mod places;
 mod print;
 mod refuse;
+mod refused_str_ext;
+mod replace;
+mod str_ext;
 mod streams;
 mod wire;
 mod wire_faults;
 mod wire_memory;
-mod refused_str_ext;
-mod replace;
-mod str_ext;
 
 use std::alloc::{AllocError, Global};
 

@@ -1,4 +1,4 @@
--- For `show` and `push_answer`: the bytes of answer lines, one after another.
+-- For `make_report`, `answer_lines` and `push_answer`: the bytes of answer lines, one after another.
 use Rattle.std.proofs.Common.{◌≡◌, ℕ, ◌<◌, ◌^◌, List, [], ◌∷◌, ◌++◌, refl, sym, ap, ◌∙◌, codes, encode_utf8_all}
 use Rattle.std.specs.Fmt.{decimal}
 use Rattle.std.specs.List.{flat_map}
@@ -10,7 +10,9 @@ use Rattle.smol_str.specs.declared.value.place.Place.{Place}
 use Rattle.smol_str.specs.declared.value.place.Place.TheVariants.{Inline, Static, Heap}
 use Rattle.smol_str.specs.Text.{size}
 use Rattle.smol_str.specs.Meaning.{Meaning, IsValueOf}
-use Rattle.smol_tokens.specs.Report.{place_word, answer_line, answer}
+use Rattle.smol_tokens.specs.declared.mode.Mode.{Mode}
+use Rattle.smol_tokens.specs.declared.mode.Mode.TheVariants.{Show, Join, Lower, Upper, Replace}
+use Rattle.smol_tokens.specs.Report.{place_word, answer_line, answer, report, lines_report}
 
 encodes-place_word : (place : Place) → encode_utf8_all (place_word place) ≡ place_word place
 unfolding lib.Utf8.encode
@@ -40,3 +42,11 @@ report-last f items x out new so_far is =
     flat_map-append f items (x ∷ []) ∙ ap (λ t. flat_map f items ++ t) (append-nil (f x)) in
     is ∙ ap (λ bytes. bytes ++ encode_utf8_all (f x)) so_far ∙ sym (encodes-append (flat_map f items) (f x))
     ∙ ap encode_utf8_all (sym more)
+
+-- every mode but join answers line by line
+pub report-lines : (mode : Mode) (t : List ℕ) → ¬ (mode ≡ Join) → lines_report mode t ≡ report mode t
+report-lines Show t other = refl
+report-lines Join t other = absurd (other refl)
+report-lines Lower t other = refl
+report-lines Upper t other = refl
+report-lines (Replace from to) t other = refl

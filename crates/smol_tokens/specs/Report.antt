@@ -5,9 +5,13 @@
 --     show_report t, join_report t, lower_report t, upper_report t, replace_report from to t, tokens_report t
 --                        what is written of t in the mode of that name
 --     report mode t      what the program writes in a mode
+--     line_text mode l   what a line is made to in a mode
+--     lines_report mode t    the answer line of what each line is made to
 use Rattle.std.specs.Prelude.{ℕ, List, ◌++◌, map, codes}
 use Rattle.std.specs.List.{concat, flat_map}
 use Rattle.std.specs.Fmt.{decimal}
+use Rattle.std.specs.Str.{chars}
+use Rattle.std.specs.String.{string_bytes}
 use Rattle.smol_str.specs.Text.{size, place_of}
 use Rattle.smol_str.specs.declared.value.place.Place.{Place}
 use Rattle.smol_str.specs.declared.value.place.Place.TheVariants.{Inline, Static, Heap}
@@ -16,7 +20,7 @@ use Rattle.smol_str.specs.Replace.{replaced_all}
 use Rattle.smol_tokens.specs.Lines.{lines}
 use Rattle.smol_tokens.specs.Tally.{tally}
 use Rattle.smol_tokens.specs.declared.mode.Mode.{Mode}
-use Rattle.smol_tokens.specs.declared.mode.Mode.TheVariants.{Show, Join}
+use Rattle.smol_tokens.specs.declared.mode.Mode.TheVariants.{Show, Join, Lower, Upper, Replace}
 
 -- the word for a place
 abbrev pub place_word : Place → List ℕ
@@ -64,3 +68,18 @@ tokens_report t = flat_map count_line (tally (map (λ line. (line, 1)) (lines t)
 abbrev pub report : Mode → List ℕ → List ℕ
 report Show t = show_report t
 report Join t = join_report t
+report Lower t = lower_report t
+report Upper t = upper_report t
+report (Replace from to) t = replace_report (chars (string_bytes from)) (chars (string_bytes to)) t
+
+-- what a line is made to in a mode; mode join takes it as it is, too
+abbrev pub line_text : Mode → List ℕ → List ℕ
+line_text Show line = line
+line_text Join line = line
+line_text Lower line = lower line
+line_text Upper line = upper line
+line_text (Replace from to) line = replaced_all line (chars (string_bytes from)) (chars (string_bytes to))
+
+-- the answer line of what each line is made to: the report of each mode but join
+abbrev pub lines_report : Mode → List ℕ → List ℕ
+lines_report mode t = flat_map (λ line. answer (line_text mode line)) (lines t)

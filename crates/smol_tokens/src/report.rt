@@ -3,32 +3,45 @@ ghost use Rattle.std.specs.Prelude.{◌≡◌, ◌++◌, IfOk, OnOk, encode_utf8
 ghost use Rattle.std.specs.Str.{chars};
 ghost use Rattle.std.specs.String.{string_bytes};
 ghost use Rattle.smol_str.specs.Text.{size};
-ghost use Rattle.smol_tokens.specs.Report.{place_word, answer_line, show_report, join_report, report};
+ghost use Rattle.smol_str.specs.Meaning.{IsValueOf};
+ghost use Rattle.smol_tokens.specs.Report.{place_word, answer_line, line_text, lines_report, join_report, report};
 
 use crate::lines::Lines;
 use crate::mode::Mode;
-use smol_str::{Place, SmolStr};
+use smol_str::{Place, SmolStr, StrExt};
 use std::alloc::{AllocError, Global};
 
 /// The whole report on a text.
 pub fn make_report(alloc: Global, mode: Mode, text: &str) -> Result<String, AllocError>
     ensures { IfOk result (λ out. string_bytes out ≡ encode_utf8_all (report mode (chars text.now))) }
 {
-    match mode {
-        Mode::Show => show(alloc, text),
+    match &mode {
         Mode::Join => join(alloc, text),
+        _ => answer_lines(alloc, &mode, text),
     }
 }
 
-/// The answer line of each line.
-fn show(alloc: Global, text: &str) -> Result<String, AllocError>
-    ensures { IfOk result (λ out. string_bytes out ≡ encode_utf8_all (show_report (chars text.now))) }
+/// The answer line of what each line is made to in a mode.
+fn answer_lines(alloc: Global, mode: &Mode, text: &str) -> Result<String, AllocError>
+    ensures { IfOk result (λ out. string_bytes out ≡ encode_utf8_all (lines_report mode.now (chars text.now))) }
 {
     let mut out = String::new(alloc);
     for line in Lines::of(text) {
-        push_answer(&mut out, SmolStr::new(alloc, line)?)?;
+        push_answer(&mut out, value_of(alloc, mode, line)?)?;
     }
     Ok(out)
+}
+
+/// What a line is made to in a mode.
+fn value_of(alloc: Global, mode: &Mode, line: &str) -> Result<SmolStr, AllocError>
+    ensures { IfOk result (λ v. IsValueOf (line_text mode.now (chars line.now)) v) }
+{
+    match mode {
+        Mode::Show | Mode::Join => SmolStr::new(alloc, line),
+        Mode::Lower => line.to_ascii_lowercase_smolstr(alloc),
+        Mode::Upper => line.to_ascii_uppercase_smolstr(alloc),
+        Mode::Replace(from, to) => line.replace_smolstr(alloc, from.as_str(), to.as_str()),
+    }
 }
 
 /// One answer line: of all lines joined.

@@ -1,5 +1,6 @@
 //! Tests of what no clause says: outside values, readers and writers that fail, and memory refused.
 mod join;
+mod modes;
 mod refuse;
 mod refused;
 mod show;

@@ -3,6 +3,7 @@ use super::refuse::{
     can_refuse, count_blocks, count_refusals, end_refusals, refuse_one, start_counts,
 };
 use super::streams::{Failure, empty_drip, trickle_of};
+use super::words::mode_by;
 use crate::fault::RunFault;
 use crate::mode::Mode;
 use crate::run::run;
@@ -10,7 +11,7 @@ use std::alloc::Global;
 use std::process::Abort;
 use std::test::Fail;
 
-/// Each input, and the lengths of the reports on it in modes Show and Join.
+/// Each input, and the lengths of the reports on it: line by line, and in mode join.
 const INPUTS: [(&[u8], usize, usize); 4] = [
     (b"", 0, 10),
     (b"if\n\nx\n", 12 + 10 + 11, 13),
@@ -18,15 +19,25 @@ const INPUTS: [(&[u8], usize, usize); 4] = [
     (&[b'a'; 5000], 5011, 5011),
 ];
 
+/// The words of each mode, and whether it joins the lines; none changes the length of a line.
+const WORDS: [(&[&str], bool); 6] = [
+    (&["show"], false),
+    (&["join"], true),
+    (&["lower"], false),
+    (&["upper"], false),
+    (&["replace", "a", "b"], false),
+    (&["replace", "aa", "bb"], false),
+];
+
 #[test]
 fn each_request_in_turn(rt: HostRuntime) -> Result<(), Fail> {
     let alloc = rt.alloc();
     for (input, shown, joined) in INPUTS {
-        for is_join in [false, true] {
-            let wanted = if is_join { joined } else { shown };
+        for (words, joins) in WORDS {
+            let wanted = if joins { joined } else { shown };
             let refusals = count_refusals(|nth| {
                 start_counts(alloc);
-                let mode = if is_join { Mode::Join } else { Mode::Show };
+                let mode = mode_by(alloc, words)?.ok_or("no mode")?;
                 let was_refused = assert_run(&rt, alloc, mode, input, wanted, nth)?;
                 assert_eq!(rt; count_blocks(alloc), 0, "a run leaks");
                 Ok(was_refused)

@@ -14,18 +14,43 @@ fn strings(alloc: Global, words: &[&str]) -> Result<Vec<String>, AllocError> {
     Ok(all)
 }
 
+/// The mode that these words ask for.
+pub fn mode_by(alloc: Global, words: &[&str]) -> Result<Option<Mode>, AllocError> {
+    Ok(mode_of(strings(alloc, words)?))
+}
+
 #[test]
 fn modes(rt: HostRuntime) -> Result<(), Fail> {
     let shows: [&[&str]; 2] = [&[], &["show"]];
     for words in shows {
-        assert!(rt;
-            matches!(mode_of(strings(rt.alloc(), words)?), Some(Mode::Show)),
-            "{words:?}"
-        );
+        let mode = mode_by(rt.alloc(), words)?;
+        assert!(rt; matches!(mode, Some(Mode::Show)), "{words:?}");
     }
-    let join = mode_of(strings(rt.alloc(), &["join"])?);
-    assert!(rt; matches!(join, Some(Mode::Join)));
-    let wrong: [&[&str]; 8] = [
+    let mode = mode_by(rt.alloc(), &["join"])?;
+    assert!(rt; matches!(mode, Some(Mode::Join)));
+    let mode = mode_by(rt.alloc(), &["lower"])?;
+    assert!(rt; matches!(mode, Some(Mode::Lower)));
+    let mode = mode_by(rt.alloc(), &["upper"])?;
+    assert!(rt; matches!(mode, Some(Mode::Upper)));
+    Ok(())
+}
+
+#[test]
+fn replacements(rt: HostRuntime) -> Result<(), Fail> {
+    for (from, to) in [("", "x"), ("x", ""), ("", ""), ("ba", "do")] {
+        match mode_by(rt.alloc(), &["replace", from, to])? {
+            Some(Mode::Replace(first, second)) => {
+                assert_eq!(rt; (first.as_str(), second.as_str()), (from, to));
+            }
+            _ => assert!(rt; false, "replace {from} {to}"),
+        }
+    }
+    Ok(())
+}
+
+#[test]
+fn wrong_words(rt: HostRuntime) -> Result<(), Fail> {
+    let wrong: [&[&str]; 17] = [
         &["Show"],
         &[""],
         &["show", "x"],
@@ -34,9 +59,18 @@ fn modes(rt: HostRuntime) -> Result<(), Fail> {
         &["show "],
         &["join", "x"],
         &["show", "join"],
+        &["lower", "x"],
+        &["upper", "x", "y"],
+        &["Lower"],
+        &["replace"],
+        &["replace", "x"],
+        &["replace", "x", "y", "z"],
+        &["Replace", "x", "y"],
+        &["x", "replace", "y"],
+        &["replace", "replace"],
     ];
     for words in wrong {
-        assert!(rt; mode_of(strings(rt.alloc(), words)?).is_none(), "{words:?}");
+        assert!(rt; mode_by(rt.alloc(), words)?.is_none(), "{words:?}");
     }
     Ok(())
 }

@@ -3,8 +3,9 @@ use Rattle.std.proofs.Common.{◌≡◌, encode_utf8_all}
 use Rattle.std.specs.List.{flat_map}
 use Rattle.std.specs.Str.{chars}
 use Rattle.std.specs.String.{string_bytes}
-use Rattle.smol_tokens.specs.Report.{answer}
-use Rattle.smol_tokens.proofs.report.show.Given as goal
+use Rattle.smol_tokens.specs.Report.{answer, line_text}
+use Rattle.smol_tokens.proofs.report.answer_lines.Given as goal
 
 abbrev pub invariant-loop-line : goal.invariant-loop-line
-invariant-loop-line l = string_bytes l.out ≡ encode_utf8_all (flat_map (λ line. answer (chars line.now)) l.yielded)
+invariant-loop-line l =
+    string_bytes l.out ≡ encode_utf8_all (flat_map (λ line. answer (line_text l.mode (chars line.now))) l.yielded)
