@@ -1,5 +1,6 @@
 pub mod Lines
 pub mod Tally
+pub mod TallyFaults
 pub mod Report
 pub mod Words
 pub mod Faults

@@ -4,8 +4,11 @@
 --     times_of t pairs       the sum of the times that stand with t
 --     first_sights texts     each text once, in the order in which they first stand
 --     tally pairs            those of the pairs, each with the sum of its times
-use Rattle.std.specs.Prelude.{ℕ, List, [], ◌∷◌, Bool, not, map, filter, sum_by, nat_eq, if◌then◌else◌}
+--     HasEachOnce pairs      no text stands in two of the pairs
+--     by_text entries        the entries of a table by values, each by its value's text
+use Rattle.std.specs.Prelude.{◌≢◌, ℕ, List, [], ◌∷◌, Bool, not, map, filter, sum_by, nat_eq, AllPairs, if◌then◌else◌}
 use Rattle.std.specs.Cmp.Lexicographic.{pointwise}
+use Rattle.smol_str.specs.Meaning.{Meaning}
 
 -- the test that two texts are equal
 abbrev pub is_same : List ℕ → List ℕ → Bool
@@ -31,3 +34,11 @@ first_sights (t ∷ texts) = t ∷ without t (first_sights texts)
 -- each text once
 abbrev pub tally : List (List ℕ × ℕ) → List (List ℕ × ℕ)
 tally pairs = map (λ t. (t, times_of t pairs)) (first_sights (tokens pairs))
+
+-- the texts differ, each from each
+abbrev pub HasEachOnce : List (List ℕ × ℕ) → Type 0
+HasEachOnce pairs = AllPairs (λ s t. s ≢ t) (tokens pairs)
+
+-- a value counts as its text, whatever its place
+abbrev pub by_text : List (Meaning × ℕ) → List (List ℕ × ℕ)
+by_text entries = map (λ entry. (entry.0.text, entry.1)) entries

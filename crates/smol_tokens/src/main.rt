@@ -10,6 +10,7 @@ mod lines;
 mod mode;
 mod report;
 mod run;
+mod tally;
 #[cfg(test)]
 mod tests;
 

@@ -1,0 +1,17 @@
+-- When each fault of a tally comes, and what it gives back.
+use Rattle.std.specs.Prelude.{◌≡◌, ℕ, ◌+◌, ◌≤◌, ◌^◌, List, None}
+use Rattle.std.specs.Map.{lookup}
+use Rattle.smol_str.specs.Meaning.{Meaning}
+use Rattle.smol_tokens.specs.declared.tally.AddFault.{AddFault}
+use Rattle.smol_tokens.specs.declared.tally.AddFault.TheVariants.{OutOfMemory, Full}
+use Rattle.smol_tokens.specs.Tally.{is_same, times_of}
+
+-- of t, with so many times, to a tally of the pairs: t is new; or its count would be no `u64`
+abbrev pub AfterAddFault : List (List ℕ × ℕ) → List ℕ → ℕ → AddFault → Type 0
+AfterAddFault pairs t times (OutOfMemory token) = lookup (is_same t) pairs ≡ None
+AfterAddFault pairs t times (Full token) = 2 ^ 64 ≤ times_of t pairs + times
+
+-- the token that was handed in
+abbrev pub given_back : AddFault → Meaning
+given_back (OutOfMemory token) = token
+given_back (Full token) = token
