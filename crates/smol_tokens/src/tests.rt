@@ -5,4 +5,5 @@ mod refuse;
 mod refused;
 mod show;
 mod streams;
+mod tally;
 mod words;

@@ -1,0 +1,183 @@
+//! Tallies: rows, values of one text in all places, many tokens, and memory refused.
+use super::refuse::{can_refuse, end_refusals, refuse_from, refuse_one};
+use crate::tally::{AddFault, Tally};
+use smol_str::{Place, SmolStr, SmolStrBuilder};
+use std::alloc::Global;
+use std::process::Abort;
+use std::test::Fail;
+
+/// More requests than one addition makes.
+const MOST: u32 = 100;
+
+fn add(tally: &mut Tally, token: SmolStr, times: u64) -> Result<u64, Fail> {
+    match tally.add(token, times) {
+        Ok(count) => Ok(count),
+        Err(AddFault::OutOfMemory(_)) => Err("out of memory".into()),
+        Err(AddFault::Full(_)) => Err("full".into()),
+    }
+}
+
+fn check_at(
+    rt: &impl Abort,
+    tally: &Tally,
+    index: usize,
+    text: &str,
+    count: u64,
+) -> Result<(), Fail> {
+    let (token, counted) = tally.at(index).ok_or("no such token")?;
+    assert_eq!(rt; token.as_str(), text);
+    assert_eq!(rt; counted, count, "{text}");
+    Ok(())
+}
+
+#[test]
+fn counted(rt: HostRuntime) -> Result<(), Fail> {
+    let a = SmolStr::new_inline("a");
+    let b = SmolStr::new_inline("b");
+    let mut tally = Tally::new(rt.alloc());
+    assert_eq!(rt; tally.len(), 0);
+    assert!(rt; tally.at(0).is_none());
+
+    assert_eq!(rt; add(&mut tally, a.clone()?, 0)?, 0);
+    check_at(&rt, &tally, 0, "a", 0)?;
+    assert!(rt; tally.at(1).is_none());
+    assert_eq!(rt; tally.count(&b), None);
+
+    assert_eq!(rt; add(&mut tally, SmolStr::new_static("a"), 2)?, 2);
+    assert_eq!(rt; tally.len(), 1);
+
+    assert_eq!(rt; add(&mut tally, b.clone()?, u64::MAX)?, u64::MAX);
+    assert_eq!(rt; add(&mut tally, a.clone()?, 1)?, 3);
+    check_at(&rt, &tally, 0, "a", 3)?;
+    check_at(&rt, &tally, 1, "b", u64::MAX)?;
+    assert_eq!(rt; tally.count(&a), Some(3));
+    assert_eq!(rt; tally.count(&b), Some(u64::MAX));
+    // the value that came first stays
+    let (first, _) = tally.at(0).ok_or("no token")?;
+    assert_eq!(rt; first.place(), Place::Inline);
+    Ok(())
+}
+
+#[test]
+fn full(rt: HostRuntime) -> Result<(), Fail> {
+    let a = SmolStr::new_inline("a");
+    let mut tally = Tally::new(rt.alloc());
+    assert_eq!(rt; add(&mut tally, a.clone()?, u64::MAX)?, u64::MAX);
+    match tally.add(SmolStr::new_static("a"), 1) {
+        Err(AddFault::Full(token)) => {
+            assert_eq!(rt; token.as_str(), "a");
+            assert_eq!(rt; token.place(), Place::Static);
+        }
+        _ => assert!(rt; false, "not full"),
+    }
+    assert_eq!(rt; tally.len(), 1);
+    assert_eq!(rt; tally.count(&a), Some(u64::MAX));
+    assert_eq!(rt; add(&mut tally, a, 0)?, u64::MAX);
+    Ok(())
+}
+
+// However a value was made, and wherever it lies, its text is one token.
+#[test]
+fn one_text_is_one_token(rt: HostRuntime) -> Result<(), Fail> {
+    let alloc = rt.alloc();
+    let text = "                        ";
+    let mut builder = SmolStrBuilder::with_capacity(alloc, 100)?;
+    builder.push_str(text)?;
+    let mut tally = Tally::new(alloc);
+    for (nth, value) in [
+        SmolStr::new(alloc, text)?,
+        SmolStr::new_static(text),
+        SmolStr::from_string(alloc, String::from_str(alloc, text)?)
+            .ok()
+            .ok_or("refused")?,
+        builder.finish().ok().ok_or("refused")?,
+    ]
+    .into_iter()
+    .enumerate()
+    {
+        assert_eq!(rt; add(&mut tally, value, 1)?, nth as u64 + 1);
+    }
+    assert_eq!(rt; tally.len(), 1);
+    assert_eq!(rt; tally.count(&SmolStr::new_static(text)), Some(4));
+    Ok(())
+}
+
+#[test]
+fn many_tokens(rt: HostRuntime) -> Result<(), Fail> {
+    let alloc = rt.alloc();
+    let mut different = Tally::new(alloc);
+    let mut equal = Tally::new(alloc);
+    for number in 0..200_000u64 {
+        let text = format!(in alloc; "token {number}")?;
+        let token = SmolStr::new(alloc, text.as_str())?;
+        assert_eq!(rt; add(&mut different, token, number)?, number);
+        assert_eq!(rt;
+            add(&mut equal, SmolStr::new_inline("token"), 1)?,
+            number + 1
+        );
+    }
+    assert_eq!(rt; different.len(), 200_000);
+    check_at(&rt, &different, 123_456, "token 123456", 123_456)?;
+    assert_eq!(rt;
+        different.count(&SmolStr::new_inline("token 199999")),
+        Some(199_999)
+    );
+    assert_eq!(rt; equal.len(), 1);
+    check_at(&rt, &equal, 0, "token", 200_000)?;
+    Ok(())
+}
+
+// A new token with each request refused in turn: it comes back, or is counted.
+#[test]
+fn each_request_in_turn(rt: HostRuntime) -> Result<(), Fail> {
+    let alloc = rt.alloc();
+    let mut refusals = 0;
+    for nth in 1..MOST {
+        let mut tally = tally_of_two(alloc)?;
+        refuse_one(alloc, nth);
+        let answer = tally.add(SmolStr::new_static("c"), 7);
+        let was_refused = end_refusals(alloc);
+        match answer {
+            Ok(count) => assert_eq!(rt; count, 7),
+            Err(AddFault::OutOfMemory(token)) => {
+                assert!(rt; was_refused);
+                assert_eq!(rt; token.as_str(), "c");
+                assert_eq!(rt; token.place(), Place::Static);
+                assert_eq!(rt; tally.len(), 2);
+                assert_eq!(rt; tally.count(&token), None);
+                refusals += 1;
+                assert_eq!(rt; add(&mut tally, token, 7)?, 7);
+            }
+            Err(AddFault::Full(_)) => assert!(rt; false, "full"),
+        }
+        check_at(&rt, &tally, 0, "a", 1)?;
+        check_at(&rt, &tally, 1, "b", 2)?;
+        check_at(&rt, &tally, 2, "c", 7)?;
+        if !was_refused {
+            assert_eq!(rt; refusals > 0, can_refuse(alloc));
+            return Ok(());
+        }
+    }
+    Err("an addition makes too many requests".into())
+}
+
+#[test]
+fn no_request_for_a_token_that_is_there(rt: HostRuntime) -> Result<(), Fail> {
+    let alloc = rt.alloc();
+    let mut tally = tally_of_two(alloc)?;
+    refuse_from(alloc, 1);
+    let answer = tally.add(SmolStr::new_static("b"), 5);
+    let count = tally.count(&SmolStr::new_static("b"));
+    let was_refused = end_refusals(alloc);
+    assert!(rt; !was_refused);
+    assert_eq!(rt; answer.ok(), Some(7));
+    assert_eq!(rt; count, Some(7));
+    Ok(())
+}
+
+fn tally_of_two(alloc: Global) -> Result<Tally, Fail> {
+    let mut tally = Tally::new(alloc);
+    add(&mut tally, SmolStr::new_inline("a"), 1)?;
+    add(&mut tally, SmolStr::new_inline("b"), 2)?;
+    Ok(tally)
+}
