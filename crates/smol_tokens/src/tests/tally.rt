@@ -1,13 +1,10 @@
 //! Tallies: rows, values of one text in all places, many tokens, and memory refused.
-use super::refuse::{can_refuse, end_refusals, refuse_from, refuse_one};
+use super::refuse::{can_refuse, count_refusals, end_refusals, refuse_all, refuse_one};
 use crate::tally::{AddFault, Tally};
 use smol_str::{Place, SmolStr, SmolStrBuilder};
 use std::alloc::Global;
 use std::process::Abort;
 use std::test::Fail;
-
-/// More requests than one addition makes.
-const MOST: u32 = 100;
 
 fn add(tally: &mut Tally, token: SmolStr, times: u64) -> Result<u64, Fail> {
     match tally.add(token, times) {
@@ -131,41 +128,39 @@ fn many_tokens(rt: HostRuntime) -> Result<(), Fail> {
 #[test]
 fn each_request_in_turn(rt: HostRuntime) -> Result<(), Fail> {
     let alloc = rt.alloc();
-    let mut refusals = 0;
-    for nth in 1..MOST {
-        let mut tally = tally_of_two(alloc)?;
-        refuse_one(alloc, nth);
-        let answer = tally.add(SmolStr::new_static("c"), 7);
-        let was_refused = end_refusals(alloc);
-        match answer {
-            Ok(count) => assert_eq!(rt; count, 7),
-            Err(AddFault::OutOfMemory(token)) => {
-                assert!(rt; was_refused);
-                assert_eq!(rt; token.as_str(), "c");
-                assert_eq!(rt; token.place(), Place::Static);
-                assert_eq!(rt; tally.len(), 2);
-                assert_eq!(rt; tally.count(&token), None);
-                refusals += 1;
-                assert_eq!(rt; add(&mut tally, token, 7)?, 7);
-            }
-            Err(AddFault::Full(_)) => assert!(rt; false, "full"),
+    let refusals = count_refusals(|nth| add_refused(&rt, alloc, nth))?;
+    assert_eq!(rt; refusals > 0, can_refuse(alloc));
+    Ok(())
+}
+
+fn add_refused(rt: &impl Abort, alloc: Global, nth: u32) -> Result<bool, Fail> {
+    let mut tally = tally_of_two(alloc)?;
+    refuse_one(alloc, nth);
+    let answer = tally.add(SmolStr::new_static("c"), 7);
+    let was_refused = end_refusals(alloc);
+    match answer {
+        Ok(count) => assert_eq!(rt; count, 7),
+        Err(AddFault::OutOfMemory(token)) => {
+            assert!(rt; was_refused, "gives up");
+            assert_eq!(rt; token.as_str(), "c");
+            assert_eq!(rt; token.place(), Place::Static);
+            assert_eq!(rt; tally.len(), 2);
+            assert_eq!(rt; tally.count(&token), None);
+            assert_eq!(rt; add(&mut tally, token, 7)?, 7);
         }
-        check_at(&rt, &tally, 0, "a", 1)?;
-        check_at(&rt, &tally, 1, "b", 2)?;
-        check_at(&rt, &tally, 2, "c", 7)?;
-        if !was_refused {
-            assert_eq!(rt; refusals > 0, can_refuse(alloc));
-            return Ok(());
-        }
+        Err(AddFault::Full(_)) => assert!(rt; false, "full"),
     }
-    Err("an addition makes too many requests".into())
+    check_at(rt, &tally, 0, "a", 1)?;
+    check_at(rt, &tally, 1, "b", 2)?;
+    check_at(rt, &tally, 2, "c", 7)?;
+    Ok(was_refused)
 }
 
 #[test]
 fn no_request_for_a_token_that_is_there(rt: HostRuntime) -> Result<(), Fail> {
     let alloc = rt.alloc();
     let mut tally = tally_of_two(alloc)?;
-    refuse_from(alloc, 1);
+    refuse_all(alloc);
     let answer = tally.add(SmolStr::new_static("b"), 5);
     let count = tally.count(&SmolStr::new_static("b"));
     let was_refused = end_refusals(alloc);

@@ -7,4 +7,5 @@ use Rattle.smol_tokens.proofs.tally.Tally.count.Goals as goal
 pub returns : goal.returns
 returns c =
     let t = c.args.token.now.text in
-    c.copied.ensures ∙ c.get.ensures.value ∙ lookup-by_text t c.self.inside.counts.entries ∙ ap (lookup (is_same t)) c.self.view_is
+    c.copied.ensures ∙ c.get.ensures.value ∙ lookup-by_text t c.self.inside.counts.entries
+    ∙ ap (lookup (is_same t)) c.self.view_is

@@ -7,6 +7,8 @@ use Rattle.smol_tokens.proofs.tally.Tally.counted.Goals as goal
 pub returns : goal.returns
 returns c =
     let t = c.args.token.now.text in
-    let found = c.copied.ensures ∙ c.get.ensures.value ∙ lookup-by_text t c.self.inside.counts.entries ∙ ap (lookup (is_same t)) c.self.view_is in
-    let before = c.unwrap_or-before.ensures ∙ ap (λ o. unwrap_or o 0) found ∙ lookup-once t c.args.self.now (rw c.self.view_is at c.self.invariant) in
+    let entries = c.self.inside.counts.entries in
+    let found = c.copied.ensures ∙ c.get.ensures.value ∙ lookup-by_text t entries ∙ ap (lookup (is_same t)) c.self.view_is in
+    let once = rw c.self.view_is at c.self.invariant in
+    let before = c.unwrap_or-before.ensures ∙ ap (λ o. unwrap_or o 0) found ∙ lookup-once t c.args.self.now once in
     rw before at c.checked_add.ensures
