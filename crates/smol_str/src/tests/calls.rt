@@ -59,9 +59,9 @@ enum Asks {
     Shared,
     /// A `String` of the text.
     Owned,
-    /// A `String` of the text, with one character appended.
+    /// A `String` with room for the text and one ASCII character.
     OwnedAndChar,
-    /// A `String` of the text, with the text appended.
+    /// A `String` with room for the text twice.
     OwnedTwice,
     /// A character appended to a full `String`.
     GrowByChar,
@@ -390,8 +390,8 @@ fn asked_by_std(alloc: Global, ask: Asks, text: &str) -> Result<Asked, Fail> {
     match ask {
         Asks::Shared => drop(RcStr::from_str(alloc, text)?),
         Asks::Owned => drop(String::from_str(alloc, text)?),
-        Asks::OwnedAndChar => String::from_str(alloc, text)?.push('a')?,
-        Asks::OwnedTwice => String::from_str(alloc, text)?.push_str(text)?,
+        Asks::OwnedAndChar => drop(String::with_capacity(alloc, text.len() + 1)?),
+        Asks::OwnedTwice => drop(String::with_capacity(alloc, text.len() + text.len())?),
         Asks::GrowByChar => full.push('a')?,
         Asks::GrowByText => full.push_str(text)?,
     }
