@@ -76,10 +76,14 @@ fn assert_mapped(rt: &impl Abort, text: &str, len: usize) -> Result<(), Fail> {
         let (buffer, front) = converted(text, case).ok_or("a text too long")?;
         assert_eq!(rt; front, len, "{case:?} of {text}");
         for place in 0..INLINE_CAP {
+            let byte = if place < len {
+                bytes.get(place).copied().unwrap_or(0)
+            } else {
+                0
+            };
             let wanted = match case {
-                _ if place >= len => 0,
-                AsciiCase::Lower => bytes[place].to_ascii_lowercase(),
-                AsciiCase::Upper => bytes[place].to_ascii_uppercase(),
+                AsciiCase::Lower => byte.to_ascii_lowercase(),
+                AsciiCase::Upper => byte.to_ascii_uppercase(),
             };
             assert_eq!(rt; buffer[place], wanted, "{case:?} of {text} at {place}");
         }
