@@ -1,5 +1,5 @@
 //! Values and builders from iterators: the answers, hints that promise too much, and memory refused.
-ghost use Rattle.std.specs.Prelude.{◌≡◌, ◌+◌, ◌^◌, length};
+ghost use Rattle.std.specs.Prelude.{◌≡◌, ◌+◌, length};
 ghost use Rattle.std.specs.Iterator.{at_most, YieldsFirst};
 ghost use Rattle.std.specs.Vec.Iter.{into_iter_items};
 
@@ -10,6 +10,7 @@ use super::refuse::{
 use super::repeated;
 use crate::{INLINE_CAP, Place, SmolStr, SmolStrBuilder};
 use std::alloc::{AllocError, Global};
+use std::process::Abort;
 use std::test::Fail;
 use std::vec::IntoIter;
 
@@ -25,7 +26,7 @@ impl<T: Drop> Iterator for Hinted<T> {
 
     ghost next_gives = { YieldsFirst (λ s. into_iter_items s.items) };
 
-    ghost remaining = { λ s. at_most (length (into_iter_items s.items) + 2 ^ 64) };
+    ghost remaining = { λ s. at_most (length (into_iter_items s.items) + s.lower) };
 
     fn next(&mut self) -> Option<T> {
         self.items.next()
@@ -77,11 +78,22 @@ fn characters(rt: HostRuntime) -> Result<(), Fail> {
         (many.as_str(), 93, Place::Heap),
         (spaces.as_str(), INLINE_CAP + 1, Place::Static),
     ] {
-        let value = SmolStr::from_chars(alloc, text.chars())?;
-        assert_eq!(rt; value.as_str(), text);
-        assert_eq!(rt; value.len(), len, "{text}");
-        assert_eq!(rt; value.place(), place, "{text}");
+        assert_collected(&rt, alloc, text, len, place)?;
     }
+    Ok(())
+}
+
+fn assert_collected(
+    rt: &impl Abort,
+    alloc: Global,
+    text: &str,
+    len: usize,
+    place: Place,
+) -> Result<(), Fail> {
+    let value = SmolStr::from_chars(alloc, text.chars())?;
+    assert_eq!(rt; value.as_str(), text);
+    assert_eq!(rt; value.len(), len, "{text}");
+    assert_eq!(rt; value.place(), place, "{text}");
     Ok(())
 }
 
