@@ -100,14 +100,14 @@ fn sizes_that_change(rt: HostRuntime) -> Result<(), Fail> {
 fn maps_as_std_does(rt: HostRuntime) -> Result<(), Fail> {
     let alloc = rt.alloc();
     let long = repeated(alloc, "A", INLINE_CAP)?;
-    let mut mapped = 0;
+    let mut mapped = 0u32;
     for number in 0x80..0x2FFFFu32 {
         if let Some(character) = char::from_u32(number) {
             let mut lower = character.to_lowercase();
             let mut upper = character.to_uppercase();
             if lower.next() != Some(character) || upper.next() != Some(character) {
                 assert_mappings(&rt, alloc, character, long.as_str())?;
-                mapped += 1;
+                mapped = mapped.saturating_add(1);
             }
         }
     }
