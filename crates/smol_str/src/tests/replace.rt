@@ -32,13 +32,24 @@ const ROWS: [(&str, &str, &str, usize, &str); 19] = [
 fn rows(rt: HostRuntime) -> Result<(), Fail> {
     let alloc = rt.alloc();
     for (text, from, to, count, wanted) in ROWS {
-        let value = text.replacen_smolstr(alloc, from, to, count)?;
-        assert_eq!(rt; value.as_str(), wanted, "{from} by {to} in {text}");
-        assert_eq!(rt; value.place(), Place::Inline, "{from} by {to} in {text}");
-        if count == usize::MAX {
-            let value = text.replace_smolstr(alloc, from, to)?;
-            assert_eq!(rt; value.as_str(), wanted, "{from} by {to} in {text}");
-        }
+        assert_row(&rt, alloc, (text, from, to, count), wanted)?;
+    }
+    Ok(())
+}
+
+fn assert_row(
+    rt: &impl Abort,
+    alloc: Global,
+    row: (&str, &str, &str, usize),
+    wanted: &str,
+) -> Result<(), Fail> {
+    let (text, from, to, count) = row;
+    let value = text.replacen_smolstr(alloc, from, to, count)?;
+    assert_eq!(rt; value.as_str(), wanted, "{count} at most");
+    assert_eq!(rt; value.place(), Place::Inline, "{wanted}");
+    if count == usize::MAX {
+        let value = text.replace_smolstr(alloc, from, to)?;
+        assert_eq!(rt; value.as_str(), wanted, "without a limit");
     }
     Ok(())
 }
