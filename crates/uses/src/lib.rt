@@ -2,4 +2,5 @@
 #![tactic(auto)]
 
 pub mod collecting;
+pub mod json;
 pub mod wire;

@@ -1,0 +1,17 @@
+//! A value there and back through JSON.
+ghost use Rattle.std.specs.Prelude.{IfOk};
+ghost use Rattle.smol_str.specs.Meaning.{IsValueOf};
+
+use smol_str::SmolStr;
+use smol_str::json::{JsonFault, from_json, to_json};
+use std::alloc::{AllocError, Global};
+
+/// What `to_json` writes, `from_json` reads as the same text.
+pub fn there_and_back(alloc: Global, value: &SmolStr) -> Result<SmolStr, JsonFault>
+    ensures { IfOk result (λ back. IsValueOf value.now.text back) }
+{
+    match to_json(alloc, value) {
+        Ok(json) => from_json(alloc, json.as_str()),
+        Err(AllocError) => Err(JsonFault::OutOfMemory),
+    }
+}
