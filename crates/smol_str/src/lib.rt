@@ -14,8 +14,6 @@ pub mod kernel;
 pub mod laws;
 mod str_ext;
 pub mod stream;
-#[cfg(test)]
-mod tests;
 mod value;
 
 pub use buffer::{INLINE_CAP, InlineBuffer};

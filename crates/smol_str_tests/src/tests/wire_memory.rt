@@ -5,8 +5,8 @@ use super::refuse::{
 };
 use super::streams::trickle_of;
 use super::wire::{ROWS, form_of, text_of};
-use crate::borsh::{BorshDeserialize, BorshSerialize, DecodeFault, from_wire};
-use crate::{INLINE_CAP, Place, SmolStr};
+use smol_str::borsh::{BorshDeserialize, BorshSerialize, DecodeFault, from_wire};
+use smol_str::{INLINE_CAP, Place, SmolStr};
 use std::alloc::{AllocError, Global};
 use std::process::Abort;
 use std::test::Fail;

@@ -5,7 +5,7 @@ use super::refuse::{
     refuse_one, start_counts,
 };
 use super::repeated;
-use crate::{
+use smol_str::{
     BLANK_NEWLINES, BLANK_SPACES, INLINE_CAP, Place, SmolStr, SmolStrBuilder, Step, build,
 };
 use std::alloc::{AllocError, Global};

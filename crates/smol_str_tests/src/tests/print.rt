@@ -1,5 +1,5 @@
 //! Printed values.
-use crate::SmolStr;
+use smol_str::SmolStr;
 use std::test::Fail;
 
 #[test]

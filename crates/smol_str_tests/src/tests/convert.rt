@@ -1,7 +1,7 @@
 //! Values from other texts, and back.
 use super::refuse::{can_refuse, end_refusals, refuse_all};
 use super::repeated;
-use crate::{FromUtf8Fault, Place, SmolStr};
+use smol_str::{FromUtf8Fault, Place, SmolStr};
 use std::alloc::Global;
 use std::borrow::CowStr;
 use std::process::Abort;

@@ -1,8 +1,8 @@
 //! Bytes that hold no wire form, and readers and writers that fail.
 use super::streams::{Failure, empty_drip, trickle_of};
 use super::wire::{ROWS, form_of, text_of};
-use crate::borsh::{BorshDeserialize, BorshSerialize, DecodeFault, EncodeFault, from_wire};
-use crate::{INLINE_CAP, SmolStr};
+use smol_str::borsh::{BorshDeserialize, BorshSerialize, DecodeFault, EncodeFault, from_wire};
+use smol_str::{INLINE_CAP, SmolStr};
 use std::alloc::Global;
 use std::io::ErrorKind;
 use std::process::Abort;

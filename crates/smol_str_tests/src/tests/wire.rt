@@ -1,9 +1,9 @@
 //! Wire forms, written and read again by readers and writers of every step.
 use super::repeated;
 use super::streams::{Failure, empty_drip, trickle_of};
-use crate::borsh::{BorshDeserialize, BorshSerialize, from_wire, length_prefix};
-use crate::stream::PIECE;
-use crate::{INLINE_CAP, Place, SmolStr};
+use smol_str::borsh::{BorshDeserialize, BorshSerialize, from_wire, length_prefix};
+use smol_str::stream::PIECE;
+use smol_str::{INLINE_CAP, Place, SmolStr};
 use std::alloc::{AllocError, Global};
 use std::process::Abort;
 use std::test::Fail;

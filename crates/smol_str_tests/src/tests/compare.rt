@@ -1,5 +1,5 @@
 //! Equality, order and hashes.
-use crate::{Place, SmolStr};
+use smol_str::{Place, SmolStr};
 use std::cmp::Ordering;
 use std::hash::{DefaultHasher, Hash, Hasher};
 use std::test::Fail;

@@ -1,9 +1,9 @@
 //! JSON strings: texts, refusals, and memory refused.
 use super::refuse::{can_refuse, count_refusals, end_refusals, refuse_all, refuse_one};
 use super::repeated;
-use crate::json::{JsonFault, from_json, from_value, to_json, to_value};
-use crate::{INLINE_CAP, Place, SmolStr};
 use serde_json::Value;
+use smol_str::json::{JsonFault, from_json, from_value, to_json, to_value};
+use smol_str::{INLINE_CAP, Place, SmolStr};
 use std::alloc::Global;
 use std::process::Abort;
 use std::test::Fail;

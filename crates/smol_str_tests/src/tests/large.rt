@@ -1,7 +1,7 @@
 //! Large capacities.
 use super::refuse::{can_refuse, end_refusals, refuse_all, refuse_one};
 use super::repeated;
-use crate::{INLINE_CAP, Place, SmolStr, SmolStrBuilder, Step, build};
+use smol_str::{INLINE_CAP, Place, SmolStr, SmolStrBuilder, Step, build};
 use std::test::Fail;
 
 const CAPACITIES: [usize; 4] = [INLINE_CAP, 200, 5000, 1_000_001];

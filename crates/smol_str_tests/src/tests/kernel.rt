@@ -1,7 +1,7 @@
 //! The loops over bytes, against outside rows, a plain map and std's search.
 use super::small_texts;
-use crate::kernel::{AsciiCase, convert_while_ascii, next_match};
-use crate::{INLINE_CAP, InlineBuffer};
+use smol_str::kernel::{AsciiCase, convert_while_ascii, next_match};
+use smol_str::{INLINE_CAP, InlineBuffer};
 use std::alloc::Global;
 use std::process::Abort;
 use std::test::Fail;

@@ -3,7 +3,7 @@ ghost use Rattle.std.specs.Prelude.{◌≡◌, IfOk};
 ghost use Rattle.std.specs.Str.{chars};
 
 use super::refuse::{can_refuse, end_refusals, refuse_all};
-use crate::{INLINE_CAP, Place, SmolStr, SmolStrBuilder, Step, build};
+use smol_str::{INLINE_CAP, Place, SmolStr, SmolStrBuilder, Step, build};
 use std::alloc::{AllocError, Global};
 use std::process::Abort;
 use std::test::Fail;

@@ -1,6 +1,6 @@
 //! Case, against outside rows and std's own mappings, which only tests see printed.
 use super::repeated;
-use crate::{INLINE_CAP, Place, SmolStr, StrExt};
+use smol_str::{INLINE_CAP, Place, SmolStr, StrExt};
 use std::alloc::{AllocError, Global};
 use std::process::Abort;
 use std::test::Fail;

@@ -8,7 +8,7 @@ use super::refuse::{
     can_refuse, count_blocks, count_refusals, end_refusals, refuse_one, start_counts,
 };
 use super::repeated;
-use crate::{INLINE_CAP, Place, SmolStr, SmolStrBuilder};
+use smol_str::{INLINE_CAP, Place, SmolStr, SmolStrBuilder};
 use std::alloc::{AllocError, Global};
 use std::process::Abort;
 use std::test::Fail;

@@ -1,5 +1,5 @@
 //! Values in containers.
-use crate::{Place, SmolStr};
+use smol_str::{Place, SmolStr};
 use std::collections::{BTreeMap, HashMap};
 use std::test::Fail;
 

@@ -1,6 +1,6 @@
 //! Where texts are kept.
 use super::repeated;
-use crate::{INLINE_CAP, InlineBuffer, Place, SmolStr, SmolStrBuilder, Step, build};
+use smol_str::{INLINE_CAP, InlineBuffer, Place, SmolStr, SmolStrBuilder, Step, build};
 use std::alloc::{AllocError, Global};
 use std::process::Abort;
 use std::test::Fail;

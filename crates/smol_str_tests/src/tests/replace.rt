@@ -1,6 +1,6 @@
 //! Replacement, against outside rows and std's own.
 use super::{repeated, small_texts};
-use crate::{Place, StrExt};
+use smol_str::{Place, StrExt};
 use std::alloc::Global;
 use std::process::Abort;
 use std::test::Fail;

@@ -1,0 +1,5 @@
+//! Tests of the library through its public items, for what no clause says: outside values, and memory refused.
+#![tactic(auto)]
+
+#[cfg(test)]
+mod tests;
