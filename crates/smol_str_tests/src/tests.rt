@@ -9,6 +9,7 @@ mod json;
 mod kernel;
 mod keys;
 mod large;
+mod long_texts;
 mod places;
 mod print;
 mod refuse;

@@ -59,6 +59,7 @@ const CALLS: [Call; 7] = [
     Call::ExtendStrings,
 ];
 
+// Upstream's test_from_char_iterator, and spaces.
 #[test]
 fn characters(rt: HostRuntime) -> Result<(), Fail> {
     let alloc = rt.alloc();
@@ -116,7 +117,7 @@ fn pieces(rt: HostRuntime) -> Result<(), Fail> {
     Ok(())
 }
 
-// Piece i has i mod 5 times an é.
+// Upstream's from_string_iter and from_str_iter, with fixed texts: piece i has i mod 5 times an é.
 #[test]
 fn many_pieces(rt: HostRuntime) -> Result<(), Fail> {
     let alloc = rt.alloc();
@@ -136,6 +137,7 @@ fn many_pieces(rt: HostRuntime) -> Result<(), Fail> {
     Ok(())
 }
 
+// Upstream's from_buf_and_chars_size_hinted_heap.
 #[test]
 fn extended_past_the_buffer(rt: HostRuntime) -> Result<(), Fail> {
     let mut builder = builder_of(rt.alloc(), 0, "abcdefghijklmnopqr")?;
@@ -147,16 +149,18 @@ fn extended_past_the_buffer(rt: HostRuntime) -> Result<(), Fail> {
     Ok(())
 }
 
-// Hints reserve nothing: the largest would be refused.
+// Hints reserve nothing: the largest would be refused. Upstream's test_bad_size_hint_char_iter is among these.
 #[test]
 fn hints(rt: HostRuntime) -> Result<(), Fail> {
     let alloc = rt.alloc();
     let long = repeated(alloc, "a", INLINE_CAP + 1)?;
+    let longer = repeated(alloc, "a", 70_000)?;
     for call in CALLS {
         for lower in [1024, usize::MAX, 0] {
             for (pieces, text, place) in [
                 (["tes", "", "ting"], "testing", Place::Inline),
                 (["", long.as_str(), ""], long.as_str(), Place::Heap),
+                (["", longer.as_str(), ""], longer.as_str(), Place::Heap),
             ] {
                 let (answer, _) = call_refused(alloc, call, &pieces, lower, 0)?;
                 let value = answer.ok_or("refused")?;

@@ -23,7 +23,8 @@ fn answer(alloc: Global, call: Call, text: &str) -> Result<SmolStr, AllocError> 
     }
 }
 
-/// A call, a text, the answer and its place.
+/// A call, a text, the answer and its place. Upstream's test_str_ext is among these and, of replacement,
+/// among the rows of the test beside this one.
 const ROWS: [(Call, &str, &str, Place); 16] = [
     (Call::AsciiLower, "aßΔC", "aßΔc", Place::Inline),
     (Call::AsciiUpper, "aßΔC", "AßΔC", Place::Inline),

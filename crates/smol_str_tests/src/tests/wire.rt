@@ -18,6 +18,7 @@ const LETTERS: &[u8] = b"a\xc3\x9f\xce\x94Ca\xc3\x9f\xce\xb4c";
 /// A byte more than a value has room for.
 const LONG: usize = INLINE_CAP + 1;
 
+// Upstream's borsh_serialize_stack and borsh_serialize_heap are those of 12 and 132 bytes.
 pub const ROWS: [Row; 8] = [
     ("", 0, 0, b"", Place::Inline),
     ("ab", 1, 2, b"ab", Place::Inline),

@@ -1,6 +1,7 @@
 //! `run` in the modes that change each line.
 use super::words::mode_by;
 use crate::run::run;
+use std::alloc::{AllocError, Global};
 use std::test::Fail;
 
 /// The words of a mode, an input, and the report on it.
@@ -40,6 +41,40 @@ fn reports(rt: HostRuntime) -> Result<(), Fail> {
         let mut out = Vec::new(rt.alloc());
         run(rt.alloc(), mode, &mut reader, &mut out)?;
         assert_eq!(rt; out.as_slice(), wanted, "{words:?}");
+    }
+    Ok(())
+}
+
+/// The words of a mode, and the letter that it makes of an `a`.
+const LETTERS: [(&[&str], char); 5] = [
+    (&["show"], 'a'),
+    (&["join"], 'a'),
+    (&["lower"], 'a'),
+    (&["upper"], 'A'),
+    (&["replace", "a", "x"], 'x'),
+];
+
+/// A front, and a line of 70,000 letters.
+fn long_line(alloc: Global, front: &str, letter: char) -> Result<String, AllocError> {
+    let mut line = String::from_str(alloc, front)?;
+    for _ in 0..70_000 {
+        line.push(letter)?;
+    }
+    line.push('\n')?;
+    Ok(line)
+}
+
+#[test]
+fn long_lines(rt: HostRuntime) -> Result<(), Fail> {
+    let alloc = rt.alloc();
+    let input = long_line(alloc, "", 'a')?;
+    for (words, letter) in LETTERS {
+        let mode = mode_by(alloc, words)?.ok_or("no mode")?;
+        let mut reader = input.as_str().as_bytes();
+        let mut out = Vec::new(alloc);
+        run(alloc, mode, &mut reader, &mut out)?;
+        let wanted = long_line(alloc, "heap 70000 ", letter)?;
+        assert_eq!(rt; out.as_slice(), wanted.as_str().as_bytes(), "{words:?}");
     }
     Ok(())
 }
