@@ -2,5 +2,6 @@
 #![tactic(auto)]
 
 pub mod collecting;
+pub mod headline;
 pub mod json;
 pub mod wire;
