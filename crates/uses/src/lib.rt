@@ -4,4 +4,5 @@
 pub mod collecting;
 pub mod headline;
 pub mod json;
+pub mod symbols;
 pub mod wire;
