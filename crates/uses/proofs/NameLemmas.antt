@@ -53,7 +53,7 @@ pub Finds-more : {S : Type 0} (m n : HashMap Meaning ℕ S) (names : List Meanin
     Updates same_key m n key (Some (length names)) → Finds n (texts (names ++ key ∷ []))
 Finds-more m n names key finds none updates = λ text.
     let now : value_at text n ≡ cond (bytes_eq key.text text) (Some (length names)) (value_at text m)
-          = updates.0 (key_of text) in
+    = updates.0 (key_of text) in
     let long : length (texts names) ≡ length names = length-map names (λ (v : Meaning). v.text) in
     let more : texts (names ++ key ∷ []) ≡ texts names ++ key.text ∷ [] = map-append (λ (v : Meaning). v.text) names (key ∷ []) in
     now ∙ rw (finds text, ← long, more) (after_case text key.text (texts names) (bytes_eq key.text text) refl none)
@@ -90,3 +90,14 @@ text_at names id name within found =
     let low : id < length names = omega (arith, within, length-map names (λ (v : Meaning). v.text)) in
     slice_get-map (λ (v : Meaning). v.text) names id
     ∙ ap (option_map (λ (v : Meaning). v.text)) (slice_get-get_or names id name low ∙ ap Some (sym found))
+
+-- sorted values are those whose texts are sorted
+pub IsSorted-texts : (names : List Meaning) → IsSortedByKey (λ (v : Meaning). v.text) (slice_cmp nat_cmp) names →
+    IsSorted (slice_cmp nat_cmp) (texts names)
+IsSorted-texts names up = λ k d low high.
+    let within : k + 1 < length names = omega (arith, high, length-map names (λ (v : Meaning). v.text)) in
+    let before : k < length names = omega arith in
+    rw (
+      get_or-map (λ (v : Meaning). v.text) names (k + 1) (key_of d) d within,
+      get_or-map (λ (v : Meaning). v.text) names k (key_of d) d before,
+    ) (up k (key_of d) low within)

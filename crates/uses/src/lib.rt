@@ -2,7 +2,9 @@
 #![tactic(auto)]
 
 pub mod collecting;
+pub mod headers;
 pub mod headline;
 pub mod json;
+pub mod ordered;
 pub mod symbols;
 pub mod wire;

@@ -1,7 +1,5 @@
-use Rattle.std.proofs.Common.{rules, ◌≡◌, List, ◌∷◌, ◌++◌, [], length, None, Some, sym, ap, ◌∙◌}
+use Rattle.std.proofs.Common.{rules, ◌≡◌, ◌∷◌, ◌++◌, [], length, None}
 use Rattle.std.specs.Str.{chars}
-use Rattle.std.proofs.lemmas.List.{length-map, map-append}
-use Rattle.smol_str.specs.Meaning.{Meaning}
 use Rattle.uses.specs.Names.{id_of, texts}
 use Rattle.uses.proofs.NameLemmas.{id_of-added, Finds-more}
 use Rattle.uses.proofs.symbols.Symbols.intern.Goals as goal

@@ -1,5 +1,4 @@
-use Rattle.std.proofs.Common.{◌≡◌, List, ℕ, length, Some, sym, ap, ◌∙◌}
-use Rattle.std.specs.List.{slice_get}
+use Rattle.std.proofs.Common.{Some, sym, ap, ◌∙◌}
 use Rattle.smol_str.proofs.CallerLemmas.{chars-as_str}
 use Rattle.uses.proofs.NameLemmas.{text_at}
 use Rattle.uses.proofs.symbols.Symbols.name.Goals as goal
