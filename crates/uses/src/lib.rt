@@ -1,10 +1,12 @@
 //! Callers of the library, each proved by the library's contracts alone.
 #![tactic(auto)]
 
+pub mod building;
 pub mod collecting;
 pub mod headers;
 pub mod headline;
 pub mod json;
 pub mod ordered;
 pub mod symbols;
+pub mod values;
 pub mod wire;

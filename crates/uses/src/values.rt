@@ -1,0 +1,33 @@
+//! Values that cannot fail, or that lie where a caller knows.
+ghost use Rattle.std.specs.Prelude.{◌≡◌, codes, IsOk, IfOk};
+ghost use Rattle.std.specs.Str.{chars};
+ghost use Rattle.smol_str.specs.Text.{IsResident};
+ghost use Rattle.smol_str.specs.Meaning.{IsValueOf};
+ghost use Rattle.smol_str.specs.declared.value.place.Place.TheVariants.{Heap};
+
+use smol_str::{SmolStr, laws};
+use std::alloc::{AllocError, Global};
+
+/// A constant: the condition of `new_inline` is computed.
+pub fn keyword() -> SmolStr
+    ensures { IsValueOf (chars (codes "if")) result }
+{
+    SmolStr::new_inline("if")
+}
+
+/// A value of resident text is not on the heap; the law says it of the text's place.
+pub fn off_the_heap(alloc: Global, text: &str) -> Result<SmolStr, AllocError>
+    ensures { IfOk result (λ v. IsResident (chars text.now) → ¬ (v.place ≡ Heap)) }
+{
+    laws::places();
+    SmolStr::new(alloc, text)
+}
+
+/// A clone of a value that is not on the heap.
+pub fn second(value: &SmolStr) -> Result<SmolStr, AllocError>
+    requires { ¬ (value.now.place ≡ Heap) }
+    ensures ok { IsOk result }
+    ensures same { IfOk result (λ copy. copy ≡ value.now) }
+{
+    value.clone()
+}
