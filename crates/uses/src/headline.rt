@@ -3,7 +3,7 @@
 //!
 //! Each way ensures `value`, that the value is of exactly the text that is meant and lies in the place of that text; and
 //! `refused`, that memory can be wanting only for text that is not resident, or not short where it comes in parts.
-ghost use Rattle.std.specs.Prelude.{◌≡◌, ◌++◌, [], ◌∷◌, IfOk, OnErr, IsTrue};
+ghost use Rattle.std.specs.Prelude.{◌≡◌, ◌≤◌, ◌++◌, [], ◌∷◌, length, IfOk, OnErr, IsTrue};
 ghost use Rattle.std.specs.Str.{chars, IsUtf8};
 ghost use Rattle.std.specs.String.{string_bytes};
 ghost use Rattle.std.specs.Box.{boxed_str_bytes};
@@ -13,11 +13,11 @@ ghost use Rattle.smol_str.specs.Text.{IsShort, IsResident, place_of};
 ghost use Rattle.smol_str.specs.Meaning.{IsValueOf};
 ghost use Rattle.smol_str.specs.Joined.{joined, string_text};
 ghost use Rattle.smol_str.specs.Steps.{step_text};
-ghost use Rattle.smol_str.specs.Case.{lower, upper};
+ghost use Rattle.smol_str.specs.Case.{lower, upper, lowercased, uppercased, IsAsciiText};
 ghost use Rattle.smol_str.specs.Replace.{replaced, replaced_all};
 
 use crate::collecting::{all_of_slice, copied};
-use smol_str::{SmolStr, SmolStrBuilder, Step, StrExt, build};
+use smol_str::{INLINE_CAP, SmolStr, SmolStrBuilder, Step, StrExt, build};
 use std::alloc::{AllocError, Global};
 use std::borrow::CowStr;
 use std::boxed::BoxedStr;
@@ -32,6 +32,29 @@ pub fn of_text(alloc: Global, text: &str) -> Result<SmolStr, AllocError>
     SmolStr::new(alloc, text)
 }
 
+/// The same by the other name of the call.
+pub fn of_str(alloc: Global, text: &str) -> Result<SmolStr, AllocError>
+    ensures value { IfOk result (λ v. IsValueOf (chars text.now) v) }
+    ensures refused { OnErr result (¬ (IsResident (chars text.now))) }
+{
+    SmolStr::from_str(alloc, text)
+}
+
+/// A short text, which is never refused.
+pub fn of_short_text(text: &str) -> SmolStr
+    requires { length text.now ≤ INLINE_CAP }
+    ensures value { IsValueOf (chars text.now) result }
+{
+    SmolStr::new_inline(text)
+}
+
+/// No text, which is never refused.
+pub fn of_nothing() -> SmolStr
+    ensures value { IsValueOf [] result }
+{
+    SmolStr::default()
+}
+
 /// A whole text in bytes.
 pub fn of_bytes(alloc: Global, bytes: &[u8]) -> Result<SmolStr, AllocError>
     requires { IsUtf8 bytes.now }
@@ -39,6 +62,23 @@ pub fn of_bytes(alloc: Global, bytes: &[u8]) -> Result<SmolStr, AllocError>
     ensures refused { OnErr result (¬ (IsResident (chars bytes.now))) }
 {
     SmolStr::from_utf8(alloc, bytes).map_err(|_| AllocError)
+}
+
+/// The same where the bytes are known to be UTF-8.
+pub fn of_known_bytes(alloc: Global, bytes: &[u8]) -> Result<SmolStr, AllocError>
+    requires { IsUtf8 bytes.now }
+    ensures value { IfOk result (λ v. IsValueOf (chars bytes.now) v) }
+    ensures refused { OnErr result (¬ (IsResident (chars bytes.now))) }
+{
+    SmolStr::from_utf8_unchecked(alloc, bytes)
+}
+
+/// A `String`, lent.
+pub fn of_string_ref(alloc: Global, text: &String) -> Result<SmolStr, AllocError>
+    ensures value { IfOk result (λ v. IsValueOf (chars (string_bytes text.now)) v) }
+    ensures refused { OnErr result (¬ (IsResident (chars (string_bytes text.now)))) }
+{
+    SmolStr::from_string_ref(alloc, text)
 }
 
 /// A `String`, handed over.
@@ -110,6 +150,14 @@ pub fn of_calls(alloc: Global, front: &str, last: char) -> Result<SmolStr, Alloc
     Ok(builder.finish()?)
 }
 
+/// A builder, however it was filled.
+pub fn of_builder(builder: SmolStrBuilder) -> Result<SmolStr, AllocError>
+    ensures value { IfOk result (λ v. IsValueOf builder.text v) }
+    ensures refused { OnErr result (¬ (IsResident builder.text)) }
+{
+    Ok(SmolStr::from_builder(builder)?)
+}
+
 /// Any list of a builder's calls.
 pub fn of_steps(alloc: Global, steps: &[Step]) -> Result<SmolStr, AllocError>
     ensures value { IfOk result (λ v. IsValueOf (joined step_text steps.now) v) }
@@ -132,6 +180,22 @@ pub fn in_upper_case(alloc: Global, text: &str) -> Result<SmolStr, AllocError>
     ensures refused { OnErr result (¬ (IsShort (chars text.now))) }
 {
     text.to_ascii_uppercase_smolstr(alloc)
+}
+
+/// A text in lower case, as Unicode maps it; only short ASCII text is never refused.
+pub fn in_full_lower_case(alloc: Global, text: &str) -> Result<SmolStr, AllocError>
+    ensures value { IfOk result (λ v. IsValueOf (lowercased (chars text.now)) v) }
+    ensures refused { OnErr result (¬ (IsAsciiText (chars text.now) × IsShort (chars text.now))) }
+{
+    text.to_lowercase_smolstr(alloc)
+}
+
+/// A text in upper case, as Unicode maps it; only short ASCII text is never refused.
+pub fn in_full_upper_case(alloc: Global, text: &str) -> Result<SmolStr, AllocError>
+    ensures value { IfOk result (λ v. IsValueOf (uppercased (chars text.now)) v) }
+    ensures refused { OnErr result (¬ (IsAsciiText (chars text.now) × IsShort (chars text.now))) }
+{
+    text.to_uppercase_smolstr(alloc)
 }
 
 /// A text with another in place of each match.

@@ -5,6 +5,7 @@ use super::refuse::{
     refuse_one, start_counts,
 };
 use super::repeated;
+use smol_str::kernel::{AsciiCase, convert_while_ascii, next_match};
 use smol_str::{
     BLANK_NEWLINES, BLANK_SPACES, INLINE_CAP, Place, SmolStr, SmolStrBuilder, Step, build,
 };
@@ -45,6 +46,7 @@ enum Call {
     PushStr,
     PushStrToEmpty,
     ReadBuilder,
+    Kernel,
     Finish,
     FinishLarge,
     FromBuilder,
@@ -87,7 +89,7 @@ const BY_TEXT: &[Asks] = &[Asks::GrowByText];
 
 /// Each call, and what it asks for on a text that fills a buffer, on the blank constant, and on a
 /// text that is not resident.
-const CALLS: [(Call, &[Asks], &[Asks], &[Asks]); 31] = [
+const CALLS: [(Call, &[Asks], &[Asks], &[Asks]); 32] = [
     (Call::New, NONE, NONE, SHARED),
     (Call::NewInline, NONE, NONE, NONE),
     (Call::NewStatic, NONE, NONE, NONE),
@@ -114,6 +116,7 @@ const CALLS: [(Call, &[Asks], &[Asks], &[Asks]); 31] = [
     (Call::PushStr, TWICE, BY_TEXT, BY_TEXT),
     (Call::PushStrToEmpty, NONE, OWNED, OWNED),
     (Call::ReadBuilder, NONE, NONE, NONE),
+    (Call::Kernel, NONE, NONE, NONE),
     (Call::Finish, NONE, NONE, SHARED),
     (Call::FinishLarge, NONE, NONE, SHARED),
     (Call::FromBuilder, NONE, NONE, SHARED),
@@ -311,6 +314,7 @@ fn run(
         Call::PushStr => appended(builder.push_str(text), builder),
         Call::PushStrToEmpty => appended(empty.push_str(text), empty),
         Call::ReadBuilder => read_builder(&builder),
+        Call::Kernel => scan(text),
         Call::Finish => made_or(builder.finish().map_err(|b| Thing::Builder(b))),
         Call::FinishLarge => made_or(large.finish().map_err(|b| Thing::Builder(b))),
         Call::FromBuilder => made_or(SmolStr::from_builder(builder).map_err(|b| Thing::Builder(b))),
@@ -344,6 +348,18 @@ fn read_builder(builder: &SmolStrBuilder) -> Result<Thing, Thing> {
         return Ok(Thing::Nothing);
     }
     Err(Thing::Nothing)
+}
+
+/// Both calls of the kernel; a text longer than a buffer is searched alone.
+fn scan(text: &str) -> Result<Thing, Thing> {
+    let is_found = text.is_char_boundary(0) && next_match(text, 0, "a").is_some();
+    let is_ascii = text.len() > INLINE_CAP
+        || convert_while_ascii(text, AsciiCase::Lower).1 == text.len();
+    if is_found == text.contains('a') && is_ascii {
+        Ok(Thing::Nothing)
+    } else {
+        Err(Thing::Nothing)
+    }
 }
 
 fn compare(value: &SmolStr, pinned: &SmolStr, string: &String) -> Result<Thing, Thing> {
