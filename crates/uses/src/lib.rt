@@ -7,6 +7,7 @@ pub mod headers;
 pub mod headline;
 pub mod json;
 pub mod ordered;
+pub mod records;
 pub mod symbols;
 pub mod values;
 pub mod wire;
