@@ -24,6 +24,7 @@ pub mod ReplacingLemmas
 pub mod LaneLemmas
 pub mod ConvertLemmas
 pub mod PushLemmas
+pub mod FormatLemmas
 pub mod ByteLemmas
 pub mod CasingLemmas
 pub mod FullCaseLemmas

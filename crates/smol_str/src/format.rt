@@ -1,0 +1,110 @@
+//! Values of what is printed.
+ghost use Rattle.std.specs.Prelude.{◌≡◌, IfSome, IfOk, OnOk, OnErr, encode_utf8_all};
+ghost use Rattle.std.specs.Fmt.{AppendsText};
+ghost use Rattle.std.specs.Str.{chars, IsUtf8};
+ghost use Rattle.smol_str.specs.Text.{IsResident, place_of};
+ghost use Rattle.smol_str.specs.Meaning.{IsValueOf};
+ghost use Rattle.smol_str.specs.Draft.{OnHeap, appended};
+
+use crate::buffer::INLINE_CAP;
+use crate::builder::SmolStrBuilder;
+use crate::value::SmolStr;
+use std::alloc::Global;
+use std::fmt;
+
+/// Nothing was made: the print gave up, or memory was refused.
+#[derive(Debug)]
+pub struct FormatError;
+
+/// A piece of a print is appended whole, or refused and then the builder is as before.
+impl fmt::Write for SmolStrBuilder {
+    ghost write_str_gives = { λ s bytes t. IsUtf8 bytes × (t ≡ appended s (chars bytes)) };
+
+    fn write_str(&mut self, text: &str) -> fmt::Result
+        ensures ok { OnOk result (IsUtf8 text.now × (self.new ≡ appended self.old (chars text.now))) }
+        ensures unchanged { OnErr result (self.new ≡ self.old) }
+        ensures refused { OnErr result ((appended self.old (chars text.now)).kind ≡ OnHeap) }
+    {
+        match self.push_str(text) {
+            Ok(()) => Ok(()),
+            Err(_) => Err(fmt::Error),
+        }
+    }
+}
+
+impl SmolStrBuilder {
+    /// Appends what a value prints: what `write!` calls.
+    ///
+    /// Where the type does not state what it prints, it appends some text. After an error the pieces
+    /// that were printed before it stay.
+    pub fn write_fmt<D: fmt::Display + Drop>(&mut self, value: D) -> fmt::Result
+        ensures text { OnOk result
+            (IfSome (D.output value) (λ bytes. self.new ≡ appended self.old (chars bytes))) }
+        ensures bytes { OnOk result
+            (AppendsText (encode_utf8_all self.old.text) (encode_utf8_all self.new.text) (D.output value)) }
+    {
+        prove!(self.as_str().len() <= INLINE_CAP || self.inline_buffer().is_none());
+        fmt::Write::write_fmt(self, value)
+    }
+}
+
+/// Makes a value of what a type prints; implemented for every sized type that prints.
+pub trait ToSmolStr: fmt::Display {
+    /// The value of what `{}` prints, in the place of that text.
+    ///
+    /// It is [`FormatError`] where the print gives up or memory is refused, and then nothing is made.
+    /// A print of at most [`INLINE_CAP`] bytes needs no memory, which is only tested.
+    ///
+    /// ```
+    /// let number = 42u8.to_smolstr(alloc)?;
+    /// assert_eq!(rt; number.as_str(), "42");
+    /// ```
+    fn to_smolstr(&self, alloc: Global) -> Result<SmolStr, FormatError>
+        ensures text { IfOk result (λ v. IfSome (Self.output self.now) (λ bytes. IsValueOf (chars bytes) v)) }
+        ensures bytes { IfOk result
+            (λ v. IfSome (Self.output self.now) (λ bytes. encode_utf8_all v.text ≡ bytes)) }
+        ensures place { IfOk result (λ v. v.place ≡ place_of v.text) };
+}
+
+impl<T: fmt::Display> ToSmolStr for T {
+    fn to_smolstr(&self, alloc: Global) -> Result<SmolStr, FormatError> {
+        let mut builder = SmolStrBuilder::new(alloc);
+        match builder.write_fmt(self) {
+            Ok(()) => finished(builder),
+            Err(_) => Err(FormatError),
+        }
+    }
+}
+
+/// The value of a builder that was printed to: what [`format_smolstr!`](crate::format_smolstr) ends
+/// with.
+pub fn finished(builder: SmolStrBuilder) -> Result<SmolStr, FormatError>
+    ensures ok { IfOk result (λ v. IsValueOf builder.text v) }
+    ensures refused { OnErr result (¬ (IsResident builder.text)) }
+{
+    match builder.finish() {
+        Ok(value) => Ok(value),
+        Err(_) => Err(FormatError),
+    }
+}
+
+/// The value of the printed arguments, as `Result<SmolStr, FormatError>`: `format!` with the allocator
+/// first, parted by a semicolon.
+///
+/// It expands to a builder, a print to it and [`finished`] in the caller's own body, and needs no
+/// import.
+///
+/// ```
+/// let name = format_smolstr!(alloc; "{}-{:02}", "a", 7)?;
+/// assert_eq!(rt; name.as_str(), "a-07");
+/// ```
+#[macro_export]
+macro_rules! format_smolstr {
+    ($alloc:expr; $($arg:tt)+) => {{
+        let mut builder = $crate::SmolStrBuilder::new($alloc);
+        match builder.write_fmt(format_args!($($arg)+)) {
+            Ok(()) => $crate::finished(builder),
+            Err(_) => Err($crate::FormatError),
+        }
+    }};
+}
