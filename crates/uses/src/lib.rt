@@ -3,6 +3,7 @@
 
 pub mod building;
 pub mod collecting;
+pub mod formatting;
 pub mod headers;
 pub mod headline;
 pub mod json;

@@ -1,0 +1,63 @@
+//! Values of what is printed, by callers that know what their arguments print.
+ghost use Rattle.std.specs.Prelude.{◌≡◌, ◌++◌, codes, replicate, IfOk, OnOk, encode_utf8_all};
+ghost use Rattle.std.specs.Str.{chars};
+ghost use Rattle.std.specs.Fmt.{decimal};
+ghost use Rattle.smol_str.specs.declared.value.place.Place.TheVariants.{Static};
+ghost use Rattle.uses.specs.Widths.{right_aligned};
+ghost use Rattle.smol_str.specs.Meaning.{IsValueOf};
+
+use smol_str::{FormatError, Place, SmolStr, SmolStrBuilder, ToSmolStr, format_smolstr};
+use std::alloc::Global;
+use std::fmt;
+
+/// Two words with a sign between them.
+pub fn words(alloc: Global) -> Result<SmolStr, FormatError>
+    ensures { IfOk result (λ v. encode_utf8_all v.text ≡ codes "a-b") }
+{
+    format_smolstr!(alloc; "{}-{}", "a", "b")
+}
+
+/// A word, a number and a value.
+pub fn line(alloc: Global, word: &str, number: u64, value: &SmolStr) -> Result<SmolStr, FormatError>
+    ensures { IfOk result (λ v. encode_utf8_all v.text ≡ word.now ++ (codes " " ++ (decimal number
+        ++ (codes " " ++ (encode_utf8_all value.now.text ++ codes "\n"))))) }
+{
+    format_smolstr!(alloc; "{word} {number} {value}\n")
+}
+
+/// A number.
+pub fn number(alloc: Global, number: u8) -> Result<SmolStr, FormatError>
+    ensures { IfOk result (λ v. encode_utf8_all v.text ≡ decimal number) }
+{
+    number.to_smolstr(alloc)
+}
+
+/// A text.
+pub fn copied(alloc: Global, text: &str) -> Result<SmolStr, FormatError>
+    ensures { IfOk result (λ v. IsValueOf (chars text.now) v) }
+{
+    text.to_smolstr(alloc)
+}
+
+/// A builder, and a number after it.
+pub fn push_number(builder: &mut SmolStrBuilder, number: u64) -> fmt::Result
+    ensures { OnOk result
+        (encode_utf8_all builder.new.text ≡ encode_utf8_all builder.old.text ++ decimal number) }
+{
+    write!(builder, "{number}")
+}
+
+/// A number, with spaces before it where it is narrow.
+pub fn wide_number(alloc: Global, number: u64) -> Result<SmolStr, FormatError>
+    ensures { IfOk result (λ v. encode_utf8_all v.text ≡ right_aligned 6 number) }
+{
+    format_smolstr!(alloc; "{number:>6}")
+}
+
+/// Spaces by a width alone: a blank run, so that the value is a slice of the blank constant.
+pub fn indentation(alloc: Global) -> Result<SmolStr, FormatError>
+    ensures text { IfOk result (λ v. encode_utf8_all v.text ≡ replicate 24 32) }
+    ensures place { IfOk result (λ v. v.place ≡ Static) }
+{
+    format_smolstr!(alloc; "{:>24}", "")
+}
