@@ -13,7 +13,7 @@ use std::alloc::Global;
 use std::fmt;
 
 /// Nothing was made: the print gave up, or memory was refused.
-#[derive(Debug)]
+#[derive(Debug, Drop)]
 pub struct FormatError;
 
 /// A piece of a print is appended whole, or refused and then the builder is as before.

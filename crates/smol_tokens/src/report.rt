@@ -8,7 +8,7 @@ ghost use Rattle.smol_tokens.specs.Report.{place_word, answer_line, line_text, l
 
 use crate::lines::Lines;
 use crate::mode::Mode;
-use smol_str::{Place, SmolStr, StrExt};
+use smol_str::{FormatError, Place, SmolStr, StrExt, format_smolstr};
 use std::alloc::{AllocError, Global};
 
 /// The whole report on a text.
@@ -27,7 +27,7 @@ fn answer_lines(alloc: Global, mode: &Mode, text: &str) -> Result<String, AllocE
 {
     let mut out = String::new(alloc);
     for line in Lines::of(text) {
-        push_answer(&mut out, value_of(alloc, mode, line)?)?;
+        push_answer(alloc, &mut out, value_of(alloc, mode, line)?)?;
     }
     Ok(out)
 }
@@ -50,19 +50,21 @@ fn join(alloc: Global, text: &str) -> Result<String, AllocError>
 {
     let value = SmolStr::from_strs(alloc, Lines::of(text))?;
     let mut out = String::new(alloc);
-    push_answer(&mut out, value)?;
+    push_answer(alloc, &mut out, value)?;
     Ok(out)
 }
 
-/// Appends the answer line of a value; it makes no text of its own for it.
-fn push_answer(out: &mut String, value: SmolStr) -> Result<(), AllocError>
+/// Appends the answer line of a value.
+fn push_answer(alloc: Global, out: &mut String, value: SmolStr) -> Result<(), AllocError>
     ensures { OnOk result (string_bytes out.new ≡ string_bytes out.old
         ++ encode_utf8_all (answer_line value.place (size value.text) value.text)) }
 {
     let place = word_of(value.place());
     let size = value.len();
-    let text = value.as_str();
-    write!(out, "{place} {size} {text}\n")
+    match format_smolstr!(alloc; "{place} {size} {value}\n") {
+        Ok(answer) => out.push_str(answer.as_str()),
+        Err(FormatError) => Err(AllocError),
+    }
 }
 
 /// The word that an answer line has for a place.
