@@ -5,6 +5,7 @@ mod calls;
 mod collect;
 mod compare;
 mod convert;
+mod format;
 mod json;
 mod kernel;
 mod keys;
