@@ -146,13 +146,27 @@ impl SmolStrBuilder {
         ensures unchanged { OnErr result (self.new ≡ self.old) }
         ensures refused { OnErr result ((appended self.old (chars text.now)).kind ≡ OnHeap) }
     {
+        if let BuilderRepr::Inline(short) = &mut self.repr {
+            if text.len() <= INLINE_CAP - short.len() {
+                short.push_str(text);
+                return Ok(());
+            }
+        }
+        self.push_on_heap(text)
+    }
+
+    /// Appends a text with which the builder is on the heap: apart, so that the short way is small
+    /// enough to stand at each call.
+    #[inline(never)]
+    fn push_on_heap(&mut self, text: &str) -> Result<(), AllocError>
+        requires { (appended self.old (chars text.now)).kind ≡ OnHeap }
+        ensures ok { OnOk result (self.new ≡ appended self.old (chars text.now)) }
+        ensures unchanged { OnErr result (self.new ≡ self.old) }
+        ensures refused { OnErr result ((appended self.old (chars text.now)).kind ≡ OnHeap) }
+    {
         match &mut self.repr {
             BuilderRepr::Heap(heap) => heap.push_str(text),
             BuilderRepr::Inline(short) => {
-                if text.len() <= INLINE_CAP - short.len() {
-                    short.push_str(text);
-                    return Ok(());
-                }
                 // Memory first: a refusal leaves the buffer as it is.
                 let heap = both_on_heap(self.alloc, short.as_str(), text)?;
                 self.repr = BuilderRepr::Heap(heap);
@@ -200,6 +214,19 @@ impl SmolStrBuilder {
             },
         }
     }
+
+    /// The same value, where the builder is not wanted back: it keeps the memory that the text is in,
+    /// with the room that is left there.
+    #[inline(always)]
+    pub(crate) fn into_value(self) -> Result<SmolStr, AllocError>
+        ensures ok { IfOk result (λ v. IsValueOf self.text v) }
+        ensures refused { OnErr result (¬ (IsResident self.text)) }
+    {
+        match self.repr {
+            BuilderRepr::Inline(text) => Ok(SmolStr::from_inline(text)),
+            BuilderRepr::Heap(text) => SmolStr::keep(text),
+        }
+    }
 }
 
 /// For containers of builders; the same as [`SmolStrBuilder::clone`].
@@ -234,13 +261,12 @@ impl From<SmolStrBuilder> for AllocError {
     }
 }
 
-/// Both texts, one after the other, on the heap.
-#[inline(never)]
+/// Both texts, one after the other, on the heap, with room for a short text behind them.
 fn both_on_heap(alloc: Global, first: &str, second: &str) -> Result<String, AllocError>
     requires { length first.now ≤ INLINE_CAP }
     ensures { IfOk result (λ s. string_bytes s ≡ first.now ++ second.now) }
 {
-    let mut heap = String::with_capacity(alloc, first.len() + second.len())?;
+    let mut heap = String::with_capacity(alloc, first.len() + second.len() + INLINE_CAP)?;
     heap.push_str(first)?;
     heap.push_str(second)?;
     Ok(heap)

@@ -9,7 +9,7 @@ ghost use Rattle.smol_str.specs.Draft.{OnHeap, appended};
 use crate::buffer::INLINE_CAP;
 use crate::builder::SmolStrBuilder;
 use crate::value::SmolStr;
-use std::alloc::Global;
+use std::alloc::{AllocError, Global};
 use std::fmt;
 
 /// Nothing was made: the print gave up, or memory was refused.
@@ -82,9 +82,9 @@ pub fn finished(builder: SmolStrBuilder) -> Result<SmolStr, FormatError>
     ensures ok { IfOk result (λ v. IsValueOf builder.text v) }
     ensures refused { OnErr result (¬ (IsResident builder.text)) }
 {
-    match builder.finish() {
+    match builder.into_value() {
         Ok(value) => Ok(value),
-        Err(_) => Err(FormatError),
+        Err(AllocError) => Err(FormatError),
     }
 }
 

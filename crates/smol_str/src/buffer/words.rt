@@ -188,15 +188,18 @@ fn read_ordered(buf: &Packed, at: usize) -> u64
     u64::from_be_bytes(*buf[at..].first_chunk::<8>().unwrap())
 }
 
-/// Overwrites the bytes from `start` on: few of them by two parts of one size, which may overlap.
+/// Overwrites the bytes from `start` on by two parts of one size, which may overlap, so that nothing
+/// is called.
 #[inline(always)]
 pub(super) fn write_at(buf: &mut Packed, start: usize, bytes: &[u8])
     requires { start + length bytes.now ≤ INLINE_CAP }
     ensures { buf.new ≡ put_at buf.old start bytes.now }
 {
     let len = bytes.len();
-    if len > 16 {
+    if INLINE_CAP > 32 && len > 32 {
         buf[start..start + len].copy_from_slice(bytes);
+    } else if len >= 16 {
+        put_ends::<16>(buf, start, bytes);
     } else if len >= 8 {
         put_ends::<8>(buf, start, bytes);
     } else if len >= 4 {

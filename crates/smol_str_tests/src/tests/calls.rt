@@ -61,13 +61,13 @@ enum Asks {
     Shared,
     /// A `String` of the text.
     Owned,
-    /// A `String` with room for the text and one ASCII character.
+    /// A `String` with room for the text and a short text.
+    OwnedAndRoom,
+    /// A `String` with room for the text, one ASCII character and a short text.
     OwnedAndChar,
-    /// A `String` with room for the text twice.
+    /// A `String` with room for the text twice and a short text.
     OwnedTwice,
-    /// A character appended to a full `String`.
-    GrowByChar,
-    /// The text appended to a full `String` of it.
+    /// The text appended to a `String` of it that has room for a short text.
     GrowByText,
 }
 
@@ -77,13 +77,15 @@ const SHARED: &[Asks] = &[Asks::Shared];
 
 const OWNED: &[Asks] = &[Asks::Owned];
 
-const BUILT: &[Asks] = &[Asks::Owned, Asks::Shared];
+const WITH_ROOM: &[Asks] = &[Asks::OwnedAndRoom];
+
+const BUILT: &[Asks] = &[Asks::OwnedAndRoom, Asks::Shared];
+
+const BUILT_TO_SIZE: &[Asks] = &[Asks::Owned, Asks::Shared];
 
 const AND_CHAR: &[Asks] = &[Asks::OwnedAndChar];
 
 const TWICE: &[Asks] = &[Asks::OwnedTwice];
-
-const BY_CHAR: &[Asks] = &[Asks::GrowByChar];
 
 const BY_TEXT: &[Asks] = &[Asks::GrowByText];
 
@@ -112,16 +114,16 @@ const CALLS: [(Call, &[Asks], &[Asks], &[Asks]); 32] = [
     (Call::Compare, NONE, NONE, NONE),
     (Call::NewBuilder, NONE, NONE, NONE),
     (Call::WithCapacity, NONE, OWNED, OWNED),
-    (Call::Push, AND_CHAR, BY_CHAR, BY_CHAR),
+    (Call::Push, AND_CHAR, NONE, NONE),
     (Call::PushStr, TWICE, BY_TEXT, BY_TEXT),
-    (Call::PushStrToEmpty, NONE, OWNED, OWNED),
+    (Call::PushStrToEmpty, NONE, WITH_ROOM, WITH_ROOM),
     (Call::ReadBuilder, NONE, NONE, NONE),
     (Call::Kernel, NONE, NONE, NONE),
     (Call::Finish, NONE, NONE, SHARED),
     (Call::FinishLarge, NONE, NONE, SHARED),
     (Call::FromBuilder, NONE, NONE, SHARED),
-    (Call::Build, NONE, OWNED, BUILT),
-    (Call::BuildWithCapacity, NONE, OWNED, BUILT),
+    (Call::Build, NONE, WITH_ROOM, BUILT),
+    (Call::BuildWithCapacity, NONE, OWNED, BUILT_TO_SIZE),
 ];
 
 /// What a call made, or gave back.
@@ -401,15 +403,17 @@ fn appended(answer: Result<(), AllocError>, builder: SmolStrBuilder) -> Result<T
 }
 
 fn asked_by_std(alloc: Global, ask: Asks, text: &str) -> Result<Asked, Fail> {
-    let mut full = String::from_str(alloc, text)?;
+    let room = text.len().saturating_add(INLINE_CAP);
+    let mut roomy = String::with_capacity(alloc, room)?;
+    roomy.push_str(text)?;
     let before = asked_so_far(alloc);
     match ask {
         Asks::Shared => drop(RcStr::from_str(alloc, text)?),
         Asks::Owned => drop(String::from_str(alloc, text)?),
-        Asks::OwnedAndChar => drop(String::with_capacity(alloc, text.len() + 1)?),
-        Asks::OwnedTwice => drop(String::with_capacity(alloc, text.len() + text.len())?),
-        Asks::GrowByChar => full.push('a')?,
-        Asks::GrowByText => full.push_str(text)?,
+        Asks::OwnedAndRoom => drop(String::with_capacity(alloc, room)?),
+        Asks::OwnedAndChar => drop(String::with_capacity(alloc, room.saturating_add(1))?),
+        Asks::OwnedTwice => drop(String::with_capacity(alloc, room.saturating_add(text.len()))?),
+        Asks::GrowByText => roomy.push_str(text)?,
     }
     Ok(asked_since(alloc, before))
 }

@@ -1,15 +1,12 @@
-use Rattle.std.proofs.Common.{◌≡◌, ◌++◌}
-use Rattle.std.specs.Str.{IsUtf8}
-use Rattle.std.specs.String.{string_bytes}
-use Rattle.std.proofs.lemmas.Str.{chars-append, IsUtf8-string_bytes}
-use Rattle.smol_str.proofs.TextLemmas.{OnErr-always, OnOk-if, chars-of}
+use Rattle.std.proofs.Common.{refl}
 use Rattle.smol_str.proofs.DraftLemmas.{IsShort-append, too_long-append, kind_with-short, kind_with-long}
+use Rattle.smol_str.proofs.builder.SmolStrBuilder.push_str.Goals.{in-Inline+else-text-len, in_default}
 use Rattle.smol_str.proofs.builder.SmolStrBuilder.push_str.Goals as goal
 
-pub invariant_of-self-then-text-len : goal.invariant_of-self-then-text-len
-invariant_of-self-then-text-len c =
+pub invariant_of-self : goal.invariant_of-self
+invariant_of-self c =
     let room = rw c.len.ensures.len at c.if-text-len.true in
-    rw c.push_str-then-text-len.ensures (IsShort-append _ _ c.utf8.text c.len.ensures.short room)
+    rw c.push_str.ensures (IsShort-append _ _ c.utf8.text c.len.ensures.short room)
 
 pub returns-then-text-len-clause-ok : goal.returns-then-text-len-clause-ok
 returns-then-text-len-clause-ok c =
@@ -17,34 +14,15 @@ returns-then-text-len-clause-ok c =
     let room = rw c.len.ensures.len at c.if-text-len.true in
     rw (
       ← view,
-      c.push_str-then-text-len.ensures,
+      c.push_str.ensures,
       kind_with-short _ (IsShort-append _ _ c.utf8.text c.len.ensures.short room),
     )
 
-pub returns-in_err-heap-in-Inline-clause-refused :
-    goal.returns-in_err-heap-in-Inline-clause-refused
-returns-in_err-heap-in-Inline-clause-refused c =
-    let view = rw c.in-Inline.is at c.self.view_is in
-    let room = rw c.len.ensures.len at c.if-text-len.false in
-    rw (← view) (OnErr-always c.from_residual.result _ (kind_with-long _ (too_long-append _ _ c.utf8.text room)))
-
-pub returns-in-Heap-clause-ok : goal.returns-in-Heap-clause-ok
-returns-in-Heap-clause-ok c =
-    let view = rw c.in-Heap.is at c.self.view_is in
-    OnOk-if c.push_str.result _ (λ ok.
-    let bytes : string_bytes c.push_str.new.self ≡ string_bytes c.in-Heap.heap ++ c.args.text.now =
-    rw ok at c.push_str.ensures.bytes in
-    rw (← view, bytes, chars-append (string_bytes c.in-Heap.heap) c.args.text.now (IsUtf8-string_bytes c.in-Heap.heap)))
-
-pub returns-in_ok-heap-in-Inline-clause-ok : goal.returns-in_ok-heap-in-Inline-clause-ok
-returns-in_ok-heap-in-Inline-clause-ok c =
-    let view = rw c.in-Inline.is at c.self.view_is in
-    let room = rw c.len.ensures.len at c.if-text-len.false in
-    let text : IsUtf8 c.as_str.result.now = c.as_str.utf8 in
-    rw (
-      ← view,
-      c.in_ok-heap-in-Inline.ensures,
-      chars-append c.as_str.result.now c.args.text.now text,
-      chars-of c.in-Inline.short c.as_str.result.now text c.as_str.ensures.bytes,
-      kind_with-long _ (too_long-append c.in-Inline.short c.args.text.now c.utf8.text room),
-    )
+pub push_on_heap-requires : goal.push_on_heap-requires
+push_on_heap-requires c =
+    elim c.match-self.branch [
+      | in-Inline+else-text-len w ↦ (
+        let room = rw w.len.ensures.len at w.if-text-len.false in
+        rw w.self-inside-is (kind_with-long _ (too_long-append _ _ c.utf8.text room)))
+      | in_default w ↦ rw (w.self-inside-is, w.in_default.is) refl
+    ]
