@@ -6,7 +6,7 @@ ghost use Rattle.smol_str.specs.declared.value.place.Place.TheVariants.{Static};
 ghost use Rattle.uses.specs.Widths.{right_aligned};
 ghost use Rattle.smol_str.specs.Meaning.{IsValueOf};
 
-use smol_str::{FormatError, Place, SmolStr, SmolStrBuilder, ToSmolStr, format_smolstr};
+use smol_str::{FormatError, Place, SmolStr, SmolStrBuilder, ToSmolStr, finished, format_smolstr};
 use std::alloc::Global;
 use std::fmt;
 
@@ -45,6 +45,17 @@ pub fn push_number(builder: &mut SmolStrBuilder, number: u64) -> fmt::Result
         (encode_utf8_all builder.new.text ≡ encode_utf8_all builder.old.text ++ decimal number) }
 {
     write!(builder, "{number}")
+}
+
+/// A number and a sign, by a builder that was printed to.
+pub fn signed(alloc: Global, number: u64) -> Result<SmolStr, FormatError>
+    ensures { IfOk result (λ v. encode_utf8_all v.text ≡ decimal number ++ codes "-") }
+{
+    let mut builder = SmolStrBuilder::new(alloc);
+    match write!(builder, "{number}-") {
+        Ok(()) => finished(builder),
+        Err(_) => Err(FormatError),
+    }
 }
 
 /// A number, with spaces before it where it is narrow.
