@@ -47,6 +47,7 @@ no_report-add t line seen rest left old (Full token) so_far is next full =
     let worth : List ℕ → ℕ = λ u. cond (is_same line u) 1 0 in
     let first : count_by (is_same line) (line ∷ rest) ≡ 1 + count_by (is_same line) rest =
     sum_by-cons worth line rest ∙ ap (λ b. cond b 1 0 + count_by (is_same line) rest) (is_same_itself line) in
-    let whole : count_by (is_same line) (lines t) ≡ count_by (is_same line) seen + count_by (is_same line) (line ∷ rest) =
+    let whole : count_by (is_same line) (lines t)
+    ≡ count_by (is_same line) seen + count_by (is_same line) (line ∷ rest) =
     ap (count_by (is_same line)) (is ∙ ap (λ us. seen ++ us) next) ∙ sum_by-append worth seen (line ∷ rest) in
     (refl, (line, omega (arith, before, first, whole)))
