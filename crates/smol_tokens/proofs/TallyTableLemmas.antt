@@ -1,10 +1,13 @@
 -- For `Tally`: a table by values, seen as pairs of texts and counts.
-use Rattle.std.proofs.Common.{◌≡◌, ℕ, ◌+◌, List, [], ◌∷◌, ◌++◌, Bool, true, false, cond, Some, unwrap_or, refl, sym, ap, ◌∙◌}
-use Rattle.std.specs.Map.{lookup}
+use Rattle.std.proofs.Common.{◌≡◌, ℕ, ◌+◌, List, [], ◌∷◌, ◌++◌, Bool, true, false, cond, Option, Some, unwrap_or}
+use Rattle.std.proofs.Common.{refl, sym, ap, ◌∙◌}
+use Rattle.std.specs.Map.{lookup, set_value}
 use Rattle.std.proofs.lemmas.Slice.Eq.{bytes_eq-Decides}
+use Rattle.std.proofs.lemmas.Map.Steps.{set_value_same}
 use Rattle.indexmap.specs.IndexMap.{insert_entry}
 use Rattle.smol_str.specs.Meaning.{Meaning}
 use Rattle.smol_tokens.specs.Tally.{is_same, times_of, tally, HasEachOnce, by_text}
+use Rattle.smol_tokens.proofs.ListLemmas.{by_test}
 use Rattle.smol_tokens.proofs.TallyLemmas.{once-tally}
 use Rattle.smol_tokens.proofs.TableLemmas.{tally-added, lookup-tally, tally-table}
 
@@ -51,3 +54,61 @@ pub lookup-insert : (pairs : List (List ℕ × ℕ)) (t : List ℕ) (n : ℕ) �
     lookup (is_same t) (insert_entry is_same pairs t n) ≡ Some n
 lookup-insert [] t n = ap (λ b. cond b (Some n) (lookup (is_same t) [])) ((bytes_eq-Decides t t).1 refl)
 lookup-insert (e ∷ es) t n = found_case (is_same t e.0) t n e es (insert_entry is_same es t n) refl (lookup-insert es t n)
+
+-- by the text of a value, whatever its place
+abbrev pub is_text_of : Meaning → Meaning → Bool
+is_text_of token key = is_same token.text key.text
+
+-- at a key that is there, a value written is one inserted
+set_there : (es : List (Meaning × ℕ)) (token : Meaning) (n m : ℕ) → lookup (is_text_of token) es ≡ Some n
+    → set_value (is_text_of token) es m ≡ insert_entry is_text_of es token m
+set_there [] token n m there = absurd (cc there)
+set_there (e ∷ es) token n m there =
+    let here = (e.0, m) ∷ es in
+    let set = e ∷ set_value (is_text_of token) es m in
+    let put = e ∷ insert_entry is_text_of es token m in
+    by_test (is_text_of token e.0)
+    (λ x. ap (λ b. cond b here set) x ∙ sym (ap (λ b. cond b here put) x))
+    (λ x.
+    let later = sym (ap (λ b. cond b (Some e.1) (lookup (is_text_of token) es)) x) ∙ there in
+    ap (λ b. cond b here set) x ∙ ap (λ s. e ∷ s) (set_there es token n m later) ∙ sym (ap (λ b. cond b here put) x))
+
+-- what a look-up in a table finds is how often the token was counted
+pub found-times : (pairs : List (List ℕ × ℕ)) (es : List (Meaning × ℕ)) (token : Meaning) (found : Option ℕ)
+    → by_text es ≡ pairs → HasEachOnce pairs → lookup (is_text_of token) es ≡ found
+    → unwrap_or found 0 ≡ times_of token.text pairs
+found-times pairs es token found is once looked_up =
+    ap (λ o. unwrap_or o 0)
+    (sym looked_up ∙ lookup-by_text token.text es ∙ ap (lookup (is_same token.text)) is)
+    ∙ lookup-once token.text pairs once
+
+-- a token that goes in with its new count
+pub added : (pairs : List (List ℕ × ℕ)) (es new : List (Meaning × ℕ)) (token : Meaning) (times n : ℕ)
+    → by_text es ≡ pairs → HasEachOnce pairs → n ≡ times_of token.text pairs + times
+    → new ≡ insert_entry is_text_of es token n
+    → (by_text new ≡ tally (pairs ++ (token.text, times) ∷ [])) × (lookup (is_same token.text) (by_text new) ≡ Some n)
+added pairs es new token times n is once sum after =
+    let t = token.text in
+    let entered : by_text new ≡ insert_entry is_same pairs t n =
+    ap by_text after ∙ insert-by_text es token n ∙ ap (λ ps. insert_entry is_same ps t n) is in (
+      entered ∙ insert-once pairs t times n once sum,
+      ap (lookup (is_same t)) entered ∙ lookup-insert pairs t n,
+    )
+
+-- the same, where the count is written at the token that is there
+pub counted-again : (pairs : List (List ℕ × ℕ)) (es new : List (Meaning × ℕ)) (token : Meaning) (times n more : ℕ)
+    → by_text es ≡ pairs → HasEachOnce pairs → lookup (is_text_of token) es ≡ Some n → more ≡ n + times
+    → new ≡ set_value (is_text_of token) es more
+    → (by_text new ≡ tally (pairs ++ (token.text, times) ∷ []))
+    × (lookup (is_same token.text) (by_text new) ≡ Some more)
+counted-again pairs es new token times n more is once there sum after =
+    added pairs es new token times more is once
+    (sum ∙ ap (λ before. before + times) (found-times pairs es token (Some n) is once there))
+    (after ∙ set_there es token n more there)
+
+-- nothing changes where the old count is written
+pub same-count : (pairs : List (List ℕ × ℕ)) (es new : List (Meaning × ℕ)) (token : Meaning) (n : ℕ)
+    → by_text es ≡ pairs → lookup (is_text_of token) es ≡ Some n → new ≡ set_value (is_text_of token) es n
+    → by_text new ≡ pairs
+same-count pairs es new token n is there after =
+    ap by_text (after ∙ set_value_same (is_text_of token) es n there) ∙ is

@@ -2,6 +2,7 @@ pub mod Lines
 pub mod Tally
 pub mod TallyFaults
 pub mod Report
+pub mod ReportFaults
 pub mod Words
 pub mod Faults
 pub mod FaultLine

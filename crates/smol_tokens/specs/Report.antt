@@ -7,7 +7,7 @@
 --     report mode t      what the program writes in a mode
 --     line_text mode l   what a line is made to in a mode
 --     lines_report mode t    the answer line of what each line is made to
-use Rattle.std.specs.Prelude.{ℕ, List, ◌++◌, map, codes}
+use Rattle.std.specs.Prelude.{ℕ, List, ◌++◌, codes}
 use Rattle.std.specs.List.{concat, flat_map}
 use Rattle.std.specs.Fmt.{decimal}
 use Rattle.std.specs.Str.{chars}
@@ -18,9 +18,9 @@ use Rattle.smol_str.specs.declared.value.place.Place.TheVariants.{Inline, Static
 use Rattle.smol_str.specs.Case.{lower, upper}
 use Rattle.smol_str.specs.Replace.{replaced_all}
 use Rattle.smol_tokens.specs.Lines.{lines}
-use Rattle.smol_tokens.specs.Tally.{tally}
+use Rattle.smol_tokens.specs.Tally.{tally, seen_once}
 use Rattle.smol_tokens.specs.declared.mode.Mode.{Mode}
-use Rattle.smol_tokens.specs.declared.mode.Mode.TheVariants.{Show, Join, Lower, Upper, Replace}
+use Rattle.smol_tokens.specs.declared.mode.Mode.TheVariants.{Show, Join, Lower, Upper, Replace, Tokens}
 
 -- the word for a place
 abbrev pub place_word : Place → List ℕ
@@ -62,7 +62,7 @@ count_line e = decimal e.1 ++ (codes " " ++ (e.0 ++ codes "\n"))
 
 -- the count line of each different line, in order of first sight
 abbrev pub tokens_report : List ℕ → List ℕ
-tokens_report t = flat_map count_line (tally (map (λ line. (line, 1)) (lines t)))
+tokens_report t = flat_map count_line (tally (seen_once (lines t)))
 
 -- what is written in each mode
 abbrev pub report : Mode → List ℕ → List ℕ
@@ -71,15 +71,17 @@ report Join t = join_report t
 report Lower t = lower_report t
 report Upper t = upper_report t
 report (Replace from to) t = replace_report (chars (string_bytes from)) (chars (string_bytes to)) t
+report Tokens t = tokens_report t
 
--- what a line is made to in a mode; mode join takes it as it is, too
+-- what a line is made to in a mode; modes join and tokens take it as it is, too
 abbrev pub line_text : Mode → List ℕ → List ℕ
 line_text Show line = line
 line_text Join line = line
 line_text Lower line = lower line
 line_text Upper line = upper line
 line_text (Replace from to) line = replaced_all line (chars (string_bytes from)) (chars (string_bytes to))
+line_text Tokens line = line
 
--- the answer line of what each line is made to: the report of each mode but join
+-- the answer line of what each line is made to: the report of each mode but join and tokens
 abbrev pub lines_report : Mode → List ℕ → List ℕ
 lines_report mode t = flat_map (λ line. answer (line_text mode line)) (lines t)

@@ -1,7 +1,7 @@
 -- What some words ask for, computed by the checker.
-use Rattle.std.specs.Prelude.{◌≡◌, [], ◌∷◌, codes, Some, None, refl}
+use Rattle.std.specs.Prelude.{◌≡◌, [], codes, Some, None, refl}
 use Rattle.smol_tokens.specs.Words.{asked_mode, mode_of_word}
-use Rattle.smol_tokens.specs.declared.mode.Mode.TheVariants.{Show, Join, Lower, Upper}
+use Rattle.smol_tokens.specs.declared.mode.Mode.TheVariants.{Show, Join, Lower, Upper, Tokens}
 
 no_word : asked_mode [] ≡ Some Show
 no_word = refl
@@ -17,6 +17,9 @@ lower_word = refl
 
 upper_word : mode_of_word (codes "upper") ≡ Some Upper
 upper_word = refl
+
+tokens_word : mode_of_word (codes "tokens") ≡ Some Tokens
+tokens_word = refl
 
 -- `replace` wants two words more
 replace_alone : mode_of_word (codes "replace") ≡ None

@@ -2,8 +2,10 @@
 ghost use Rattle.std.specs.Prelude.{◌≡◌};
 ghost use Rattle.smol_tokens.specs.FaultLine.{line_of};
 ghost use Rattle.smol_tokens.specs.ReadFaults.{run_fault};
+ghost use Rattle.smol_tokens.specs.TallyFaults.{run_fault_of};
 ghost use Rattle.smol_tokens.specs.declared.fault.RunFault.TheVariants.{OutOfMemory, Io};
 
+use crate::tally::AddFault;
 use smol_str::stream::ReadFault;
 use std::alloc::AllocError;
 use std::io;
@@ -15,6 +17,8 @@ pub enum RunFault {
     NotUtf8,
     /// Memory was refused.
     OutOfMemory,
+    /// A token stands more than `u64::MAX` times in the input.
+    Full,
     /// The reader or the writer failed, or the writer took no byte.
     Io(io::Error),
 }
@@ -46,6 +50,17 @@ impl From<ReadFault> for RunFault {
     }
 }
 
+impl From<AddFault> for RunFault {
+    ghost from_gives = { λ adding fault. fault ≡ run_fault_of adding };
+
+    fn from(adding: AddFault) -> RunFault {
+        match adding {
+            AddFault::OutOfMemory(_token) => RunFault::OutOfMemory,
+            AddFault::Full(_token) => RunFault::Full,
+        }
+    }
+}
+
 /// The line that tells a fault on standard error, without its newline.
 pub fn fault_line(fault: &RunFault) -> &'static str
     ensures { result.now ≡ line_of fault.now }
@@ -53,6 +68,7 @@ pub fn fault_line(fault: &RunFault) -> &'static str
     match fault {
         RunFault::NotUtf8 => "not UTF-8",
         RunFault::OutOfMemory => "out of memory",
+        RunFault::Full => "full",
         RunFault::Io(_) => "read or write failed",
     }
 }

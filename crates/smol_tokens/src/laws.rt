@@ -1,13 +1,13 @@
 //! What the definitions in `specs/` mean: laws over every text and every list of pairs, each the
 //! contract of a function that does nothing.
-ghost use Rattle.std.specs.Prelude.{◌≡◌, ◌≢◌, ◌⊎◌, ◌+◌, ℕ, List, [], ◌∷◌, ◌++◌, All, AllPairs, unwrap_or};
+ghost use Rattle.std.specs.Prelude.{◌≡◌, ◌≢◌, ◌⊎◌, ◌+◌, ℕ, List, [], ◌∷◌, ◌++◌, All, AllPairs, unwrap_or, count_by};
 ghost use Rattle.std.specs.List.{onto_first, slice_split};
 ghost use Rattle.std.specs.Map.{lookup};
 ghost use Rattle.indexmap.specs.IndexMap.{insert_entry};
 ghost use Rattle.smol_str.specs.Cut.{IsCut, joined_by};
 ghost use Rattle.smol_str.specs.Replace.{no_limit};
 ghost use Rattle.smol_tokens.specs.Lines.{is_newline, newline, lines, without_empty_last, HasNoNewline, ended};
-ghost use Rattle.smol_tokens.specs.Tally.{is_same, tokens, times_of, tally};
+ghost use Rattle.smol_tokens.specs.Tally.{is_same, tokens, times_of, tally, seen_once};
 
 /// The lines of a text are the pieces between newlines that std's `split` of a slice gives, without
 /// a last piece that is empty.
@@ -38,7 +38,8 @@ pub fn lines_from_left()
         HasNoNewline (c ∷ []) → lines (c ∷ t) ≡ onto_first c (lines t) }
 {}
 
-/// A tally counts each token once, in order of first sight, and can be taken up again.
+/// A tally counts each token once, in order of first sight, and can be taken up again; texts that
+/// were seen once each have as many times as they stand in the list.
 pub fn tallies()
     ensures taken_up_again { (pairs more : List (List ℕ × ℕ)) →
         tally (tally pairs ++ more) ≡ tally (pairs ++ more) }
@@ -47,6 +48,8 @@ pub fn tallies()
     ensures sums { (t : List ℕ) (pairs : List (List ℕ × ℕ)) →
         times_of t (tally pairs) ≡ times_of t pairs }
     ensures once { (pairs : List (List ℕ × ℕ)) → AllPairs (λ s t. s ≢ t) (tokens (tally pairs)) }
+    ensures of_texts { (t : List ℕ) (texts : List (List ℕ)) →
+        times_of t (seen_once texts) ≡ count_by (is_same t) texts }
     ensures old_tokens_first { (pairs more : List (List ℕ × ℕ)) →
         (new : List (List ℕ)) × (tokens (tally (pairs ++ more)) ≡ tokens (tally pairs) ++ new) }
 {}

@@ -13,6 +13,7 @@ mod run;
 mod tally;
 #[cfg(test)]
 mod tests;
+mod tokens;
 
 use fault::{RunFault, fault_line};
 use mode::mode_of;

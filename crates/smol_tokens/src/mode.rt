@@ -16,6 +16,8 @@ pub enum Mode {
     Upper,
     /// The same of each line with the second text in place of each match of the first.
     Replace(String, String),
+    /// For each different line how often it stands, and the line, in order of first sight.
+    Tokens,
 }
 
 /// Reads the words after the program's name: none, or the word of a mode, or `replace` and its two
@@ -45,6 +47,7 @@ fn mode_of_word(word: &str) -> Option<Mode>
         "join" => Some(Mode::Join),
         "lower" => Some(Mode::Lower),
         "upper" => Some(Mode::Upper),
+        "tokens" => Some(Mode::Tokens),
         _ => None,
     }
 }

@@ -1,24 +1,32 @@
 //! The report on a text.
-ghost use Rattle.std.specs.Prelude.{◌≡◌, ◌++◌, IfOk, OnOk, encode_utf8_all};
+ghost use Rattle.std.specs.Prelude.{◌≡◌, ◌++◌, IfOk, IfErr, OnOk, encode_utf8_all};
 ghost use Rattle.std.specs.Str.{chars};
 ghost use Rattle.std.specs.String.{string_bytes};
 ghost use Rattle.smol_str.specs.Text.{size};
 ghost use Rattle.smol_str.specs.Meaning.{IsValueOf};
 ghost use Rattle.smol_tokens.specs.Report.{place_word, answer_line, line_text, lines_report, join_report, report};
+ghost use Rattle.smol_tokens.specs.ReportFaults.{HasNoReport};
 
+use crate::fault::RunFault;
 use crate::lines::Lines;
 use crate::mode::Mode;
+use crate::tokens::count_lines;
 use smol_str::{FormatError, Place, SmolStr, StrExt, format_smolstr};
 use std::alloc::{AllocError, Global};
 
 /// The whole report on a text.
-pub fn make_report(alloc: Global, mode: Mode, text: &str) -> Result<String, AllocError>
-    ensures { IfOk result (λ out. string_bytes out ≡ encode_utf8_all (report mode (chars text.now))) }
+///
+/// It is [`RunFault::Full`] only in mode tokens, where a line stands more than `u64::MAX` times.
+pub fn make_report(alloc: Global, mode: Mode, text: &str) -> Result<String, RunFault>
+    ensures ok { IfOk result (λ out. string_bytes out ≡ encode_utf8_all (report mode (chars text.now))) }
+    ensures fault { IfErr result (HasNoReport mode (chars text.now)) }
 {
-    match &mode {
-        Mode::Join => join(alloc, text),
-        _ => answer_lines(alloc, &mode, text),
-    }
+    let report = match &mode {
+        Mode::Join => join(alloc, text)?,
+        Mode::Tokens => count_lines(alloc, text)?,
+        _ => answer_lines(alloc, &mode, text)?,
+    };
+    Ok(report)
 }
 
 /// The answer line of what each line is made to in a mode.
@@ -37,7 +45,7 @@ fn value_of(alloc: Global, mode: &Mode, line: &str) -> Result<SmolStr, AllocErro
     ensures { IfOk result (λ v. IsValueOf (line_text mode.now (chars line.now)) v) }
 {
     match mode {
-        Mode::Show | Mode::Join => SmolStr::new(alloc, line),
+        Mode::Show | Mode::Join | Mode::Tokens => SmolStr::new(alloc, line),
         Mode::Lower => line.to_ascii_lowercase_smolstr(alloc),
         Mode::Upper => line.to_ascii_uppercase_smolstr(alloc),
         Mode::Replace(from, to) => line.replace_smolstr(alloc, from.as_str(), to.as_str()),

@@ -13,9 +13,9 @@ use std::io::{Read, Write};
 ///
 /// This is the promise of the program. After `Ok` the reader is at its end, its bytes are the UTF-8
 /// of some text, and exactly the report on that text was written. Nothing is written before the
-/// whole report is there, so after [`RunFault::NotUtf8`] and [`RunFault::OutOfMemory`] nothing was
-/// written; after [`RunFault::Io`] nothing, or a beginning of the report. A reader or writer that
-/// does not tell its bytes is claimed nothing of.
+/// whole report is there, so after [`RunFault::NotUtf8`], [`RunFault::OutOfMemory`] and
+/// [`RunFault::Full`] nothing was written; after [`RunFault::Io`] nothing, or a beginning of the
+/// report. A reader or writer that does not tell its bytes is claimed nothing of.
 pub fn run<R: Read, W: Write>(
     alloc: Global,
     mode: Mode,

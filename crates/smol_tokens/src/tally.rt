@@ -70,13 +70,17 @@ impl Tally {
         ensures back { IfErr result (λ fault. given_back fault ≡ token) }
         ensures unchanged { OnErr result (self.new ≡ self.old) }
     {
-        let Some(count) = self.counted(&token, times) else {
-            return Err(AddFault::Full(token));
-        };
-        if let Err(refused) = self.counts.insert(token, count) {
+        if let Some(count) = self.counts.get_mut(&token) {
+            let Some(more) = count.checked_add(times) else {
+                return Err(AddFault::Full(token));
+            };
+            *count = more;
+            return Ok(more);
+        }
+        if let Err(refused) = self.counts.insert(token, times) {
             return Err(AddFault::OutOfMemory(refused.value.0));
         }
-        Ok(count)
+        Ok(times)
     }
 
     /// The count of a token, by its text; `None` where it was never added.
@@ -100,13 +104,5 @@ impl Tally {
     {
         let (token, count) = self.counts.get_index(index)?;
         Some((token, *count))
-    }
-
-    /// The count that a token has with so many `times` more, `None` where that is no `u64`.
-    fn counted(&self, token: &SmolStr, times: u64) -> Option<u64>
-        ensures { let count = times_of token.now.text self.now + times in SomeIff result (count < 2 ^ 64) count }
-    {
-        let before = self.counts.get(token).copied().unwrap_or(0);
-        before.checked_add(times)
     }
 }

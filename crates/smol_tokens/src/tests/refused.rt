@@ -11,30 +11,31 @@ use std::alloc::Global;
 use std::process::Abort;
 use std::test::Fail;
 
-/// Each input, and the lengths of the reports on it: line by line, and in mode join.
-const INPUTS: [(&[u8], usize, usize); 4] = [
-    (b"", 0, 10),
-    (b"if\n\nx\n", 12 + 10 + 11, 13),
-    (b"aaaaaaaaaaaaaaaaaaaaaaaa", 33, 33),
-    (&[b'a'; 5000], 5011, 5011),
+/// Each input, and the lengths of the reports on it: line by line, in mode join, and in mode tokens.
+const INPUTS: [(&[u8], [usize; 3]); 4] = [
+    (b"", [0, 10, 0]),
+    (b"if\n\nx\n", [12 + 10 + 11, 13, 5 + 3 + 4]),
+    (b"aaaaaaaaaaaaaaaaaaaaaaaa", [33, 33, 27]),
+    (&[b'a'; 5000], [5011, 5011, 5003]),
 ];
 
-/// The words of each mode, and whether it joins the lines; none changes the length of a line.
-const WORDS: [(&[&str], bool); 6] = [
-    (&["show"], false),
-    (&["join"], true),
-    (&["lower"], false),
-    (&["upper"], false),
-    (&["replace", "a", "b"], false),
-    (&["replace", "aa", "bb"], false),
+/// The words of each mode, and which of the reports it writes; none changes the length of a line.
+const WORDS: [(&[&str], usize); 7] = [
+    (&["show"], 0),
+    (&["join"], 1),
+    (&["lower"], 0),
+    (&["upper"], 0),
+    (&["replace", "a", "b"], 0),
+    (&["replace", "aa", "bb"], 0),
+    (&["tokens"], 2),
 ];
 
 #[test]
 fn each_request_in_turn(rt: HostRuntime) -> Result<(), Fail> {
     let alloc = rt.alloc();
-    for (input, shown, joined) in INPUTS {
-        for (words, joins) in WORDS {
-            let wanted = if joins { joined } else { shown };
+    for (input, lengths) in INPUTS {
+        for (words, which) in WORDS {
+            let wanted = lengths.get(which).copied().ok_or("no length")?;
             let refusals = count_refusals(|nth| {
                 start_counts(alloc);
                 let mode = mode_by(alloc, words)?.ok_or("no mode")?;

@@ -128,17 +128,24 @@ fn many_tokens(rt: HostRuntime) -> Result<(), Fail> {
     Ok(())
 }
 
-// The first token, with each request refused in turn: it comes back and is not counted, or is counted.
+// A new token, with each request refused in turn: it comes back and is not counted, or is counted.
+// Not every token makes requests, so it is tried on tallies of 0 to 39 tokens.
 #[test]
 fn each_request_in_turn(rt: HostRuntime) -> Result<(), Fail> {
     let alloc = rt.alloc();
-    let refusals = count_refusals(|nth| add_refused(&rt, alloc, nth))?;
-    assert_eq!(rt; refusals > 0, can_refuse(alloc));
+    let mut sizes_met = 0u32;
+    for there in 0..40u64 {
+        let refusals = count_refusals(|nth| add_refused(&rt, alloc, there, nth))?;
+        if refusals > 0 {
+            sizes_met = sizes_met.saturating_add(1);
+        }
+    }
+    assert_eq!(rt; sizes_met > 1, can_refuse(alloc));
     Ok(())
 }
 
-fn add_refused(rt: &impl Abort, alloc: Global, nth: u32) -> Result<bool, Fail> {
-    let mut tally = Tally::new(alloc);
+fn add_refused(rt: &impl Abort, alloc: Global, there: u64, nth: u32) -> Result<bool, Fail> {
+    let mut tally = tally_of(alloc, there)?;
     refuse_one(alloc, nth);
     let answer = tally.add(SmolStr::new_static("c"), 7);
     let was_refused = end_refusals(alloc);
@@ -147,11 +154,32 @@ fn add_refused(rt: &impl Abort, alloc: Global, nth: u32) -> Result<bool, Fail> {
     if let Some(back) = refused_token(answer) {
         assert_eq!(rt; back.as_str(), "c");
         assert_eq!(rt; back.place(), Place::Static);
-        assert_eq!(rt; tally.len(), 0);
+        assert_eq!(rt; tally.len(), there as usize);
+        check_counts(rt, alloc, &tally, there)?;
         assert_eq!(rt; add(&mut tally, back, 7)?, 7);
     }
-    check_at(rt, &tally, 0, "c", 7)?;
+    assert_eq!(rt; tally.len() as u64, there.saturating_add(1));
+    check_counts(rt, alloc, &tally, there)?;
+    check_at(rt, &tally, there as usize, "c", 7)?;
     Ok(was_refused)
+}
+
+/// The tokens `0`, `1` and so on, each counted as often as it says.
+fn tally_of(alloc: Global, there: u64) -> Result<Tally, Fail> {
+    let mut tally = Tally::new(alloc);
+    for number in 0..there {
+        let text = format!(in alloc; "{number}")?;
+        add(&mut tally, SmolStr::new(alloc, text.as_str())?, number)?;
+    }
+    Ok(tally)
+}
+
+fn check_counts(rt: &impl Abort, alloc: Global, tally: &Tally, there: u64) -> Result<(), Fail> {
+    for number in 0..there {
+        let text = format!(in alloc; "{number}")?;
+        check_at(rt, tally, number as usize, text.as_str(), number)?;
+    }
+    Ok(())
 }
 
 fn refused_token(answer: Result<u64, AddFault>) -> Option<SmolStr> {

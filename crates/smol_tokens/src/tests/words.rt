@@ -32,6 +32,8 @@ fn modes(rt: HostRuntime) -> Result<(), Fail> {
     assert!(rt; matches!(mode, Some(Mode::Lower)));
     let mode = mode_by(rt.alloc(), &["upper"])?;
     assert!(rt; matches!(mode, Some(Mode::Upper)));
+    let mode = mode_by(rt.alloc(), &["tokens"])?;
+    assert!(rt; matches!(mode, Some(Mode::Tokens)));
     Ok(())
 }
 
@@ -50,7 +52,7 @@ fn replacements(rt: HostRuntime) -> Result<(), Fail> {
 
 #[test]
 fn wrong_words(rt: HostRuntime) -> Result<(), Fail> {
-    let wrong: [&[&str]; 17] = [
+    let wrong: [&[&str]; 20] = [
         &["Show"],
         &[""],
         &["show", "x"],
@@ -62,6 +64,9 @@ fn wrong_words(rt: HostRuntime) -> Result<(), Fail> {
         &["lower", "x"],
         &["upper", "x", "y"],
         &["Lower"],
+        &["tokens", "x"],
+        &["tokens", "x", "y"],
+        &["token"],
         &["replace"],
         &["replace", "x"],
         &["replace", "x", "y", "z"],
@@ -80,5 +85,6 @@ fn fault_lines(rt: HostRuntime) {
     let io = RunFault::Io(io::Error::from(ErrorKind::WriteZero));
     assert_eq!(rt; fault_line(&RunFault::NotUtf8), "not UTF-8");
     assert_eq!(rt; fault_line(&RunFault::OutOfMemory), "out of memory");
+    assert_eq!(rt; fault_line(&RunFault::Full), "full");
     assert_eq!(rt; fault_line(&io), "read or write failed");
 }

@@ -1,4 +1,5 @@
 use Rattle.smol_tokens.proofs.TallyLemmas.{tally-again, counts-tally, times_of-tally, once-tally, tokens-longer}
+use Rattle.smol_tokens.proofs.TokenLemmas.{times_of-seen_once}
 use Rattle.smol_tokens.proofs.laws.tallies.Goals as goal
 
 pub returns-clause-taken_up_again : goal.returns-clause-taken_up_again
@@ -12,6 +13,9 @@ returns-clause-sums c = times_of-tally
 
 pub returns-clause-once : goal.returns-clause-once
 returns-clause-once c = once-tally
+
+pub returns-clause-of_texts : goal.returns-clause-of_texts
+returns-clause-of_texts c = times_of-seen_once
 
 pub returns-clause-old_tokens_first : goal.returns-clause-old_tokens_first
 returns-clause-old_tokens_first c = tokens-longer

@@ -1,29 +1,82 @@
-use Rattle.std.proofs.Common.{◌∙◌, ◌++◌, ◌∷◌, [], ap, sym}
+use Rattle.std.proofs.Common.{◌≡◌, ◌++◌, ◌∷◌, [], Some, None, ap, sym, subst, ◌∙◌, arith}
 use Rattle.std.specs.Map.{lookup}
-use Rattle.indexmap.specs.IndexMap.{insert_entry}
-use Rattle.smol_tokens.specs.Tally.{is_same, by_text, HasEachOnce}
-use Rattle.smol_tokens.proofs.TallyTableLemmas.{lookup-by_text, insert-by_text, insert-once, lookup-insert, HasEachOnce-tally}
+use Rattle.smol_tokens.specs.Tally.{is_same, times_of, HasEachOnce}
+use Rattle.smol_tokens.proofs.TallyTableLemmas.{lookup-by_text, found-times, added, counted-again, same-count}
+use Rattle.smol_tokens.proofs.TallyTableLemmas.{HasEachOnce-tally}
 use Rattle.smol_tokens.proofs.tally.Tally.add.Goals as goal
+
+pub returns-in_default-checked_add-clause-unchanged : goal.returns-in_default-checked_add-clause-unchanged
+returns-in_default-checked_add-clause-unchanged c =
+    same-count c.args.self.now c.self.inside.counts.entries _ c.args.token c.in-Some.count.now c.self.view_is
+    (sym (rw c.in-Some.is at c.get_mut.ensures.value)) (c.get_mut.follows.holds c.in-Some.count.now).0
+
+pub invariant_of-self : goal.invariant_of-self
+invariant_of-self c =
+    subst HasEachOnce (sym (returns-in_default-checked_add-clause-unchanged c)) (rw c.self.view_is at c.self.invariant)
+
+pub returns-in_default-checked_add-clause-fault : goal.returns-in_default-checked_add-clause-fault
+returns-in_default-checked_add-clause-fault c =
+    let times : c.in-Some.count.now ≡ times_of c.args.token.text c.args.self.now =
+    found-times c.args.self.now c.self.inside.counts.entries c.args.token (Some c.in-Some.count.now) c.self.view_is
+    (rw c.self.view_is at c.self.invariant) (sym (rw c.in-Some.is at c.get_mut.ensures.value)) in
+    omega (arith, times, c.in_default-checked_add.ensures)
+
+pub returns-in-Some-clause-ok : goal.returns-in-Some-clause-ok
+returns-in-Some-clause-ok c =
+    (counted-again c.args.self.now c.self.inside.counts.entries _ c.args.token c.args.times c.in-Some.count.now
+    c.in-Some-checked_add.more c.self.view_is (rw c.self.view_is at c.self.invariant)
+    (sym (rw c.in-Some.is at c.get_mut.ensures.value)) c.in-Some-checked_add.ensures.1
+    (c.get_mut.follows.holds c.in-Some-checked_add.more).0).0
+
+pub returns-in-Some-clause-count : goal.returns-in-Some-clause-count
+returns-in-Some-clause-count c =
+    (counted-again c.args.self.now c.self.inside.counts.entries _ c.args.token c.args.times c.in-Some.count.now
+    c.in-Some-checked_add.more c.self.view_is (rw c.self.view_is at c.self.invariant)
+    (sym (rw c.in-Some.is at c.get_mut.ensures.value)) c.in-Some-checked_add.ensures.1
+    (c.get_mut.follows.holds c.in-Some-checked_add.more).0).1
+
+pub invariant_of-self-in-Some : goal.invariant_of-self-in-Some
+invariant_of-self-in-Some c =
+    HasEachOnce-tally (c.args.self.now ++ (c.args.token.text, c.args.times) ∷ []) _ (returns-in-Some-clause-ok c)
+
+pub returns-in-Some-clause-fits : goal.returns-in-Some-clause-fits
+returns-in-Some-clause-fits c =
+    let times : c.in-Some.count.now ≡ times_of c.args.token.text c.args.self.now =
+    found-times c.args.self.now c.self.inside.counts.entries c.args.token (Some c.in-Some.count.now) c.self.view_is
+    (rw c.self.view_is at c.self.invariant) (sym (rw c.in-Some.is at c.get_mut.ensures.value)) in
+    omega (arith, times, c.in-Some-checked_add.ensures.0)
 
 pub returns-in-Err-clause-fault : goal.returns-in-Err-clause-fault
 returns-in-Err-clause-fault c =
-    let t = c.args.token.text in
-    ap (lookup (is_same t)) (sym c.self.view_is) ∙ sym (lookup-by_text t c.self.inside.counts.entries) ∙ c.in-Err.ensures.absent
+    ap (lookup (is_same c.args.token.text)) (sym c.self.view_is)
+    ∙ sym (lookup-by_text c.args.token.text c.self.inside.counts.entries)
+    ∙ sym (rw c.in_default.is at c.get_mut.ensures.value)
 
 pub returns-clause-ok : goal.returns-clause-ok
 returns-clause-ok c =
-    let t = c.args.token.text in
-    let count = c.in-Some.count in
-    let once : HasEachOnce c.args.self.now = rw c.self.view_is at c.self.invariant in
-    ap by_text c.in_default-insert.ensures.entries ∙ insert-by_text c.self.inside.counts.entries c.args.token count
-    ∙ ap (λ es. insert_entry is_same es t count) c.self.view_is ∙ insert-once c.args.self.now t c.args.times count once c.in-Some.ensures.1
-
-pub invariant_of-self-2 : goal.invariant_of-self-2
-invariant_of-self-2 c = HasEachOnce-tally (c.args.self.now ++ (c.args.token.text, c.args.times) ∷ []) _ (returns-clause-ok c)
+    let times : 0 ≡ times_of c.args.token.text c.args.self.now =
+    found-times c.args.self.now c.self.inside.counts.entries c.args.token None c.self.view_is
+    (rw c.self.view_is at c.self.invariant) (sym (rw c.in_default.is at c.get_mut.ensures.value)) in
+    (added c.args.self.now c.self.inside.counts.entries c.insert.new.self.entries c.args.token c.args.times
+    c.args.times c.self.view_is (rw c.self.view_is at c.self.invariant) (omega (arith, times))
+    (rw c.get_mut.follows.holds-at-none at c.in_default-insert.ensures.entries)).0
 
 pub returns-clause-count : goal.returns-clause-count
 returns-clause-count c =
-    let t = c.args.token.text in
-    let count = c.in-Some.count in
-    ap (lookup (is_same t)) (ap by_text c.in_default-insert.ensures.entries ∙ insert-by_text c.self.inside.counts.entries c.args.token count)
-    ∙ lookup-insert (by_text c.self.inside.counts.entries) t count
+    let times : 0 ≡ times_of c.args.token.text c.args.self.now =
+    found-times c.args.self.now c.self.inside.counts.entries c.args.token None c.self.view_is
+    (rw c.self.view_is at c.self.invariant) (sym (rw c.in_default.is at c.get_mut.ensures.value)) in
+    (added c.args.self.now c.self.inside.counts.entries c.insert.new.self.entries c.args.token c.args.times
+    c.args.times c.self.view_is (rw c.self.view_is at c.self.invariant) (omega (arith, times))
+    (rw c.get_mut.follows.holds-at-none at c.in_default-insert.ensures.entries)).1
+
+pub invariant_of-self-2 : goal.invariant_of-self-2
+invariant_of-self-2 c =
+    HasEachOnce-tally (c.args.self.now ++ (c.args.token.text, c.args.times) ∷ []) _ (returns-clause-ok c)
+
+pub returns-clause-fits : goal.returns-clause-fits
+returns-clause-fits c =
+    let times : 0 ≡ times_of c.args.token.text c.args.self.now =
+    found-times c.args.self.now c.self.inside.counts.entries c.args.token None c.self.view_is
+    (rw c.self.view_is at c.self.invariant) (sym (rw c.in_default.is at c.get_mut.ensures.value)) in
+    omega (arith, times, c.ranges.times)
