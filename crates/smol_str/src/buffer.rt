@@ -5,9 +5,11 @@ ghost use Rattle.std.specs.Ordering.{nat_cmp};
 ghost use Rattle.std.specs.Cmp.Lexicographic.{slice_cmp};
 ghost use Rattle.smol_str.specs.Text.{size, IsShort};
 ghost use Rattle.smol_str.specs.Buffer.{padded};
+ghost use Rattle.smol_str.specs.Convert.{converted};
 
 mod words;
 
+use crate::kernel::{AsciiCase, convert_all};
 use std::cmp::Ordering;
 use std::marker::Model;
 use words::{order_words, pack, pack_char, same_words, write_at};
@@ -77,6 +79,19 @@ impl InlineText {
             align: [],
             packed: pack_char(character),
         }
+    }
+
+    /// A short text with its ASCII letters in a case.
+    #[inline(always)]
+    pub(crate) fn in_case(text: &str, case: AsciiCase) -> InlineText
+        requires { length text.now ≤ INLINE_CAP }
+        ensures { result ≡ converted case (chars text.now) }
+    {
+        let mut packed = pack(text.as_bytes());
+        convert_all(&mut packed, case);
+        // A length of 65 would be taken for a letter.
+        packed[INLINE_CAP] = text.len() as u8;
+        InlineText { align: [], packed }
     }
 
     /// The text, as std's `str`.

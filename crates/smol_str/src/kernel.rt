@@ -108,11 +108,50 @@ fn convert_byte(byte: u8, case: AsciiCase) -> u8
     }
 }
 
+/// Maps all letters where they stand; no other byte changes.
+#[inline(always)]
+pub(crate) fn convert_all(bytes: &mut [u8], case: AsciiCase)
+    ensures { bytes.new ≡ converted case bytes.old }
+{
+    let mut at = 0;
+    while bytes.len() - at >= LANES {
+        convert_part::<16>(bytes, at, case);
+        at += LANES;
+    }
+    if bytes.len() - at >= 8 {
+        convert_part::<8>(bytes, at, case);
+        at += 8;
+    }
+    convert_rest(&mut bytes[at..], case);
+}
+
+/// Maps `N` bytes from a place on.
+#[inline(always)]
+fn convert_part<const N: usize>(bytes: &mut [u8], at: usize, case: AsciiCase)
+    requires { at + N ≤ length bytes.old }
+    ensures { bytes.new ≡ put_chunk at bytes.old (converted case (take N (drop at bytes.old))) }
+{
+    let lanes = load::<N>(bytes, at);
+    store(bytes, at, convert_lanes(lanes, case));
+}
+
+/// Maps bytes one by one.
+#[inline(always)]
+fn convert_rest(bytes: &mut [u8], case: AsciiCase)
+    ensures { bytes.new ≡ converted case bytes.old }
+{
+    match case {
+        AsciiCase::Lower => bytes.make_ascii_lowercase(),
+        AsciiCase::Upper => bytes.make_ascii_uppercase(),
+    }
+}
+
 /// The lanes in a case.
-fn convert_lanes(lanes: u8x16, case: AsciiCase) -> u8x16
-    requires long { length lanes ≡ LANES }
+#[inline(always)]
+fn convert_lanes<const N: usize>(lanes: Simd<u8, N>, case: AsciiCase) -> Simd<u8, N>
+    requires long { length lanes ≡ N }
     requires bytes { Each1 (λ x. x < 256) lanes }
-    ensures { result ≡ converted case lanes }
+    ensures { result ≡ converted case lanes.entry }
 {
     match case {
         AsciiCase::Lower => lower_lanes(lanes),
@@ -121,23 +160,25 @@ fn convert_lanes(lanes: u8x16, case: AsciiCase) -> u8x16
 }
 
 /// The lanes with A to Z as a to z.
-fn lower_lanes(lanes: u8x16) -> u8x16
-    requires long { length lanes ≡ LANES }
+#[inline(always)]
+fn lower_lanes<const N: usize>(lanes: Simd<u8, N>) -> Simd<u8, N>
+    requires long { length lanes ≡ N }
     requires bytes { Each1 (λ x. x < 256) lanes }
-    ensures { result ≡ lower lanes }
+    ensures { result ≡ lower lanes.entry }
 {
-    let capital = lanes.simd_ge(u8x16::splat(b'A')) & lanes.simd_le(u8x16::splat(b'Z'));
-    capital.select(lanes + u8x16::splat(32), lanes)
+    let capital = lanes.simd_ge(Simd::splat(b'A')) & lanes.simd_le(Simd::splat(b'Z'));
+    capital.select(lanes + Simd::splat(32), lanes)
 }
 
 /// The lanes with a to z as A to Z.
-fn upper_lanes(lanes: u8x16) -> u8x16
-    requires long { length lanes ≡ LANES }
+#[inline(always)]
+fn upper_lanes<const N: usize>(lanes: Simd<u8, N>) -> Simd<u8, N>
+    requires long { length lanes ≡ N }
     requires bytes { Each1 (λ x. x < 256) lanes }
-    ensures { result ≡ upper lanes }
+    ensures { result ≡ upper lanes.entry }
 {
-    let small = lanes.simd_ge(u8x16::splat(b'a')) & lanes.simd_le(u8x16::splat(b'z'));
-    small.select(lanes - u8x16::splat(32), lanes)
+    let small = lanes.simd_ge(Simd::splat(b'a')) & lanes.simd_le(Simd::splat(b'z'));
+    small.select(lanes - Simd::splat(32), lanes)
 }
 
 /// Whether a lane is past ASCII.
@@ -148,21 +189,23 @@ fn has_high(lanes: u8x16) -> bool
     lanes.simd_gt(u8x16::splat(127)).any()
 }
 
-/// The sixteen bytes from a place on.
-fn load(bytes: &[u8], at: usize) -> u8x16
-    requires { at + LANES ≤ length bytes.now }
-    ensures lanes { result ≡ take LANES (drop at bytes.now) }
-    ensures long { length result ≡ LANES }
+/// The `N` bytes from a place on.
+#[inline(always)]
+fn load<const N: usize>(bytes: &[u8], at: usize) -> Simd<u8, N>
+    requires { at + N ≤ length bytes.now }
+    ensures lanes { result ≡ take N (drop at bytes.now) }
+    ensures long { length result ≡ N }
     ensures fits { Each1 (λ x. x < 256) result }
 {
-    u8x16::from_slice(&bytes[at..])
+    Simd::from_slice(&bytes[at..])
 }
 
 /// Stores the lanes from a place on.
-fn store(out: &mut [u8], at: usize, lanes: u8x16)
-    requires room { at + LANES ≤ length out.old }
-    requires long { length lanes ≡ LANES }
-    ensures { out.new ≡ put_chunk at out.old lanes }
+#[inline(always)]
+fn store<const N: usize>(out: &mut [u8], at: usize, lanes: Simd<u8, N>)
+    requires room { at + N ≤ length out.old }
+    requires long { length lanes ≡ N }
+    ensures { out.new ≡ put_chunk at out.old lanes.entry }
 {
     lanes.copy_to_slice(&mut out[at..]);
 }

@@ -1,6 +1,7 @@
 //! The immutable text.
 ghost use Rattle.std.specs.Prelude.{◌≡◌, ◌≤◌, ◌↔◌, ◌⊎◌, length, MatchOption, IfOk, OnErr, IsSome, IfSome, IsTrue, encode_utf8_all};
 ghost use Rattle.std.specs.Str.{chars, all_scalars};
+ghost use Rattle.std.specs.String.{string_bytes};
 ghost use Rattle.std.specs.Rc.{rc_str_bytes};
 ghost use Rattle.smol_str.specs.Text.{size, IsShort, IsResident, place_of};
 ghost use Rattle.smol_str.specs.Buffer.{padded};
@@ -205,6 +206,18 @@ impl SmolStr {
         Some(SmolStr {
             repr: Repr::Static(run),
         })
+    }
+
+    /// The value of a text in memory of its own, which the value keeps where the text is not
+    /// resident.
+    pub(crate) fn from_owned(text: String) -> Result<SmolStr, AllocError>
+        ensures ok { IfOk result (λ v. IsValueOf (chars (string_bytes text)) v) }
+        ensures refused { OnErr result (¬ (IsResident (chars (string_bytes text)))) }
+    {
+        match SmolStr::resident(text.as_str()) {
+            Some(value) => Ok(value),
+            None => Ok(SmolStr::from_heap(RcStr::from_string(text)?)),
+        }
     }
 
     /// The value that keeps a short text in its buffer.

@@ -11,7 +11,7 @@ ghost use Rattle.smol_str.specs.Draft.{OnHeap, grown, appended};
 ghost use Rattle.smol_str.specs.Case.{IsAsciiText};
 ghost use Rattle.smol_str.specs.Convert.{full_case, mapped, IsMappedAlone};
 
-use super::case::push_front;
+use super::case::{push_front, to_ascii_case};
 use super::finished;
 use crate::buffer::INLINE_CAP;
 use crate::builder::SmolStrBuilder;
@@ -29,7 +29,9 @@ pub(super) fn to_full_case(
     ensures ok { IfOk result (λ v. IsValueOf (full_case case (chars text.now)) v) }
     ensures refused { OnErr result (¬ (IsAsciiText (chars text.now) × IsShort (chars text.now))) }
 {
-    if text.len() <= INLINE_CAP {
+    if text.is_ascii() {
+        to_ascii_case(alloc, text, case)
+    } else if text.len() <= INLINE_CAP {
         short_full_case(alloc, text, case)
     } else {
         whole_full_case(alloc, text, case)
@@ -115,6 +117,7 @@ fn push_letters(builder: &mut SmolStrBuilder, mut letters: ToLowercase) -> Resul
 }
 
 /// Appends a character where there is one.
+#[inline(always)]
 fn push_some(builder: &mut SmolStrBuilder, letter: Option<char>) -> Result<(), AllocError>
     requires { builder.old ≡ grown builder.old.text }
     ensures ok { OnOk result (builder.new ≡ appended builder.old (option_to_list letter)) }
