@@ -1,5 +1,5 @@
 -- For ASCII case and the replacement of bytes: what moves ASCII characters alone moves bytes just so.
-use Rattle.std.proofs.Common.{◌≡◌, ℕ, zero, suc, ◌+◌, ◌-◌, ◌/◌, ◌<◌, ◌≤◌, List, [], ◌∷◌, ◌++◌, true, ◌&&◌, length, map, set, replicate, refl, sym, ap, ◌∙◌, arith, inl, inr}
+use Rattle.std.proofs.Common.{◌≡◌, ℕ, zero, suc, ◌+◌, ◌-◌, ◌/◌, ◌<◌, ◌≤◌, List, [], ◌∷◌, ◌++◌, true, ◌&&◌, length, map, set, get_or, replicate, refl, sym, ap, ◌∙◌, arith, inl, inr}
 use Rattle.std.specs.Str.{IsUtf8, chars, encode_utf8_all}
 use Rattle.std.specs.Char.{to_ascii_lowercase, to_ascii_uppercase}
 use lib.Utf8.{encode, next, scalar, scalars}
@@ -11,9 +11,10 @@ use Rattle.std.proofs.lemmas.Str.Ascii.{lowercase_ascii, uppercase_ascii, lowerc
 use Rattle.smol_str.specs.declared.buffer.TheConstants.{INLINE_CAP}
 use Rattle.smol_str.specs.declared.kernel.AsciiCase.{AsciiCase}
 use Rattle.smol_str.specs.declared.kernel.AsciiCase.TheVariants.{Lower, Upper}
-use Rattle.smol_str.specs.Buffer.{packed, padded}
+use Rattle.smol_str.specs.Buffer.{IsPacked, packed, padded, unpacked}
 use Rattle.smol_str.specs.Convert.{converted}
-use Rattle.smol_str.proofs.BufferLemmas.{length-padded}
+use Rattle.smol_str.proofs.BufferLemmas.{length-padded, len-bytes, IsPacked-packed, unpacked-packed}
+use Rattle.smol_str.proofs.ConvertLemmas.{length-converted}
 use Rattle.smol_str.proofs.Utf8Lemmas.{Form, one, two, three, four, form, is_one}
 use Rattle.smol_str.proofs.SplitLemmas.{both}
 
@@ -104,9 +105,25 @@ pub chars-converted : (case : AsciiCase) (bs : List ℕ) → IsUtf8 bs → chars
 chars-converted Lower bs u = chars-map to_ascii_lowercase lower-moves bs u
 chars-converted Upper bs u = chars-map to_ascii_uppercase upper-moves bs u
 
-pub packed-converted : (case : AsciiCase) (buf bytes : List ℕ) → length bytes ≤ INLINE_CAP →
-    buf ≡ converted case (packed bytes) → set buf INLINE_CAP (length bytes) ≡ packed (converted case bytes)
-packed-converted Lower buf bytes h e =
-    ap (λ t. set t INLINE_CAP (length bytes)) e ∙ map-packed to_ascii_lowercase refl bytes h
-packed-converted Upper buf bytes h e =
-    ap (λ t. set t INLINE_CAP (length bytes)) e ∙ map-packed to_ascii_uppercase refl bytes h
+packed-converted : (case : AsciiCase) (bytes : List ℕ) → length bytes ≤ INLINE_CAP →
+    set (converted case (packed bytes)) INLINE_CAP (length bytes) ≡ packed (converted case bytes)
+packed-converted Lower bytes h = map-packed to_ascii_lowercase refl bytes h
+packed-converted Upper bytes h = map-packed to_ascii_uppercase refl bytes h
+
+module _ (case : AsciiCase) (old buf : List ℕ) (h : IsPacked old) (e : buf ≡ converted case old) where
+  whole : set buf INLINE_CAP (get_or old INLINE_CAP 0) ≡ packed (converted case (unpacked old))
+  whole = ap (λ t. set t INLINE_CAP (get_or old INLINE_CAP 0)) e
+      ∙ ap (λ n. set (converted case old) INLINE_CAP n) (len-bytes old h)
+      ∙ ap (λ r. set (converted case r) INLINE_CAP (length (unpacked old))) h.reads
+      ∙ packed-converted case (unpacked old) h.within
+
+  small : length (converted case (unpacked old)) ≤ INLINE_CAP
+  small = omega (arith, length-converted case (unpacked old), h.within)
+
+  pub IsPacked-converted : IsPacked (set buf INLINE_CAP (get_or old INLINE_CAP 0))
+  IsPacked-converted =
+      IsPacked-packed _ (converted case (unpacked old)) (IsUtf8-converted case (unpacked old) h.utf8) small whole
+
+  pub text-converted : chars (unpacked (set buf INLINE_CAP (get_or old INLINE_CAP 0))) ≡ converted case (chars (unpacked old))
+  text-converted = ap chars (unpacked-packed _ (converted case (unpacked old)) small whole)
+      ∙ chars-converted case (unpacked old) h.utf8

@@ -38,6 +38,20 @@ pub IsAscii-from_each : (a : List ℕ) → Each1 (λ x. x < 128) a → IsAscii a
 IsAscii-from_each [] h = IsAscii-nil
 IsAscii-from_each (c ∷ a) h = IsAscii-cons c a h.0 (IsAscii-from_each a h.1)
 
+-- a front that is ASCII, and more of it
+pub ascii-more : (bytes : List ℕ) (at n : ℕ) (lanes : List ℕ) → lanes ≡ take n (drop at bytes)
+    → Each1 (λ x. x < 128) lanes → IsAscii (take at bytes) → IsAscii (take (at + n) bytes)
+ascii-more bytes at n lanes is low front =
+    subst IsAscii (sym (take-add at n bytes))
+    (IsAscii-append (take at bytes) (take n (drop at bytes)) front (subst IsAscii is (IsAscii-from_each lanes low)))
+
+pub ascii-all : (bytes : List ℕ) (at k : ℕ) → k ≡ length bytes - at → IsAscii (take at bytes)
+    → IsAscii (take k (drop at bytes)) → IsAscii bytes
+ascii-all bytes at k e front rest =
+    let all : take k (drop at bytes) ≡ drop at bytes = take_all k (drop at bytes) (omega (arith, e, length-drop at bytes)) in
+    subst IsAscii (take-append-drop at bytes)
+    (IsAscii-append (take at bytes) (drop at bytes) front (subst IsAscii all rest))
+
 -- nothing is done yet
 pub converted-none : (case : AsciiCase) (text : List ℕ) → IsConverted case text (padded []) 0
 converted-none case text = record {

@@ -5,11 +5,12 @@ ghost use Rattle.std.specs.Ordering.{nat_cmp};
 ghost use Rattle.std.specs.Cmp.Lexicographic.{slice_cmp};
 ghost use Rattle.smol_str.specs.Text.{size, IsShort};
 ghost use Rattle.smol_str.specs.Buffer.{padded};
+ghost use Rattle.smol_str.specs.Case.{IsAsciiText};
 ghost use Rattle.smol_str.specs.Convert.{converted};
 
 mod words;
 
-use crate::kernel::{AsciiCase, convert_all};
+use crate::kernel::{AsciiCase, convert_all, is_all_ascii};
 use std::cmp::Ordering;
 use std::marker::Model;
 use words::{order_words, pack, pack_char, same_words, write_at};
@@ -81,16 +82,24 @@ impl InlineText {
         }
     }
 
-    /// A short text with its ASCII letters in a case.
+    /// Whether each character is ASCII.
     #[inline(always)]
-    pub(crate) fn in_case(text: &str, case: AsciiCase) -> InlineText
-        requires { length text.now ≤ INLINE_CAP }
-        ensures { result ≡ converted case (chars text.now) }
+    pub(crate) fn is_ascii(&self) -> bool
+        ensures { IsTrue result → IsAsciiText self.now }
     {
-        let mut packed = pack(text.as_bytes());
+        is_all_ascii(&self.packed)
+    }
+
+    /// A copy with its ASCII letters in a case.
+    #[inline(always)]
+    pub(crate) fn in_case(&self, case: AsciiCase) -> InlineText
+        ensures text { result ≡ converted case self.now }
+        ensures short { IsShort result }
+    {
+        let mut packed = self.packed;
         convert_all(&mut packed, case);
         // A length of 65 would be taken for a letter.
-        packed[INLINE_CAP] = text.len() as u8;
+        packed[INLINE_CAP] = self.packed[INLINE_CAP];
         InlineText { align: [], packed }
     }
 

@@ -1,6 +1,6 @@
 //! The loops over the bytes of a text: ASCII case by sixteen lanes, and the search for a pattern.
-ghost use Rattle.std.specs.Prelude.{◌≡◌, ◌↔◌, ◌<◌, ◌≤◌, ◌+◌, ℕ, List, [], ◌∷◌, ◌++◌, Some, None, false, length, take, drop, slice_index, encode_utf8_all};
-ghost use Rattle.std.specs.Str.{IsCharBoundary, chars};
+ghost use Rattle.std.specs.Prelude.{◌≡◌, ◌↔◌, ◌<◌, ◌≤◌, ◌+◌, ℕ, List, [], ◌∷◌, ◌++◌, Some, None, false, IsTrue, length, take, drop, slice_index, encode_utf8_all};
+ghost use Rattle.std.specs.Str.{IsAscii, IsCharBoundary, chars};
 ghost use Rattle.std.specs.Simd.Lanes.{Each1, put_chunk};
 ghost use Rattle.memchr.specs.Find.{FindsNeedle};
 ghost use Rattle.smol_str.specs.Text.{size};
@@ -73,7 +73,7 @@ fn convert_chunks(bytes: &[u8], case: AsciiCase, buffer: &mut InlineBuffer) -> u
 {
     let mut at = 0;
     while bytes.len() - at >= LANES {
-        let lanes = load(bytes, at);
+        let lanes = load::<16>(bytes, at);
         if has_high(lanes) {
             return at;
         }
@@ -106,6 +106,27 @@ fn convert_byte(byte: u8, case: AsciiCase) -> u8
         AsciiCase::Lower => byte.to_ascii_lowercase(),
         AsciiCase::Upper => byte.to_ascii_uppercase(),
     }
+}
+
+/// Whether no byte is past ASCII.
+#[inline(always)]
+pub(crate) fn is_all_ascii(bytes: &[u8]) -> bool
+    ensures { IsTrue result → IsAscii bytes.now }
+{
+    let mut at = 0;
+    while bytes.len() - at >= LANES {
+        if has_high(load::<16>(bytes, at)) {
+            return false;
+        }
+        at += LANES;
+    }
+    if bytes.len() - at >= 8 {
+        if has_high(load::<8>(bytes, at)) {
+            return false;
+        }
+        at += 8;
+    }
+    bytes[at..].is_ascii()
 }
 
 /// Maps all letters where they stand; no other byte changes.
@@ -182,11 +203,13 @@ fn upper_lanes<const N: usize>(lanes: Simd<u8, N>) -> Simd<u8, N>
 }
 
 /// Whether a lane is past ASCII.
-fn has_high(lanes: u8x16) -> bool
-    requires { length lanes ≡ LANES }
-    ensures { result ≡ false → Each1 (λ x. x < 128) lanes }
+#[inline(always)]
+fn has_high<const N: usize>(lanes: Simd<u8, N>) -> bool
+    requires long { length lanes ≡ N }
+    requires few { N ≤ 64 }
+    ensures { result ≡ false → Each1 (λ x. x < 128) lanes.entry }
 {
-    lanes.simd_gt(u8x16::splat(127)).any()
+    lanes.simd_gt(Simd::splat(127)).any()
 }
 
 /// The `N` bytes from a place on.

@@ -196,6 +196,7 @@ impl SmolStr {
     }
 
     /// The value of a resident text, which takes no memory.
+    #[inline(always)]
     pub(crate) fn resident(text: &str) -> Option<SmolStr>
         ensures { MatchOption result (¬ (IsResident (chars text.now))) (λ v. IsValueOf (chars text.now) v) }
     {

@@ -24,14 +24,18 @@ pub(super) fn to_ascii_case(
     ensures refused { OnErr result (¬ (IsShort (chars text.now))) }
 {
     if text.len() <= INLINE_CAP {
-        return Ok(SmolStr::from_inline(InlineText::in_case(text, case)));
+        return Ok(SmolStr::from_inline(InlineText::from_short(text).in_case(case)));
     }
     to_ascii_case_on_heap(alloc, text, case)
 }
 
 /// The same of any text, in a copy of it.
 #[inline(never)]
-fn to_ascii_case_on_heap(alloc: Global, text: &str, case: AsciiCase) -> Result<SmolStr, AllocError>
+pub(super) fn to_ascii_case_on_heap(
+    alloc: Global,
+    text: &str,
+    case: AsciiCase,
+) -> Result<SmolStr, AllocError>
     ensures { IfOk result (λ v. IsValueOf (converted case (chars text.now)) v) }
 {
     let mut copy = String::from_str(alloc, text)?;

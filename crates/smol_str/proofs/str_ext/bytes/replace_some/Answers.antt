@@ -1,4 +1,4 @@
-use Rattle.std.proofs.Common.{◌<◌, ◌-◌, length, arith}
+use Rattle.std.proofs.Common.{◌<◌, length, arith}
 use Rattle.smol_str.proofs.ByteLemmas.{swapping-start, swapping-kept, swapping-taken, swapping-limit, swapping-end}
 use Rattle.smol_str.proofs.str_ext.bytes.replace_some.Goals.{then-bytes-at, else-bytes-at}
 use Rattle.smol_str.proofs.str_ext.bytes.replace_some.Goals as goal

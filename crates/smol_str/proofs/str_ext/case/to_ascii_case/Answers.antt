@@ -1,14 +1,6 @@
 use Rattle.std.proofs.Common.{arith}
-use Rattle.std.specs.Str.{chars}
 use Rattle.smol_str.proofs.TextLemmas.{OnErr-always, size-chars}
-use Rattle.smol_str.proofs.CasingLemmas.{size-converted}
 use Rattle.smol_str.proofs.str_ext.case.to_ascii_case.Goals as goal
-
-pub from_inline-requires : goal.from_inline-requires
-from_inline-requires c =
-    let t = chars c.args.text.now in
-    rw c.in_case.ensures (omega (arith, size-converted c.args.case t, size-chars c.args.text.now c.utf8.text,
-    c.if-text-le-INLINE_CAP.true))
 
 pub returns-clause-refused : goal.returns-clause-refused
 returns-clause-refused c =
