@@ -90,17 +90,19 @@ impl InlineText {
         is_all_ascii(&self.packed)
     }
 
-    /// A copy with its ASCII letters in a case.
+    /// The text with its ASCII letters in a case.
+    ///
+    /// It is mapped where it lies: in a copy, the last word would be written in parts.
     #[inline(always)]
-    pub(crate) fn in_case(&self, case: AsciiCase) -> InlineText
-        ensures text { result ≡ converted case self.now }
+    pub(crate) fn in_case(mut self, case: AsciiCase) -> InlineText
+        ensures text { result ≡ converted case self }
         ensures short { IsShort result }
     {
-        let mut packed = self.packed;
-        convert_all(&mut packed, case);
         // A length of 65 would be taken for a letter.
-        packed[INLINE_CAP] = self.packed[INLINE_CAP];
-        InlineText { align: [], packed }
+        let len = self.packed[INLINE_CAP];
+        convert_all(&mut self.packed, case);
+        self.packed[INLINE_CAP] = len;
+        self
     }
 
     /// The text, as std's `str`.

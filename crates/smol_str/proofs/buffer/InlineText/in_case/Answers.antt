@@ -4,8 +4,8 @@ use Rattle.smol_str.proofs.BufferLemmas.{IsShort-packed}
 use Rattle.smol_str.proofs.AsciiMapLemmas.{IsPacked-converted, text-converted}
 use Rattle.smol_str.proofs.buffer.InlineText.in_case.Goals as goal
 
-pub invariant_of-result : goal.invariant_of-result
-invariant_of-result c = IsPacked-converted c.args.case _ _ c.self.invariant c.convert_all.ensures
+pub invariant_of-self : goal.invariant_of-self
+invariant_of-self c = IsPacked-converted c.args.case _ _ c.self.invariant c.convert_all.ensures
 
 pub returns-clause-text : goal.returns-clause-text
 returns-clause-text c =
