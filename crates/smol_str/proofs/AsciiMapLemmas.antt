@@ -101,7 +101,8 @@ pub IsUtf8-converted : (case : AsciiCase) (bs : List ℕ) → IsUtf8 bs → IsUt
 IsUtf8-converted Lower bs u = IsUtf8-map to_ascii_lowercase lower-moves bs u
 IsUtf8-converted Upper bs u = IsUtf8-map to_ascii_uppercase upper-moves bs u
 
-pub chars-converted : (case : AsciiCase) (bs : List ℕ) → IsUtf8 bs → chars (converted case bs) ≡ converted case (chars bs)
+pub chars-converted : (case : AsciiCase) (bs : List ℕ) → IsUtf8 bs →
+    chars (converted case bs) ≡ converted case (chars bs)
 chars-converted Lower bs u = chars-map to_ascii_lowercase lower-moves bs u
 chars-converted Upper bs u = chars-map to_ascii_uppercase upper-moves bs u
 
@@ -124,6 +125,7 @@ module _ (case : AsciiCase) (old buf : List ℕ) (h : IsPacked old) (e : buf ≡
   IsPacked-converted =
       IsPacked-packed _ (converted case (unpacked old)) (IsUtf8-converted case (unpacked old) h.utf8) small whole
 
-  pub text-converted : chars (unpacked (set buf INLINE_CAP (get_or old INLINE_CAP 0))) ≡ converted case (chars (unpacked old))
+  pub text-converted :
+      chars (unpacked (set buf INLINE_CAP (get_or old INLINE_CAP 0))) ≡ converted case (chars (unpacked old))
   text-converted = ap chars (unpacked-packed _ (converted case (unpacked old)) small whole)
       ∙ chars-converted case (unpacked old) h.utf8

@@ -48,7 +48,8 @@ ascii-more bytes at n lanes is low front =
 pub ascii-all : (bytes : List ℕ) (at k : ℕ) → k ≡ length bytes - at → IsAscii (take at bytes)
     → IsAscii (take k (drop at bytes)) → IsAscii bytes
 ascii-all bytes at k e front rest =
-    let all : take k (drop at bytes) ≡ drop at bytes = take_all k (drop at bytes) (omega (arith, e, length-drop at bytes)) in
+    let long : length (drop at bytes) ≤ k = omega (arith, e, length-drop at bytes) in
+    let all : take k (drop at bytes) ≡ drop at bytes = take_all k (drop at bytes) long in
     subst IsAscii (take-append-drop at bytes)
     (IsAscii-append (take at bytes) (drop at bytes) front (subst IsAscii all rest))
 

@@ -8,6 +8,7 @@ returns c =
     let bytes = c.args.bytes.now in
     elim c.if-bytes-lt8.branch [
       | then-bytes-lt8 w ↦ pack-end _ bytes c.requires
-          (one-word _ bytes _ (λ i. (c.type_inv.bytes i).fits) (omega arith) w.front_word.ensures (w.buf-is ∙ w.put_word.ensures))
+          (one-word _ bytes _ (λ i. (c.type_inv.bytes i).fits) (omega arith) w.front_word.ensures
+          (w.buf-is ∙ w.put_word.ensures))
       | else-bytes-lt8 w ↦ pack-end _ bytes c.requires (w.buf-is ∙ w.put_words.ensures)
     ]

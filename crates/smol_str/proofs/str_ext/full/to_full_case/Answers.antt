@@ -12,4 +12,5 @@ pub returns-then-is_ascii-clause-ok : goal.returns-then-is_ascii-clause-ok
 returns-then-is_ascii-clause-ok c =
     let t = chars c.args.text.now in
     let ascii = rw c.from_short-short.ensures at (c.is_ascii.ensures c.if-is_ascii.true) in
-    rw (full-ascii c.args.case t ascii) (rw (c.in_case.ensures.text, c.from_short-short.ensures) at c.from_inline.ensures)
+    rw (full-ascii c.args.case t ascii)
+    (rw (c.in_case.ensures.text, c.from_short-short.ensures) at c.from_inline.ensures)
