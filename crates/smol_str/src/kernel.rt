@@ -241,13 +241,15 @@ fn bytes_from(text: &str, from: usize) -> &[u8]
     &text.as_bytes()[from..]
 }
 
-/// The first place at which the wanted bytes stand: by a search for one byte, or for several.
+/// The first place at which the wanted bytes stand: by a search for the first of them, and only where
+/// that stands by one for several, which is slow to begin.
 fn find_bytes(bytes: &[u8], wanted: &[u8]) -> Option<usize>
     requires { 0 < length wanted.now }
     ensures { FindsNeedle bytes.now wanted.now 0 result }
 {
+    let first = memchr(wanted[0], bytes)?;
     if wanted.len() == 1 {
-        memchr(wanted[0], bytes)
+        Some(first)
     } else {
         memmem::find(bytes, wanted)
     }
