@@ -36,6 +36,8 @@ enum Input {
     Spaces,
     BlankRun,
     TwoByteCharacters,
+    FewLetters,
+    BothCases,
 }
 use Input::*;
 
@@ -76,6 +78,14 @@ const SHORT: &[Row] = &[
     ("display 20", "display", 20, Same),
     ("serialize 10 into a Vec", "serialize", 10, Same),
     ("from_wire 10", "from_wire", 10, Same),
+    ("ASCII lower 20", "ascii_lower", 20, BothCases),
+    ("ASCII upper 20", "ascii_upper", 20, BothCases),
+    ("lower 20", "lower", 20, BothCases),
+    ("upper 20", "upper", 20, BothCases),
+    ("ASCII lower 12, past ASCII", "ascii_lower", 12, TwoByteCharacters),
+    ("ASCII upper 12, past ASCII", "ascii_upper", 12, TwoByteCharacters),
+    ("lower 12, past ASCII", "lower", 12, TwoByteCharacters),
+    ("upper 12, past ASCII", "upper", 12, TwoByteCharacters),
 ];
 
 /// Rows of static and heap texts.
@@ -96,6 +106,10 @@ const LONG: &[Row] = &[
     ("push_str 3 times 20", "push_str", 20, Same),
     ("display 40", "display", 40, Same),
     ("from_wire 100", "from_wire", 100, Same),
+    ("replace a by x in 60", "replace-a-x", 60, FewLetters),
+    ("replace ab by c in 60", "replace-ab-c", 60, FewLetters),
+    ("replace z in 200, no match", "replace-z-x", 200, Same),
+    ("replace zz in 200, no match", "replace-zz-x", 200, Same),
 ];
 
 /// So few that the values of both sides stay in the first cache.
@@ -169,6 +183,8 @@ impl Draw {
             Spaces => vec![b' '; size],
             BlankRun => [vec![b'\n'; 32], vec![b' '; size - 32]].concat(),
             TwoByteCharacters => "é".repeat(size / 2).into_bytes(),
+            FewLetters => (0..size).map(|_| b'a' + self.below(5) as u8).collect(),
+            BothCases => (0..size).map(|_| b"aZ"[self.below(2)]).collect(),
             _ => (0..size).map(|_| b'a' + self.below(25) as u8).collect(),
         }
     }

@@ -1,7 +1,7 @@
 //! The operations over upstream's crate; `ours.rt.in` has the same names over ours.
 //!
 //! The wire form is borsh's of a string by hand, in upstream's steps: the crate borsh is not asked for.
-use smol_str::{SmolStr, SmolStrBuilder};
+use smol_str::{SmolStr, SmolStrBuilder, StrExt};
 use std::fmt::Write;
 use std::hash::{DefaultHasher, Hash, Hasher};
 use std::io::{self, ErrorKind, Read, Write as _};
@@ -239,6 +239,14 @@ pub fn bench_upstream(operation: &str, texts: &[u8], others: &[u8], size: usize,
         "display" => run(all, n, |it, at| display(&mut out, &it.value, at)),
         "serialize" => run(all, n, |it, at| serialize(&it.value, at)),
         "from_wire" => run(all, n, |it, at| wire_read(&it.form, at)),
+        "ascii_lower" => run(all, n, |it, at| seen(&it.text.to_ascii_lowercase_smolstr(), at)),
+        "ascii_upper" => run(all, n, |it, at| seen(&it.text.to_ascii_uppercase_smolstr(), at)),
+        "lower" => run(all, n, |it, at| seen(&it.text.to_lowercase_smolstr(), at)),
+        "upper" => run(all, n, |it, at| seen(&it.text.to_uppercase_smolstr(), at)),
+        "replace-a-x" => run(all, n, |it, at| seen(&it.text.replace_smolstr("a", "x"), at)),
+        "replace-ab-c" => run(all, n, |it, at| seen(&it.text.replace_smolstr("ab", "c"), at)),
+        "replace-z-x" => run(all, n, |it, at| seen(&it.text.replace_smolstr("z", "x"), at)),
+        "replace-zz-x" => run(all, n, |it, at| seen(&it.text.replace_smolstr("zz", "x"), at)),
         _ => panic!("no operation {operation}"),
     }
 }

@@ -40,7 +40,7 @@ IsPacked-packed all bytes u h e =
     record { utf8 = rw b u; within = rw b h; reads = rw b e }
 
 -- the length is the size of the text
-len-bytes : (all : List ℕ) → IsPacked all → get_or all INLINE_CAP 0 ≡ length (unpacked all)
+pub len-bytes : (all : List ℕ) → IsPacked all → get_or all INLINE_CAP 0 ≡ length (unpacked all)
 len-bytes all h = ap (λ r. get_or r INLINE_CAP 0) h.reads ∙ last-packed (unpacked all) h.within
 
 pub len-size : (all : List ℕ) → IsPacked all → get_or all INLINE_CAP 0 ≡ size (chars (unpacked all))

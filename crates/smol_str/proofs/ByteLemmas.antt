@@ -1,15 +1,14 @@
 -- For `str_ext::bytes`: one ASCII character replaced by another, byte for byte.
-use Rattle.std.proofs.Common.{◌≡◌, ℕ, zero, suc, ◌+◌, ◌/◌, ◌<◌, ◌≤◌, List, [], ◌∷◌, ◌++◌, Bool, true, false, ◌&&◌, nat_eq, length, get_or, set, take, drop, refl, sym, ap, ◌∙◌, subst, arith, append_assoc, append-nil, length-append, drop-cons}
+use Rattle.std.proofs.Common.{◌≡◌, ℕ, zero, suc, ◌+◌, ◌/◌, ◌<◌, ◌≤◌, List, [], ◌∷◌, ◌++◌, Bool, true, false, ◌&&◌, nat_eq, length, map, get_or, set, take, drop, refl, sym, ap, ◌∙◌, subst, arith, append_assoc, append-nil, length-append, drop-cons, ne_eqb, if◌then◌else◌}
 use Rattle.std.specs.Str.{IsUtf8, chars, encode_utf8_all}
 use lib.Utf8.{encode, next, scalar, scalars}
-use Rattle.std.proofs.lemmas.Bool.{cases_lt}
 use Rattle.std.proofs.lemmas.Bool.Decides.{nat_tests, Decides-eqb}
 use Rattle.std.proofs.lemmas.List.{take_more, take_more_set, drop-set-lt, drop_all, take_at, take-append-drop}
-use Rattle.std.proofs.lemmas.Str.{chars-encodes, encodes-chars, encodes-append, length-le-encodes, scalars-chars}
+use Rattle.std.proofs.lemmas.Str.{chars-encodes, encodes-chars, length-le-encodes, scalars-chars}
 use Rattle.smol_str.specs.declared.buffer.TheConstants.{INLINE_CAP}
 use Rattle.smol_str.specs.Text.{IsShort}
 use Rattle.smol_str.specs.Cut.{Occurs}
-use Rattle.smol_str.specs.Replace.{replaced}
+use Rattle.smol_str.specs.Replace.{replaced, each_replaced}
 use Rattle.smol_str.proofs.Utf8Lemmas.{Form, one, two, three, four, form}
 use Rattle.smol_str.proofs.SplitLemmas.{both}
 use Rattle.smol_str.proofs.ReplaceLemmas.{replaced-none, replaced-unmatched, replaced-matched, replaced-passed}
@@ -106,6 +105,50 @@ swapping-end x y old count bytes at left h ended =
     sym (take-append-drop at bytes)
     ∙ ap (λ s. take at bytes ++ s) (none ∙ sym (swapped-nil x y left))
     ∙ ap (λ s. take at bytes ++ swapped x y s left) (sym none) ∙ h
+
+-- ---- with a limit that leaves no byte out
+
+pub each-swapped : (x y : ℕ) (t : List ℕ) (n : ℕ) → length t ≤ n → each_replaced x y t ≡ swapped x y t n
+each-swapped x y [] n h = sym (swapped-nil x y n)
+each-swapped x y (c ∷ t) zero h = absurd (omega arith)
+each-swapped x y (c ∷ t) (suc n) h =
+    go (nat_eq c x) refl (each-swapped x y t n (omega (arith, h))) (each-swapped x y t (suc n) (omega (arith, h)))
+  where
+    go : (b : Bool) → nat_eq c x ≡ b → each_replaced x y t ≡ swapped x y t n
+        → each_replaced x y t ≡ swapped x y t (suc n) → each_replaced x y (c ∷ t) ≡ swapped x y (c ∷ t) (suc n)
+    go true e less all = rw e (ap (λ s. y ∷ s) less ∙ sym (swapped-taken x y c t n ((Decides-eqb c x).0 e)))
+    go false e less all = rw e (ap (λ s. c ∷ s) all ∙ sym (swapped-kept x y c t (suc n) (other c x e)))
+
+pub each-taken : (x y b : ℕ) → b ≡ x → y ≡ (if nat_eq b x then y else b)
+each-taken x y b e = rw ((Decides-eqb b x).1 e) refl
+
+pub each-kept : (x y b : ℕ) → ¬ (b ≡ x) → b ≡ (if nat_eq b x then y else b)
+each-kept x y b differs = rw (ne_eqb b x differs) refl
+
+-- what is before a place is done
+abbrev pub IsMapping : (ℕ → ℕ) → List ℕ → List ℕ → ℕ → Type 0
+IsMapping f old bytes at = take at bytes ++ map f (drop at bytes) ≡ map f old
+
+pub mapping-start : (f : ℕ → ℕ) (old : List ℕ) → IsMapping f old old 0
+mapping-start f [] = refl
+mapping-start f (b ∷ old) = refl
+
+pub mapping-step : (f : ℕ → ℕ) (old bytes : List ℕ) (at x : ℕ) → at < length bytes → IsMapping f old bytes at
+    → x ≡ f (get_or bytes at 0) → IsMapping f old (set bytes at x) (at + 1)
+mapping-step f old bytes at x inside h e =
+    ap (λ s. take (at + 1) (set bytes at x) ++ map f s) (drop-set-lt (at + 1) bytes at x (omega arith))
+    ∙ ap (λ s. s ++ map f (drop (at + 1) bytes)) (take_more_set bytes at x inside)
+    ∙ append_assoc (take at bytes) (x ∷ []) (map f (drop (at + 1) bytes))
+    ∙ ap (λ s. take at bytes ++ s)
+    (ap (λ b. b ∷ map f (drop (at + 1) bytes)) e ∙ sym (ap (map f) (cut 0 0 old 0 bytes at inside)))
+    ∙ h
+
+pub mapping-end : (f : ℕ → ℕ) (old bytes : List ℕ) (at : ℕ) → IsMapping f old bytes at → length bytes ≤ at
+    → bytes ≡ map f old
+mapping-end f old bytes at h ended =
+    let none : drop at bytes ≡ [] = drop_all at bytes ended in
+    sym (take-append-drop at bytes) ∙ ap (λ s. take at bytes ++ s) none
+    ∙ sym (ap (λ s. take at bytes ++ map f s) none) ∙ h
 
 -- ---- bytes and characters
 

@@ -1,9 +1,7 @@
 -- For `str_ext::case`: the ASCII front of a text, and the rest of it.
-use Rattle.std.proofs.Common.{◌≡◌, ℕ, ◌+◌, ◌-◌, ◌≤◌, ◌<◌, List, [], ◌∷◌, ◌++◌, Bool, true, false, cond, length, map, get_or, take, drop, replicate, refl, sym, ap, ◌∙◌, subst, arith, append_assoc, take-append-drop, length-take-le, length-append}
+use Rattle.std.proofs.Common.{◌≡◌, ℕ, ◌-◌, ◌≤◌, List, [], ◌++◌, length, take, drop, replicate, sym, ap, ◌∙◌, subst, arith, length-take-le, length-append}
 use Rattle.std.specs.Str.{IsUtf8, IsAscii, IsCharBoundary, chars, encode_utf8_all}
-use Rattle.std.specs.Char.{is_ascii}
-use Rattle.std.proofs.lemmas.Bool.{ltb-true}
-use Rattle.std.proofs.lemmas.List.{take_at, take_more, map-id}
+use Rattle.std.proofs.lemmas.List.{take_at}
 use Rattle.std.proofs.lemmas.Str.{IsUtf8-from_ascii, chars-IsAscii, encodes-IsAscii}
 use Rattle.std.proofs.lemmas.Str.Ascii.{IsAscii-from_all}
 use Rattle.smol_str.specs.declared.buffer.TheConstants.{INLINE_CAP}
@@ -14,7 +12,6 @@ use Rattle.smol_str.specs.Buffer.{padded}
 use Rattle.smol_str.specs.Case.{front}
 use Rattle.smol_str.specs.Convert.{converted}
 use Rattle.smol_str.specs.Draft.{Draft, OnHeap, grown, appended}
-use Rattle.smol_str.proofs.TextLemmas.{size-append}
 use Rattle.smol_str.proofs.CaseLemmas.{front-parts, size-lower, size-upper}
 use Rattle.smol_str.proofs.PushLemmas.{grown-heap, appended-heap}
 use Rattle.smol_str.proofs.ConvertLemmas.{converted-append, length-converted, IsAscii-converted}

@@ -1,11 +1,11 @@
 -- For `kernel::convert_while_ascii`: the ASCII front of a short text, in a case, in a buffer.
-use Rattle.std.proofs.Common.{◌≡◌, ℕ, zero, suc, ◌+◌, ◌-◌, ◌≤◌, ◌<◌, List, [], ◌∷◌, ◌++◌, length, get_or, set, take, drop, replicate, refl, sym, ap, ◌∙◌, subst, arith, append_assoc, take-add, length-take-le, drop-cons, length-append, take-append-drop}
+use Rattle.std.proofs.Common.{◌≡◌, ℕ, zero, suc, ◌+◌, ◌-◌, ◌≤◌, ◌<◌, List, [], ◌∷◌, ◌++◌, length, get_or, set, take, drop, replicate, refl, sym, ap, ◌∙◌, subst, arith, append_assoc, append-nil, take-add, length-take-le, drop-cons, length-append, length-drop, take-append-drop}
 use Rattle.std.specs.Str.{IsUtf8, IsAscii, chars, encode_utf8_all}
 use Rattle.std.specs.Simd.Lanes.{put_chunk, Each1}
 use Rattle.std.specs.Char.{to_ascii_lowercase, to_ascii_uppercase}
 use lib.Utf8.{encode, encodes}
 use Rattle.std.proofs.lemmas.Simd.{put_chunk_is}
-use Rattle.std.proofs.lemmas.List.{map-append, take_at, drop_at, drop-replicate, length-map, length-replicate}
+use Rattle.std.proofs.lemmas.List.{map-append, take_at, take_all, drop_at, drop_all, drop-drop, drop-replicate, length-map, length-replicate}
 use Rattle.std.proofs.lemmas.Str.{IsAscii-append, IsUtf8-from_ascii, IsUtf8-drop, IsCharBoundary-from_take, chars-append, chars-IsAscii, encodes-IsAscii, encodes-chars}
 use Rattle.std.proofs.lemmas.Str.Ascii.{IsAscii-nil, IsAscii-cons, IsAscii-map, All-from_ascii, lowercase_ascii, uppercase_ascii}
 use Rattle.smol_str.specs.declared.buffer.TheConstants.{INLINE_CAP}
@@ -13,7 +13,7 @@ use Rattle.smol_str.specs.declared.kernel.AsciiCase.{AsciiCase}
 use Rattle.smol_str.specs.declared.kernel.AsciiCase.TheVariants.{Lower, Upper}
 use Rattle.smol_str.specs.Buffer.{padded}
 use Rattle.smol_str.specs.Case.{front, BeginsPastAscii}
-use Rattle.smol_str.specs.Convert.{converted, IsConverted}
+use Rattle.smol_str.specs.Convert.{converted, IsConverted, IsBegun}
 use Rattle.smol_str.proofs.Utf8Lemmas.{Form, one, two, three, four, form}
 use Rattle.smol_str.proofs.CaseLemmas.{front-append}
 
@@ -37,6 +37,21 @@ IsAscii-converted Upper a h = IsAscii-map to_ascii_uppercase a uppercase_ascii h
 pub IsAscii-from_each : (a : List ℕ) → Each1 (λ x. x < 128) a → IsAscii a
 IsAscii-from_each [] h = IsAscii-nil
 IsAscii-from_each (c ∷ a) h = IsAscii-cons c a h.0 (IsAscii-from_each a h.1)
+
+-- a front that is ASCII, and more of it
+pub ascii-more : (bytes : List ℕ) (at n : ℕ) (lanes : List ℕ) → lanes ≡ take n (drop at bytes)
+    → Each1 (λ x. x < 128) lanes → IsAscii (take at bytes) → IsAscii (take (at + n) bytes)
+ascii-more bytes at n lanes is low front =
+    subst IsAscii (sym (take-add at n bytes))
+    (IsAscii-append (take at bytes) (take n (drop at bytes)) front (subst IsAscii is (IsAscii-from_each lanes low)))
+
+pub ascii-all : (bytes : List ℕ) (at k : ℕ) → k ≡ length bytes - at → IsAscii (take at bytes)
+    → IsAscii (take k (drop at bytes)) → IsAscii bytes
+ascii-all bytes at k e front rest =
+    let long : length (drop at bytes) ≤ k = omega (arith, e, length-drop at bytes) in
+    let all : take k (drop at bytes) ≡ drop at bytes = take_all k (drop at bytes) long in
+    subst IsAscii (take-append-drop at bytes)
+    (IsAscii-append (take at bytes) (drop at bytes) front (subst IsAscii all rest))
 
 -- nothing is done yet
 pub converted-none : (case : AsciiCase) (text : List ℕ) → IsConverted case text (padded []) 0
@@ -94,6 +109,61 @@ module _ (case : AsciiCase) (text buffer : List ℕ) (at : ℕ) (f : IsConverted
             ∙ sym (append_assoc a v (replicate (INLINE_CAP - length (converted case (take (at + n) text))) 0))
             ∙ ap (λ w. w ++ replicate (INLINE_CAP - length (converted case (take (at + n) text))) 0) (sym whole);
       }
+
+-- bytes in place, of which the first are done
+pub begun-none : (case : AsciiCase) (old : List ℕ) → IsBegun case old old 0
+begun-none case old = record {
+  inside = omega arith;
+  reads = sym (ap (λ a. a ++ old) (converted-nil case));
+}
+
+module _ (case : AsciiCase) (old bytes : List ℕ) (at : ℕ) (f : IsBegun case old bytes at) where
+  begun-front : take at bytes ≡ converted case (take at old)
+  begun-front = ap (take at) f.reads ∙ take_at (converted case (take at old)) (drop at old) at long-begun
+    where
+      long-begun : length (converted case (take at old)) ≡ at
+      long-begun = length-converted case (take at old) ∙ length-take-le at old f.inside
+
+  begun-behind : drop at bytes ≡ drop at old
+  begun-behind = ap (drop at) f.reads ∙ drop_at (converted case (take at old)) (drop at old) at
+      (length-converted case (take at old) ∙ length-take-le at old f.inside)
+
+  pub length-begun : length bytes ≡ length old
+  length-begun = ap length f.reads ∙ length-append (converted case (take at old)) (drop at old)
+      ∙ ap (λ n. n + length (drop at old)) (length-converted case (take at old))
+      ∙ sym (length-append (take at old) (drop at old)) ∙ ap length (take-append-drop at old)
+
+  pub begun-more : (n : ℕ) (new : List ℕ) → at + n ≤ length old
+      → new ≡ put_chunk at bytes (converted case (take n (drop at bytes))) → IsBegun case old new (at + n)
+  begun-more n new room is =
+      let v : List ℕ = converted case (take n (drop at old)) in
+      let here : take n (drop at bytes) ≡ take n (drop at old) = ap (take n) begun-behind in
+      let long : length v ≡ n = length-converted case (take n (drop at old))
+      ∙ length-take-le n (drop at old) (omega (arith, length-drop at old)) in
+      let rest : drop (length v) (drop at bytes) ≡ drop (at + n) old =
+      ap (λ k. drop k (drop at bytes)) long ∙ ap (drop n) begun-behind ∙ drop-drop n at old in
+      let whole : converted case (take (at + n) old) ≡ converted case (take at old) ++ v =
+      ap (converted case) (take-add at n old) ∙ converted-append case (take at old) (take n (drop at old)) in
+      record {
+        inside = room;
+        reads =
+            is ∙ ap (λ w. put_chunk at bytes (converted case w)) here
+            ∙ put_chunk_is at bytes v (omega (arith, length-begun, long))
+            ∙ (λ i. begun-front i ++ (v ++ rest i))
+            ∙ sym (append_assoc (converted case (take at old)) v (drop (at + n) old))
+            ∙ ap (λ w. w ++ drop (at + n) old) (sym whole);
+      }
+
+  -- the rest of the bytes, all at once
+  pub begun-all : (k : ℕ) (new : List ℕ) → k ≡ length bytes - at → new ≡ converted case (take k (drop at bytes))
+      → take at bytes ++ (new ++ drop k (drop at bytes)) ≡ converted case old
+  begun-all k new e is =
+      let long : length (drop at bytes) ≤ k = omega (arith, e, length-drop at bytes) in
+      let rest : take k (drop at bytes) ≡ drop at old = take_all k (drop at bytes) long ∙ begun-behind in
+      let none : drop k (drop at bytes) ≡ [] = drop_all k (drop at bytes) long in
+      (λ i. begun-front i ++ ((is ∙ ap (converted case) rest) i ++ none i))
+      ∙ ap (λ w. converted case (take at old) ++ w) (append-nil (converted case (drop at old)))
+      ∙ sym (converted-append case (take at old) (drop at old)) ∙ ap (converted case) (take-append-drop at old)
 
 take_one : (xs : List ℕ) (i d : ℕ) → i < length xs → take 1 (drop i xs) ≡ get_or xs i d ∷ []
 take_one xs i d l = rw (drop-cons xs i d l)

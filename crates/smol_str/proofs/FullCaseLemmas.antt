@@ -1,6 +1,5 @@
 -- For `str_ext::full` and the clauses of `StrExt`: full case, as std maps a text.
-use Rattle.std.proofs.Common.{◌≡◌, ℕ, suc, ◌+◌, ◌<◌, List, [], ◌∷◌, ◌++◌, Bool, false, Option, None, Some, Result, Ok, Err, IfOk, OnErr, length, flat_map, refl, sym, ap, ◌∙◌, subst, arith, append_assoc, append-nil, ne_eqb, length-append, String}
-use Rattle.std.specs.Prelude.{All}
+use Rattle.std.proofs.Common.{◌≡◌, ℕ, suc, ◌<◌, List, [], ◌∷◌, ◌++◌, Bool, false, Option, None, Some, Result, Ok, Err, IfOk, length, flat_map, refl, sym, ap, ◌∙◌, subst, arith, append-nil, ne_eqb, length-append, String}
 use Rattle.std.specs.Option.{option_to_list, is_some}
 use Rattle.std.specs.Str.{IsUtf8, IsAscii, chars, encode_utf8_all}
 use Rattle.std.specs.String.{string_bytes}

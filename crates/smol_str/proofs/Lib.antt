@@ -1,5 +1,6 @@
 pub mod CallerLemmas
 pub mod ListLemmas
+mod AsciiMapLemmas
 pub mod BlankLemmas
 pub mod TextLemmas
 pub mod BufferLemmas

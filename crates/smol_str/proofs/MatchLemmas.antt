@@ -6,6 +6,7 @@ use Rattle.std.proofs.lemmas.List.{take_at, drop_at, length-drop, take-append-le
 use Rattle.memchr.specs.Find.{OccursAt, FindsNeedle, is_byte, IsFirstByte}
 use Rattle.memchr.proofs.lemmas.FindLemmas.{OccursAt-byte, byte-OccursAt}
 use Rattle.memchr.proofs.lemmas.MatchLemmas.{OccursAt-split, OccursAt-from_part}
+use Rattle.std.proofs.lemmas.Bool.Decides.{Decides-eqb}
 use Rattle.smol_str.specs.Text.{size}
 use Rattle.smol_str.specs.Cut.{Occurs, but_last, IsNextMatch}
 use Rattle.smol_str.proofs.TextLemmas.{size-append}
@@ -25,6 +26,18 @@ one_byte hay nd one (Some at) f = (
   },
   OccursAt-byte hay nd one at f.0.high f.1,
 )
+
+-- no needle is found whose first byte is not
+pub none_first : (hay nd : List ℕ) → 0 < length nd → (r : Option ℕ) → r ≡ None
+    → (f : Option ℕ) → f ≡ None → IsFirstByte (is_byte (get_or nd 0 0)) hay f → FindsNeedle hay nd 0 r
+none_first hay nd some r none f e first =
+    let same = λ (k : ℕ) (o : OccursAt hay nd k).
+    ap (λ m. get_or hay m 0) (sym (k_zero k)) ∙ o.reads 0 some in
+    let nowhere = rw e at first in
+    rw none (λ k low high o. nowhere k low (omega (arith, o.fits, some)) ((Decides-eqb _ _).1 (same k o)))
+  where
+    k_zero : (k : ℕ) → k + 0 ≡ k
+    k_zero k = omega arith
 
 -- characters that stand have bytes that stand
 chars_stand : (b p a r : List ℕ) → b ≡ a ++ (p ++ r) → OccursAt (encode_utf8_all b) (encode_utf8_all p) (size a)

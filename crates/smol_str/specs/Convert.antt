@@ -4,7 +4,8 @@
 --     mapped case t                      the same, character by character
 --     IsMappedAlone case t               no character of t is mapped by what stands around it
 --     IsConverted case text buffer at    the buffer has the first `at` bytes of the text in this case
-use Rattle.std.specs.Prelude.{◌≡◌, ℕ, ◌≤◌, ⊤, List, length, take}
+--     IsBegun case old bytes at          of the old bytes the first `at` are in this case, and the others as they were
+use Rattle.std.specs.Prelude.{◌≡◌, ℕ, ◌≤◌, ⊤, List, ◌++◌, length, take, drop}
 use Rattle.std.specs.List.{flat_map}
 use Rattle.std.specs.Str.{IsAscii}
 use Rattle.std.specs.Char.Unicode.ToLowercase.{to_lowercase}
@@ -39,3 +40,8 @@ pub record IsConverted (case : AsciiCase) (text buffer : List ℕ) (at : ℕ) : 
   pub inside : at ≤ length text
   pub low : IsAscii (take at text)
   pub bytes : buffer ≡ padded (converted case (take at text))
+
+-- the first `at` bytes are in this case, and the others as they were
+pub record IsBegun (case : AsciiCase) (old bytes : List ℕ) (at : ℕ) : Type 0 where
+  pub inside : at ≤ length old
+  pub reads : bytes ≡ converted case (take at old) ++ drop at old

@@ -5,9 +5,12 @@ ghost use Rattle.std.specs.Ordering.{nat_cmp};
 ghost use Rattle.std.specs.Cmp.Lexicographic.{slice_cmp};
 ghost use Rattle.smol_str.specs.Text.{size, IsShort};
 ghost use Rattle.smol_str.specs.Buffer.{padded};
+ghost use Rattle.smol_str.specs.Case.{IsAsciiText};
+ghost use Rattle.smol_str.specs.Convert.{converted};
 
 mod words;
 
+use crate::kernel::{AsciiCase, convert_all, is_all_ascii};
 use std::cmp::Ordering;
 use std::marker::Model;
 use words::{order_words, pack, pack_char, same_words, write_at};
@@ -77,6 +80,29 @@ impl InlineText {
             align: [],
             packed: pack_char(character),
         }
+    }
+
+    /// Whether each character is ASCII.
+    #[inline(always)]
+    pub(crate) fn is_ascii(&self) -> bool
+        ensures { IsTrue result → IsAsciiText self.now }
+    {
+        is_all_ascii(&self.packed)
+    }
+
+    /// The text with its ASCII letters in a case.
+    ///
+    /// It is mapped where it lies: in a copy, the last word would be written in parts.
+    #[inline(always)]
+    pub(crate) fn in_case(mut self, case: AsciiCase) -> InlineText
+        ensures text { result ≡ converted case self }
+        ensures short { IsShort result }
+    {
+        // A length of 65 would be taken for a letter.
+        let len = self.packed[INLINE_CAP];
+        convert_all(&mut self.packed, case);
+        self.packed[INLINE_CAP] = len;
+        self
     }
 
     /// The text, as std's `str`.

@@ -224,7 +224,7 @@ impl SmolStrBuilder {
     {
         match self.repr {
             BuilderRepr::Inline(text) => Ok(SmolStr::from_inline(text)),
-            BuilderRepr::Heap(text) => SmolStr::keep(text),
+            BuilderRepr::Heap(text) => SmolStr::from_owned(text),
         }
     }
 }

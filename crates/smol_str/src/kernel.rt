@@ -1,6 +1,6 @@
 //! The loops over the bytes of a text: ASCII case by sixteen lanes, and the search for a pattern.
-ghost use Rattle.std.specs.Prelude.{◌≡◌, ◌↔◌, ◌<◌, ◌≤◌, ◌+◌, ℕ, List, [], ◌∷◌, ◌++◌, Some, None, false, length, take, drop, slice_index, encode_utf8_all};
-ghost use Rattle.std.specs.Str.{IsCharBoundary, chars};
+ghost use Rattle.std.specs.Prelude.{◌≡◌, ◌↔◌, ◌<◌, ◌≤◌, ◌+◌, ℕ, List, [], ◌∷◌, ◌++◌, Some, None, false, IsTrue, length, take, drop, slice_index, encode_utf8_all};
+ghost use Rattle.std.specs.Str.{IsAscii, IsCharBoundary, chars};
 ghost use Rattle.std.specs.Simd.Lanes.{Each1, put_chunk};
 ghost use Rattle.memchr.specs.Find.{FindsNeedle};
 ghost use Rattle.smol_str.specs.Text.{size};
@@ -73,7 +73,7 @@ fn convert_chunks(bytes: &[u8], case: AsciiCase, buffer: &mut InlineBuffer) -> u
 {
     let mut at = 0;
     while bytes.len() - at >= LANES {
-        let lanes = load(bytes, at);
+        let lanes = load::<16>(bytes, at);
         if has_high(lanes) {
             return at;
         }
@@ -108,11 +108,71 @@ fn convert_byte(byte: u8, case: AsciiCase) -> u8
     }
 }
 
+/// Whether no byte is past ASCII.
+#[inline(always)]
+pub(crate) fn is_all_ascii(bytes: &[u8]) -> bool
+    ensures { IsTrue result → IsAscii bytes.now }
+{
+    let mut at = 0;
+    while bytes.len() - at >= LANES {
+        if has_high(load::<16>(bytes, at)) {
+            return false;
+        }
+        at += LANES;
+    }
+    if bytes.len() - at >= 8 {
+        if has_high(load::<8>(bytes, at)) {
+            return false;
+        }
+        at += 8;
+    }
+    bytes[at..].is_ascii()
+}
+
+/// Maps all letters where they stand; no other byte changes.
+#[inline(always)]
+pub(crate) fn convert_all(bytes: &mut [u8], case: AsciiCase)
+    ensures { bytes.new ≡ converted case bytes.old }
+{
+    let mut at = 0;
+    while bytes.len() - at >= LANES {
+        convert_part::<16>(bytes, at, case);
+        at += LANES;
+    }
+    if bytes.len() - at >= 8 {
+        convert_part::<8>(bytes, at, case);
+        at += 8;
+    }
+    convert_rest(&mut bytes[at..], case);
+}
+
+/// Maps `N` bytes from a place on.
+#[inline(always)]
+fn convert_part<const N: usize>(bytes: &mut [u8], at: usize, case: AsciiCase)
+    requires { at + N ≤ length bytes.old }
+    ensures { bytes.new ≡ put_chunk at bytes.old (converted case (take N (drop at bytes.old))) }
+{
+    let lanes = load::<N>(bytes, at);
+    store(bytes, at, convert_lanes(lanes, case));
+}
+
+/// Maps bytes one by one.
+#[inline(always)]
+fn convert_rest(bytes: &mut [u8], case: AsciiCase)
+    ensures { bytes.new ≡ converted case bytes.old }
+{
+    match case {
+        AsciiCase::Lower => bytes.make_ascii_lowercase(),
+        AsciiCase::Upper => bytes.make_ascii_uppercase(),
+    }
+}
+
 /// The lanes in a case.
-fn convert_lanes(lanes: u8x16, case: AsciiCase) -> u8x16
-    requires long { length lanes ≡ LANES }
+#[inline(always)]
+fn convert_lanes<const N: usize>(lanes: Simd<u8, N>, case: AsciiCase) -> Simd<u8, N>
+    requires long { length lanes ≡ N }
     requires bytes { Each1 (λ x. x < 256) lanes }
-    ensures { result ≡ converted case lanes }
+    ensures { result ≡ converted case lanes.entry }
 {
     match case {
         AsciiCase::Lower => lower_lanes(lanes),
@@ -121,48 +181,54 @@ fn convert_lanes(lanes: u8x16, case: AsciiCase) -> u8x16
 }
 
 /// The lanes with A to Z as a to z.
-fn lower_lanes(lanes: u8x16) -> u8x16
-    requires long { length lanes ≡ LANES }
+#[inline(always)]
+fn lower_lanes<const N: usize>(lanes: Simd<u8, N>) -> Simd<u8, N>
+    requires long { length lanes ≡ N }
     requires bytes { Each1 (λ x. x < 256) lanes }
-    ensures { result ≡ lower lanes }
+    ensures { result ≡ lower lanes.entry }
 {
-    let capital = lanes.simd_ge(u8x16::splat(b'A')) & lanes.simd_le(u8x16::splat(b'Z'));
-    capital.select(lanes + u8x16::splat(32), lanes)
+    let capital = lanes.simd_ge(Simd::splat(b'A')) & lanes.simd_le(Simd::splat(b'Z'));
+    capital.select(lanes + Simd::splat(32), lanes)
 }
 
 /// The lanes with a to z as A to Z.
-fn upper_lanes(lanes: u8x16) -> u8x16
-    requires long { length lanes ≡ LANES }
+#[inline(always)]
+fn upper_lanes<const N: usize>(lanes: Simd<u8, N>) -> Simd<u8, N>
+    requires long { length lanes ≡ N }
     requires bytes { Each1 (λ x. x < 256) lanes }
-    ensures { result ≡ upper lanes }
+    ensures { result ≡ upper lanes.entry }
 {
-    let small = lanes.simd_ge(u8x16::splat(b'a')) & lanes.simd_le(u8x16::splat(b'z'));
-    small.select(lanes - u8x16::splat(32), lanes)
+    let small = lanes.simd_ge(Simd::splat(b'a')) & lanes.simd_le(Simd::splat(b'z'));
+    small.select(lanes - Simd::splat(32), lanes)
 }
 
 /// Whether a lane is past ASCII.
-fn has_high(lanes: u8x16) -> bool
-    requires { length lanes ≡ LANES }
-    ensures { result ≡ false → Each1 (λ x. x < 128) lanes }
+#[inline(always)]
+fn has_high<const N: usize>(lanes: Simd<u8, N>) -> bool
+    requires long { length lanes ≡ N }
+    requires few { N ≤ 64 }
+    ensures { result ≡ false → Each1 (λ x. x < 128) lanes.entry }
 {
-    lanes.simd_gt(u8x16::splat(127)).any()
+    lanes.simd_gt(Simd::splat(127)).any()
 }
 
-/// The sixteen bytes from a place on.
-fn load(bytes: &[u8], at: usize) -> u8x16
-    requires { at + LANES ≤ length bytes.now }
-    ensures lanes { result ≡ take LANES (drop at bytes.now) }
-    ensures long { length result ≡ LANES }
+/// The `N` bytes from a place on.
+#[inline(always)]
+fn load<const N: usize>(bytes: &[u8], at: usize) -> Simd<u8, N>
+    requires { at + N ≤ length bytes.now }
+    ensures lanes { result ≡ take N (drop at bytes.now) }
+    ensures long { length result ≡ N }
     ensures fits { Each1 (λ x. x < 256) result }
 {
-    u8x16::from_slice(&bytes[at..])
+    Simd::from_slice(&bytes[at..])
 }
 
 /// Stores the lanes from a place on.
-fn store(out: &mut [u8], at: usize, lanes: u8x16)
-    requires room { at + LANES ≤ length out.old }
-    requires long { length lanes ≡ LANES }
-    ensures { out.new ≡ put_chunk at out.old lanes }
+#[inline(always)]
+fn store<const N: usize>(out: &mut [u8], at: usize, lanes: Simd<u8, N>)
+    requires room { at + N ≤ length out.old }
+    requires long { length lanes ≡ N }
+    ensures { out.new ≡ put_chunk at out.old lanes.entry }
 {
     lanes.copy_to_slice(&mut out[at..]);
 }
@@ -175,13 +241,15 @@ fn bytes_from(text: &str, from: usize) -> &[u8]
     &text.as_bytes()[from..]
 }
 
-/// The first place at which the wanted bytes stand: by a search for one byte, or for several.
+/// The first place at which the wanted bytes stand: by a search for the first of them, and only where
+/// that stands by one for several, which is slow to begin.
 fn find_bytes(bytes: &[u8], wanted: &[u8]) -> Option<usize>
     requires { 0 < length wanted.now }
     ensures { FindsNeedle bytes.now wanted.now 0 result }
 {
+    let first = memchr(wanted[0], bytes)?;
     if wanted.len() == 1 {
-        memchr(wanted[0], bytes)
+        Some(first)
     } else {
         memmem::find(bytes, wanted)
     }

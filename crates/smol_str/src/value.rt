@@ -196,6 +196,7 @@ impl SmolStr {
     }
 
     /// The value of a resident text, which takes no memory.
+    #[inline(always)]
     pub(crate) fn resident(text: &str) -> Option<SmolStr>
         ensures { MatchOption result (¬ (IsResident (chars text.now))) (λ v. IsValueOf (chars text.now) v) }
     {
@@ -208,9 +209,10 @@ impl SmolStr {
         })
     }
 
-    /// The value of the text of a `String`, in the memory of that `String` where it needs any.
+    /// The value of a text in memory of its own, which the value keeps where the text is not
+    /// resident.
     #[inline(never)]
-    pub(crate) fn keep(text: String) -> Result<SmolStr, AllocError>
+    pub(crate) fn from_owned(text: String) -> Result<SmolStr, AllocError>
         ensures ok { IfOk result (λ v. IsValueOf (chars (string_bytes text)) v) }
         ensures refused { OnErr result (¬ (IsResident (chars (string_bytes text)))) }
     {

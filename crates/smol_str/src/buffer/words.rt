@@ -19,7 +19,7 @@ ghost use Rattle.std.specs.Ordering.{nat_cmp};
 ghost use Rattle.std.specs.Cmp.Lexicographic.{pointwise, slice_cmp};
 ghost use Rattle.std.specs.Int.{w64, to_le_bytes, from_be_bytes};
 ghost use Rattle.smol_str.specs.Buffer.{packed};
-ghost use Rattle.smol_str.specs.Words.{word, put_at};
+ghost use Rattle.smol_str.specs.Words.{word, put_at, zeroed};
 
 use super::{INLINE_CAP, PACKED_LEN, Packed};
 use std::cmp::Ordering;
@@ -40,8 +40,10 @@ pub(super) fn pack(bytes: &[u8]) -> Packed
     ensures { result ≡ packed bytes.now }
 {
     let mut buf = [0; PACKED_LEN];
-    for i in 0..WORDS {
-        put_word(&mut buf, 8 * i, word_at(bytes, 8 * i));
+    if bytes.len() < 8 {
+        put_word(&mut buf, 0, front_word(bytes));
+    } else {
+        put_words(&mut buf, bytes);
     }
     buf[INLINE_CAP] = bytes.len() as u8;
     buf
@@ -53,11 +55,23 @@ pub(super) fn pack_char(character: char) -> Packed
     ensures { result ≡ packed (encode_utf8 character) }
 {
     let mut buf = [0; PACKED_LEN];
-    for i in 0..WORDS {
-        put_word(&mut buf, 8 * i, char_word_at(character, i));
-    }
+    put_word(&mut buf, 0, char_word(character));
+    // The length's word is written whole, too: else the zeros before it are moved byte by byte.
+    put_word(&mut buf, PACKED_LEN - 8, 0);
     buf[INLINE_CAP] = character.len_utf8() as u8;
     buf
+}
+
+/// The bytes word by word, and zeros behind them.
+#[inline(always)]
+fn put_words(buf: &mut Packed, bytes: &[u8])
+    requires least { 8 ≤ length bytes.now }
+    requires most { length bytes.now ≤ INLINE_CAP }
+    ensures { buf.new ≡ zeroed bytes.now }
+{
+    for i in 0..WORDS {
+        put_word(buf, 8 * i, word_at(bytes, 8 * i));
+    }
 }
 
 /// Overwrites eight bytes.
@@ -72,6 +86,7 @@ fn put_word(buf: &mut Packed, start: usize, word: u64)
 /// Eight bytes from `at` on, with zeros past the end.
 #[inline(always)]
 fn word_at(bytes: &[u8], at: usize) -> u64
+    requires { 8 ≤ length bytes.now }
     ensures { result ≡ word 8 bytes.now at }
 {
     let len = bytes.len();
@@ -81,10 +96,7 @@ fn word_at(bytes: &[u8], at: usize) -> u64
     if len - at >= 8 {
         return read_u64(bytes, at);
     }
-    if len >= 8 {
-        return read_u64(bytes, len - 8) >> (8 * (8 - (len - at)));
-    }
-    front_word(bytes) >> (8 * at)
+    read_u64(bytes, len - 8) >> (8 * (8 - (len - at)))
 }
 
 /// All of the bytes, which are fewer than eight.
@@ -119,17 +131,6 @@ fn read_u32(bytes: &[u8], at: usize) -> u64
     ensures { result ≡ word 4 bytes.now at }
 {
     u32::from_le_bytes(*bytes[at..].first_chunk::<4>().unwrap()) as u64
-}
-
-/// The word of number `i` of a character's bytes, with zeros past their end.
-#[inline(always)]
-fn char_word_at(character: char, i: usize) -> u64
-    ensures { result ≡ word 8 (encode_utf8 character) (8 * i) }
-{
-    if i == 0 {
-        return char_word(character);
-    }
-    0
 }
 
 /// A character's bytes.

@@ -3,7 +3,7 @@ ghost use Rattle.std.specs.Prelude.{◌≡◌, ◌<◌, ◌≤◌, [], ◌∷◌
 ghost use Rattle.std.specs.Str.{chars};
 ghost use Rattle.smol_str.specs.Text.{IsShort};
 ghost use Rattle.smol_str.specs.Meaning.{IsValueOf};
-ghost use Rattle.smol_str.specs.Replace.{replaced};
+ghost use Rattle.smol_str.specs.Replace.{replaced, each_replaced};
 
 use crate::buffer::INLINE_CAP;
 use crate::value::SmolStr;
@@ -45,7 +45,7 @@ fn replace_in_buffer(text: &str, from: u8, to: u8, count: usize) -> SmolStr
     SmolStr::new_inline(unsafe { str::from_utf8_unchecked(bytes) })
 }
 
-/// The same of any text, in a copy of it.
+/// The same of any text, in a copy of it, which the value keeps.
 fn replace_on_heap(
     alloc: Global,
     text: &str,
@@ -60,11 +60,32 @@ fn replace_on_heap(
 {
     let mut bytes = Vec::from_slice(alloc, text.as_bytes())?;
     replace_bytes(&mut bytes, from, to, count);
-    SmolStr::new(alloc, unsafe { str::from_utf8_unchecked(&bytes) })
+    SmolStr::from_owned(unsafe { String::from_utf8_unchecked(bytes) })
 }
 
 /// Writes `to` over the first `count` bytes `from`.
 fn replace_bytes(bytes: &mut [u8], from: u8, to: u8, count: usize)
+    ensures { bytes.new ≡ replaced bytes.old (from ∷ []) (to ∷ []) count }
+{
+    if count >= bytes.len() {
+        replace_each(bytes, from, to);
+    } else {
+        replace_some(bytes, from, to, count);
+    }
+}
+
+/// Writes `to` over each byte `from`: with no count, many bytes are taken at a time.
+fn replace_each(bytes: &mut [u8], from: u8, to: u8)
+    ensures { bytes.new ≡ each_replaced from to bytes.old }
+{
+    for at in 0..bytes.len() {
+        let byte = bytes[at];
+        bytes[at] = if byte == from { to } else { byte };
+    }
+}
+
+/// Writes `to` over the first `count` bytes `from`, one by one.
+fn replace_some(bytes: &mut [u8], from: u8, to: u8, count: usize)
     ensures { bytes.new ≡ replaced bytes.old (from ∷ []) (to ∷ []) count }
 {
     let mut left = count;

@@ -1,5 +1,5 @@
-//! Full case: the ASCII front of a short text by lanes, its rest by the mapping of each character,
-//! and every other text by std's mapping of a whole text.
+//! Full case: of an ASCII text that of ASCII; else the ASCII front of a short text by lanes, its rest
+//! by the mapping of each character, and a long text by std's mapping of a whole text.
 ghost use Rattle.std.specs.Prelude.{◌≡◌, ◌<◌, ◌≤◌, [], ◌∷◌, ◌++◌, false, length, IfOk, OnOk, OnErr, IsTrue};
 ghost use Rattle.std.specs.Option.{option_to_list};
 ghost use Rattle.std.specs.Str.{chars};
@@ -11,9 +11,9 @@ ghost use Rattle.smol_str.specs.Draft.{OnHeap, grown, appended};
 ghost use Rattle.smol_str.specs.Case.{IsAsciiText};
 ghost use Rattle.smol_str.specs.Convert.{full_case, mapped, IsMappedAlone};
 
-use super::case::push_front;
+use super::case::{push_front, to_ascii_case_on_heap};
 use super::finished;
-use crate::buffer::INLINE_CAP;
+use crate::buffer::{INLINE_CAP, InlineText};
 use crate::builder::SmolStrBuilder;
 use crate::kernel::{AsciiCase, next_match};
 use crate::value::SmolStr;
@@ -21,6 +21,7 @@ use std::alloc::{AllocError, Global};
 use std::char::ToLowercase;
 
 /// The text in a case, as Unicode maps it.
+#[inline(always)]
 pub(super) fn to_full_case(
     alloc: Global,
     text: &str,
@@ -29,8 +30,23 @@ pub(super) fn to_full_case(
     ensures ok { IfOk result (λ v. IsValueOf (full_case case (chars text.now)) v) }
     ensures refused { OnErr result (¬ (IsAsciiText (chars text.now) × IsShort (chars text.now))) }
 {
-    if text.len() <= INLINE_CAP {
-        short_full_case(alloc, text, case)
+    if text.len() > INLINE_CAP {
+        return long_full_case(alloc, text, case);
+    }
+    let short = InlineText::from_short(text);
+    if short.is_ascii() {
+        return Ok(SmolStr::from_inline(short.in_case(case)));
+    }
+    short_full_case(alloc, text, case)
+}
+
+/// The same of any text, in a copy of it.
+#[inline(never)]
+fn long_full_case(alloc: Global, text: &str, case: AsciiCase) -> Result<SmolStr, AllocError>
+    ensures { IfOk result (λ v. IsValueOf (full_case case (chars text.now)) v) }
+{
+    if text.is_ascii() {
+        to_ascii_case_on_heap(alloc, text, case)
     } else {
         whole_full_case(alloc, text, case)
     }
@@ -38,6 +54,7 @@ pub(super) fn to_full_case(
 
 /// The same of a short text, with no memory while the answer is short, unless a character has to be
 /// mapped by what stands around it.
+#[inline(never)]
 fn short_full_case(alloc: Global, text: &str, case: AsciiCase) -> Result<SmolStr, AllocError>
     requires { length text.now ≤ INLINE_CAP }
     ensures ok { IfOk result (λ v. IsValueOf (full_case case (chars text.now)) v) }
@@ -115,6 +132,7 @@ fn push_letters(builder: &mut SmolStrBuilder, mut letters: ToLowercase) -> Resul
 }
 
 /// Appends a character where there is one.
+#[inline(always)]
 fn push_some(builder: &mut SmolStrBuilder, letter: Option<char>) -> Result<(), AllocError>
     requires { builder.old ≡ grown builder.old.text }
     ensures ok { OnOk result (builder.new ≡ appended builder.old (option_to_list letter)) }

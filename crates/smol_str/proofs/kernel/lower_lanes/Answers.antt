@@ -2,4 +2,4 @@ use Rattle.smol_str.proofs.LaneLemmas.{lower-lanes}
 use Rattle.smol_str.proofs.kernel.lower_lanes.Goals as goal
 
 pub returns : goal.returns
-returns c = lower-lanes c.args.lanes 16 c.requires.long c.requires.bytes
+returns g c = lower-lanes c.args.lanes g.row.N c.requires.long c.requires.bytes

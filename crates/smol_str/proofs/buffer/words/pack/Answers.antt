@@ -1,21 +1,14 @@
-use Rattle.std.proofs.Common.{◌≡◌, ◌*◌, ◌+◌, arith, take}
-use Rattle.smol_str.specs.declared.buffer.TheConstants.{PACKED_LEN}
-use Rattle.smol_str.specs.declared.buffer.words.TheConstants.{WORDS}
-use Rattle.smol_str.proofs.WordLemmas.{zeroed, pack-step, pack-end}
+use Rattle.std.proofs.Common.{◌∙◌, arith}
+use Rattle.smol_str.proofs.WordLemmas.{one-word, pack-end}
+use Rattle.smol_str.proofs.buffer.words.pack.Goals.{then-bytes-lt8, else-bytes-lt8}
 use Rattle.smol_str.proofs.buffer.words.pack.Goals as goal
-
-pub loop-i-preserved : goal.loop-i-preserved
-loop-i-preserved c =
-    let next : 8 * (c.loop-i.i + 1) ≡ 8 * c.loop-i.i + 8 = omega arith in
-    let step = pack-step _ _ c.args.bytes.now (8 * c.loop-i.i) c.word_at.result
-    (λ i. (c.type_inv.bytes i).fits) c.requires
-    (omega arith) (omega (arith, c.loop-i.invariant.long)) c.loop-i.invariant.front
-    c.word_at.ensures c.put_word.ensures in
-    record { long = c.put_word.array_long; front = rw next step }
 
 pub returns : goal.returns
 returns c =
     let bytes = c.args.bytes.now in
-    let end : c.loop-i.i ≡ WORDS = omega (arith, c.loop-i-test.false, c.loop-i.auto.i-end) in
-    let all : take PACKED_LEN c.loop-i.buf ≡ take PACKED_LEN (zeroed bytes) = rw end at c.loop-i.invariant.front in
-    pack-end c.loop-i.buf bytes c.loop-i.invariant.long c.requires all
+    elim c.if-bytes-lt8.branch [
+      | then-bytes-lt8 w ↦ pack-end _ bytes c.requires
+          (one-word _ bytes _ (λ i. (c.type_inv.bytes i).fits) (omega arith) w.front_word.ensures
+          (w.buf-is ∙ w.put_word.ensures))
+      | else-bytes-lt8 w ↦ pack-end _ bytes c.requires (w.buf-is ∙ w.put_words.ensures)
+    ]

@@ -22,7 +22,7 @@ pub push_on_heap-requires : goal.push_on_heap-requires
 push_on_heap-requires c =
     elim c.match-self.branch [
       | in-Inline+else-text-len w ↦ (
-        let room = rw w.len.ensures.len at w.if-text-len.false in
-        rw w.self-inside-is (kind_with-long _ (too_long-append _ _ c.utf8.text room)))
+          let room = rw w.len.ensures.len at w.if-text-len.false in
+          rw w.self-inside-is (kind_with-long _ (too_long-append _ _ c.utf8.text room)))
       | in_default w ↦ rw (w.self-inside-is, w.in_default.is) refl
     ]

@@ -1,14 +1,8 @@
-use Rattle.std.specs.Str.{chars}
-use Rattle.smol_str.proofs.TextLemmas.{OnErr-always}
-use Rattle.smol_str.proofs.CasingLemmas.{size-converted, converted-heap}
+use Rattle.std.proofs.Common.{arith}
+use Rattle.smol_str.proofs.TextLemmas.{OnErr-always, size-chars}
 use Rattle.smol_str.proofs.str_ext.case.to_ascii_case.Goals as goal
-
-pub returns-in_err-push_ascii_case-clause-refused : goal.returns-in_err-push_ascii_case-clause-refused
-returns-in_err-push_ascii_case-clause-refused c =
-    let heap = rw c.new-builder.ensures at c.in_err-push_ascii_case.ensures.refused in
-    OnErr-always c.from_residual.result _ (converted-heap c.args.case (chars c.args.text.now) heap)
 
 pub returns-clause-refused : goal.returns-clause-refused
 returns-clause-refused c =
-    rw (c.in_ok-push_ascii_case.ensures.ok, c.new-builder.ensures, size-converted c.args.case (chars c.args.text.now))
-    at c.finished.ensures.refused
+    OnErr-always c.to_ascii_case_on_heap.result _
+    (λ short. omega (arith, short, size-chars c.args.text.now c.utf8.text, c.if-text-le-INLINE_CAP.false))

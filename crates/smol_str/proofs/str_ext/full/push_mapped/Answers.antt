@@ -1,4 +1,3 @@
-use Rattle.std.specs.Str.{chars}
 use Rattle.smol_str.specs.Convert.{mapped}
 use Rattle.smol_str.proofs.TextLemmas.{OnErr-always}
 use Rattle.smol_str.proofs.FullCaseLemmas.{mapped-append, mapped-nil}

@@ -3,7 +3,6 @@ use Rattle.std.specs.Str.{chars}
 use Rattle.std.proofs.lemmas.Result.{on_err_weaker}
 use Rattle.smol_str.proofs.TextLemmas.{OnErr-always}
 use Rattle.smol_str.proofs.PushLemmas.{grown-appended}
-use Rattle.smol_str.specs.Draft.{grown}
 use Rattle.smol_str.proofs.CasingLemmas.{front-heap, converted-heap}
 use Rattle.smol_str.proofs.FullCaseLemmas.{rest-none, short-text, short-refused, full-long}
 use Rattle.smol_str.proofs.str_ext.full.short_full_case.Goals as goal

@@ -1,7 +1,7 @@
 use Rattle.std.proofs.Common.{◌≡◌, ◌*◌, length, take}
 use Rattle.smol_str.specs.declared.buffer.TheConstants.{PACKED_LEN}
-use Rattle.smol_str.proofs.WordLemmas.{zeroed}
-use Rattle.smol_str.proofs.buffer.words.pack.Given as goal
+use Rattle.smol_str.specs.Words.{zeroed}
+use Rattle.smol_str.proofs.buffer.words.put_words.Given as goal
 
 abbrev pub invariant-loop-i : goal.invariant-loop-i
 invariant-loop-i l = record {
