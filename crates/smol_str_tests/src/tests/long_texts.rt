@@ -3,7 +3,7 @@ use super::built::builder_of;
 use super::repeated;
 use smol_str::borsh::{BorshDeserialize, BorshSerialize, from_wire};
 use smol_str::json::{from_json, from_value, to_json, to_value};
-use smol_str::{SmolStr, StrExt};
+use smol_str::{SmolStr, StrExt, ToSmolStr, format_smolstr};
 use std::test::Fail;
 
 const LONG: usize = 70_000;
@@ -115,5 +115,18 @@ fn replaced(rt: HostRuntime) -> Result<(), Fail> {
             .replacen_smolstr(alloc, "a", "x", LONG)?
             .eq_string(&other)
     );
+    Ok(())
+}
+
+#[test]
+fn printed(rt: HostRuntime) -> Result<(), Fail> {
+    let alloc = rt.alloc();
+    let text = repeated(alloc, "a", LONG)?;
+    let whole = text.to_smolstr(alloc).ok().ok_or("refused")?;
+    assert!(rt; whole.eq_string(&text));
+    let twice = format_smolstr!(alloc; "{text}{}{text}", "")
+        .ok()
+        .ok_or("refused")?;
+    assert!(rt; twice.eq_string(&repeated(alloc, "aa", LONG)?));
     Ok(())
 }

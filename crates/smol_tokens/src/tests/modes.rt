@@ -55,13 +55,14 @@ fn reports(rt: HostRuntime) -> Result<(), Fail> {
     Ok(())
 }
 
-/// The words of a mode, and the letter that it makes of an `a`.
-const LETTERS: [(&[&str], char); 5] = [
-    (&["show"], 'a'),
-    (&["join"], 'a'),
-    (&["lower"], 'a'),
-    (&["upper"], 'A'),
-    (&["replace", "a", "x"], 'x'),
+/// The words of a mode, how the answer to one long line begins, and the letter made of an `a`.
+const LETTERS: [(&[&str], &str, char); 6] = [
+    (&["show"], "heap 70000 ", 'a'),
+    (&["join"], "heap 70000 ", 'a'),
+    (&["lower"], "heap 70000 ", 'a'),
+    (&["upper"], "heap 70000 ", 'A'),
+    (&["replace", "a", "x"], "heap 70000 ", 'x'),
+    (&["tokens"], "1 ", 'a'),
 ];
 
 /// A front, and a line of 70,000 letters.
@@ -78,12 +79,12 @@ fn long_line(alloc: Global, front: &str, letter: char) -> Result<String, AllocEr
 fn long_lines(rt: HostRuntime) -> Result<(), Fail> {
     let alloc = rt.alloc();
     let input = long_line(alloc, "", 'a')?;
-    for (words, letter) in LETTERS {
+    for (words, front, letter) in LETTERS {
         let mode = mode_by(alloc, words)?.ok_or("no mode")?;
         let mut reader = input.as_str().as_bytes();
         let mut out = Vec::new(alloc);
         run(alloc, mode, &mut reader, &mut out)?;
-        let wanted = long_line(alloc, "heap 70000 ", letter)?;
+        let wanted = long_line(alloc, front, letter)?;
         assert_eq!(rt; out.as_slice(), wanted.as_str().as_bytes(), "{words:?}");
     }
     Ok(())
