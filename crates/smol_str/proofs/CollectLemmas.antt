@@ -56,7 +56,8 @@ whole steps s xs Q d h = let end = d.1 in (run steps s xs true (end.0, end.1, λ
 module _ {S A : Type 0} (steps : S → Option A → S → Type 0) (s : S) (f : A → List ℕ) where
   module _ (g : List A → List ℕ) (is : (xs : List A) → joined f xs ≡ g xs) where
     -- the value of the joined text, where g says that text
-    pub runs-collected : {E : Type 0} (r : Result Meaning E) → IfOk r (Collected f steps s) → IfOk r (IsValueOfRun steps s g)
+    pub runs-collected : {E : Type 0} (r : Result Meaning E) → IfOk r (Collected f steps s) →
+        IfOk r (IsValueOfRun steps s g)
     runs-collected (Ok v) (xs, d, h) =
         whole steps s xs (λ ys. IsValueOf (g ys) v) d (subst (λ t. IsValueOf t v) (is xs) h)
     runs-collected (Err e) h = tt
@@ -87,4 +88,5 @@ module _ {S A : Type 0} {steps : S → Option A → S → Type 0} {s : S} where
         let n = length xs in
         let items = ap (joined h) (YieldsList-so_far gives xs rest came) in
         let front : joined (λ x. h (v x)) xs ≡ joined h (take n all) = sym (flat_map-map h v xs) ∙ items in
-        long (rw front (IsShort-front (joined h (take n all)) (joined h (drop n all)) (rw (flat_map-parts h all n) at short)))
+        long (rw front (IsShort-front (joined h (take n all)) (joined h (drop n all))
+        (rw (flat_map-parts h all n) at short)))

@@ -14,7 +14,8 @@ view-String : (s : String Global) → view (value.String s) ≡ json.string (str
 view-String s = search (rules, value.the_lemmas)
 
 -- a string value is the JSON value of its text
-pub view-chars : (v : value.Value) (s : String Global) → v ≡ value.String s → view v ≡ json_value (chars (string_bytes s))
+pub view-chars : (v : value.Value) (s : String Global) → v ≡ value.String s →
+    view v ≡ json_value (chars (string_bytes s))
 view-chars v s is =
     let text = encodes-chars (string_bytes s) (IsUtf8-string_bytes s) in
     ap view is ∙ view-String s ∙ ap json.string (sym text)

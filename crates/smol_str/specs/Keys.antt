@@ -1,4 +1,5 @@
--- A map with values as keys, looked up by a text. Keys are equal where their texts are, so the place of a key plays no part.
+-- A map with values as keys, looked up by a text. Keys are equal where their texts are, so the place of a key
+-- plays no part.
 --     same_key x y      the keys are equal
 --     value_at t m      what m has at the keys of the text t
 use Rattle.std.specs.Prelude.{ℕ, List, Option, Bool, bytes_eq}

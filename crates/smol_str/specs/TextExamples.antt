@@ -1,4 +1,5 @@
--- Sizes, blank runs and places of small texts, computed by the checker. Where a limit matters, the example names the constant.
+-- Sizes, blank runs and places of small texts, computed by the checker. Where a limit matters, the example names
+-- the constant.
 use Rattle.std.specs.Prelude.{◌≡◌, ◌+◌, ◌-◌, [], ◌∷◌, ◌++◌, replicate, true, false, refl}
 use Rattle.smol_str.specs.declared.value.place.Place.TheVariants.{Inline, Static, Heap}
 use Rattle.smol_str.specs.declared.buffer.TheConstants.{INLINE_CAP}

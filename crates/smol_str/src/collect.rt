@@ -149,7 +149,8 @@ impl SmolStr {
         requires can { I.can_next iter }
         requires ends { IsFinite (I.remaining iter) }
         ensures ok { IfOk result (Collected P.text I.next_gives iter) }
-        ensures runs { IfOk result (IsValueOfRun I.next_gives iter (λ items. joined string_text (map P.string items))) }
+        ensures runs { IfOk result (IsValueOfRun I.next_gives iter
+            (λ items. joined string_text (map P.string items))) }
         ensures refused { OnErr result (Outgrown P.text I.next_gives iter) }
     {
         collect(alloc, iter)

@@ -55,7 +55,8 @@ Finds-more m n names key finds none updates = λ text.
     let now : value_at text n ≡ cond (bytes_eq key.text text) (Some (length names)) (value_at text m)
     = updates.0 (key_of text) in
     let long : length (texts names) ≡ length names = length-map names (λ (v : Meaning). v.text) in
-    let more : texts (names ++ key ∷ []) ≡ texts names ++ key.text ∷ [] = map-append (λ (v : Meaning). v.text) names (key ∷ []) in
+    let more : texts (names ++ key ∷ []) ≡ texts names ++ key.text ∷ []
+    = map-append (λ (v : Meaning). v.text) names (key ∷ []) in
     now ∙ rw (finds text, ← long, more) (after_case text key.text (texts names) (bytes_eq key.text text) refl none)
 
 stays_case : (t other : List ℕ) (names : List (List ℕ)) (id : ℕ) (b : Bool) → id_of t names ≡ Some id →
@@ -79,7 +80,8 @@ id_of-back t names id there =
 pub id_of-added : (t : List ℕ) (names : List Meaning) (key : Meaning) → key.text ≡ t →
     id_of key.text (texts names) ≡ None → id_of t (texts (names ++ key ∷ [])) ≡ Some (length names)
 id_of-added t names key is none =
-    let more : texts (names ++ key ∷ []) ≡ texts names ++ key.text ∷ [] = map-append (λ (v : Meaning). v.text) names (key ∷ []) in
+    let more : texts (names ++ key ∷ []) ≡ texts names ++ key.text ∷ []
+    = map-append (λ (v : Meaning). v.text) names (key ∷ []) in
     let long : length (texts names) ≡ length names = length-map names (λ (v : Meaning). v.text) in
     rw (more, ← is) (id_of-new key.text (texts names) none ∙ ap Some long)
 

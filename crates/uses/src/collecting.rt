@@ -66,7 +66,8 @@ pub fn push_strings(builder: &mut SmolStrBuilder, texts: &[String]) -> Result<()
 
 /// A builder, and a text without its commas after it.
 pub fn push_without_commas(builder: &mut SmolStrBuilder, text: &str) -> Result<(), AllocError>
-    ensures ok { OnOk result (builder.new ≡ appended builder.old (joined chars (slice_split (λ b. b == 44) text.now))) }
+    ensures ok { OnOk result
+        (builder.new ≡ appended builder.old (joined chars (slice_split (λ b. b == 44) text.now))) }
 {
     builder.extend_strs(text.split(','))
 }

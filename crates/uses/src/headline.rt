@@ -200,7 +200,8 @@ pub fn in_full_upper_case(alloc: Global, text: &str) -> Result<SmolStr, AllocErr
 
 /// A text with another in place of each match.
 pub fn with_replaced(alloc: Global, text: &str, from: &str, to: &str) -> Result<SmolStr, AllocError>
-    ensures value { IfOk result (λ v. IsValueOf (replaced_all (chars text.now) (chars from.now) (chars to.now)) v) }
+    ensures value { IfOk result (λ v.
+        IsValueOf (replaced_all (chars text.now) (chars from.now) (chars to.now)) v) }
     ensures refused { OnErr result (¬ (IsShort (replaced_all (chars text.now) (chars from.now) (chars to.now)))) }
 {
     text.replace_smolstr(alloc, from, to)
@@ -214,8 +215,10 @@ pub fn with_some_replaced(
     to: &str,
     count: usize,
 ) -> Result<SmolStr, AllocError>
-    ensures value { IfOk result (λ v. IsValueOf (replaced (chars text.now) (chars from.now) (chars to.now) count) v) }
-    ensures refused { OnErr result (¬ (IsShort (replaced (chars text.now) (chars from.now) (chars to.now) count))) }
+    ensures value { IfOk result (λ v.
+        IsValueOf (replaced (chars text.now) (chars from.now) (chars to.now) count) v) }
+    ensures refused { OnErr result
+        (¬ (IsShort (replaced (chars text.now) (chars from.now) (chars to.now) count))) }
 {
     text.replacen_smolstr(alloc, from, to, count)
 }

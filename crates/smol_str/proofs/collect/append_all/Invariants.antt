@@ -1,3 +1,4 @@
+-- The builder is the first one with the texts of the items so far.
 use Rattle.std.proofs.Common.{◌≡◌}
 use Rattle.smol_str.specs.Draft.{appended}
 use Rattle.smol_str.specs.Joined.{joined}

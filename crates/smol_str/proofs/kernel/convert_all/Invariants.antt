@@ -1,3 +1,4 @@
+-- The bytes so far are mapped, and the others are as they were.
 use Rattle.std.proofs.Common.{◌-◌, length}
 use Rattle.smol_str.specs.Convert.{IsBegun}
 use Rattle.smol_str.proofs.kernel.convert_all.Given as goal

@@ -1,3 +1,4 @@
+-- The chunks so far are ASCII, and mapped in the buffer.
 use Rattle.std.proofs.Common.{◌-◌, length}
 use Rattle.smol_str.specs.Convert.{IsConverted}
 use Rattle.smol_str.proofs.kernel.convert_chunks.Given as goal

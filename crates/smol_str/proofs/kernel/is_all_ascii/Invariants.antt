@@ -1,3 +1,4 @@
+-- The bytes so far are ASCII.
 use Rattle.std.proofs.Common.{◌≤◌, ◌-◌, length, take}
 use Rattle.std.specs.Str.{IsAscii}
 use Rattle.smol_str.proofs.kernel.is_all_ascii.Given as goal

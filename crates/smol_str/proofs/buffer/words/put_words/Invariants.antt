@@ -1,3 +1,4 @@
+-- The words so far are those of the text and zeros behind it.
 use Rattle.std.proofs.Common.{◌≡◌, ◌*◌, length, take}
 use Rattle.smol_str.specs.declared.buffer.TheConstants.{PACKED_LEN}
 use Rattle.smol_str.specs.Words.{zeroed}

@@ -1,3 +1,4 @@
+-- The flag says whether the words so far are equal.
 use Rattle.std.proofs.Common.{◌≡◌, ◌*◌, take, nat_eq}
 use Rattle.std.specs.Cmp.Lexicographic.{pointwise}
 use Rattle.smol_str.proofs.buffer.words.same_words.Given as goal

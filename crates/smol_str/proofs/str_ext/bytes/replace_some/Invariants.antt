@@ -1,3 +1,4 @@
+-- The bytes so far are replaced, and the count has what is left of it.
 use Rattle.smol_str.proofs.ByteLemmas.{IsSwapping}
 use Rattle.smol_str.proofs.str_ext.bytes.replace_some.Given as goal
 

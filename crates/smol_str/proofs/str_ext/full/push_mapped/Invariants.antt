@@ -1,3 +1,4 @@
+-- The builder is the first one with what the characters so far are mapped to.
 use Rattle.std.proofs.Common.{◌≡◌}
 use Rattle.smol_str.specs.Draft.{appended}
 use Rattle.smol_str.specs.Convert.{mapped}

@@ -1,3 +1,4 @@
+-- The builder has the text up to the place, with its matches replaced.
 use Rattle.std.proofs.Common.{◌-◌}
 use Rattle.std.specs.Str.{chars}
 use Rattle.smol_str.specs.Replacing.{IsReplacing}
