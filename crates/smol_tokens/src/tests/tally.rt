@@ -77,54 +77,65 @@ fn full_token(answer: Result<u64, AddFault>) -> Option<SmolStr> {
     }
 }
 
+/// A text that was made into a value in four ways.
+fn made_in_four_ways(alloc: Global, text: &'static str) -> Result<[SmolStr; 4], Fail> {
+    let mut builder = SmolStrBuilder::with_capacity(alloc, 100)?;
+    builder.push_str(text)?;
+    let built = builder.finish().ok().ok_or("refused")?;
+    let string = String::from_str(alloc, text)?;
+    let converted = SmolStr::from_string(alloc, string).ok().ok_or("refused")?;
+    Ok([
+        SmolStr::new(alloc, text)?,
+        SmolStr::new_static(text),
+        converted,
+        built,
+    ])
+}
+
 // However a value was made, and wherever it lies, its text is one token.
 #[test]
 fn one_text_is_one_token(rt: HostRuntime) -> Result<(), Fail> {
-    let alloc = rt.alloc();
     let text = "                        ";
-    let mut builder = SmolStrBuilder::with_capacity(alloc, 100)?;
-    builder.push_str(text)?;
-    let mut tally = Tally::new(alloc);
-    for (nth, value) in [
-        SmolStr::new(alloc, text)?,
-        SmolStr::new_static(text),
-        SmolStr::from_string(alloc, String::from_str(alloc, text)?)
-            .ok()
-            .ok_or("refused")?,
-        builder.finish().ok().ok_or("refused")?,
-    ]
-    .into_iter()
-    .enumerate()
-    {
-        assert_eq!(rt; add(&mut tally, value, 1)?, nth as u64 + 1);
+    let mut tally = Tally::new(rt.alloc());
+    let mut wanted = 0u64;
+    for value in made_in_four_ways(rt.alloc(), text)? {
+        wanted = wanted.saturating_add(1);
+        assert_eq!(rt; add(&mut tally, value, 1)?, wanted);
     }
     assert_eq!(rt; tally.len(), 1);
     assert_eq!(rt; tally.count(&SmolStr::new_static(text)), Some(4));
     Ok(())
 }
 
+const MANY: u64 = 200_000;
+
+fn token(alloc: Global, number: u64) -> Result<SmolStr, Fail> {
+    let text = format!(in alloc; "token {number}")?;
+    Ok(SmolStr::new(alloc, text.as_str())?)
+}
+
 #[test]
-fn many_tokens(rt: HostRuntime) -> Result<(), Fail> {
+fn many_different_tokens(rt: HostRuntime) -> Result<(), Fail> {
     let alloc = rt.alloc();
-    let mut different = Tally::new(alloc);
-    let mut equal = Tally::new(alloc);
-    for number in 0..200_000u64 {
-        let text = format!(in alloc; "token {number}")?;
-        let token = SmolStr::new(alloc, text.as_str())?;
-        assert_eq!(rt; add(&mut different, token, number)?, number);
-        assert_eq!(rt;
-            add(&mut equal, SmolStr::new_inline("token"), 1)?,
-            number + 1
-        );
+    let mut tally = Tally::new(alloc);
+    for number in 0..MANY {
+        assert_eq!(rt; add(&mut tally, token(alloc, number)?, number)?, number);
     }
-    assert_eq!(rt; different.len(), 200_000);
-    check_at(&rt, &different, 123_456, "token 123456", 123_456)?;
-    assert_eq!(rt;
-        different.count(&SmolStr::new_inline("token 199999")),
-        Some(199_999)
-    );
-    assert_eq!(rt; equal.len(), 1);
-    check_at(&rt, &equal, 0, "token", 200_000)?;
+    assert_eq!(rt; tally.len(), 200_000);
+    check_at(&rt, &tally, 123_456, "token 123456", 123_456)?;
+    assert_eq!(rt; tally.count(&token(alloc, 199_999)?), Some(199_999));
+    Ok(())
+}
+
+#[test]
+fn many_equal_tokens(rt: HostRuntime) -> Result<(), Fail> {
+    let mut tally = Tally::new(rt.alloc());
+    for number in 0..MANY {
+        let count = add(&mut tally, SmolStr::new_inline("token"), 1)?;
+        assert_eq!(rt; count, number.saturating_add(1));
+    }
+    assert_eq!(rt; tally.len(), 1);
+    check_at(&rt, &tally, 0, "token", MANY)?;
     Ok(())
 }
 
