@@ -73,7 +73,7 @@ fn convert_chunks(bytes: &[u8], case: AsciiCase, buffer: &mut InlineBuffer) -> u
 {
     let mut at = 0;
     while bytes.len() - at >= LANES {
-        let lanes = load::<16>(bytes, at);
+        let lanes = load::<LANES>(bytes, at);
         if has_high(lanes) {
             return at;
         }
@@ -115,7 +115,7 @@ pub(crate) fn is_all_ascii(bytes: &[u8]) -> bool
 {
     let mut at = 0;
     while bytes.len() - at >= LANES {
-        if has_high(load::<16>(bytes, at)) {
+        if has_high(load::<LANES>(bytes, at)) {
             return false;
         }
         at += LANES;
@@ -136,7 +136,7 @@ pub(crate) fn convert_all(bytes: &mut [u8], case: AsciiCase)
 {
     let mut at = 0;
     while bytes.len() - at >= LANES {
-        convert_part::<16>(bytes, at, case);
+        convert_part::<LANES>(bytes, at, case);
         at += LANES;
     }
     if bytes.len() - at >= 8 {
