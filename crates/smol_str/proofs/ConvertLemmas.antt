@@ -1,12 +1,12 @@
 -- For `kernel::convert_while_ascii`: the ASCII front of a short text, in a case, in a buffer.
-use Rattle.std.proofs.Common.{◌≡◌, ℕ, zero, suc, ◌+◌, ◌-◌, ◌≤◌, ◌<◌, List, [], ◌∷◌, ◌++◌, length, get_or, set, take, drop, replicate, refl, sym, ap, ◌∙◌, subst, arith, append_assoc, append-nil, take-add, length-take-le, drop-cons, length-append, length-drop, take-append-drop}
-use Rattle.std.specs.Str.{IsUtf8, IsAscii, chars, encode_utf8_all}
+use Rattle.std.proofs.Common.{◌≡◌, ◌↔◌, Bool, true, false, IsTrue, MatchBool, ℕ, zero, suc, ◌+◌, ◌-◌, ◌≤◌, ◌<◌, List, [], ◌∷◌, ◌++◌, length, get_or, set, take, drop, replicate, refl, sym, ap, ◌∙◌, subst, arith, append_assoc, append-nil, take-add, length-take-le, drop-cons, length-append, length-drop, take-append-drop}
+use Rattle.std.specs.Str.{IsUtf8, IsAscii, IsNotAscii, chars, encode_utf8_all}
 use Rattle.std.specs.Simd.Lanes.{put_chunk, Each1}
 use Rattle.std.specs.Char.{to_ascii_lowercase, to_ascii_uppercase}
 use lib.Utf8.{encode, encodes}
 use Rattle.std.proofs.lemmas.Simd.{put_chunk_is}
 use Rattle.std.proofs.lemmas.List.{map-append, take_at, take_all, drop_at, drop_all, drop-drop, drop-replicate, length-map, length-replicate}
-use Rattle.std.proofs.lemmas.Str.{IsAscii-append, IsUtf8-from_ascii, IsUtf8-drop, IsCharBoundary-from_take, chars-append, chars-IsAscii, encodes-IsAscii, encodes-chars}
+use Rattle.std.proofs.lemmas.Str.{IsAscii-append, IsAscii-take, IsAscii-drop, IsUtf8-from_ascii, IsUtf8-drop, IsCharBoundary-from_take, chars-append, chars-IsAscii, encodes-IsAscii, encodes-chars}
 use Rattle.std.proofs.lemmas.Str.Ascii.{IsAscii-nil, IsAscii-cons, IsAscii-map, All-from_ascii, lowercase_ascii, uppercase_ascii}
 use Rattle.smol_str.specs.declared.buffer.TheConstants.{INLINE_CAP}
 use Rattle.smol_str.specs.declared.kernel.AsciiCase.{AsciiCase}
@@ -38,12 +38,16 @@ pub IsAscii-from_each : (a : List ℕ) → Each1 (λ x. x < 128) a → IsAscii a
 IsAscii-from_each [] h = IsAscii-nil
 IsAscii-from_each (c ∷ a) h = IsAscii-cons c a h.0 (IsAscii-from_each a h.1)
 
+pub each-from_ascii : (a : List ℕ) → IsAscii a → Each1 (λ x. x < 128) a
+each-from_ascii [] h = tt
+each-from_ascii (c ∷ a) h = (h 0, each-from_ascii a (λ i. h (suc i)))
+
 -- a front that is ASCII, and more of it
 pub ascii-more : (bytes : List ℕ) (at n : ℕ) (lanes : List ℕ) → lanes ≡ take n (drop at bytes)
-    → Each1 (λ x. x < 128) lanes → IsAscii (take at bytes) → IsAscii (take (at + n) bytes)
+    → IsAscii lanes → IsAscii (take at bytes) → IsAscii (take (at + n) bytes)
 ascii-more bytes at n lanes is low front =
     subst IsAscii (sym (take-add at n bytes))
-    (IsAscii-append (take at bytes) (take n (drop at bytes)) front (subst IsAscii is (IsAscii-from_each lanes low)))
+    (IsAscii-append (take at bytes) (take n (drop at bytes)) front (subst IsAscii is low))
 
 pub ascii-all : (bytes : List ℕ) (at k : ℕ) → k ≡ length bytes - at → IsAscii (take at bytes)
     → IsAscii (take k (drop at bytes)) → IsAscii bytes
@@ -52,6 +56,22 @@ ascii-all bytes at k e front rest =
     let all : take k (drop at bytes) ≡ drop at bytes = take_all k (drop at bytes) long in
     subst IsAscii (take-append-drop at bytes)
     (IsAscii-append (take at bytes) (drop at bytes) front (subst IsAscii all rest))
+
+-- a part of the bytes is not ASCII
+pub not-ascii : (bytes : List ℕ) (at n : ℕ) (lanes : List ℕ) → lanes ≡ take n (drop at bytes)
+    → (true ≡ false) ↔ IsAscii lanes → IsTrue false ↔ IsAscii bytes
+not-ascii bytes at n lanes is high = (
+  λ no. absurd (cc),
+  λ ascii.
+      let part = IsAscii-take (drop at bytes) n (IsAscii-drop bytes at ascii) in
+      let no : true ≡ false = high.1 (subst IsAscii (sym is) part) in
+      absurd (cc),
+)
+
+pub ascii-told : (b : Bool) (bytes : List ℕ) → MatchBool b (IsAscii bytes) (IsNotAscii bytes)
+    → IsAscii bytes → IsTrue b
+ascii-told true bytes told ascii = refl
+ascii-told false bytes told ascii = absurd (omega (arith, told.1, ascii told.0))
 
 -- nothing is done yet
 pub converted-none : (case : AsciiCase) (text : List ℕ) → IsConverted case text (padded []) 0

@@ -1,8 +1,8 @@
 -- For the lanes of `kernel`: side by side they give what a map over the bytes gives.
-use Rattle.std.proofs.Common.{◌≡◌, ℕ, ◌+◌, ◌-◌, ◌*◌, ◌%◌, ◌^◌, ◌≤◌, ◌<◌, List, [], ◌∷◌, Bool, true, false, cond, leb, ltb, length, map, replicate, refl, sym, ap, ◌∙◌, arith, w8, bit_and, nat_eq, not, eqb-true}
+use Rattle.std.proofs.Common.{◌≡◌, ◌↔◌, ℕ, ◌+◌, ◌-◌, ◌*◌, ◌%◌, ◌^◌, ◌≤◌, ◌<◌, List, [], ◌∷◌, Bool, true, false, cond, leb, ltb, length, map, replicate, refl, sym, ap, subst, ◌∙◌, arith, w8, bit_and, nat_eq, not, eqb-true}
 use Rattle.std.specs.Simd.Lanes.{zip2, sel_l, mask_l, top, Each1}
 use Rattle.std.specs.Char.{to_ascii_lowercase, to_ascii_uppercase}
-use Rattle.std.proofs.lemmas.Bool.{leb-true, leb-false, ltb-false}
+use Rattle.std.proofs.lemmas.Bool.{leb-true, leb-false, ltb-true, ltb-false}
 use Rattle.std.proofs.lemmas.Str.Ascii.{lowercase_is, uppercase_is}
 use Rattle.std.proofs.lemmas.Simd.{mask_l-mod, tops_compared}
 use Rattle.std.proofs.lemmas.List.{length-map}
@@ -67,13 +67,26 @@ no_bit : (n : ℕ) (b : Bool) → nat_eq n 0 ≡ b → not b ≡ false → n ≡
 no_bit n true e f = eqb-true n 0 e
 no_bit n false e f = absurd (cc)
 
--- no bit is set: each lane is below 128
+low_step : (b : Bool) (x m : ℕ) → ltb 127 x ≡ b → x < 128 → m ≡ 0 → cond b 1 0 + 2 * m ≡ 0
+low_step true x m f low e = absurd (omega (arith, ltb-true 127 x f))
+low_step false x m f low e = omega (arith, e)
+
+mask_from_low : (xs : List ℕ) → Each1 (λ x. x < 128) xs → mask_l (map (ltb 127) xs) ≡ 0
+mask_from_low [] low = refl
+mask_from_low (x ∷ xs) low =
+    low_step (ltb 127 x) x (mask_l (map (ltb 127) xs)) refl low.0 (mask_from_low xs low.1)
+
+none_set : (n : ℕ) → n ≡ 0 → not (nat_eq n 0) ≡ false
+none_set n e = subst (λ k. not (nat_eq k 0) ≡ false) (sym e) refl
+
+-- no bit is set exactly where each lane is below 128
 pub low-lanes : (v : List ℕ) (n : ℕ) → length v ≡ n → n ≤ 64
-    → not (nat_eq (mask_l (map (top 7) (zip2 below_mask (replicate n 127) v)) % 2 ^ 64) 0) ≡ false
-    → Each1 (λ x. x < 128) v
-low-lanes v n long small e =
+    → (not (nat_eq (mask_l (map (top 7) (zip2 below_mask (replicate n 127) v)) % 2 ^ 64) 0) ≡ false)
+    ↔ Each1 (λ x. x < 128) v
+low-lanes v n long small =
     let m = mask_l (map (top 7) (zip2 below_mask (replicate n 127) v)) % 2 ^ 64 in
-    low_from_mask v (sym (high_bitmask v n long small) ∙ no_bit m (nat_eq m 0) refl e)
+    let is = high_bitmask v n long small in
+    (λ e. low_from_mask v (sym is ∙ no_bit m (nat_eq m 0) refl e), λ low. none_set m (is ∙ mask_from_low v low))
 
 -- `x - y`, wrapped
 abbrev pub less : ℕ → ℕ → ℕ

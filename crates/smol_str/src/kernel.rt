@@ -69,7 +69,8 @@ pub fn next_match(text: &str, from: usize, pattern: &str) -> Option<usize>
 fn convert_chunks(bytes: &[u8], case: AsciiCase, buffer: &mut InlineBuffer) -> usize
     requires short { length bytes.now ≤ INLINE_CAP }
     requires empty { buffer.old ≡ padded [] }
-    ensures { IsConverted case bytes.now buffer.new result }
+    ensures all { IsConverted case bytes.now buffer.new result }
+    ensures stops { result + LANES ≤ length bytes.now → ¬ (IsAscii (take LANES (drop result bytes.now))) }
 {
     let mut at = 0;
     while bytes.len() - at >= LANES {
@@ -111,7 +112,7 @@ fn convert_byte(byte: u8, case: AsciiCase) -> u8
 /// Whether no byte is past ASCII.
 #[inline(always)]
 pub(crate) fn is_all_ascii(bytes: &[u8]) -> bool
-    ensures { IsTrue result → IsAscii bytes.now }
+    ensures { IsTrue result ↔ IsAscii bytes.now }
 {
     let mut at = 0;
     while bytes.len() - at >= LANES {
@@ -207,7 +208,7 @@ fn upper_lanes<const N: usize>(lanes: Simd<u8, N>) -> Simd<u8, N>
 fn has_high<const N: usize>(lanes: Simd<u8, N>) -> bool
     requires long { length lanes ≡ N }
     requires few { N ≤ 64 }
-    ensures { result ≡ false → Each1 (λ x. x < 128) lanes.entry }
+    ensures { (result ≡ false) ↔ IsAscii lanes.entry }
 {
     lanes.simd_gt(Simd::splat(127)).any()
 }
