@@ -7,6 +7,7 @@ pub mod formatting;
 pub mod headers;
 pub mod headline;
 pub mod json;
+pub mod lexer;
 pub mod ordered;
 pub mod records;
 pub mod symbols;
