@@ -1,11 +1,11 @@
-//! A lexer: a source is cut into words, blanks and single other characters, and no character of it is lost.
-ghost use Rattle.std.specs.Prelude.{◌≡◌, ◌≢◌, ◌<◌, ◌≤◌, [], ◌∷◌, length, All, IfOk, IfSome, MatchOption};
+//! A lexer: a source is cut into words, runs of blanks and single other characters, and no character of it is lost.
+ghost use Rattle.std.specs.Prelude.{◌≡◌, ◌≢◌, ◌<◌, ◌≤◌, [], ◌∷◌, length, All, IfOk, IfSome, OnErr, MatchOption};
 ghost use Rattle.std.specs.List.{flat_map};
 ghost use Rattle.std.specs.Str.{chars};
-ghost use Rattle.smol_str.specs.Text.{IsResident};
+ghost use Rattle.smol_str.specs.Text.{IsShort, IsResident};
 ghost use Rattle.smol_str.specs.Meaning.{IsValueOf};
 ghost use Rattle.uses.specs.Names.{texts};
-ghost use Rattle.uses.specs.Tokens.{IsToken, AreLongest, IsFirstToken, is_word_character, goes_on, left_after};
+ghost use Rattle.uses.specs.Tokens.{IsToken, AreLongest, IsFirstToken, IsLeftAfter, is_word_character, is_blank, goes_on};
 
 use crate::building::joined;
 use smol_str::{Place, SmolStr, laws};
@@ -29,12 +29,21 @@ pub fn lex(alloc: Global, source: &str) -> Result<Vec<SmolStr>, AllocError>
     Ok(tokens)
 }
 
-/// A source cut into tokens, and these joined again by a builder.
+/// The tokens of a source joined again by a builder.
+pub fn unlex(alloc: Global, source: &str, tokens: &[SmolStr]) -> Result<SmolStr, AllocError>
+    requires lossless { flat_map (λ token. token.text) tokens.now ≡ chars source.now }
+    ensures value { IfOk result (λ whole. IsValueOf (chars source.now) whole) }
+    ensures refused { OnErr result (¬ (IsShort (chars source.now))) }
+{
+    joined(alloc, tokens)
+}
+
+/// A source through both.
 pub fn there_and_back(alloc: Global, source: &str) -> Result<SmolStr, AllocError>
     ensures { IfOk result (λ whole. IsValueOf (chars source.now) whole) }
 {
     let tokens = lex(alloc, source)?;
-    joined(alloc, &tokens)
+    unlex(alloc, source, &tokens)
 }
 
 /// The first token of a text, and what follows it.
@@ -48,18 +57,16 @@ fn split_token(text: &str) -> Option<(&str, &str)>
     Some(text.split_at(text.len() - after.len()))
 }
 
-/// What is left of a text after the characters that go on the token which ends with `last`.
-fn skip_run(last: char, text: &str) -> &str
-    ensures left { chars result.now ≡ left_after last (chars text.now) }
+/// What is left of a text after the characters that go on a token which begins with `first`.
+fn skip_run(first: char, text: &str) -> &str
+    ensures left { IsLeftAfter first (chars text.now) (chars result.now) }
     ensures shorter { length result.now ≤ length text.now }
 {
-    let mut last = last;
     let mut rest = text;
     while let Some((next, after)) = split_character(rest) {
-        if !continues(last, next) {
+        if !continues(first, next) {
             break;
         }
-        last = next;
         rest = after;
     }
     rest
@@ -76,16 +83,25 @@ fn split_character(text: &str) -> Option<(char, &str)>
     Some((first, characters.as_str()))
 }
 
-/// Whether a character goes on the token that ends with the one before it.
-fn continues(last: char, next: char) -> bool
-    ensures { result ≡ goes_on last next }
+/// Whether a character goes on a token that begins with `first`.
+fn continues(first: char, next: char) -> bool
+    ensures { result ≡ goes_on first next }
 {
-    (in_word(last) && in_word(next))
-        || ((last == '\n' && (next == '\n' || next == ' ')) || (last == ' ' && next == ' '))
+    if in_word(first) {
+        in_word(next)
+    } else {
+        in_blanks(first) && in_blanks(next)
+    }
 }
 
 fn in_word(character: char) -> bool
     ensures { result ≡ is_word_character character }
 {
     character.is_alphanumeric() || character == '_'
+}
+
+fn in_blanks(character: char) -> bool
+    ensures { result ≡ is_blank character }
+{
+    character == '\n' || character == ' '
 }
