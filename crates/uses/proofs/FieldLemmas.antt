@@ -22,7 +22,8 @@ pub both-parts : (b s t : List ℕ) (m n : ℕ) → Holds b s m → Holds (take 
     → (b ≡ (wire s ++ wire t) ++ drop (m + n) b) × (m + n ≡ length (wire s ++ wire t))
 both-parts b s t m n h k =
     let first = Holds-parts b s m h in
-    let second = Holds-parts (drop m b) t n (rw (take_all (length b - m) (drop m b) (omega (arith, length-drop m b))) at k) in
+    let all = take_all (length b - m) (drop m b) (omega (arith, length-drop m b)) in
+    let second = Holds-parts (drop m b) t n (rw all at k) in
     let sizes = length-append (wire s) (wire t) in (
       first.0 ∙ ap (λ l. wire s ++ l) (second.0 ∙ ap (λ l. wire t ++ l) (drop-drop n m b))
           ∙ sym (append_assoc (wire s) (wire t) (drop (m + n) b)),
@@ -66,7 +67,8 @@ module _ (apart : (s t x y : List ℕ) → HasWire s → HasWire t → wire s ++
       → (name ≡ other_name) × (value ≡ other_value) × (after ≡ other_after)
   fields-apart name value other_name other_value after other_after n v on ov same =
       let whole =
-      sym (append_assoc (wire name) (wire value) after) ∙ same ∙ append_assoc (wire other_name) (wire other_value) other_after in
+      sym (append_assoc (wire name) (wire value) after) ∙ same
+      ∙ append_assoc (wire other_name) (wire other_value) other_after in
       let names = apart name other_name _ _ n on whole in
       let values = apart value other_value _ _ v ov names.1 in
       (names.0, values.0, values.1)
@@ -79,7 +81,8 @@ module _ (apart : (s t x y : List ℕ) → HasWire s → HasWire t → wire s ++
     cut-refused (Err fault) left e s = refl
     cut-refused (Ok f) left e s =
         let whole : form f ++ (left ++ missing) ≡ form field ++ []
-        = sym (append_assoc (form f) left missing) ∙ ap (λ l. l ++ missing) (sym e) ∙ cut ∙ sym (append-nil (form field)) in
+        = sym (append_assoc (form f) left missing) ∙ ap (λ l. l ++ missing) (sym e) ∙ cut
+        ∙ sym (append-nil (form field)) in
         let none = fields-apart f.name.text f.value.text field.name.text field.value.text (left ++ missing) [] s.0 s.1
         sized.0 sized.1 whole in
         let sizes = length-append left missing in
@@ -87,7 +90,8 @@ module _ (apart : (s t x y : List ℕ) → HasWire s → HasWire t → wire s ++
         absurd (omega (arith, sizes, empty, some))
 
     module _ (name : IsTrue (all_scalars field.name.text)) (value : IsTrue (all_scalars field.value.text)) where
-      in_name : (fault : DecodeFault) (left : Option (List ℕ)) → AfterFieldFault (Some bytes) left fault → ¬ (IsNoText fault)
+      in_name : (fault : DecodeFault) (left : Option (List ℕ)) → AfterFieldFault (Some bytes) left fault
+          → ¬ (IsNoText fault)
       in_name Ended left h = λ no_text. no_text
       in_name OutOfMemory left h = λ no_text. no_text
       in_name (Io e) left h = λ no_text. no_text
@@ -100,7 +104,7 @@ module _ (apart : (s t x y : List ℕ) → HasWire s → HasWire t → wire s ++
           let rest = (apart read field.name.text (m ++ missing) (wire field.value.text) fits sized.0 whole).1 in
           h.1.0 (cut-utf8 m missing field.value.text [] sized.1 value (rest ∙ sym (append-nil _)) h.0)
 
-      pub cut-ended : (r : Result Field DecodeFault) (left : Option (List ℕ)) → IfErr r (AfterFieldFault (Some bytes) left)
-          → IfErr r (λ fault. ¬ (IsNoText fault))
+      pub cut-ended : (r : Result Field DecodeFault) (left : Option (List ℕ))
+          → IfErr r (AfterFieldFault (Some bytes) left) → IfErr r (λ fault. ¬ (IsNoText fault))
       cut-ended (Ok f) left h = tt
       cut-ended (Err fault) left h = in_name fault left h
