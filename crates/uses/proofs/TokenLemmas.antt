@@ -1,11 +1,11 @@
 -- For the lexer: the longest token that a text begins with, where a text is cut behind it, and one token more.
 use Rattle.std.proofs.Common.{◌≡◌, ℕ, ◌-◌, List, [], ◌∷◌, ◌++◌, length, take, drop, true, refl, sym, ap, ◌∙◌, subst, arith, append_assoc, append-nil, encode_utf8_all}
-use Rattle.std.specs.List.{All, AllByRecursion, concat, flat_map}
+use Rattle.std.specs.List.{All, concat, flat_map}
 use Rattle.std.specs.Str.{chars, IsUtf8, IsCharBoundary}
 use Rattle.std.proofs.lemmas.Bool.{both_ways}
 use Rattle.std.proofs.lemmas.List.{length-append, map-append}
 use Rattle.std.proofs.lemmas.List.Concat.{flat_map-append}
-use Rattle.std.proofs.lemmas.List.Elements.{All-push}
+use Rattle.std.proofs.lemmas.List.Elements.{All-head, All-push, All-tail}
 use Rattle.std.proofs.Math.Seq.{take-append_seam, drop-append_seam}
 use Rattle.std.proofs.lemmas.Str.{encodes-chars, encodes-append, encodes_same, IsUtf8-take, IsCharBoundary-at_seam}
 use Rattle.smol_str.specs.Text.{place_of}
@@ -15,22 +15,19 @@ use Rattle.uses.specs.Tokens.{IsToken, IsLongest, AreLongest, IsFirstToken, Stop
 
 -- ---- the longest token
 
-run-push : (c d : ℕ) (run : List ℕ) → AllByRecursion (λ x. goes_on c x ≡ true) run → goes_on c d ≡ true
-    → AllByRecursion (λ x. goes_on c x ≡ true) (run ++ d ∷ [])
-run-push c d [] passes on = (on, tt)
-run-push c d (x ∷ run) (first, others) on = (first, run-push c d run others on)
-
 -- one character more goes on
 pub IsLeftIn-push : (c d : ℕ) (text rest t : List ℕ) → IsLeftIn c text rest → rest ≡ d ∷ t → goes_on c d ≡ true
     → IsLeftIn c text t
 IsLeftIn-push c d text rest t (run, whole, passes) first on =
-    (run ++ d ∷ [], rw append_assoc (whole ∙ ap (λ l. run ++ l) first), run-push c d run passes on)
+    let longer = All-push (λ x. goes_on c x ≡ true) run d passes on in
+    (run ++ d ∷ [], rw append_assoc (whole ∙ ap (λ l. run ++ l) first), longer)
 
 -- what stands behind characters that go on
-passes-after : (c d : ℕ) (run more : List ℕ) → AllByRecursion (λ x. goes_on c x ≡ true) (run ++ d ∷ more)
+passes-after : (c d : ℕ) (run more : List ℕ) → All (λ x. goes_on c x ≡ true) (run ++ d ∷ more)
     → goes_on c d ≡ true
-passes-after c d [] more passes = passes.0
-passes-after c d (x ∷ run) more passes = passes-after c d run more passes.1
+passes-after c d [] more passes = All-head (λ x. goes_on c x ≡ true) d more passes
+passes-after c d (x ∷ run) more passes =
+    passes-after c d run more (All-tail (λ y. goes_on c y ≡ true) x (run ++ d ∷ more) passes)
 
 longest-run : (c : ℕ) (run left : List ℕ) → Stops c left → IsLongest (c ∷ run) left
 longest-run c run left stops = λ more after e token. by left more after stops e token where
