@@ -21,6 +21,7 @@ mod streams;
 mod wire;
 mod wire_faults;
 mod wire_memory;
+mod without_memory;
 
 use std::alloc::{AllocError, Global};
 

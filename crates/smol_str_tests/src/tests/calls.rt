@@ -1,17 +1,19 @@
 //! Every call: what it asks the heap for, what stands where that is refused, and that all is freed.
 use super::built::builder_of;
 use super::refuse::{
-    can_refuse, count_blocks, count_bytes, count_refusals, count_requests, end_refusals,
-    refuse_one, start_counts,
+    Refusals, can_refuse, count_blocks, count_bytes, count_refusals, count_requests, end_refusals,
+    refuse, start_counts,
 };
 use super::repeated;
 use smol_str::kernel::{AsciiCase, convert_while_ascii, next_match};
 use smol_str::{
-    BLANK_NEWLINES, BLANK_SPACES, INLINE_CAP, Place, SmolStr, SmolStrBuilder, Step, build,
+    BLANK_NEWLINES, BLANK_SPACES, INLINE_CAP, Place, SmolStr, SmolStrBuilder, Step, ToSmolStr,
+    build, finished, format_smolstr,
 };
 use std::alloc::{AllocError, Global};
 use std::borrow::CowStr;
 use std::boxed::BoxedStr;
+use std::fmt::Write;
 use std::process::Abort;
 use std::rc::RcStr;
 use std::test::Fail;
@@ -45,6 +47,11 @@ enum Call {
     Push,
     PushStr,
     PushStrToEmpty,
+    /// To a builder with room for its text alone.
+    PushToFull,
+    WriteStr,
+    WriteFmt,
+    CloneBuilder,
     ReadBuilder,
     Kernel,
     Finish,
@@ -52,6 +59,9 @@ enum Call {
     FromBuilder,
     Build,
     BuildWithCapacity,
+    ToSmolStr,
+    FormatSmolstr,
+    Finished,
 }
 
 /// A call of std that asks for what a call under test is to ask for.
@@ -59,6 +69,8 @@ enum Call {
 enum Asks {
     /// A shared text.
     Shared,
+    /// A shared text that keeps a `String`.
+    Kept,
     /// A `String` of the text.
     Owned,
     /// A `String` with room for the text and a short text.
@@ -69,6 +81,8 @@ enum Asks {
     OwnedTwice,
     /// The text appended to a `String` of it that has room for a short text.
     GrowByText,
+    /// An ASCII character appended to a `String` of the text that has no room.
+    GrowByChar,
 }
 
 const NONE: &[Asks] = &[];
@@ -89,9 +103,15 @@ const TWICE: &[Asks] = &[Asks::OwnedTwice];
 
 const BY_TEXT: &[Asks] = &[Asks::GrowByText];
 
+const BY_CHAR: &[Asks] = &[Asks::GrowByChar];
+
+const KEPT: &[Asks] = &[Asks::Kept];
+
+const PRINTED: &[Asks] = &[Asks::OwnedAndRoom, Asks::Kept];
+
 /// Each call, and what it asks for on a text that fills a buffer, on the blank constant, and on a
 /// text that is not resident.
-const CALLS: [(Call, &[Asks], &[Asks], &[Asks]); 32] = [
+const CALLS: [(Call, &[Asks], &[Asks], &[Asks]); 39] = [
     (Call::New, NONE, NONE, SHARED),
     (Call::NewInline, NONE, NONE, NONE),
     (Call::NewStatic, NONE, NONE, NONE),
@@ -117,6 +137,10 @@ const CALLS: [(Call, &[Asks], &[Asks], &[Asks]); 32] = [
     (Call::Push, AND_CHAR, NONE, NONE),
     (Call::PushStr, TWICE, BY_TEXT, BY_TEXT),
     (Call::PushStrToEmpty, NONE, WITH_ROOM, WITH_ROOM),
+    (Call::PushToFull, AND_CHAR, BY_CHAR, BY_CHAR),
+    (Call::WriteStr, TWICE, BY_TEXT, BY_TEXT),
+    (Call::WriteFmt, TWICE, BY_TEXT, BY_TEXT),
+    (Call::CloneBuilder, NONE, OWNED, OWNED),
     (Call::ReadBuilder, NONE, NONE, NONE),
     (Call::Kernel, NONE, NONE, NONE),
     (Call::Finish, NONE, NONE, SHARED),
@@ -124,6 +148,9 @@ const CALLS: [(Call, &[Asks], &[Asks], &[Asks]); 32] = [
     (Call::FromBuilder, NONE, NONE, SHARED),
     (Call::Build, NONE, WITH_ROOM, BUILT),
     (Call::BuildWithCapacity, NONE, OWNED, BUILT_TO_SIZE),
+    (Call::ToSmolStr, NONE, WITH_ROOM, PRINTED),
+    (Call::FormatSmolstr, NONE, WITH_ROOM, PRINTED),
+    (Call::Finished, NONE, NONE, KEPT),
 ];
 
 /// What a call made, or gave back.
@@ -159,12 +186,14 @@ fn requests(rt: HostRuntime) -> Result<(), Fail> {
     let mut blank = repeated(alloc, "\n", BLANK_NEWLINES)?;
     blank.push_str(repeated(alloc, " ", BLANK_SPACES)?.as_str())?;
     let heap = repeated(alloc, "a", INLINE_CAP + 1)?;
-    let long = repeated(alloc, "é", 2500)?;
+    let long = repeated(alloc, "a", 5000)?;
+    let accented = repeated(alloc, "é", 2500)?;
     for (call, of_full, of_blank, of_heap) in CALLS {
         assert_asks(&rt, alloc, call, full.as_str(), of_full)?;
         assert_asks(&rt, alloc, call, blank.as_str(), of_blank)?;
         assert_asks(&rt, alloc, call, heap.as_str(), of_heap)?;
         assert_asks(&rt, alloc, call, long.as_str(), of_heap)?;
+        assert_asks(&rt, alloc, call, accented.as_str(), of_heap)?;
         if of_full.is_empty() {
             assert_asks(&rt, alloc, call, "", NONE)?;
         }
@@ -191,26 +220,26 @@ fn assert_asks(
         wanted.bytes = wanted.bytes.wrapping_add(asked.bytes);
     }
     assert!(rt; asks.is_empty() || wanted.requests > 0 || !can_refuse(alloc));
-    let refusals = count_refusals(|nth| {
+    let requests = count_refusals(|refusals| {
         start_counts(alloc);
-        let was_refused = assert_run(rt, alloc, call, text, nth, wanted)?;
+        let was_refused = assert_run(rt, alloc, call, text, refusals, wanted)?;
         assert_eq!(rt; count_blocks(alloc), 0, "{call:?} of {text:?} leaks");
         Ok(was_refused)
     })?;
-    assert_eq!(rt; refusals, wanted.requests, "{call:?} of {text:?}");
+    assert_eq!(rt; requests, wanted.requests, "{call:?} of {text:?}");
     Ok(())
 }
 
-/// Makes the call with its `nth` request refused, and answers whether one was.
+/// Makes the call with these requests refused, and answers whether one was.
 fn assert_run(
     rt: &impl Abort,
     alloc: Global,
     call: Call,
     text: &str,
-    nth: u32,
+    refusals: Refusals,
     wanted: Asked,
 ) -> Result<bool, Fail> {
-    let (answer, asked, was_refused) = run(alloc, call, text, nth)?;
+    let (answer, asked, was_refused) = run(alloc, call, text, refusals)?;
     match answer {
         Ok(_) => {
             assert!(rt; !was_refused, "{call:?} of {text:?} hides a refusal");
@@ -223,6 +252,8 @@ fn assert_run(
                 after_refusal(call, text),
                 "{call:?} of {text:?}"
             );
+            let place = SmolStr::new(alloc, text)?.place();
+            assert!(rt; is_where_it_was(&back, place), "{call:?} of {text:?}");
         }
     }
     Ok(was_refused)
@@ -239,10 +270,24 @@ fn after_refusal(call: Call, text: &str) -> Option<&str> {
         | Call::IntoRcStr
         | Call::Push
         | Call::PushStr
+        | Call::PushToFull
+        | Call::WriteStr
+        | Call::WriteFmt
         | Call::Finish
         | Call::FinishLarge
         | Call::FromBuilder => Some(text),
         _ => None,
+    }
+}
+
+/// Whether a value is in this place, and a builder of the kind of its text.
+fn is_where_it_was(thing: &Thing, place: Place) -> bool {
+    match thing {
+        Thing::Value(value) => value.place() == place,
+        Thing::Builder(builder) => {
+            builder.inline_buffer().is_some() == (builder.len() <= INLINE_CAP)
+        }
+        _ => true,
     }
 }
 
@@ -262,7 +307,7 @@ fn run(
     alloc: Global,
     call: Call,
     text: &str,
-    nth: u32,
+    refusals: Refusals,
 ) -> Result<(Result<Thing, Thing>, Asked, bool), Fail> {
     let value = SmolStr::new(alloc, text)?;
     let pinned = SmolStr::new_static("aaaaaaaaaaaaaaaaaaaaaaaa");
@@ -273,9 +318,10 @@ fn run(
     let mut empty = SmolStrBuilder::new(alloc);
     let mut builder = builder_of(alloc, 0, text)?;
     let large = builder_of(alloc, 10_000, text)?;
+    let mut full = builder_of(alloc, text.len(), text)?;
     let steps = [Step::PushStr(String::from_str(alloc, text)?)];
     let before = asked_so_far(alloc);
-    refuse_one(alloc, nth);
+    refuse(alloc, refusals);
     let answer = match call {
         Call::New => made(SmolStr::new(alloc, text)),
         Call::NewInline => Ok(new_inline(text)),
@@ -308,13 +354,14 @@ fn run(
         Call::ReadValue => read_value(&value),
         Call::Compare => compare(&value, &pinned, &other),
         Call::NewBuilder => Ok(Thing::Builder(SmolStrBuilder::new(alloc))),
-        Call::WithCapacity => match SmolStrBuilder::with_capacity(alloc, text.len()) {
-            Ok(builder) => Ok(Thing::Builder(builder)),
-            Err(_) => Err(Thing::Nothing),
-        },
+        Call::WithCapacity => built(SmolStrBuilder::with_capacity(alloc, text.len())),
         Call::Push => appended(builder.push('a'), builder),
         Call::PushStr => appended(builder.push_str(text), builder),
         Call::PushStrToEmpty => appended(empty.push_str(text), empty),
+        Call::PushToFull => appended(full.push('a'), full),
+        Call::WriteStr => appended(builder.write_str(text), builder),
+        Call::WriteFmt => appended(builder.write_fmt(text), builder),
+        Call::CloneBuilder => built(builder.clone()),
         Call::ReadBuilder => read_builder(&builder),
         Call::Kernel => scan(text),
         Call::Finish => made_or(builder.finish().map_err(|b| Thing::Builder(b))),
@@ -322,6 +369,9 @@ fn run(
         Call::FromBuilder => made_or(SmolStr::from_builder(builder).map_err(|b| Thing::Builder(b))),
         Call::Build => made(build(alloc, 0, &steps)),
         Call::BuildWithCapacity => made(build(alloc, text.len(), &steps)),
+        Call::ToSmolStr => made(text.to_smolstr(alloc)),
+        Call::FormatSmolstr => made(format_smolstr!(alloc; "{text}")),
+        Call::Finished => made(finished(builder)),
     };
     let was_refused = end_refusals(alloc);
     Ok((answer, asked_since(alloc, before), was_refused))
@@ -395,7 +445,14 @@ fn of_cow(answer: Result<SmolStr, CowStr<'_>>) -> Result<Thing, Thing> {
     }
 }
 
-fn appended(answer: Result<(), AllocError>, builder: SmolStrBuilder) -> Result<Thing, Thing> {
+fn built(answer: Result<SmolStrBuilder, AllocError>) -> Result<Thing, Thing> {
+    match answer {
+        Ok(builder) => Ok(Thing::Builder(builder)),
+        Err(_) => Err(Thing::Nothing),
+    }
+}
+
+fn appended<E: Drop>(answer: Result<(), E>, builder: SmolStrBuilder) -> Result<Thing, Thing> {
     match answer {
         Ok(()) => Ok(Thing::Builder(builder)),
         Err(_) => Err(Thing::Builder(builder)),
@@ -406,14 +463,17 @@ fn asked_by_std(alloc: Global, ask: Asks, text: &str) -> Result<Asked, Fail> {
     let room = text.len().saturating_add(INLINE_CAP);
     let mut roomy = String::with_capacity(alloc, room)?;
     roomy.push_str(text)?;
+    let mut owned = String::from_str(alloc, text)?;
     let before = asked_so_far(alloc);
     match ask {
         Asks::Shared => drop(RcStr::from_str(alloc, text)?),
+        Asks::Kept => drop(RcStr::from_string(owned)?),
         Asks::Owned => drop(String::from_str(alloc, text)?),
         Asks::OwnedAndRoom => drop(String::with_capacity(alloc, room)?),
         Asks::OwnedAndChar => drop(String::with_capacity(alloc, room.saturating_add(1))?),
         Asks::OwnedTwice => drop(String::with_capacity(alloc, room.saturating_add(text.len()))?),
         Asks::GrowByText => roomy.push_str(text)?,
+        Asks::GrowByChar => owned.push('a')?,
     }
     Ok(asked_since(alloc, before))
 }

@@ -5,7 +5,8 @@ ghost use Rattle.std.specs.Vec.Iter.{into_iter_items};
 
 use super::built::builder_of;
 use super::refuse::{
-    can_refuse, count_blocks, count_refusals, end_refusals, refuse_one, start_counts,
+    Refusals, can_refuse, count_blocks, count_refusals, end_refusals, refuse, refuse_all,
+    start_counts,
 };
 use super::repeated;
 use smol_str::{INLINE_CAP, Place, SmolStr, SmolStrBuilder};
@@ -162,8 +163,8 @@ fn hints(rt: HostRuntime) -> Result<(), Fail> {
                 (["", long.as_str(), ""], long.as_str(), Place::Heap),
                 (["", longer.as_str(), ""], longer.as_str(), Place::Heap),
             ] {
-                let (answer, _) = call_refused(alloc, call, &pieces, lower, 0)?;
-                let value = answer.ok_or("refused")?;
+                let (answer, _) = call_refused(alloc, call, &pieces, lower, Refusals::One(0))?;
+                let value = answer.ok().ok_or("refused")?;
                 assert_eq!(rt; value.as_str(), text, "{call:?}");
                 assert_eq!(rt; value.place(), place, "{call:?}");
             }
@@ -183,18 +184,35 @@ fn each_request_in_turn(rt: HostRuntime) -> Result<(), Fail> {
             ([many.as_str(), "a"], true),
             (["", full.as_str()], false),
         ] {
-            let refusals = count_refusals(|nth| {
+            let requests = count_refusals(|refusals| {
                 start_counts(alloc);
-                let (answer, was_refused) = call_refused(alloc, call, &pieces, 0, nth)?;
-                assert_eq!(rt; answer.is_none(), was_refused, "{call:?}");
+                let (answer, was_refused) = call_refused(alloc, call, &pieces, 0, refusals)?;
+                assert_eq!(rt; answer.is_err(), was_refused, "{call:?}");
+                assert!(rt; has_pieces(call, &answer, &pieces), "{call:?}");
                 drop(answer);
                 assert_eq!(rt; count_blocks(alloc), 0, "{call:?} leaks");
                 Ok(was_refused)
             })?;
-            assert_eq!(rt; refusals > 0, needs_memory && can_refuse(alloc), "{call:?}");
+            assert_eq!(rt; requests > 0, needs_memory && can_refuse(alloc), "{call:?}");
         }
     }
     Ok(())
+}
+
+/// Whether a value has the text of all pieces, and a builder that of the first few items. Each
+/// character of the pieces is an item where characters are drawn.
+fn has_pieces(call: Call, answer: &Answer, pieces: &[&str; 2]) -> bool {
+    let [first, second] = *pieces;
+    let is_whole = |text: &str| text.strip_prefix(first) == Some(second);
+    match answer {
+        Ok(value) => is_whole(value.as_str()),
+        Err(None) => true,
+        Err(Some(builder)) => {
+            let text = builder.as_str();
+            let is_front = first.starts_with(text) && matches!(call, Call::ExtendChars);
+            text.is_empty() || text == first || is_whole(text) || is_front
+        }
+    }
 }
 
 // Where two bytes are left, the third text is refused, and those before it stay.
@@ -203,7 +221,7 @@ fn extending_refused(rt: HostRuntime) -> Result<(), Fail> {
     let alloc = rt.alloc();
     let start = repeated(alloc, "a", INLINE_CAP - 2)?;
     let mut builder = builder_of(alloc, 0, start.as_str())?;
-    refuse_one(alloc, 1);
+    refuse_all(alloc);
     let answer = builder.extend_strs(["b", "c", "de", "f"].into_iter());
     end_refusals(alloc);
     if !can_refuse(alloc) {
@@ -222,12 +240,12 @@ fn builders_cloned_and_compared(rt: HostRuntime) -> Result<(), Fail> {
     let inline = builder_of(alloc, 0, "ab")?;
     assert!(rt; heap == inline && heap != builder_of(alloc, 0, "b")?);
 
-    refuse_one(alloc, 1);
+    refuse_all(alloc);
     let copy = inline.clone();
     assert!(rt; !end_refusals(alloc));
     assert!(rt; copy? == inline);
 
-    refuse_one(alloc, 1);
+    refuse_all(alloc);
     let refused = heap.clone();
     assert_eq!(rt; end_refusals(alloc), refused.is_err());
     let mut copy = heap.clone()?;
@@ -237,41 +255,42 @@ fn builders_cloned_and_compared(rt: HostRuntime) -> Result<(), Fail> {
     Ok(())
 }
 
-/// The value that the call on the pieces makes, an extended builder finished, with the `nth` request
-/// for memory refused; and whether one was.
+/// The value that a call makes, an extended builder finished; or the builder, where there is one.
+type Answer = Result<SmolStr, Option<SmolStrBuilder>>;
+
+/// The call's answer on the pieces, with these requests for memory refused; and whether one was.
 fn call_refused(
     alloc: Global,
     call: Call,
     pieces: &[&str],
     lower: usize,
-    nth: u32,
-) -> Result<(Option<SmolStr>, bool), Fail> {
+    refusals: Refusals,
+) -> Result<(Answer, bool), Fail> {
     let strings = strings_of(alloc, pieces)?;
     let chars = with_hint(chars_of(alloc, pieces)?, lower);
     let strs = with_hint(pieces.iter().copied().collect(alloc)?, lower);
     let refs = with_hint(strings.iter().collect(alloc)?, lower);
     let owned = with_hint(strings_of(alloc, pieces)?, lower);
     let mut builder = SmolStrBuilder::new(alloc);
-    refuse_one(alloc, nth);
+    refuse(alloc, refusals);
     let answer = match call {
-        Call::FromChars => SmolStr::from_chars(alloc, chars),
-        Call::FromStrs => SmolStr::from_strs(alloc, strs),
-        Call::FromStrings => SmolStr::from_strings(alloc, owned),
-        Call::FromStringRefs => SmolStr::from_string_refs(alloc, refs),
+        Call::FromChars => SmolStr::from_chars(alloc, chars).map_err(|_| None),
+        Call::FromStrs => SmolStr::from_strs(alloc, strs).map_err(|_| None),
+        Call::FromStrings => SmolStr::from_strings(alloc, owned).map_err(|_| None),
+        Call::FromStringRefs => SmolStr::from_string_refs(alloc, refs).map_err(|_| None),
         Call::ExtendChars => finished(builder.extend_chars(chars), builder),
         Call::ExtendStrs => finished(builder.extend_strs(strs), builder),
         Call::ExtendStrings => finished(builder.extend_strings(refs), builder),
     };
     let was_refused = end_refusals(alloc);
-    Ok((answer.ok(), was_refused))
+    Ok((answer, was_refused))
 }
 
-fn finished(
-    answer: Result<(), AllocError>,
-    builder: SmolStrBuilder,
-) -> Result<SmolStr, AllocError> {
-    answer?;
-    Ok(builder.finish()?)
+fn finished(answer: Result<(), AllocError>, builder: SmolStrBuilder) -> Answer {
+    match answer {
+        Ok(()) => builder.finish().map_err(|back| Some(back)),
+        Err(_) => Err(Some(builder)),
+    }
 }
 
 fn with_hint<T: Drop>(items: Vec<T>, lower: usize) -> Hinted<T> {

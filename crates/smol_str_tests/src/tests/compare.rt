@@ -1,5 +1,7 @@
 //! Equality, order and hashes.
-use smol_str::{Place, SmolStr};
+use super::built::builder_of;
+use smol_str::borsh::from_wire;
+use smol_str::{Place, SmolStr, Step, StrExt, build};
 use std::cmp::Ordering;
 use std::hash::{DefaultHasher, Hash, Hasher};
 use std::test::Fail;
@@ -95,5 +97,32 @@ fn pinned_and_new(rt: HostRuntime) -> Result<(), Fail> {
     let short = SmolStr::new(rt.alloc(), "a")?;
     let longer = SmolStr::new(rt.alloc(), "a\0")?;
     assert!(rt; short != longer);
+    Ok(())
+}
+
+// One text, made in every way: values that are equal in pairs, with one hash, all inline.
+#[test]
+fn one_text_in_every_way(rt: HostRuntime) -> Result<(), Fail> {
+    let alloc = rt.alloc();
+    let values = [
+        SmolStr::new(alloc, "ab")?,
+        SmolStr::new_inline("ab"),
+        SmolStr::from_utf8(alloc, b"ab").ok().ok_or("not UTF-8")?,
+        SmolStr::from_chars(alloc, "ab".chars())?,
+        from_wire(alloc, b"\x02\0\0\0ab")?.0,
+        "xb".replace_smolstr(alloc, "x", "a")?,
+        builder_of(alloc, 100, "ab")?
+            .finish()
+            .ok()
+            .ok_or("refused")?,
+        build(alloc, 0, &[Step::Push('a'), Step::Push('b')])?,
+    ];
+    for left in &values {
+        assert_eq!(rt; left.place(), Place::Inline);
+        assert_eq!(rt; hash_of(left), hash_of(&"ab"));
+        for right in &values {
+            assert!(rt; left == right);
+        }
+    }
     Ok(())
 }

@@ -1,5 +1,5 @@
 //! Values from other texts, and back.
-use super::refuse::{can_refuse, end_refusals, refuse_all};
+use super::refuse::{can_refuse, count_refusals, end_refusals, refuse, refuse_all};
 use super::repeated;
 use smol_str::{FromUtf8Fault, Place, SmolStr};
 use std::alloc::Global;
@@ -150,6 +150,31 @@ fn refused_borrowed_text_comes_back(rt: HostRuntime) -> Result<(), Fail> {
             assert!(rt; was_refused && matches!(back, CowStr::Borrowed(_)));
             assert_eq!(rt; back.as_str(), text);
         }
+    }
+    Ok(())
+}
+
+// A value on the heap that comes back still has the shared text that it was made of.
+#[test]
+fn refused_value_keeps_its_shared_text(rt: HostRuntime) -> Result<(), Fail> {
+    let alloc = rt.alloc();
+    for len in [24, 5000] {
+        let shared = RcStr::from_str(alloc, repeated(alloc, "a", len)?.as_str())?;
+        let requests = count_refusals(|refusals| {
+            let value = SmolStr::from_rc_str(shared.clone()?);
+            refuse(alloc, refusals);
+            let answer = value.into_string(alloc);
+            let was_refused = end_refusals(alloc);
+            match answer {
+                Ok(string) => assert_eq!(rt; string.as_str(), shared.as_str()),
+                Err(back) => {
+                    let back = back.into_rc_str(alloc).ok().ok_or("refused")?;
+                    assert!(rt; was_refused && RcStr::ptr_eq(&back, &shared));
+                }
+            }
+            Ok(was_refused)
+        })?;
+        assert_eq!(rt; requests > 0, can_refuse(alloc));
     }
     Ok(())
 }

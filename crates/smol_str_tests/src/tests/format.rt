@@ -1,6 +1,6 @@
 //! Values of what is printed: the texts, prints that give up, and memory refused.
 use super::refuse::{
-    can_refuse, count_blocks, count_refusals, count_requests, end_refusals, refuse_all, refuse_one,
+    can_refuse, count_blocks, count_refusals, count_requests, end_refusals, refuse, refuse_all,
     start_counts,
 };
 use super::repeated;
@@ -173,9 +173,9 @@ fn assert_whole<D: Display>(
     value: &D,
     text: &str,
 ) -> Result<u32, Fail> {
-    count_refusals(|nth| {
+    count_refusals(|refusals| {
         start_counts(alloc);
-        refuse_one(alloc, nth);
+        refuse(alloc, refusals);
         let made = value.to_smolstr(alloc);
         let was_refused = end_refusals(alloc);
         match made {

@@ -1,7 +1,6 @@
 //! JSON strings: texts, refusals, and memory refused.
-use super::refuse::{can_refuse, count_refusals, end_refusals, refuse_all, refuse_one};
+use super::refuse::{can_refuse, count_refusals, end_refusals, refuse};
 use super::repeated;
-use serde_json::Value;
 use smol_str::json::{JsonFault, from_json, from_value, to_json, to_value};
 use smol_str::{INLINE_CAP, Place, SmolStr};
 use std::alloc::Global;
@@ -156,8 +155,8 @@ fn each_request_in_turn(rt: HostRuntime) -> Result<(), Fail> {
 fn refusals(rt: &impl Abort, alloc: Global, value: &SmolStr) -> Result<u32, Fail> {
     let json = to_json(alloc, value)?;
     let string = to_value(alloc, value)?;
-    let of_to_value = count_refusals(|nth| {
-        refuse_one(alloc, nth);
+    let of_to_value = count_refusals(|refusals| {
+        refuse(alloc, refusals);
         let answer = to_value(alloc, value);
         let was_refused = end_refusals(alloc);
         match answer {
@@ -166,8 +165,8 @@ fn refusals(rt: &impl Abort, alloc: Global, value: &SmolStr) -> Result<u32, Fail
         }
         Ok(was_refused)
     })?;
-    let of_to_json = count_refusals(|nth| {
-        refuse_one(alloc, nth);
+    let of_to_json = count_refusals(|refusals| {
+        refuse(alloc, refusals);
         let answer = to_json(alloc, value);
         let was_refused = end_refusals(alloc);
         match answer {
@@ -176,15 +175,15 @@ fn refusals(rt: &impl Abort, alloc: Global, value: &SmolStr) -> Result<u32, Fail
         }
         Ok(was_refused)
     })?;
-    let of_from_value = count_refusals(|nth| {
-        refuse_one(alloc, nth);
+    let of_from_value = count_refusals(|refusals| {
+        refuse(alloc, refusals);
         let answer = from_value(alloc, &string);
         let was_refused = end_refusals(alloc);
         check_answer(rt, &answer, value, was_refused);
         Ok(was_refused)
     })?;
-    let of_from_json = count_refusals(|nth| {
-        refuse_one(alloc, nth);
+    let of_from_json = count_refusals(|refusals| {
+        refuse(alloc, refusals);
         let answer = from_json(alloc, json.as_str());
         let was_refused = end_refusals(alloc);
         check_answer(rt, &answer, value, was_refused);
@@ -214,25 +213,4 @@ fn check_answer(
         Err(JsonFault::OutOfMemory) => assert!(rt; was_refused, "{value:?}"),
         Err(_) => assert!(rt; false, "{value:?}: another fault"),
     }
-}
-
-// A string of resident text takes no memory.
-#[test]
-fn no_request_for_resident_text(rt: HostRuntime) -> Result<(), Fail> {
-    let alloc = rt.alloc();
-    for (text, place) in [
-        (repeated(alloc, "", 0)?, Place::Inline),
-        (repeated(alloc, "a", INLINE_CAP)?, Place::Inline),
-        (repeated(alloc, " ", 24)?, Place::Static),
-    ] {
-        let string = Value::String(String::from_str(alloc, text.as_str())?);
-        refuse_all(alloc);
-        let answer = from_value(alloc, &string);
-        let was_refused = end_refusals(alloc);
-        let value = answer.ok().ok_or("no value")?;
-        assert!(rt; !was_refused, "{text:?}");
-        assert_eq!(rt; value.as_str(), text.as_str());
-        assert_eq!(rt; value.place(), place, "{text:?}");
-    }
-    Ok(())
 }

@@ -1,5 +1,5 @@
 //! Large capacities.
-use super::refuse::{can_refuse, end_refusals, refuse_all, refuse_one};
+use super::refuse::{can_refuse, end_refusals, refuse_all};
 use super::repeated;
 use smol_str::{INLINE_CAP, Place, SmolStr, SmolStrBuilder, Step, build};
 use std::test::Fail;
@@ -46,7 +46,7 @@ fn refused_finish_keeps_the_capacity(rt: HostRuntime) -> Result<(), Fail> {
     let text = repeated(alloc, "a", 100)?;
     let mut builder = SmolStrBuilder::with_capacity(alloc, 200)?;
     builder.push_str(text.as_str())?;
-    refuse_one(alloc, 1);
+    refuse_all(alloc);
     let answer = builder.finish();
     end_refusals(alloc);
     match answer {

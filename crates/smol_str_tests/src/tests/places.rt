@@ -1,6 +1,6 @@
 //! Where texts are kept.
 use super::repeated;
-use smol_str::{INLINE_CAP, InlineBuffer, Place, SmolStr, SmolStrBuilder, Step, build};
+use smol_str::{INLINE_CAP, InlineBuffer, Place, SmolStr, SmolStrBuilder};
 use std::alloc::{AllocError, Global};
 use std::process::Abort;
 use std::test::Fail;
@@ -160,26 +160,4 @@ fn assert_holds_ab(rt: &impl Abort, buffer: Option<&InlineBuffer>) {
         }
         None => assert!(rt; false, "an inline text has a buffer"),
     }
-}
-
-// One text, made in every way so far: equal values, all inline.
-#[test]
-fn one_text_in_every_way(rt: HostRuntime) -> Result<(), Fail> {
-    let alloc = rt.alloc();
-    let mut large = SmolStrBuilder::with_capacity(alloc, 100)?;
-    large.push_str("ab")?;
-    let values = [
-        SmolStr::new(alloc, "ab")?,
-        SmolStr::new_inline("ab"),
-        SmolStr::from_utf8(alloc, b"ab").ok().ok_or("not UTF-8")?,
-        large.finish().ok().ok_or("refused")?,
-        build(alloc, 0, &[Step::Push('a'), Step::Push('b')])?,
-    ];
-    for left in &values {
-        assert_eq!(rt; left.place(), Place::Inline);
-        for right in &values {
-            assert!(rt; left == right);
-        }
-    }
-    Ok(())
 }

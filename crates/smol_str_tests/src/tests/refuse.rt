@@ -17,14 +17,27 @@ const WORD: usize = 0x1_0000_0000;
 /// More requests than a call under test makes.
 const MOST: u32 = 1000;
 
-/// From here on the `nth` request for memory is refused, counted from 1, and no other; 0 refuses none.
-pub fn refuse_one(alloc: Global, nth: u32) {
-    let _ = is_granted(alloc, BASE + nth as usize);
+/// Which requests for memory are refused, counted from 1; the 0th is no request.
+#[derive(Clone, Copy, PartialEq, Eq, Debug)]
+pub enum Refusals {
+    /// The nth, and no other.
+    One(u32),
+    /// The nth, and each later one.
+    From(u32),
+}
+
+/// From here on these requests are refused.
+pub fn refuse(alloc: Global, refusals: Refusals) {
+    let message = match refusals {
+        Refusals::One(nth) => nth as usize,
+        Refusals::From(nth) => WORD + nth as usize,
+    };
+    let _ = is_granted(alloc, BASE + message);
 }
 
 /// From here on each request for memory is refused.
 pub fn refuse_all(alloc: Global) {
-    let _ = is_granted(alloc, BASE + WORD + 1);
+    refuse(alloc, Refusals::From(1));
 }
 
 /// Nothing is refused from here on. Answers whether something was.
@@ -37,14 +50,19 @@ pub fn can_refuse(alloc: Global) -> bool {
     is_granted(alloc, BASE + 3 * WORD)
 }
 
-/// Passes `run` 1, 2 and so on, up to a run that meets no refusal, and answers how many met one.
+/// Passes `run` each request alone, and each request with all after it, up to one that no run meets;
+/// answers how many requests there are.
 ///
-/// A run refuses the request of that number to a call, and answers whether it was refused.
-pub fn count_refusals<F: Fn(u32) -> Result<bool, Fail>>(run: F) -> Result<u32, Fail>
+/// A run refuses these requests to a call, and answers whether one was refused.
+pub fn count_refusals<F: Fn(Refusals) -> Result<bool, Fail>>(run: F) -> Result<u32, Fail>
     requires { F.IsAlwaysCallable run }
 {
     for nth in 1..MOST {
-        if !run(nth)? {
+        let is_met = run(Refusals::One(nth))?;
+        if run(Refusals::From(nth))? != is_met {
+            return Err("a call does not always make the same requests".into());
+        }
+        if !is_met {
             return Ok(nth - 1);
         }
     }

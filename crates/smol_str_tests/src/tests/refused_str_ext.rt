@@ -1,6 +1,6 @@
 //! Case and replacement with memory refused: no answer, or the one with ample memory.
 use super::refuse::{
-    can_refuse, count_blocks, count_refusals, end_refusals, refuse_one, start_counts,
+    can_refuse, count_blocks, count_refusals, end_refusals, refuse, refuse_all, start_counts,
 };
 use super::repeated;
 use smol_str::{INLINE_CAP, Place, SmolStr, StrExt};
@@ -16,6 +16,7 @@ enum Call {
     Lower,
     Upper,
     Replace(&'static str, &'static str),
+    ReplaceN(&'static str, &'static str, usize),
 }
 
 fn answer(alloc: Global, call: Call, text: &str) -> Result<SmolStr, AllocError> {
@@ -25,11 +26,12 @@ fn answer(alloc: Global, call: Call, text: &str) -> Result<SmolStr, AllocError> 
         Call::Lower => text.to_lowercase_smolstr(alloc),
         Call::Upper => text.to_uppercase_smolstr(alloc),
         Call::Replace(from, to) => text.replace_smolstr(alloc, from, to),
+        Call::ReplaceN(from, to, count) => text.replacen_smolstr(alloc, from, to, count),
     }
 }
 
 // One byte by one byte, a byte by more, pieces, and the empty pattern.
-const CALLS: [Call; 8] = [
+const CALLS: [Call; 10] = [
     Call::AsciiLower,
     Call::AsciiUpper,
     Call::Lower,
@@ -38,6 +40,8 @@ const CALLS: [Call; 8] = [
     Call::Replace("a", "éé"),
     Call::Replace("aa", "bb"),
     Call::Replace("", "-"),
+    Call::ReplaceN("a", "b", 3),
+    Call::ReplaceN("aa", "bb", 1),
 ];
 
 #[test]
@@ -61,9 +65,9 @@ fn each_request_in_turn(rt: HostRuntime) -> Result<(), Fail> {
 /// ample memory. Nothing is leaked either way.
 fn assert_refusals(rt: &impl Abort, alloc: Global, call: Call, text: &str) -> Result<(), Fail> {
     let ample = answer(alloc, call, text)?;
-    let refusals = count_refusals(|nth| {
+    let requests = count_refusals(|refusals| {
         start_counts(alloc);
-        refuse_one(alloc, nth);
+        refuse(alloc, refusals);
         let made = answer(alloc, call, text);
         let was_refused = end_refusals(alloc);
         match made {
@@ -73,7 +77,7 @@ fn assert_refusals(rt: &impl Abort, alloc: Global, call: Call, text: &str) -> Re
         assert_eq!(rt; count_blocks(alloc), 0, "{call:?} leaks");
         Ok(was_refused)
     })?;
-    assert_eq!(rt; refusals > 0, can_refuse(alloc), "{call:?}");
+    assert_eq!(rt; requests > 0, can_refuse(alloc), "{call:?}");
     Ok(())
 }
 
@@ -100,7 +104,7 @@ fn no_request_for_a_short_answer(rt: HostRuntime) -> Result<(), Fail> {
 }
 
 fn assert_no_request(rt: &impl Abort, alloc: Global, call: Call, text: &str) -> Result<(), Fail> {
-    refuse_one(alloc, 1);
+    refuse_all(alloc);
     let made = answer(alloc, call, text);
     let was_refused = end_refusals(alloc);
     assert!(rt; !was_refused, "{call:?}: a request for memory");

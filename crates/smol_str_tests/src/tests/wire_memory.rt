@@ -1,11 +1,13 @@
 //! Wire forms with memory refused, and with memory counted.
 use super::refuse::{
-    can_refuse, count_blocks, count_bytes, count_refusals, end_refusals, refuse_all, refuse_one,
-    start_counts,
+    Refusals, can_refuse, count_blocks, count_bytes, count_refusals, end_refusals, refuse,
+    refuse_all, start_counts,
 };
+use super::repeated;
 use super::streams::trickle_of;
 use super::wire::{ROWS, form_of, text_of};
 use smol_str::borsh::{BorshDeserialize, BorshSerialize, DecodeFault, from_wire};
+use smol_str::stream::{ReadFault, read_all, read_up_to};
 use smol_str::{INLINE_CAP, Place, SmolStr};
 use std::alloc::{AllocError, Global};
 use std::process::Abort;
@@ -55,20 +57,68 @@ fn each_request(rt: HostRuntime) -> Result<(), Fail> {
     let alloc = rt.alloc();
     for count in [INLINE_CAP as u32 + 1, 5000, 20000] {
         let form = letters(alloc, count, count)?;
+        let text = repeated(alloc, "a", count as usize)?;
         for call in [Call::FromWire, Call::Reader] {
-            let refusals = count_refusals(|nth| {
+            let requests = count_refusals(|refusals| {
                 start_counts(alloc);
-                refuse_one(alloc, nth);
+                refuse(alloc, refusals);
                 let made = make(alloc, call, form.as_slice());
                 let was_refused = end_refusals(alloc);
-                assert_eq!(&rt; made?.is_none(), was_refused, "{call:?}");
+                match made? {
+                    Some(value) => assert!(&rt; value.eq_string(&text) && !was_refused),
+                    None => assert!(&rt; was_refused, "{call:?} gives up"),
+                }
                 assert_eq!(&rt; count_blocks(alloc), 0, "{call:?}");
                 Ok(was_refused)
             })?;
-            assert_eq!(rt; refusals > 0, can_refuse(alloc), "{call:?} of {count}");
+            assert_eq!(rt; requests > 0, can_refuse(alloc), "{call:?} of {count}");
         }
     }
     Ok(())
+}
+
+// Bytes of resident and of longer texts.
+#[test]
+fn each_request_of_reading(rt: HostRuntime) -> Result<(), Fail> {
+    let alloc = rt.alloc();
+    for len in [INLINE_CAP, INLINE_CAP + 1, 5000] {
+        let text = repeated(alloc, "a", len)?;
+        for limit in [len, usize::MAX] {
+            let requests = count_refusals(|refusals| {
+                start_counts(alloc);
+                let was_refused = assert_read(&rt, alloc, text.as_bytes(), limit, refusals);
+                assert_eq!(&rt; count_blocks(alloc), 0, "leaks");
+                Ok(was_refused)
+            })?;
+            assert_eq!(rt; requests > 0, can_refuse(alloc), "{len} bytes");
+        }
+    }
+    Ok(())
+}
+
+/// Reads all of the bytes with these requests refused, to the end where there is no limit, and
+/// answers whether one was.
+fn assert_read(
+    rt: &impl Abort,
+    alloc: Global,
+    bytes: &[u8],
+    limit: usize,
+    refusals: Refusals,
+) -> bool {
+    let mut reader = bytes;
+    refuse(alloc, refusals);
+    let answer = if limit == usize::MAX {
+        read_all(alloc, &mut reader)
+    } else {
+        read_up_to(alloc, &mut reader, limit)
+    };
+    let was_refused = end_refusals(alloc);
+    match answer {
+        Ok(all) => assert!(rt; all.as_slice() == bytes && !was_refused),
+        Err(ReadFault::OutOfMemory) => assert!(rt; was_refused, "gives up"),
+        Err(ReadFault::Io(_)) => assert!(rt; false, "no read failed"),
+    }
+    was_refused
 }
 
 // Resident text is found in bytes without memory, short text by a reader too.

@@ -1,6 +1,6 @@
 //! `run` with memory refused: nothing is written, or all.
 use super::refuse::{
-    can_refuse, count_blocks, count_refusals, end_refusals, refuse_one, start_counts,
+    Refusals, can_refuse, count_blocks, count_refusals, end_refusals, refuse, start_counts,
 };
 use super::streams::{Failure, empty_drip, trickle_of};
 use super::words::mode_by;
@@ -12,9 +12,11 @@ use std::process::Abort;
 use std::test::Fail;
 
 /// Each input, and the lengths of the reports on it: line by line, in mode join, and in mode tokens.
-const INPUTS: [(&[u8], [usize; 3]); 4] = [
+const INPUTS: [(&[u8], [usize; 3]); 6] = [
     (b"", [0, 10, 0]),
     (b"if\n\nx\n", [12 + 10 + 11, 13, 5 + 3 + 4]),
+    (b"aaaaaaaaaaaaaaaaaaaaaaa", [34, 34, 26]),
+    (b"                        ", [35, 35, 27]),
     (b"aaaaaaaaaaaaaaaaaaaaaaaa", [33, 33, 27]),
     (&[b'a'; 5000], [5011, 5011, 5003]),
 ];
@@ -35,37 +37,42 @@ fn each_request_in_turn(rt: HostRuntime) -> Result<(), Fail> {
     let alloc = rt.alloc();
     for (input, lengths) in INPUTS {
         for (words, which) in WORDS {
-            let wanted = lengths.get(which).copied().ok_or("no length")?;
-            let refusals = count_refusals(|nth| {
+            let len = lengths.get(which).copied().ok_or("no length")?;
+            let mut ample = Vec::new(alloc);
+            let mode = mode_by(alloc, words)?.ok_or("no mode")?;
+            let mut reader = input;
+            run(alloc, mode, &mut reader, &mut ample)?;
+            assert_eq!(rt; ample.len(), len, "{words:?}");
+            let requests = count_refusals(|refusals| {
                 start_counts(alloc);
                 let mode = mode_by(alloc, words)?.ok_or("no mode")?;
-                let was_refused = assert_run(&rt, alloc, mode, input, wanted, nth)?;
+                let was_refused = assert_run(&rt, alloc, mode, input, ample.as_slice(), refusals)?;
                 assert_eq!(rt; count_blocks(alloc), 0, "a run leaks");
                 Ok(was_refused)
             })?;
-            assert_eq!(rt; refusals > 0, can_refuse(alloc) && wanted > 0);
+            assert_eq!(rt; requests > 0, can_refuse(alloc) && len > 0);
         }
     }
     Ok(())
 }
 
-/// Runs with the `nth` request refused, and answers whether one was.
+/// Runs with these requests refused, and answers whether one was.
 fn assert_run(
     rt: &impl Abort,
     alloc: Global,
     mode: Mode,
     input: &[u8],
-    wanted: usize,
-    nth: u32,
+    wanted: &[u8],
+    refusals: Refusals,
 ) -> Result<bool, Fail> {
     let mut reader = trickle_of(input, 4096, 0);
     let mut writer = empty_drip(alloc, 4096, 0, Failure::TakesNone);
-    writer.taken = Vec::with_capacity(alloc, wanted)?;
-    refuse_one(alloc, nth);
+    writer.taken = Vec::with_capacity(alloc, wanted.len())?;
+    refuse(alloc, refusals);
     let answer = run(alloc, mode, &mut reader, &mut writer);
     let was_refused = end_refusals(alloc);
     match answer {
-        Ok(()) => assert_eq!(rt; writer.taken.len(), wanted),
+        Ok(()) => assert!(rt; writer.taken.as_slice() == wanted && !was_refused),
         Err(RunFault::OutOfMemory) => {
             assert!(rt; was_refused, "want of memory where nothing was refused");
             assert!(rt; writer.taken.is_empty(), "written after want of memory");

@@ -1,9 +1,10 @@
 //! Tallies: rows, values of one text in all places, many tokens, and memory refused.
-use super::refuse::{can_refuse, count_refusals, end_refusals, refuse_all, refuse_one};
+use super::refuse::{Refusals, can_refuse, count_refusals, end_refusals, refuse, refuse_all};
 use crate::tally::{AddFault, Tally};
 use smol_str::{Place, SmolStr, SmolStrBuilder};
 use std::alloc::Global;
 use std::process::Abort;
+use std::rc::RcStr;
 use std::test::Fail;
 
 fn add(tally: &mut Tally, token: SmolStr, times: u64) -> Result<u64, Fail> {
@@ -144,34 +145,51 @@ fn many_equal_tokens(rt: HostRuntime) -> Result<(), Fail> {
 #[test]
 fn each_request_in_turn(rt: HostRuntime) -> Result<(), Fail> {
     let alloc = rt.alloc();
-    let mut sizes_met = 0u32;
-    for there in 0..40u64 {
-        let refusals = count_refusals(|nth| add_refused(&rt, alloc, there, nth))?;
-        if refusals > 0 {
-            sizes_met = sizes_met.saturating_add(1);
+    let longest = format!(in alloc; "{:a<5000}", "")?;
+    for text in ["c", "aaaaaaaaaaaaaaaaaaaaaaaa", longest.as_str()] {
+        let shared = RcStr::from_str(alloc, text)?;
+        let mut sizes_met = 0u32;
+        for there in 0..40u64 {
+            let requests = count_refusals(|refusals| add_refused(
+                &rt, alloc, there, &shared, refusals,
+            ))?;
+            if requests > 0 {
+                sizes_met = sizes_met.saturating_add(1);
+            }
         }
+        assert_eq!(rt; sizes_met > 1, can_refuse(alloc));
     }
-    assert_eq!(rt; sizes_met > 1, can_refuse(alloc));
     Ok(())
 }
 
-fn add_refused(rt: &impl Abort, alloc: Global, there: u64, nth: u32) -> Result<bool, Fail> {
+fn add_refused(
+    rt: &impl Abort,
+    alloc: Global,
+    there: u64,
+    shared: &RcStr,
+    refusals: Refusals,
+) -> Result<bool, Fail> {
+    let text = shared.as_str();
     let mut tally = tally_of(alloc, there)?;
-    refuse_one(alloc, nth);
-    let answer = tally.add(SmolStr::new_static("c"), 7);
+    let token = SmolStr::from_rc_str(shared.clone()?);
+    let place = token.place();
+    refuse(alloc, refusals);
+    let answer = tally.add(token, 7);
     let was_refused = end_refusals(alloc);
     let is_counted = answer.is_ok();
     assert!(rt; is_counted || was_refused, "gives up");
     if let Some(back) = refused_token(answer) {
-        assert_eq!(rt; back.as_str(), "c");
-        assert_eq!(rt; back.place(), Place::Static);
+        assert_eq!(rt; back.as_str(), text);
+        assert_eq!(rt; back.place(), place);
+        let handed_out = back.clone()?.into_rc_str(alloc).ok().ok_or("refused")?;
+        assert_eq!(rt; RcStr::ptr_eq(&handed_out, shared), place == Place::Heap);
         assert_eq!(rt; tally.len(), there as usize);
         check_counts(rt, alloc, &tally, there)?;
         assert_eq!(rt; add(&mut tally, back, 7)?, 7);
     }
     assert_eq!(rt; tally.len() as u64, there.saturating_add(1));
     check_counts(rt, alloc, &tally, there)?;
-    check_at(rt, &tally, there as usize, "c", 7)?;
+    check_at(rt, &tally, there as usize, text, 7)?;
     Ok(was_refused)
 }
 
@@ -208,8 +226,11 @@ fn no_request_for_a_token_that_is_there(rt: HostRuntime) -> Result<(), Fail> {
     refuse_all(alloc);
     let answer = tally.add(SmolStr::new_static("b"), 5);
     let count = tally.count(&SmolStr::new_static("b"));
+    let last = tally.at(1);
+    let empty = Tally::new(alloc).len();
     let was_refused = end_refusals(alloc);
-    assert!(rt; !was_refused);
+    assert!(rt; !was_refused && last.is_some());
+    assert_eq!(rt; empty, 0);
     assert_eq!(rt; answer.ok(), Some(7));
     assert_eq!(rt; count, Some(7));
     Ok(())

@@ -1,4 +1,5 @@
 //! The words of a command line, and the lines that tell a fault.
+use super::refuse::{end_refusals, refuse_all};
 use crate::fault::{RunFault, fault_line};
 use crate::mode::{Mode, mode_of};
 use std::alloc::{AllocError, Global};
@@ -87,4 +88,15 @@ fn fault_lines(rt: HostRuntime) {
     assert_eq!(rt; fault_line(&RunFault::OutOfMemory), "out of memory");
     assert_eq!(rt; fault_line(&RunFault::Full), "full");
     assert_eq!(rt; fault_line(&io), "read or write failed");
+}
+
+#[test]
+fn no_request(rt: HostRuntime) -> Result<(), Fail> {
+    let words = strings(rt.alloc(), &["replace", "a", "b"])?;
+    refuse_all(rt.alloc());
+    let mode = mode_of(words);
+    let line = fault_line(&RunFault::OutOfMemory);
+    let was_refused = end_refusals(rt.alloc());
+    assert!(rt; mode.is_some() && !line.is_empty() && !was_refused);
+    Ok(())
 }

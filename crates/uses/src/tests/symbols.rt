@@ -1,5 +1,5 @@
 //! The symbol table: the ids of names that come again, and memory refused.
-use super::refuse::{can_refuse, count_refusals, end_refusals, refuse_one};
+use super::refuse::{can_refuse, count_refusals, end_refusals, refuse};
 use crate::symbols::Symbols;
 use std::test::Fail;
 
@@ -25,16 +25,16 @@ fn each_name_has_its_id(rt: HostRuntime) -> Result<(), Fail> {
 #[test]
 fn each_request_in_turn(rt: HostRuntime) -> Result<(), Fail> {
     let alloc = rt.alloc();
-    let refusals = count_refusals(|nth| {
+    let requests = count_refusals(|refusals| {
         let mut symbols = Symbols::new(alloc);
         assert_eq!(rt; symbols.intern("if")?, 0);
-        refuse_one(alloc, nth);
+        refuse(alloc, refusals);
         let id = symbols.intern("aaaaaaaaaaaaaaaaaaaaaaaa");
         let was_refused = end_refusals(alloc);
         assert_eq!(rt; id.is_err(), was_refused);
         assert_eq!(rt; symbols.intern("else")?, if was_refused { 1 } else { 2 });
         Ok(was_refused)
     })?;
-    assert_eq!(rt; refusals > 0, can_refuse(alloc));
+    assert_eq!(rt; requests > 0, can_refuse(alloc));
     Ok(())
 }
