@@ -13,6 +13,7 @@ mod large;
 mod long_texts;
 mod places;
 mod print;
+mod readers;
 mod refuse;
 mod refused_str_ext;
 mod replace;
@@ -21,6 +22,7 @@ mod streams;
 mod wire;
 mod wire_faults;
 mod wire_memory;
+mod writers;
 
 use std::alloc::{AllocError, Global};
 
