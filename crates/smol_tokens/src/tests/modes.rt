@@ -5,7 +5,7 @@ use std::alloc::{AllocError, Global};
 use std::test::Fail;
 
 /// The words of a mode, an input, and the report on it.
-pub const REPORTS: [(&[&str], &[u8], &[u8]); 18] = [
+const REPORTS: [(&[&str], &[u8], &[u8]); 18] = [
     (&[], b"abc", b"inline 3 abc\n"),
     (
         &["show"],
@@ -81,18 +81,41 @@ pub const LETTERS: [(&[&str], [&str; 2], char); 7] = [
 const HEAP: [&str; 2] = ["heap 70000 ", "heap 9000 "];
 
 /// A front, and a line of so many letters.
-pub fn long_line(
-    alloc: Global,
-    front: &str,
-    letter: char,
-    count: usize,
-) -> Result<String, AllocError> {
+fn long_line(alloc: Global, front: &str, letter: char, count: usize) -> Result<String, AllocError> {
     let mut line = String::from_str(alloc, front)?;
     for _ in 0..count {
         line.push(letter)?;
     }
     line.push('\n')?;
     Ok(line)
+}
+
+/// The words of a mode, an input, and the report on it.
+#[derive(Drop)]
+pub struct Row {
+    pub words: &'static [&'static str],
+    pub input: Vec<u8>,
+    pub report: Vec<u8>,
+}
+
+/// The reports of the table, and those on a line of 9,000 letters.
+pub fn all_rows(alloc: Global) -> Result<Vec<Row>, AllocError> {
+    let mut all = Vec::new(alloc);
+    for (words, input, report) in REPORTS {
+        all.push(Row {
+            words,
+            input: Vec::from_slice(alloc, input)?,
+            report: Vec::from_slice(alloc, report)?,
+        })?;
+    }
+    for (words, [_, front], letter) in LETTERS {
+        all.push(Row {
+            words,
+            input: long_line(alloc, "", 'a', 9000)?.into_bytes(),
+            report: long_line(alloc, front, letter, 9000)?.into_bytes(),
+        })?;
+    }
+    Ok(all)
 }
 
 #[test]

@@ -1,5 +1,5 @@
 //! `run` in every mode, over readers of every step, which end after each byte and fail at each call.
-use super::modes::{LETTERS, REPORTS, long_line};
+use super::modes::{LETTERS, Row, all_rows};
 use super::streams::{
     Drip, Failure, READ_ERRORS, STEPS, Trickle, empty_drip, is_tried, trickle_of,
 };
@@ -52,24 +52,10 @@ fn read_by(
 }
 
 #[test]
-fn short_inputs(rt: HostRuntime) -> Result<(), Fail> {
-    for (words, input, wanted) in REPORTS {
+fn fails_at_each_call(rt: HostRuntime) -> Result<(), Fail> {
+    for row in all_rows(rt.alloc())?.iter() {
         for step in STEPS {
-            assert_fails(&rt, rt.alloc(), words, (input, wanted), step)?;
-        }
-    }
-    Ok(())
-}
-
-#[test]
-fn long_inputs(rt: HostRuntime) -> Result<(), Fail> {
-    let alloc = rt.alloc();
-    let input = long_line(alloc, "", 'a', 9000)?;
-    for (words, [_, front], letter) in LETTERS {
-        let wanted = long_line(alloc, front, letter, 9000)?;
-        for step in STEPS {
-            let texts = (input.as_str().as_bytes(), wanted.as_str().as_bytes());
-            assert_fails(&rt, alloc, words, texts, step)?;
+            assert_fails(&rt, rt.alloc(), row, step)?;
         }
     }
     Ok(())
@@ -77,13 +63,8 @@ fn long_inputs(rt: HostRuntime) -> Result<(), Fail> {
 
 /// The report on the input is written whole; where a read fails, its error is told at once, and
 /// nothing is written.
-fn assert_fails(
-    rt: &impl Abort,
-    alloc: Global,
-    words: &[&str],
-    (input, wanted): (&[u8], &[u8]),
-    step: usize,
-) -> Result<(), Fail> {
+fn assert_fails(rt: &impl Abort, alloc: Global, row: &Row, step: usize) -> Result<(), Fail> {
+    let (words, input, wanted) = (row.words, row.input.as_slice(), row.report.as_slice());
     let mut reader = trickle_of(input, step, 0);
     let (answer, taken) = read_by(rt, alloc, words, &mut reader)?;
     assert_eq!(rt; answer, Answer::Done, "{words:?} by {step}");

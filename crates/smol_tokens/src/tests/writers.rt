@@ -1,5 +1,5 @@
 //! `run` in every mode, over writers of every step, which fail at each call.
-use super::modes::{LETTERS, REPORTS, long_line};
+use super::modes::{Row, all_rows};
 use super::readers::{Answer, run_by};
 use super::streams::{Failure, STEPS, WRITE_FAILURES, empty_drip, is_tried, trickle_of};
 use std::alloc::Global;
@@ -7,24 +7,10 @@ use std::process::Abort;
 use std::test::Fail;
 
 #[test]
-fn short_reports(rt: HostRuntime) -> Result<(), Fail> {
-    for (words, input, wanted) in REPORTS {
+fn fails_at_each_call(rt: HostRuntime) -> Result<(), Fail> {
+    for row in all_rows(rt.alloc())?.iter() {
         for step in STEPS {
-            assert_fails(&rt, rt.alloc(), words, (input, wanted), step)?;
-        }
-    }
-    Ok(())
-}
-
-#[test]
-fn long_reports(rt: HostRuntime) -> Result<(), Fail> {
-    let alloc = rt.alloc();
-    let input = long_line(alloc, "", 'a', 9000)?;
-    for (words, [_, front], letter) in LETTERS {
-        let wanted = long_line(alloc, front, letter, 9000)?;
-        for step in STEPS {
-            let texts = (input.as_str().as_bytes(), wanted.as_str().as_bytes());
-            assert_fails(&rt, alloc, words, texts, step)?;
+            assert_fails(&rt, rt.alloc(), row, step)?;
         }
     }
     Ok(())
@@ -32,13 +18,8 @@ fn long_reports(rt: HostRuntime) -> Result<(), Fail> {
 
 /// The report goes out by as many writes as its steps are; where one fails, its error is told at
 /// once, and what went out before stays.
-fn assert_fails(
-    rt: &impl Abort,
-    alloc: Global,
-    words: &[&str],
-    (input, wanted): (&[u8], &[u8]),
-    step: usize,
-) -> Result<(), Fail> {
+fn assert_fails(rt: &impl Abort, alloc: Global, row: &Row, step: usize) -> Result<(), Fail> {
+    let (words, input, wanted) = (row.words, row.input.as_slice(), row.report.as_slice());
     let calls = wanted.len().div_ceil(step.max(1));
     for (failure, kind) in WRITE_FAILURES {
         for fails_at in 0..=calls {
