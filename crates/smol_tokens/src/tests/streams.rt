@@ -14,8 +14,8 @@ pub const READ_ERRORS: [ErrorKind; 2] = [ErrorKind::Interrupted, ErrorKind::Brok
 
 /// Whether a place in so many bytes is tried: each in a few, and in many those about the ends of pieces.
 pub fn is_tried(place: usize, size: usize) -> bool {
-    let after = place.saturating_add(8);
-    size < 200 || after % PIECE < 16 || after > size
+    let after = place.saturating_add(3);
+    size < 200 || after % PIECE < 7 || after > size
 }
 
 /// A reader that gives its bytes, at most `step` a call, and answers the error `failure` at the call
