@@ -13,6 +13,7 @@ mod large;
 mod long_texts;
 mod places;
 mod print;
+mod readers;
 mod refuse;
 mod refused_str_ext;
 mod replace;
@@ -22,6 +23,7 @@ mod wire;
 mod wire_faults;
 mod wire_memory;
 mod without_memory;
+mod writers;
 
 use std::alloc::{AllocError, Global};
 

@@ -1,6 +1,6 @@
 //! Wire forms, written and read again by readers and writers of every step.
 use super::repeated;
-use super::streams::{Failure, empty_drip, trickle_of};
+use super::streams::{Failure, STEPS, empty_drip, trickle_of};
 use smol_str::borsh::{BorshDeserialize, BorshSerialize, from_wire, length_prefix};
 use smol_str::stream::PIECE;
 use smol_str::{INLINE_CAP, Place, SmolStr};
@@ -13,7 +13,7 @@ use std::test::Fail;
 pub type Row = (&'static str, usize, u8, &'static [u8], Place);
 
 /// Letters of one and of two bytes.
-const LETTERS: &[u8] = b"a\xc3\x9f\xce\x94Ca\xc3\x9f\xce\xb4c";
+pub const LETTERS: &[u8] = b"a\xc3\x9f\xce\x94Ca\xc3\x9f\xce\xb4c";
 
 /// A byte more than a value has room for.
 const LONG: usize = INLINE_CAP + 1;
@@ -49,7 +49,7 @@ fn written(rt: HostRuntime) -> Result<(), Fail> {
         let text = text_of(alloc, row)?;
         let form = form_of(alloc, row)?;
         let value = SmolStr::new(alloc, text.as_str())?;
-        for step in [1, 3, usize::MAX] {
+        for step in STEPS {
             let mut writer = empty_drip(alloc, step, 0, Failure::TakesNone);
             value.serialize(&mut writer)?;
             assert_eq!(rt;
@@ -78,7 +78,7 @@ fn read_again(rt: HostRuntime) -> Result<(), Fail> {
         assert_eq!(rt; value.as_str(), text.as_str());
         assert_eq!(rt; value.place(), row.4, "{text}");
         assert_eq!(rt; taken, size, "{text}");
-        for step in [1, 3, usize::MAX] {
+        for step in STEPS {
             let mut reader = trickle_of(bytes.as_slice(), step, 0);
             let value = SmolStr::deserialize_reader(alloc, &mut reader)?;
             assert_eq!(rt; value.as_str(), text.as_str());

@@ -1,22 +1,23 @@
-//! Bytes that hold no wire form, and readers and writers that fail.
-use super::streams::{Failure, empty_drip, trickle_of};
-use super::wire::{ROWS, form_of, text_of};
-use smol_str::borsh::{BorshDeserialize, BorshSerialize, DecodeFault, EncodeFault, from_wire};
-use smol_str::{INLINE_CAP, SmolStr};
+//! Bytes that hold no wire form.
+use super::streams::{STEPS, trickle_of};
+use super::wire::{ROWS, form_of};
+use smol_str::SmolStr;
+use smol_str::borsh::{BorshDeserialize, DecodeFault, from_wire};
 use std::alloc::Global;
 use std::io::ErrorKind;
 use std::process::Abort;
 use std::test::Fail;
 
+/// A fault of reading a wire form, without what it tells of it.
 #[derive(Clone, Copy, PartialEq, Eq, Debug)]
-enum Kind {
+pub enum Kind {
     Ended,
     NotUtf8,
     OutOfMemory,
     Io(ErrorKind),
 }
 
-fn kind_of(fault: &DecodeFault) -> Kind {
+pub fn kind_of(fault: &DecodeFault) -> Kind {
     match fault {
         DecodeFault::Ended => Kind::Ended,
         DecodeFault::NotUtf8(_) => Kind::NotUtf8,
@@ -67,7 +68,7 @@ fn assert_refused(rt: &impl Abort, alloc: Global, bytes: &[u8], kind: Kind, left
         Err(fault) => assert_eq!(rt; kind_of(&fault), kind, "{bytes:?}"),
         Ok(_) => assert!(rt; false, "{bytes:?}"),
     }
-    for step in [1, usize::MAX] {
+    for step in STEPS {
         let mut reader = trickle_of(bytes, step, 0);
         match SmolStr::deserialize_reader(alloc, &mut reader) {
             Err(fault) => assert_eq!(rt; kind_of(&fault), kind, "{bytes:?}, by {step}"),
@@ -75,53 +76,4 @@ fn assert_refused(rt: &impl Abort, alloc: Global, bytes: &[u8], kind: Kind, left
         }
         assert_eq!(rt; reader.rest.len(), left, "{bytes:?}, by {step}");
     }
-}
-
-// A byte a call: each byte of the form is a call, and no call comes after the last.
-#[test]
-fn fails_at_each_read(rt: HostRuntime) -> Result<(), Fail> {
-    for row in ROWS {
-        let form = form_of(rt.alloc(), row)?;
-        let whole = form.len();
-        for fails_at in 1..=whole {
-            let mut reader = trickle_of(form.as_slice(), 1, fails_at);
-            match SmolStr::deserialize_reader(rt.alloc(), &mut reader) {
-                Err(fault) => {
-                    assert_eq!(rt; kind_of(&fault), Kind::Io(ErrorKind::Interrupted));
-                }
-                Ok(_) => assert!(rt; false, "{form:?}, at call {fails_at}"),
-            }
-            assert_eq!(rt; reader.calls, fails_at, "{form:?}");
-        }
-        let mut reader = trickle_of(form.as_slice(), 1, whole.saturating_add(1));
-        let _ = SmolStr::deserialize_reader(rt.alloc(), &mut reader)?;
-        assert_eq!(rt; reader.calls, whole, "{form:?}");
-    }
-    Ok(())
-}
-
-#[test]
-fn fails_at_each_write(rt: HostRuntime) -> Result<(), Fail> {
-    let alloc = rt.alloc();
-    for row in ROWS {
-        let value = SmolStr::new(alloc, text_of(alloc, row)?.as_str())?;
-        let form = form_of(alloc, row)?;
-        for (failure, kind) in [
-            (Failure::Interrupted, ErrorKind::Interrupted),
-            (Failure::TakesNone, ErrorKind::WriteZero),
-        ] {
-            for written in 0..form.len() {
-                let mut writer = empty_drip(alloc, 1, written.saturating_add(1), failure);
-                match value.serialize(&mut writer) {
-                    Err(EncodeFault::Io(error)) => assert_eq!(rt; error.kind(), kind),
-                    _ => assert!(rt; false, "{form:?}, {failure:?} after {written}"),
-                }
-                assert_eq!(rt; writer.taken.as_slice(), &form[..written], "{failure:?}");
-            }
-            let mut writer = empty_drip(alloc, 1, form.len().saturating_add(1), failure);
-            value.serialize(&mut writer)?;
-            assert_eq!(rt; writer.calls, form.len(), "{form:?}");
-        }
-    }
-    Ok(())
 }

@@ -1,13 +1,24 @@
-//! `run` in the modes that change or count the lines, over readers and writers that work and that fail.
-use super::streams::{Failure, empty_drip, trickle_of};
+//! `run` in every mode, on short and on long inputs.
 use super::words::mode_by;
-use crate::fault::RunFault;
 use crate::run::run;
 use std::alloc::{AllocError, Global};
 use std::test::Fail;
 
 /// The words of a mode, an input, and the report on it.
-const REPORTS: [(&[&str], &[u8], &[u8]); 13] = [
+const REPORTS: [(&[&str], &[u8], &[u8]); 18] = [
+    (&[], b"abc", b"inline 3 abc\n"),
+    (
+        &["show"],
+        b"if\n\naaaaaaaaaaaaaaaaaaaaaaaa",
+        b"inline 2 if\ninline 0 \nheap 24 aaaaaaaaaaaaaaaaaaaaaaaa\n",
+    ),
+    (&["show"], b"", b""),
+    (
+        &["join"],
+        b"if\n\naaaaaaaaaaaaaaaaaaaaaaaa",
+        b"heap 26 ifaaaaaaaaaaaaaaaaaaaaaaaa\n",
+    ),
+    (&["join"], b"", b"inline 0 \n"),
     (
         &["replace", "ba", "do"],
         b"foo_bar_baz",
@@ -55,93 +66,69 @@ fn reports(rt: HostRuntime) -> Result<(), Fail> {
     Ok(())
 }
 
-/// The words of a mode, how the answer to one long line begins, and the letter made of an `a`.
-const LETTERS: [(&[&str], &str, char); 6] = [
-    (&["show"], "heap 70000 ", 'a'),
-    (&["join"], "heap 70000 ", 'a'),
-    (&["lower"], "heap 70000 ", 'a'),
-    (&["upper"], "heap 70000 ", 'A'),
-    (&["replace", "a", "x"], "heap 70000 ", 'x'),
-    (&["tokens"], "1 ", 'a'),
+/// The words of a mode, how the answer to a line of 70,000 `a` begins, and to one of 9,000, and the
+/// letter made of an `a`.
+pub const LETTERS: [(&[&str], [&str; 2], char); 7] = [
+    (&["show"], HEAP, 'a'),
+    (&["join"], HEAP, 'a'),
+    (&["lower"], HEAP, 'a'),
+    (&["upper"], HEAP, 'A'),
+    (&["replace", "a", "x"], HEAP, 'x'),
+    (&["replace", "aa", "xx"], HEAP, 'x'),
+    (&["tokens"], ["1 ", "1 "], 'a'),
 ];
 
-/// A front, and a line of 70,000 letters.
-fn long_line(alloc: Global, front: &str, letter: char) -> Result<String, AllocError> {
+const HEAP: [&str; 2] = ["heap 70000 ", "heap 9000 "];
+
+/// A front, and a line of so many letters.
+fn long_line(alloc: Global, front: &str, letter: char, count: usize) -> Result<String, AllocError> {
     let mut line = String::from_str(alloc, front)?;
-    for _ in 0..70_000 {
+    for _ in 0..count {
         line.push(letter)?;
     }
     line.push('\n')?;
     Ok(line)
 }
 
+/// The words of a mode, an input, and the report on it.
+#[derive(Drop)]
+pub struct Row {
+    pub words: &'static [&'static str],
+    pub input: Vec<u8>,
+    pub report: Vec<u8>,
+}
+
+/// The reports of the table, and those on a line of 9,000 letters.
+pub fn all_rows(alloc: Global) -> Result<Vec<Row>, AllocError> {
+    let mut all = Vec::new(alloc);
+    for (words, input, report) in REPORTS {
+        all.push(Row {
+            words,
+            input: Vec::from_slice(alloc, input)?,
+            report: Vec::from_slice(alloc, report)?,
+        })?;
+    }
+    for (words, [_, front], letter) in LETTERS {
+        all.push(Row {
+            words,
+            input: long_line(alloc, "", 'a', 9000)?.into_bytes(),
+            report: long_line(alloc, front, letter, 9000)?.into_bytes(),
+        })?;
+    }
+    Ok(all)
+}
+
 #[test]
 fn long_lines(rt: HostRuntime) -> Result<(), Fail> {
     let alloc = rt.alloc();
-    let input = long_line(alloc, "", 'a')?;
-    for (words, front, letter) in LETTERS {
+    let input = long_line(alloc, "", 'a', 70_000)?;
+    for (words, [front, _], letter) in LETTERS {
         let mode = mode_by(alloc, words)?.ok_or("no mode")?;
         let mut reader = input.as_str().as_bytes();
         let mut out = Vec::new(alloc);
         run(alloc, mode, &mut reader, &mut out)?;
-        let wanted = long_line(alloc, front, letter)?;
+        let wanted = long_line(alloc, front, letter, 70_000)?;
         assert_eq!(rt; out.as_slice(), wanted.as_str().as_bytes(), "{words:?}");
     }
     Ok(())
-}
-
-// By a reader and a writer of one byte a call, of which the reader fails at each call.
-#[test]
-fn fails_at_each_read(rt: HostRuntime) -> Result<(), Fail> {
-    for (words, input, wanted) in REPORTS {
-        for fails_at in 0..=input.len() {
-            let (answer, taken) = run_bytewise(rt.alloc(), words, input, fails_at, 0)?;
-            if fails_at == 0 {
-                assert!(rt; answer.is_ok(), "{words:?}");
-                assert_eq!(rt; taken.as_slice(), wanted, "{words:?}");
-            } else {
-                assert!(rt;
-                    matches!(answer, Err(RunFault::Io(_))),
-                    "{words:?} at call {fails_at}"
-                );
-                assert!(rt; taken.is_empty(), "{words:?} at call {fails_at}");
-            }
-        }
-    }
-    Ok(())
-}
-
-// The same, where the writer fails.
-#[test]
-fn fails_at_each_write(rt: HostRuntime) -> Result<(), Fail> {
-    for (words, input, wanted) in REPORTS {
-        for fails_at in 1..=wanted.len() {
-            let (answer, taken) = run_bytewise(rt.alloc(), words, input, 0, fails_at)?;
-            assert!(rt;
-                matches!(answer, Err(RunFault::Io(_))),
-                "{words:?} at call {fails_at}"
-            );
-            assert!(rt;
-                wanted.starts_with(taken.as_slice()),
-                "{words:?} at call {fails_at}"
-            );
-            assert_eq!(rt; taken.len(), fails_at - 1, "{words:?} at call {fails_at}");
-        }
-    }
-    Ok(())
-}
-
-/// The answer of a run in the mode of these words, and what was written.
-fn run_bytewise(
-    alloc: Global,
-    words: &[&str],
-    input: &[u8],
-    read_fails_at: usize,
-    write_fails_at: usize,
-) -> Result<(Result<(), RunFault>, Vec<u8>), Fail> {
-    let mode = mode_by(alloc, words)?.ok_or("no mode")?;
-    let mut reader = trickle_of(input, 1, read_fails_at);
-    let mut writer = empty_drip(alloc, 1, write_fails_at, Failure::TakesNone);
-    let answer = run(alloc, mode, &mut reader, &mut writer);
-    Ok((answer, writer.taken))
 }

@@ -8,7 +8,6 @@ use crate::fault::RunFault;
 use crate::mode::Mode;
 use crate::run::run;
 use std::alloc::Global;
-use std::io::ErrorKind;
 use std::test::Fail;
 
 /// The report by a reader of one byte a call and a writer of one byte a call, and by the promise of
@@ -102,70 +101,6 @@ fn long_inputs(rt: HostRuntime) -> Result<(), Fail> {
     Ok(())
 }
 
-#[test]
-fn not_utf8(rt: HostRuntime) {
-    let inputs: [&[u8]; 3] = [b"\xff", b"a\n\xc3", b"\xed\xa0\x80\n"];
-    for input in inputs {
-        let mut reader = trickle_of(input, 1, 0);
-        let mut writer = empty_drip(rt.alloc(), 1, 0, Failure::TakesNone);
-        let answer = run(rt.alloc(), Mode::Show, &mut reader, &mut writer);
-        assert!(rt; matches!(answer, Err(RunFault::NotUtf8)), "{input:?}");
-        assert!(rt; writer.taken.is_empty(), "{input:?}");
-    }
-}
-
-// Three bytes are three calls, and a fourth answers that there are no more.
-#[test]
-fn fails_at_each_read(rt: HostRuntime) -> Result<(), Fail> {
-    for fails_at in 1..=5usize {
-        let mut reader = trickle_of(b"abc", 1, fails_at);
-        let mut writer = empty_drip(rt.alloc(), 1, 0, Failure::TakesNone);
-        let answer = run(rt.alloc(), Mode::Show, &mut reader, &mut writer);
-        if fails_at == 5 {
-            answer?;
-            assert_eq!(rt; writer.taken.as_slice(), b"inline 3 abc\n".as_slice());
-        } else {
-            assert!(rt;
-                is_io(&answer, ErrorKind::Interrupted),
-                "at call {fails_at}"
-            );
-            assert!(rt; writer.taken.is_empty(), "at call {fails_at}");
-        }
-        assert!(rt;
-            reader.least >= 1 && reader.most <= 4096,
-            "at call {fails_at}"
-        );
-    }
-    Ok(())
-}
-
-// The report has eleven bytes, so a writer of one byte a call is called eleven times.
-#[test]
-fn fails_at_each_write(rt: HostRuntime) -> Result<(), Fail> {
-    for failure in [Failure::Interrupted, Failure::TakesNone] {
-        for fails_at in 1..=12usize {
-            let mut reader = trickle_of(b"a", 1, 0);
-            let mut writer = empty_drip(rt.alloc(), 1, fails_at, failure);
-            let answer = run(rt.alloc(), Mode::Show, &mut reader, &mut writer);
-            if fails_at == 12 {
-                answer?;
-            } else {
-                let kind = match failure {
-                    Failure::Interrupted => ErrorKind::Interrupted,
-                    Failure::TakesNone => ErrorKind::WriteZero,
-                };
-                assert!(rt; is_io(&answer, kind), "{failure:?} at call {fails_at}");
-            }
-            assert!(rt;
-                b"inline 1 a\n".starts_with(writer.taken.as_slice()),
-                "{failure:?} at call {fails_at}"
-            );
-            assert_eq!(rt; writer.taken.len(), fails_at - 1);
-        }
-    }
-    Ok(())
-}
-
 // Whole pieces and a byte more, also where a character lies across the end of the first.
 #[test]
 fn reads_by_pieces(rt: HostRuntime) -> Result<(), Fail> {
@@ -193,16 +128,8 @@ fn reads_by_pieces(rt: HostRuntime) -> Result<(), Fail> {
 #[test]
 fn no_write_of_an_empty_report(rt: HostRuntime) -> Result<(), Fail> {
     let mut reader = trickle_of(b"", 1, 0);
-    let mut writer = empty_drip(rt.alloc(), 1, 1, Failure::Interrupted);
+    let mut writer = empty_drip(rt.alloc(), 1, 1, Failure::TakesNone);
     run(rt.alloc(), Mode::Show, &mut reader, &mut writer)?;
     assert_eq!(rt; writer.calls, 0);
     Ok(())
-}
-
-/// Whether the answer is a fault of the reader or writer, of this kind.
-fn is_io(answer: &Result<(), RunFault>, kind: ErrorKind) -> bool {
-    match answer {
-        Err(RunFault::Io(e)) => e.kind() == kind,
-        _ => false,
-    }
 }
