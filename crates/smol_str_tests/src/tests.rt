@@ -25,7 +25,24 @@ mod wire_memory;
 mod without_memory;
 mod writers;
 
+use smol_str::INLINE_CAP;
 use std::alloc::{AllocError, Global};
+
+/// A text that fills a buffer.
+const FULL_TEXT: &str = "aaaaaaaaaaaaaaaaaaaaaaa";
+
+/// A text that is a byte too long for a buffer, and no blank run.
+const LONG_TEXT: &str = "aaaaaaaaaaaaaaaaaaaaaaaa";
+
+/// A blank run that is a byte too long for a buffer.
+const LONG_BLANK: &str = "                        ";
+
+#[test]
+fn texts_at_the_limit(rt: HostRuntime) {
+    assert_eq!(rt; FULL_TEXT.len(), INLINE_CAP);
+    assert_eq!(rt; LONG_TEXT.len(), INLINE_CAP + 1);
+    assert_eq!(rt; LONG_BLANK.len(), INLINE_CAP + 1);
+}
 
 /// A text so many times.
 fn repeated(alloc: Global, text: &str, times: usize) -> Result<String, AllocError> {

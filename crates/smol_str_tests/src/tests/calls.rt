@@ -4,7 +4,7 @@ use super::refuse::{
     Refusals, can_refuse, count_blocks, count_bytes, count_refusals, count_requests, end_refusals,
     refuse, start_counts,
 };
-use super::repeated;
+use super::{LONG_TEXT, repeated};
 use smol_str::kernel::{AsciiCase, convert_while_ascii, next_match};
 use smol_str::{
     BLANK_NEWLINES, BLANK_SPACES, INLINE_CAP, Place, SmolStr, SmolStrBuilder, Step, ToSmolStr,
@@ -310,7 +310,7 @@ fn run(
     refusals: Refusals,
 ) -> Result<(Result<Thing, Thing>, Asked, bool), Fail> {
     let value = SmolStr::new(alloc, text)?;
-    let pinned = SmolStr::new_static("aaaaaaaaaaaaaaaaaaaaaaaa");
+    let pinned = SmolStr::new_static(LONG_TEXT);
     let owned = String::from_str(alloc, text)?;
     let other = String::from_str(alloc, text)?;
     let boxed = String::from_str(alloc, text)?.into_boxed_str();
@@ -325,7 +325,7 @@ fn run(
     let answer = match call {
         Call::New => made(SmolStr::new(alloc, text)),
         Call::NewInline => Ok(new_inline(text)),
-        Call::NewStatic => Ok(Thing::Value(SmolStr::new_static("aaaaaaaaaaaaaaaaaaaaaaaa"))),
+        Call::NewStatic => Ok(Thing::Value(SmolStr::new_static(LONG_TEXT))),
         Call::FromStr => made(SmolStr::from_str(alloc, text)),
         Call::FromStringRef => made(SmolStr::from_string_ref(alloc, &owned)),
         Call::FromUtf8 => made(SmolStr::from_utf8(alloc, text.as_bytes())),

@@ -102,9 +102,14 @@ fn assert_collected(
 #[test]
 fn pieces(rt: HostRuntime) -> Result<(), Fail> {
     let alloc = rt.alloc();
-    let newlines = repeated(alloc, "\n", 32)?;
-    let blank = SmolStr::from_strs(alloc, [newlines.as_str(), " "].into_iter())?;
-    assert_eq!(rt; (blank.len(), blank.place()), (33, Place::Static));
+    for newlines in [INLINE_CAP, 32] {
+        let newlines = repeated(alloc, "\n", newlines)?;
+        let blank = SmolStr::from_strs(alloc, [newlines.as_str(), " "].into_iter())?;
+        assert_eq!(rt;
+            (blank.len(), blank.place()),
+            (newlines.len() + 1, Place::Static)
+        );
+    }
 
     let none: Vec<String> = Vec::new(alloc);
     let empty = SmolStr::from_strings(alloc, none.into_iter())?;

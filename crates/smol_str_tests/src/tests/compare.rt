@@ -1,5 +1,6 @@
 //! Equality, order and hashes.
 use super::built::builder_of;
+use super::{LONG_BLANK, LONG_TEXT};
 use smol_str::borsh::from_wire;
 use smol_str::{Place, SmolStr, Step, StrExt, build};
 use std::cmp::Ordering;
@@ -15,16 +16,8 @@ const ORDERS: [(&str, &str, Ordering); 9] = [
     ("é", "z", Ordering::Greater),
     ("a", "a\0", Ordering::Less),
     ("ab", "ab", Ordering::Equal),
-    (
-        "aaaaaaaaaaaaaaaaaaaaaaaa",
-        "aaaaaaaaaaaaaaaaaaaaaaab",
-        Ordering::Less,
-    ),
-    (
-        "aaaaaaaaaaaaaaaaaaaaaaaa",
-        "aaaaaaaaaaaaaaaaaaaaaaaa",
-        Ordering::Equal,
-    ),
+    (LONG_TEXT, "aaaaaaaaaaaaaaaaaaaaaaab", Ordering::Less),
+    (LONG_TEXT, LONG_TEXT, Ordering::Equal),
 ];
 
 // The right side also as a pinned value, so that places differ.
@@ -77,8 +70,8 @@ fn pinned_and_new(rt: HostRuntime) -> Result<(), Fail> {
     let rows = [
         ("", Place::Inline),
         ("ab", Place::Inline),
-        ("                        ", Place::Static),
-        ("aaaaaaaaaaaaaaaaaaaaaaaa", Place::Heap),
+        (LONG_BLANK, Place::Static),
+        (LONG_TEXT, Place::Heap),
     ];
     for (text, place) in rows {
         let value = SmolStr::new(rt.alloc(), text)?;

@@ -1,7 +1,7 @@
 //! Values from other texts, and back.
 use super::refuse::{can_refuse, count_refusals, end_refusals, refuse, refuse_all};
-use super::repeated;
-use smol_str::{FromUtf8Fault, Place, SmolStr};
+use super::{LONG_BLANK, LONG_TEXT, repeated};
+use smol_str::{FromUtf8Fault, INLINE_CAP, Place, SmolStr};
 use std::alloc::Global;
 use std::borrow::CowStr;
 use std::process::Abort;
@@ -63,8 +63,8 @@ fn every_way_in(rt: HostRuntime) -> Result<(), Fail> {
     let alloc = rt.alloc();
     let rows = [
         ("ab", 1, Place::Inline),
-        (" ", 24, Place::Static),
-        ("a", 24, Place::Heap),
+        (" ", INLINE_CAP + 1, Place::Static),
+        ("a", INLINE_CAP + 1, Place::Heap),
         ("a", 5000, Place::Heap),
         ("a", 70_000, Place::Heap),
         ("é", 2500, Place::Heap),
@@ -118,17 +118,14 @@ fn assert_value(
 #[test]
 fn keeps_a_shared_text(rt: HostRuntime) -> Result<(), Fail> {
     let alloc = rt.alloc();
-    let shared = RcStr::from_str(alloc, "aaaaaaaaaaaaaaaaaaaaaaaa")?;
+    let shared = RcStr::from_str(alloc, LONG_TEXT)?;
     let value = SmolStr::from_rc_str(shared.clone()?);
     assert_eq!(rt; value.place(), Place::Heap);
     match value.into_rc_str(alloc) {
         Ok(back) => assert!(rt; RcStr::ptr_eq(&back, &shared)),
         Err(_) => assert!(rt; false, "it takes no memory"),
     }
-    let rows = [
-        ("ab", Place::Inline),
-        ("                        ", Place::Static),
-    ];
+    let rows = [("ab", Place::Inline), (LONG_BLANK, Place::Static)];
     for (text, place) in rows {
         let value = SmolStr::from_rc_str(RcStr::from_str(alloc, text)?);
         assert_eq!(rt; value.place(), place, "{text:?}");
@@ -140,15 +137,14 @@ fn keeps_a_shared_text(rt: HostRuntime) -> Result<(), Fail> {
 #[test]
 fn refused_borrowed_text_comes_back(rt: HostRuntime) -> Result<(), Fail> {
     let alloc = rt.alloc();
-    let text = "aaaaaaaaaaaaaaaaaaaaaaaa";
     refuse_all(alloc);
-    let answer = SmolStr::from_cow_str(alloc, CowStr::Borrowed(text));
+    let answer = SmolStr::from_cow_str(alloc, CowStr::Borrowed(LONG_TEXT));
     let was_refused = end_refusals(alloc);
     match answer {
-        Ok(value) => assert!(rt; !can_refuse(alloc) && value.eq_str(text)),
+        Ok(value) => assert!(rt; !can_refuse(alloc) && value.eq_str(LONG_TEXT)),
         Err(back) => {
             assert!(rt; was_refused && matches!(back, CowStr::Borrowed(_)));
-            assert_eq!(rt; back.as_str(), text);
+            assert_eq!(rt; back.as_str(), LONG_TEXT);
         }
     }
     Ok(())
@@ -158,7 +154,7 @@ fn refused_borrowed_text_comes_back(rt: HostRuntime) -> Result<(), Fail> {
 #[test]
 fn refused_value_keeps_its_shared_text(rt: HostRuntime) -> Result<(), Fail> {
     let alloc = rt.alloc();
-    for len in [24, 5000] {
+    for len in [INLINE_CAP + 1, 5000] {
         let shared = RcStr::from_str(alloc, repeated(alloc, "a", len)?.as_str())?;
         let requests = count_refusals(|refusals| {
             let value = SmolStr::from_rc_str(shared.clone()?);

@@ -54,7 +54,7 @@ fn rows(rt: HostRuntime) -> Result<(), Fail> {
     let row = format_smolstr!(alloc; "{}-{:02}", "a", 7);
     assert_value(&rt, row, "a-07", Place::Inline)?;
     assert_value(&rt, 42u8.to_smolstr(alloc), "42", Place::Inline)?;
-    let row = format_smolstr!(alloc; "{:>24}", "");
+    let row = format_smolstr!(alloc; "{:>width$}", "", width = INLINE_CAP + 1);
     assert_value(&rt, row, spaces.as_str(), Place::Static)?;
     let full = repeated(alloc, "a", INLINE_CAP)?;
     let row = format_smolstr!(alloc; "{full}a");

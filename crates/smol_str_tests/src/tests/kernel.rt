@@ -1,5 +1,5 @@
 //! The loops over bytes, against outside rows, a plain map and std's search.
-use super::small_texts;
+use super::{FULL_TEXT, small_texts};
 use smol_str::kernel::{AsciiCase, convert_while_ascii, next_match};
 use smol_str::{INLINE_CAP, InlineBuffer};
 use std::alloc::Global;
@@ -11,11 +11,7 @@ const FRONTS: [(&str, AsciiCase, &str); 8] = [
     ("ABCDEFGHIJéKLMNOPQ", AsciiCase::Lower, "abcdefghij"),
     ("@AZ[", AsciiCase::Lower, "@az["),
     ("", AsciiCase::Upper, ""),
-    (
-        "aaaaaaaaaaaaaaaaaaaaaaa",
-        AsciiCase::Upper,
-        "AAAAAAAAAAAAAAAAAAAAAAA",
-    ),
+    (FULL_TEXT, AsciiCase::Upper, "AAAAAAAAAAAAAAAAAAAAAAA"),
     ("QQQQQQQQQQQQQQQQ", AsciiCase::Lower, "qqqqqqqqqqqqqqqq"),
     ("QQQQQQQQQQQQQQQQé", AsciiCase::Lower, "qqqqqqqqqqqqqqqq"),
     ("QQQQQQQQQQQQQQQé", AsciiCase::Lower, "qqqqqqqqqqqqqqq"),

@@ -1,9 +1,10 @@
 //! Values in containers.
+use super::LONG_TEXT;
 use smol_str::{Place, SmolStr};
 use std::collections::{BTreeMap, HashMap};
 use std::test::Fail;
 
-const TEXTS: [&str; 6] = ["", "a", "aaa", "é", "aaaaaaaaaaaaaaaaaaaaaaaa", "\0"];
+const TEXTS: [&str; 6] = ["", "a", "aaa", "é", LONG_TEXT, "\0"];
 
 #[test]
 fn keys_of_maps(rt: HostRuntime) -> Result<(), Fail> {

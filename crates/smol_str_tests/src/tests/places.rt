@@ -1,5 +1,5 @@
 //! Where texts are kept.
-use super::repeated;
+use super::{LONG_TEXT, repeated};
 use smol_str::{INLINE_CAP, InlineBuffer, Place, SmolStr, SmolStrBuilder};
 use std::alloc::{AllocError, Global};
 use std::process::Abort;
@@ -143,7 +143,7 @@ fn inline_buffers(rt: HostRuntime) -> Result<(), Fail> {
     assert_holds_ab(&rt, value.inline_buffer());
     assert_holds_ab(&rt, builder.inline_buffer());
     assert!(rt; SmolStr::new_static("ab").inline_buffer().is_none());
-    let long = SmolStr::new(alloc, "aaaaaaaaaaaaaaaaaaaaaaaa")?;
+    let long = SmolStr::new(alloc, LONG_TEXT)?;
     assert!(rt; long.inline_buffer().is_none());
     let mut large = SmolStrBuilder::with_capacity(alloc, 100)?;
     large.push_str("ab")?;
@@ -156,7 +156,7 @@ fn assert_holds_ab(rt: &impl Abort, buffer: Option<&InlineBuffer>) {
         Some(buffer) => {
             assert!(rt; buffer.starts_with(b"ab"));
             assert!(rt; buffer.iter().skip(2).all(|byte| *byte == 0));
-            assert_eq!(rt; buffer.len(), 23);
+            assert_eq!(rt; buffer.len(), INLINE_CAP);
         }
         None => assert!(rt; false, "an inline text has a buffer"),
     }

@@ -1,6 +1,6 @@
 //! Replacement, against outside rows and std's own.
 use super::{repeated, small_texts};
-use smol_str::{Place, StrExt};
+use smol_str::{INLINE_CAP, Place, StrExt};
 use std::alloc::Global;
 use std::process::Abort;
 use std::test::Fail;
@@ -67,28 +67,35 @@ type LongRow = (
 
 const LONG: [LongRow; 6] = [
     (
-        ("x", 24),
+        ("x", INLINE_CAP + 1),
         "x",
         " ",
         usize::MAX,
-        [(" ", 24), ("", 0)],
+        [(" ", INLINE_CAP + 1), ("", 0)],
         Place::Static,
     ),
     (
-        ("a", 24),
+        ("a", INLINE_CAP + 1),
         "aa",
         "b",
         usize::MAX,
-        [("b", 12), ("", 0)],
+        [("b", INLINE_CAP / 2 + 1), ("", 0)],
         Place::Inline,
     ),
-    (("x", 24), "x", "y", 23, [("y", 23), ("x", 1)], Place::Heap),
     (
-        ("a", 23),
+        ("x", INLINE_CAP + 1),
+        "x",
+        "y",
+        INLINE_CAP,
+        [("y", INLINE_CAP), ("x", 1)],
+        Place::Heap,
+    ),
+    (
+        ("a", INLINE_CAP),
         "a",
         "b",
         usize::MAX,
-        [("b", 23), ("", 0)],
+        [("b", INLINE_CAP), ("", 0)],
         Place::Inline,
     ),
     (

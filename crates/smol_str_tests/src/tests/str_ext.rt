@@ -1,5 +1,5 @@
 //! Case, against outside rows and std's own mappings, which only tests see printed.
-use super::repeated;
+use super::{LONG_BLANK, LONG_TEXT, repeated};
 use smol_str::{INLINE_CAP, Place, SmolStr, StrExt};
 use std::alloc::{AllocError, Global};
 use std::process::Abort;
@@ -40,28 +40,18 @@ const ROWS: [(Call, &str, &str, Place); 16] = [
     (
         Call::AsciiLower,
         "AAAAAAAAAAAAAAAAAAAAAAAA",
-        "aaaaaaaaaaaaaaaaaaaaaaaa",
+        LONG_TEXT,
         Place::Heap,
     ),
-    (
-        Call::AsciiUpper,
-        "                        ",
-        "                        ",
-        Place::Static,
-    ),
-    (
-        Call::Lower,
-        "                        ",
-        "                        ",
-        Place::Static,
-    ),
+    (Call::AsciiUpper, LONG_BLANK, LONG_BLANK, Place::Static),
+    (Call::Lower, LONG_BLANK, LONG_BLANK, Place::Static),
     (
         Call::Lower,
         "aaaaaaAAAAAaaaaaaaaaaaaaaaaaaaaaAAAAaaaaaaaaaaaaaa",
         "aaaaaaaaaaaaaaaaaaaaaaaaaaaaaaaaaaaaaaaaaaaaaaaaaa",
         Place::Heap,
     ),
-    // Thirteen bytes that become twenty-six.
+    // Each character becomes three, as long as it was.
     (
         Call::Upper,
         "ﬃﬃﬃﬃﬃﬃﬃ",

@@ -2,7 +2,7 @@
 //! call which promises that has a line.
 use super::built::builder_of;
 use super::refuse::{end_refusals, refuse_all};
-use super::repeated;
+use super::{FULL_TEXT, LONG_BLANK, LONG_TEXT, repeated};
 use serde_json::Value;
 use smol_str::borsh::{BorshDeserialize, BorshSerialize, from_wire, length_prefix};
 use smol_str::json::from_value;
@@ -17,31 +17,16 @@ use std::borrow::CowStr;
 use std::cmp::Ordering;
 use std::fmt::Write;
 use std::hash::{DefaultHasher, Hash};
-use std::process::Abort;
 use std::rc::RcStr;
 use std::test::Fail;
 
-/// A text that fills a buffer.
-const FULL: &str = "aaaaaaaaaaaaaaaaaaaaaaa";
-
-/// A text that is not resident.
-const LONG: &str = "aaaaaaaaaaaaaaaaaaaaaaaa";
-
-/// The call succeeds and makes no request.
-fn assert_free<F: FnOnce() -> bool>(rt: &impl Abort, alloc: Global, name: &str, call: F)
-    requires { F.IsAlwaysCallable call }
-{
-    refuse_all(alloc);
-    let is_ok = call();
-    let was_refused = end_refusals(alloc);
-    assert!(rt; !was_refused, "{name} makes a request");
-    assert!(rt; is_ok, "{name}");
-}
-
-/// Makes each call, by its name.
+/// Makes each call, by its name, and refuses every request meanwhile.
 macro_rules! free {
     ($rt:expr, $alloc:expr; $($name:literal: $call:expr;)+) => {
-        $(assert_free($rt, $alloc, $name, || $call);)+
+        refuse_all($alloc);
+        $(assert!($rt; $call, $name);)+
+        let was_refused = end_refusals($alloc);
+        assert!($rt; !was_refused, "a call makes a request");
     };
 }
 
@@ -50,13 +35,13 @@ fn whole_text(rt: HostRuntime) -> Result<(), Fail> {
     let alloc = rt.alloc();
     let mut blank = repeated(alloc, "\n", BLANK_NEWLINES)?;
     blank.push_str(repeated(alloc, " ", BLANK_SPACES)?.as_str())?;
-    for text in ["", FULL, blank.as_str()] {
+    for text in ["", FULL_TEXT, blank.as_str()] {
         let bytes = text.as_bytes();
         let owned = String::from_str(alloc, text)?;
         let other = String::from_str(alloc, text)?;
         let boxed = String::from_str(alloc, text)?.into_boxed_str();
         let json = Value::String(String::from_str(alloc, text)?);
-        free! { &rt, alloc;
+        free! { rt, alloc;
             "SmolStr::new": SmolStr::new(alloc, text).is_ok();
             "SmolStr::from_str": SmolStr::from_str(alloc, text).is_ok();
             "SmolStr::from_string_ref": SmolStr::from_string_ref(alloc, &owned).is_ok();
@@ -74,19 +59,19 @@ fn whole_text(rt: HostRuntime) -> Result<(), Fail> {
 #[test]
 fn any_text(rt: HostRuntime) -> Result<(), Fail> {
     let alloc = rt.alloc();
-    for text in ["", FULL, LONG] {
+    for text in ["", FULL_TEXT, LONG_TEXT] {
         let shared = RcStr::from_str(alloc, text)?;
         let pinned = SmolStr::new_static(text);
-        free! { &rt, alloc;
+        free! { rt, alloc;
             "SmolStr::new_static": SmolStr::new_static(text).place() == Place::Static;
             "SmolStr::from_rc_str": SmolStr::from_rc_str(shared).eq_str(text);
             "SmolStr::clone": pinned.clone().is_ok();
         }
     }
-    let inline = SmolStr::new_inline(FULL);
-    let heap = SmolStr::new(alloc, LONG)?;
-    free! { &rt, alloc;
-        "SmolStr::new_inline": SmolStr::new_inline(FULL).eq_str(FULL);
+    let inline = SmolStr::new_inline(FULL_TEXT);
+    let heap = SmolStr::new(alloc, LONG_TEXT)?;
+    free! { rt, alloc;
+        "SmolStr::new_inline": SmolStr::new_inline(FULL_TEXT).eq_str(FULL_TEXT);
         "SmolStr::from": SmolStr::from('🦀').eq_str("🦀");
         "SmolStr::default": SmolStr::default().is_empty();
         "SmolStr::clone": inline.clone().is_ok();
@@ -98,25 +83,16 @@ fn any_text(rt: HostRuntime) -> Result<(), Fail> {
 #[test]
 fn values(rt: HostRuntime) -> Result<(), Fail> {
     let alloc = rt.alloc();
-    let value = SmolStr::new(alloc, LONG)?;
-    let other = SmolStr::new_static(LONG);
-    let string = String::from_str(alloc, LONG)?;
+    let value = SmolStr::new(alloc, LONG_TEXT)?;
     let mut room = String::with_capacity(alloc, 100)?;
     let mut hasher = DefaultHasher::default();
-    free! { &rt, alloc;
-        "SmolStr::as_str": value.as_str() == LONG;
+    free! { rt, alloc;
+        "SmolStr::as_str": value.as_str() == LONG_TEXT;
         "SmolStr::len": value.len() == INLINE_CAP + 1;
         "SmolStr::is_empty": !value.is_empty();
         "SmolStr::is_heap_allocated": value.is_heap_allocated();
         "SmolStr::place": value.place() == Place::Heap;
         "SmolStr::inline_buffer": value.inline_buffer().is_none();
-        "SmolStr::eq": value.eq(&other);
-        "SmolStr::eq_str": value.eq_str(LONG);
-        "SmolStr::eq_string": value.eq_string(&string);
-        "SmolStr::partial_cmp": value.partial_cmp(&other).is_some();
-        "SmolStr::cmp": value.cmp(&other) == Ordering::Equal;
-        "SmolStr::cmp_str": value.cmp_str(FULL) == Ordering::Greater;
-        "SmolStr::cmp_string": value.cmp_string(&string) == Ordering::Equal;
         "SmolStr::hash": { value.hash(&mut hasher); true };
         "SmolStr::fmt": write!(room, "{value}{value:?}").is_ok();
     }
@@ -124,33 +100,68 @@ fn values(rt: HostRuntime) -> Result<(), Fail> {
 }
 
 #[test]
-fn builders(rt: HostRuntime) -> Result<(), Fail> {
+fn values_compared(rt: HostRuntime) -> Result<(), Fail> {
     let alloc = rt.alloc();
-    let builder = builder_of(alloc, 0, FULL)?;
-    let blank = builder_of(alloc, 100, "                        ")?;
-    let large = builder_of(alloc, 100, FULL)?;
-    let other = builder_of(alloc, 100, FULL)?;
+    let value = SmolStr::new(alloc, LONG_TEXT)?;
+    let other = SmolStr::new_static(LONG_TEXT);
+    let string = String::from_str(alloc, LONG_TEXT)?;
+    free! { rt, alloc;
+        "SmolStr::eq": value.eq(&other);
+        "SmolStr::eq_str": value.eq_str(LONG_TEXT);
+        "SmolStr::eq_string": value.eq_string(&string);
+        "SmolStr::partial_cmp": value.partial_cmp(&other).is_some();
+        "SmolStr::cmp": value.cmp(&other) == Ordering::Equal;
+        "SmolStr::cmp_str": value.cmp_str(FULL_TEXT) == Ordering::Greater;
+        "SmolStr::cmp_string": value.cmp_string(&string) == Ordering::Equal;
+    }
+    Ok(())
+}
+
+#[test]
+fn builders_made(rt: HostRuntime) -> Result<(), Fail> {
+    let alloc = rt.alloc();
     let steps = [
         Step::PushStr(String::from_str(alloc, "ab")?),
         Step::Push('c'),
     ];
-    free! { &rt, alloc;
+    free! { rt, alloc;
         "SmolStrBuilder::new": SmolStrBuilder::new(alloc).is_empty();
         "SmolStrBuilder::with_capacity": SmolStrBuilder::with_capacity(alloc, INLINE_CAP).is_ok();
         "SmolStrBuilder::push": SmolStrBuilder::new(alloc).push('🦀').is_ok();
-        "SmolStrBuilder::push_str": SmolStrBuilder::new(alloc).push_str(FULL).is_ok();
-        "SmolStrBuilder::write_str": SmolStrBuilder::new(alloc).write_str(FULL).is_ok();
-        "SmolStrBuilder::write_fmt": SmolStrBuilder::new(alloc).write_fmt(FULL).is_ok();
+        "SmolStrBuilder::push_str": SmolStrBuilder::new(alloc).push_str(FULL_TEXT).is_ok();
+        "SmolStrBuilder::write_str": SmolStrBuilder::new(alloc).write_str(FULL_TEXT).is_ok();
+        "SmolStrBuilder::write_fmt": SmolStrBuilder::new(alloc).write_fmt(FULL_TEXT).is_ok();
+        "build": build(alloc, INLINE_CAP, &steps).is_ok();
+    }
+    Ok(())
+}
+
+#[test]
+fn builders(rt: HostRuntime) -> Result<(), Fail> {
+    let alloc = rt.alloc();
+    let builder = builder_of(alloc, 0, FULL_TEXT)?;
+    let large = builder_of(alloc, 100, FULL_TEXT)?;
+    free! { rt, alloc;
         "SmolStrBuilder::clone": builder.clone().is_ok();
-        "SmolStrBuilder::as_str": builder.as_str() == FULL;
+        "SmolStrBuilder::as_str": builder.as_str() == FULL_TEXT;
         "SmolStrBuilder::len": builder.len() == INLINE_CAP;
         "SmolStrBuilder::is_empty": !builder.is_empty();
         "SmolStrBuilder::inline_buffer": builder.inline_buffer().is_some();
         "SmolStrBuilder::eq": builder.eq(&large);
+    }
+    Ok(())
+}
+
+#[test]
+fn builders_finished(rt: HostRuntime) -> Result<(), Fail> {
+    let alloc = rt.alloc();
+    let blank = builder_of(alloc, 100, LONG_BLANK)?;
+    let large = builder_of(alloc, 100, FULL_TEXT)?;
+    let other = builder_of(alloc, 100, FULL_TEXT)?;
+    free! { rt, alloc;
         "SmolStrBuilder::finish": large.finish().is_ok();
         "SmolStr::from_builder": SmolStr::from_builder(blank).is_ok();
         "format::finished": finished(other).is_ok();
-        "build": build(alloc, INLINE_CAP, &steps).is_ok();
     }
     Ok(())
 }
@@ -166,48 +177,71 @@ fn items(rt: HostRuntime) -> Result<(), Fail> {
         String::from_str(alloc, "ab")?,
         String::from_str(alloc, "c")?,
     ];
-    free! { &rt, alloc;
-        "SmolStr::from_chars": SmolStr::from_chars(alloc, FULL.chars()).is_ok();
+    free! { rt, alloc;
+        "SmolStr::from_chars": SmolStr::from_chars(alloc, FULL_TEXT.chars()).is_ok();
         "SmolStr::from_strs": SmolStr::from_strs(alloc, ["ab", "c"].into_iter()).is_ok();
         "SmolStr::from_string_refs": SmolStr::from_string_refs(alloc, strings.iter()).is_ok();
         "SmolStr::from_strings": SmolStr::from_strings(alloc, owned.into_iter()).is_ok();
-        "SmolStrBuilder::extend_chars": SmolStrBuilder::new(alloc).extend_chars(FULL.chars()).is_ok();
+    }
+    Ok(())
+}
+
+#[test]
+fn extended(rt: HostRuntime) -> Result<(), Fail> {
+    let alloc = rt.alloc();
+    let strings = [String::from_str(alloc, "ab")?];
+    free! { rt, alloc;
+        "SmolStrBuilder::extend_chars": SmolStrBuilder::new(alloc).extend_chars(FULL_TEXT.chars()).is_ok();
         "SmolStrBuilder::extend_strs": SmolStrBuilder::new(alloc).extend_strs(["ab", "c"].into_iter()).is_ok();
         "SmolStrBuilder::extend_strings": SmolStrBuilder::new(alloc).extend_strings(strings.iter()).is_ok();
-        "Piece::append_to": FULL.append_to(&mut SmolStrBuilder::new(alloc)).is_ok();
-        "ToSmolStr::to_smolstr": FULL.to_smolstr(alloc).is_ok();
+        "Piece::append_to": FULL_TEXT.append_to(&mut SmolStrBuilder::new(alloc)).is_ok();
+        "ToSmolStr::to_smolstr": FULL_TEXT.to_smolstr(alloc).is_ok();
         "format_smolstr!": format_smolstr!(alloc; "{}-{:>4}", "ab", 7).is_ok();
     }
     Ok(())
 }
 
 #[test]
-fn texts(rt: HostRuntime) -> Result<(), Fail> {
+fn cases(rt: HostRuntime) {
+    let alloc = rt.alloc();
+    free! { rt, alloc;
+        "StrExt::to_ascii_lowercase_smolstr": FULL_TEXT.to_ascii_lowercase_smolstr(alloc).is_ok();
+        "StrExt::to_ascii_uppercase_smolstr": "aßΔC".to_ascii_uppercase_smolstr(alloc).is_ok();
+        "StrExt::to_lowercase_smolstr": FULL_TEXT.to_lowercase_smolstr(alloc).is_ok();
+        "StrExt::to_uppercase_smolstr": FULL_TEXT.to_uppercase_smolstr(alloc).is_ok();
+    }
+}
+
+#[test]
+fn replaced(rt: HostRuntime) -> Result<(), Fail> {
     let alloc = rt.alloc();
     let long = repeated(alloc, "a", 5000)?;
     let long = long.as_str();
-    free! { &rt, alloc;
-        "StrExt::to_ascii_lowercase_smolstr": FULL.to_ascii_lowercase_smolstr(alloc).is_ok();
-        "StrExt::to_ascii_uppercase_smolstr": "aßΔC".to_ascii_uppercase_smolstr(alloc).is_ok();
-        "StrExt::to_lowercase_smolstr": FULL.to_lowercase_smolstr(alloc).is_ok();
-        "StrExt::to_uppercase_smolstr": FULL.to_uppercase_smolstr(alloc).is_ok();
+    free! { rt, alloc;
         "StrExt::replace_smolstr": long.replace_smolstr(alloc, "a", "").is_ok();
-        "StrExt::replacen_smolstr": FULL.replacen_smolstr(alloc, "aa", "b", 3).is_ok();
-        "kernel::next_match": next_match(long, 0, "aa").is_some();
-        "kernel::convert_while_ascii": convert_while_ascii(FULL, AsciiCase::Upper).1 == INLINE_CAP;
+        "StrExt::replacen_smolstr": FULL_TEXT.replacen_smolstr(alloc, "aa", "b", 3).is_ok();
     }
     Ok(())
 }
 
 #[test]
+fn loops_over_bytes(rt: HostRuntime) {
+    let alloc = rt.alloc();
+    free! { rt, alloc;
+        "kernel::next_match": next_match(LONG_TEXT, 0, "aa").is_some();
+        "kernel::convert_while_ascii": convert_while_ascii(FULL_TEXT, AsciiCase::Upper).1 == INLINE_CAP;
+    }
+}
+
+#[test]
 fn streams(rt: HostRuntime) -> Result<(), Fail> {
     let alloc = rt.alloc();
-    let value = SmolStr::new(alloc, LONG)?;
+    let value = SmolStr::new(alloc, LONG_TEXT)?;
     let mut form = b"\x02\0\0\0ab".as_slice();
-    let mut rest = LONG.as_bytes();
+    let mut rest = LONG_TEXT.as_bytes();
     let mut buffer = [0; 7];
     let mut out = Vec::with_capacity(alloc, 100)?;
-    free! { &rt, alloc;
+    free! { rt, alloc;
         "borsh::length_prefix": length_prefix(5000).is_some();
         "borsh::from_wire": from_wire(alloc, b"\x02\0\0\0ab").is_ok();
         "BorshDeserialize::deserialize_reader": SmolStr::deserialize_reader(alloc, &mut form).is_ok();
