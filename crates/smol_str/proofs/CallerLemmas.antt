@@ -4,14 +4,18 @@
 --     appended-more, appended-refused     a loop that appends a piece for each item of a list
 --     collecting  a ruleset: collecting and extending from an iterator that gives a list
 --     form_is_whole, form-..              bytes that are a wire form: both calls read its text
+--     form-cut-..                         bytes of which the end may be missing: what has not ended early is whole
+--     Holds-parts                         a form that is held, and what follows it
 --     key_of, same_key-other              a map with values as keys, at other texts than the one that changed
 --     IsCut-cut, IsCut-unique, IsCutAt-step, IsCutAt-unmatched     that pieces are the cut of a text
-use Rattle.std.proofs.Common.{◌≡◌, ℕ, ◌+◌, ◌<◌, ◌≤◌, String, Global, Bor, Option, Result, Ok, Err, IfOk, IsOk, OnOk, OnErr, subst, List, [], ◌++◌, length, take, drop, get_or, encode_utf8_all, refl, sym, ap, ◌∙◌, inl, append-nil, false, IsTrue}
+use Rattle.std.proofs.Common.{◌≡◌, ℕ, ◌+◌, ◌<◌, ◌≤◌, String, Global, Bor, Option, Result, Ok, Err, IfOk, IsOk, OnOk, OnErr, subst, List, [], ◌++◌, length, take, drop, get_or, encode_utf8_all, refl, sym, ap, ◌∙◌, inl, inr, append-nil, take-append-drop, false, IsTrue, arith}
 use Rattle.std.specs.List.{flat_map}
+use Rattle.std.specs.Int.{from_le_bytes, w32}
 use Rattle.std.specs.Str.{chars, all_scalars, bytes_eq, IsUtf8}
 use Rattle.std.proofs.lemmas.Bool.{false_from_ne_true}
 use Rattle.std.proofs.lemmas.Iterator.{YieldsList, YieldsList-from_chars, YieldsList-from_slice}
 use Rattle.std.proofs.lemmas.Iterator.Adapters.{YieldsList-from_vec}
+use Rattle.std.proofs.lemmas.List.{length-take-le, take-append-le}
 use Rattle.std.proofs.lemmas.Slice.Eq.{bytes_eq-Decides}
 use Rattle.std.proofs.lemmas.Str.{chars-encodes, chars_from_encodes, encodes-chars}
 use Rattle.smol_str.specs.declared.buffer.TheConstants.{INLINE_CAP}
@@ -26,8 +30,8 @@ use Rattle.smol_str.proofs.ListLemmas.{flat_map-more, flat_map-parts}
 use Rattle.smol_str.proofs.TextLemmas.{size-chars, IsShort-chars}
 use Rattle.smol_str.proofs.DraftLemmas.{kind_with-short}
 use Rattle.smol_str.proofs.CollectLemmas.{joined-chars, joined-drained, not_short-outgrown}
-use Rattle.smol_str.specs.Wire.{HasWire, wire, Holds, HasEndedEarly, body}
-use Rattle.smol_str.proofs.WireLemmas.{wire-apart, Holds-one, Holds-whole, body-Holds, Holds-written}
+use Rattle.smol_str.specs.Wire.{HasWire, wire, Holds, stated, HasEndedEarly, body}
+use Rattle.smol_str.proofs.WireLemmas.{length-wire, stated_size, wire-apart, Holds-one, Holds-whole, body-Holds, Holds-written}
 -- each front of a short text is short
 pub use Rattle.smol_str.proofs.TextLemmas.{IsShort-front}
 -- appending twice is appending the joined text; a new builder leaves its buffer only for a text that is not short
@@ -213,8 +217,16 @@ pub ruleset collecting = (
   YieldsList-from_vec,
 )
 
--- ---- wire forms: bytes that are the form of t, and what follows it
+-- ---- wire forms
 
+-- what is held, and what follows it
+pub Holds-parts : (b t : List ℕ) (n : ℕ) → Holds b t n → (b ≡ wire t ++ drop n b) × (n ≡ length (wire t))
+Holds-parts b t n h = (
+  sym (take-append-drop n b) ∙ ap (λ l. l ++ drop n b) h.reads,
+  sym (length-take-le n b h.within) ∙ ap length h.reads,
+)
+
+-- bytes that are the form of t, and what follows it
 module _ (b t x : List ℕ) (sized : HasWire t) (scalars : IsTrue (all_scalars t)) (is : b ≡ wire t ++ x) where
   form_is_held : Holds b t (size t + 4)
   form_is_held = subst (λ s. Holds s t (size t + 4)) (sym is) (Holds-written t x sized scalars)
@@ -235,3 +247,34 @@ module _ (b t x : List ℕ) (sized : HasWire t) (scalars : IsTrue (all_scalars t
   -- what `deserialize_reader` consumes of them, and leaves
   pub form-read : (u r : List ℕ) → HasWire u → b ≡ wire u ++ r → (u ≡ t) × (r ≡ x)
   form-read u r fits e = wire-apart u t r x fits sized (sym e ∙ is)
+
+-- bytes that with more are the form of t and what follows it: where they have not ended early, the form is all there
+module _ (b more t x : List ℕ) (sized : HasWire t) (scalars : IsTrue (all_scalars t)) (is : b ++ more ≡ wire t ++ x)
+    (whole : ¬ HasEndedEarly b) where
+  four : 4 ≤ length b
+  four = omega (arith, λ (h : length b < 4). whole (inl h))
+
+  states : stated b ≡ size t
+  unfolding stated
+  states = sym (ap (from_le_bytes w32) (take-append-le 4 b more four)) ∙ ap stated is ∙ stated_size t x sized
+
+  within : size t + 4 ≤ length b
+  within = let says = states in omega (arith, λ (h : length b < 4 + stated b). whole (inr h))
+
+  pub form-cut-held : Holds b t (size t + 4)
+  form-cut-held =
+      let front = sym (take-append-le (size t + 4) b more within) ∙ ap (take (size t + 4)) is in
+      let reads = (Holds-written t x sized scalars).reads in
+      record { scalars = scalars; sized = sized; within = within; reads = front ∙ reads }
+
+  form_is_there : b ≡ wire t ++ drop (size t + 4) b
+  form_is_there = (Holds-parts b t (size t + 4) form-cut-held).0
+
+  pub form-cut-long : length (wire t) ≤ length b
+  form-cut-long = rw (length-wire t) within
+
+  pub form-cut-utf8 : IsUtf8 (body b)
+  form-cut-utf8 = form-utf8 b t (drop (size t + 4) b) sized scalars form_is_there
+
+  pub form-cut-text : chars (body b) ≡ t
+  form-cut-text = form-text b t (drop (size t + 4) b) sized scalars form_is_there

@@ -3,6 +3,7 @@
 
 pub mod building;
 pub mod collecting;
+pub mod cut_records;
 pub mod formatting;
 pub mod headers;
 pub mod headline;

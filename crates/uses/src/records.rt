@@ -1,11 +1,9 @@
 //! A record format: a field is a name and a value, their wire forms one after the other.
-ghost use Rattle.std.specs.Prelude.{◌≡◌, ◌<◌, ◌⊎◌, ◌++◌, ℕ, List, length, IfOk, IfErr, IfSome, IsErr, OnOk};
+ghost use Rattle.std.specs.Prelude.{◌≡◌, ◌++◌, ℕ, List, length, IfOk, IfErr, IfSome, OnOk};
 ghost use Rattle.std.specs.Io.KnownBytes.{Appends, Consumes};
-ghost use Rattle.smol_str.specs.declared.borsh.fault.DecodeFault.TheVariants.{OutOfMemory};
-ghost use Rattle.smol_str.specs.Text.{place_of, IsResident};
+ghost use Rattle.smol_str.specs.Text.{place_of};
 ghost use Rattle.smol_str.specs.Wire.{HasWire, wire};
-ghost use Rattle.uses.specs.Fields.{HasForm, form, IsFieldOf, HoldsField};
-ghost use Rattle.uses.specs.Fields.{AfterFieldFault, AfterFieldWireFault, IsNoText, IsEnded};
+ghost use Rattle.uses.specs.Fields.{HasForm, form, IsFieldOf, HoldsField, AfterFieldFault, AfterFieldWireFault};
 
 use smol_str::borsh::{BorshDeserialize, BorshSerialize, DecodeFault, EncodeFault, from_wire};
 use smol_str::{SmolStr, laws};
@@ -86,46 +84,6 @@ pub fn find_back(alloc: Global, bytes: &[u8], field: &Field, rest: &[u8]) -> Opt
         Ok(read) => Some(read),
         Err(_fault) => None,
     }
-}
-
-/// A field of which the end is missing: it is not read, and the fault is `Ended`, or of memory or the reader.
-pub fn read_cut(
-    alloc: Global,
-    bytes: &[u8],
-    field: &Field,
-    missing: &[u8],
-) -> Result<Field, DecodeFault>
-    requires sized { HasForm field.now }
-    requires cut { bytes.now ++ missing.now ≡ form field.now }
-    requires some { 0 < length missing.now }
-    ensures refused { IsErr result }
-    ensures fault { IfErr result (λ fault. ¬ (IsNoText fault)) }
-{
-    laws::wire_forms();
-    let _name = field.name.as_str();
-    let _value = field.value.as_str();
-    let mut reader = bytes;
-    read_field(alloc, &mut reader)
-}
-
-/// The same by `from_wire`: where the name needs no memory, the fault is `Ended`; else it may be want of memory for it.
-pub fn find_cut(
-    alloc: Global,
-    bytes: &[u8],
-    field: &Field,
-    missing: &[u8],
-) -> Result<(Field, usize), DecodeFault>
-    requires sized { HasForm field.now }
-    requires cut { bytes.now ++ missing.now ≡ form field.now }
-    requires some { 0 < length missing.now }
-    ensures refused { IsErr result }
-    ensures ended { IsResident field.now.name.text → IfErr result IsEnded }
-    ensures fault { IfErr result (λ fault. IsEnded fault ⊎ (fault ≡ OutOfMemory)) }
-{
-    laws::wire_forms();
-    let _name = field.name.as_str();
-    let _value = field.value.as_str();
-    field_from_wire(alloc, bytes)
 }
 
 /// No field begins another's bytes: bytes that two fields begin with are of one field.
