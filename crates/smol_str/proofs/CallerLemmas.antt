@@ -1,5 +1,7 @@
 -- For crates that call this one: what their proofs cite of it. They need no other file of these proofs.
 --     texts       a ruleset: from the bytes of `as_str` back to the text, and from bytes to sizes
+--     size-chars, size-append             the size of the text that bytes spell, and of two texts
+--     boundary-parts, chars-take, chars-drop    a `&str` whose text has two parts: it may be cut into these
 --     builders    a ruleset: appends after appends, and when a builder leaves its buffer
 --     appended-more, appended-refused     a loop that appends a piece for each item of a list
 --     collecting  a ruleset: collecting and extending from an iterator that gives a list
@@ -27,13 +29,18 @@ use Rattle.smol_str.specs.Draft.{Draft, Kind, InBuffer, OnHeap, kind_with, appen
 use Rattle.smol_str.specs.Joined.{joined, char_text, str_text, string_text, string_ref_text}
 use Rattle.smol_str.specs.Collect.{AppendedAll, Collected, Outgrown}
 use Rattle.smol_str.proofs.ListLemmas.{flat_map-more, flat_map-parts}
-use Rattle.smol_str.proofs.TextLemmas.{size-chars, IsShort-chars}
+use Rattle.smol_str.proofs.TextLemmas.{IsShort-chars}
+use Rattle.smol_str.proofs.SplitLemmas.{chars-middle}
 use Rattle.smol_str.proofs.DraftLemmas.{kind_with-short}
 use Rattle.smol_str.proofs.CollectLemmas.{joined-chars, joined-drained, not_short-outgrown}
 use Rattle.smol_str.specs.Wire.{HasWire, wire, Holds, stated, HasEndedEarly, body}
 use Rattle.smol_str.proofs.WireLemmas.{length-wire, stated_size, wire-apart, Holds-one, Holds-whole, body-Holds, Holds-written}
 -- each front of a short text is short
 pub use Rattle.smol_str.proofs.TextLemmas.{IsShort-front}
+-- the size of the text that bytes spell, and of two texts, one after the other
+pub use Rattle.smol_str.proofs.TextLemmas.{size-chars, size-append}
+-- bytes of a text in two parts, at the size of the first: they may be cut there, and behind the cut stands the second
+pub use Rattle.smol_str.proofs.SplitLemmas.{boundary-parts, chars-drop}
 -- appending twice is appending the joined text; a new builder leaves its buffer only for a text that is not short
 pub use Rattle.smol_str.proofs.DraftLemmas.{appended-twice, OnHeap-long}
 -- whatever the result: for a clause on `Err` that holds anyway
@@ -50,6 +57,11 @@ chars-as_str t bs scalars e = ap chars e ∙ chars-encodes t scalars
 -- their number is the text's size
 pub length-as_str : (t bs : List ℕ) → bs ≡ encode_utf8_all t → length bs ≡ size t
 length-as_str t bs e = ap length e
+
+-- before such a cut stands the first
+pub chars-take : (bs a b : List ℕ) (i : ℕ) → IsUtf8 bs → chars bs ≡ a ++ b → size a ≡ i → chars (take i bs) ≡ a
+chars-take bs a b i u e n =
+    subst (λ k. chars (take k bs) ≡ a) (omega arith) (chars-middle bs [] a b 0 i u e refl n)
 
 -- a text of so few bytes needs no memory
 pub IsResident-few : (bs : List ℕ) → IsUtf8 bs → length bs ≤ INLINE_CAP → IsResident (chars bs)

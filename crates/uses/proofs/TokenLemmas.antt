@@ -1,15 +1,15 @@
 -- For the lexer: the longest token that a text begins with, where a text is cut behind it, and one token more.
-use Rattle.std.proofs.Common.{◌≡◌, ℕ, ◌-◌, List, [], ◌∷◌, ◌++◌, length, take, drop, true, refl, sym, ap, ◌∙◌, subst, arith, append_assoc, append-nil, encode_utf8_all}
+use Rattle.std.proofs.Common.{◌≡◌, ℕ, ◌-◌, List, [], ◌∷◌, ◌++◌, length, take, drop, true, refl, sym, ap, ◌∙◌, subst, arith, append_assoc, append-nil}
 use Rattle.std.specs.List.{All, concat, flat_map}
 use Rattle.std.specs.Str.{chars, IsUtf8, IsCharBoundary}
 use Rattle.std.proofs.lemmas.Bool.{both_ways}
-use Rattle.std.proofs.lemmas.List.{length-append, map-append}
+use Rattle.std.proofs.lemmas.List.{map-append}
 use Rattle.std.proofs.lemmas.List.Concat.{flat_map-append}
+use Rattle.std.proofs.lemmas.List.Folds.{concat-append}
 use Rattle.std.proofs.lemmas.List.Elements.{All-head, All-push, All-tail}
-use Rattle.std.proofs.Math.Seq.{take-append_seam, drop-append_seam}
-use Rattle.std.proofs.lemmas.Str.{encodes-chars, encodes-append, encodes_same, IsUtf8-take, IsCharBoundary-at_seam}
-use Rattle.smol_str.specs.Text.{place_of}
+use Rattle.smol_str.specs.Text.{size, place_of}
 use Rattle.smol_str.specs.Meaning.{Meaning, IsValueOf}
+use Rattle.smol_str.proofs.CallerLemmas.{size-chars, size-append, boundary-parts, chars-take, chars-drop}
 use Rattle.uses.specs.Names.{texts}
 use Rattle.uses.specs.Tokens.{IsToken, IsLongest, AreLongest, IsFirstToken, Stops, IsLeftIn, IsLeftAfter, goes_on}
 
@@ -35,57 +35,39 @@ longest-run c run left stops = λ more after e token. by left more after stops e
   by left [] after stops e token = refl
   by left (d ∷ more) after stops e token = absurd (both_ways _ (rw e at stops) (passes-after c d run more token))
 
--- ---- where a text is cut
+-- ---- the first token of a text that begins with c, and where the text is cut behind it
 
-module _ (text after run : List ℕ) (u : IsUtf8 text) (v : IsUtf8 after) (whole : chars text ≡ run ++ chars after) where
-  seam : text ≡ encode_utf8_all run ++ after
-  seam =
-      sym (encodes-chars text u) ∙ ap encode_utf8_all whole ∙ encodes-append run (chars after)
-      ∙ ap (λ l. encode_utf8_all run ++ l) (encodes-chars after v)
-
-  at_seam : length text - length after ≡ length (encode_utf8_all run)
-  at_seam = let long = ap length seam ∙ length-append (encode_utf8_all run) after in omega (arith, long)
-
-  cut : IsCharBoundary text (length text - length after)
-  cut = rw at_seam (IsCharBoundary-at_seam text (encode_utf8_all run) after seam v)
-
-  in_front : (bs : List ℕ) → bs ≡ take (length text - length after) text → chars bs ≡ run
-  in_front bs e =
-      let utf8 = subst IsUtf8 (sym e) (IsUtf8-take text (length text - length after) u cut) in
-      let bytes : bs ≡ encode_utf8_all run
-      = e ∙ rw (at_seam, seam) (take-append_seam (encode_utf8_all run) after) in
-      encodes_same (chars bs) run (encodes-chars bs utf8 ∙ bytes)
-
-  behind : (bs : List ℕ) → bs ≡ drop (length text - length after) text → chars bs ≡ chars after
-  behind bs e = ap chars (e ∙ rw (at_seam, seam) (drop-append_seam (encode_utf8_all run) after))
-
--- the first token of a text that begins with c
 module _ (text rest after : List ℕ) (c : ℕ) (u : IsUtf8 text) (v : IsUtf8 after) (first : chars text ≡ c ∷ chars rest)
     (left : IsLeftAfter c (chars rest) (chars after)) where
-  whole : chars text ≡ c ∷ left.0.0 ++ chars after
+  abbrev characters : List ℕ
+  characters = c ∷ left.0.0
+
+  whole : chars text ≡ characters ++ chars after
   whole = first ∙ ap (λ l. c ∷ l) left.0.1
 
+  seam : size characters ≡ length text - length after
+  seam =
+      let sizes = ap size whole ∙ size-append characters (chars after) in
+      omega (arith, sizes, size-chars text u, size-chars after v)
+
   pub boundary : IsCharBoundary text (length text - length after)
-  boundary = cut text after (c ∷ left.0.0) u v whole
+  boundary = boundary-parts text characters (chars after) (length text - length after) u whole seam
 
   pub first-token : (token back : List ℕ) → token ≡ take (length text - length after) text
       → back ≡ drop (length text - length after) text → IsFirstToken (chars text) (chars token) (chars back)
   first-token token back e f =
-      let front : chars token ≡ c ∷ left.0.0 = in_front text after (c ∷ left.0.0) u v whole token e in
-      let rests : chars back ≡ chars after = behind text after (c ∷ left.0.0) u v whole back f in
+      let front = ap chars e ∙ chars-take text characters (chars after) (length text - length after) u whole seam in
+      let behind = ap chars f ∙ chars-drop text characters (chars after) (length text - length after) u whole seam in
       record {
-        whole = rw (front, rests) whole;
+        whole = rw (front, behind) whole;
         kind = rw front left.0.2;
-        longest = rw (front, rests) (longest-run c left.0.0 (chars after) left.1);
+        longest = rw (front, behind) (longest-run c left.0.0 (chars after) left.1);
       }
 
 -- ---- the tokens so far
 
 pushed : (ts : List (List ℕ)) (t left : List ℕ) → concat ts ++ (t ++ left) ≡ concat (ts ++ t ∷ []) ++ left
-pushed [] t left = ap (λ l. l ++ left) (sym (append-nil t))
-pushed (u ∷ ts) t left =
-    append_assoc u (concat ts) (t ++ left) ∙ ap (λ l. u ++ l) (pushed ts t left)
-    ∙ sym (append_assoc u (concat (ts ++ t ∷ [])) left)
+pushed ts t left = rw (concat-append ts (t ∷ []), append-nil t) (sym (append_assoc (concat ts) t left))
 
 pub AreLongest-push : (ts : List (List ℕ)) (t left : List ℕ) → AreLongest ts (t ++ left) → IsLongest t left
     → AreLongest (ts ++ t ∷ []) left
