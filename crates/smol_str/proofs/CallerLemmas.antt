@@ -10,14 +10,14 @@
 --     Holds-parts                         a form that is held, and what follows it
 --     key_of, same_key-other              a map with values as keys, at other texts than the one that changed
 --     IsCut-cut, IsCut-unique, IsCutAt-step, IsCutAt-unmatched     that pieces are the cut of a text
-use Rattle.std.proofs.Common.{◌≡◌, ℕ, ◌+◌, ◌<◌, ◌≤◌, String, Global, Bor, Option, Result, Ok, Err, IfOk, IsOk, OnOk, OnErr, subst, List, [], ◌++◌, length, take, drop, get_or, encode_utf8_all, refl, sym, ap, ◌∙◌, inl, inr, append-nil, take-append-drop, false, IsTrue, arith}
+use Rattle.std.proofs.Common.{◌≡◌, ℕ, ◌+◌, ◌<◌, ◌≤◌, String, Global, Bor, Option, Result, Ok, Err, IfOk, IsOk, OnOk, OnErr, subst, List, [], ◌++◌, length, take, drop, get_or, encode_utf8_all, refl, sym, ap, ◌∙◌, inl, inr, append-nil, false, IsTrue, arith}
 use Rattle.std.specs.List.{flat_map}
 use Rattle.std.specs.Int.{from_le_bytes, w32}
 use Rattle.std.specs.Str.{chars, all_scalars, bytes_eq, IsUtf8}
 use Rattle.std.proofs.lemmas.Bool.{false_from_ne_true}
 use Rattle.std.proofs.lemmas.Iterator.{YieldsList, YieldsList-from_chars, YieldsList-from_slice}
 use Rattle.std.proofs.lemmas.Iterator.Adapters.{YieldsList-from_vec}
-use Rattle.std.proofs.lemmas.List.{length-take-le, take-append-le}
+use Rattle.std.proofs.lemmas.List.{take-append-le}
 use Rattle.std.proofs.lemmas.Slice.Eq.{bytes_eq-Decides}
 use Rattle.std.proofs.lemmas.Str.{chars-encodes, chars_from_encodes, encodes-chars}
 use Rattle.smol_str.specs.declared.buffer.TheConstants.{INLINE_CAP}
@@ -34,7 +34,7 @@ use Rattle.smol_str.proofs.SplitLemmas.{chars-middle}
 use Rattle.smol_str.proofs.DraftLemmas.{kind_with-short}
 use Rattle.smol_str.proofs.CollectLemmas.{joined-chars, joined-drained, not_short-outgrown}
 use Rattle.smol_str.specs.Wire.{HasWire, wire, Holds, stated, HasEndedEarly, body}
-use Rattle.smol_str.proofs.WireLemmas.{length-wire, stated_size, wire-apart, Holds-one, Holds-whole, body-Holds, Holds-written}
+use Rattle.smol_str.proofs.WireLemmas.{length-wire, stated_size, wire-apart, Holds-one, Holds-whole, body-Holds, Holds-written, held, length-Holds}
 -- each front of a short text is short
 pub use Rattle.smol_str.proofs.TextLemmas.{IsShort-front}
 -- the size of the text that bytes spell, and of two texts, one after the other
@@ -233,10 +233,7 @@ pub ruleset collecting = (
 
 -- what is held, and what follows it
 pub Holds-parts : (b t : List ℕ) (n : ℕ) → Holds b t n → (b ≡ wire t ++ drop n b) × (n ≡ length (wire t))
-Holds-parts b t n h = (
-  sym (take-append-drop n b) ∙ ap (λ l. l ++ drop n b) h.reads,
-  sym (length-take-le n b h.within) ∙ ap length h.reads,
-)
+Holds-parts b t n h = (held b t n h, length-Holds b t n h ∙ sym (length-wire t))
 
 -- bytes that are the form of t, and what follows it
 module _ (b t x : List ℕ) (sized : HasWire t) (scalars : IsTrue (all_scalars t)) (is : b ≡ wire t ++ x) where

@@ -41,10 +41,10 @@ wire-apart s t x y h k e =
     (encodes_same s t bytes, append_cancel_left (encode_utf8_all s) x y (rest ∙ ap (λ b. b ++ y) (sym bytes)))
 
 -- what is held, and what follows it
-held : (b t : List ℕ) (n : ℕ) → Holds b t n → b ≡ wire t ++ drop n b
+pub held : (b t : List ℕ) (n : ℕ) → Holds b t n → b ≡ wire t ++ drop n b
 held b t n h = sym (take-append-drop n b) ∙ ap (λ s. s ++ drop n b) h.reads
 
-length-Holds : (b t : List ℕ) (n : ℕ) → Holds b t n → n ≡ size t + 4
+pub length-Holds : (b t : List ℕ) (n : ℕ) → Holds b t n → n ≡ size t + 4
 length-Holds b t n h = sym (length-take-le n b h.within) ∙ ap length h.reads ∙ length-wire t
 
 pub Holds-one : (b s t : List ℕ) (m n : ℕ) → Holds b s m → Holds b t n → (s ≡ t) × (m ≡ n)
