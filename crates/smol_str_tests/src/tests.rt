@@ -25,23 +25,40 @@ mod wire_memory;
 mod without_memory;
 mod writers;
 
-use smol_str::INLINE_CAP;
+use smol_str::{BLANK_NEWLINES, BLANK_SPACES, INLINE_CAP};
 use std::alloc::{AllocError, Global};
 
 /// A text that fills a buffer.
 const FULL_TEXT: &str = "aaaaaaaaaaaaaaaaaaaaaaa";
 
+/// The same text in capitals.
+const FULL_CAPITALS: &str = "AAAAAAAAAAAAAAAAAAAAAAA";
+
 /// A text that is a byte too long for a buffer, and no blank run.
 const LONG_TEXT: &str = "aaaaaaaaaaaaaaaaaaaaaaaa";
+
+/// One as long that differs in its last byte.
+const LONG_OTHER: &str = "aaaaaaaaaaaaaaaaaaaaaaab";
+
+/// The long text in capitals.
+const LONG_CAPITALS: &str = "AAAAAAAAAAAAAAAAAAAAAAAA";
 
 /// A blank run that is a byte too long for a buffer.
 const LONG_BLANK: &str = "                        ";
 
 #[test]
+fn limits(rt: HostRuntime) {
+    assert_eq!(rt; (INLINE_CAP, BLANK_NEWLINES, BLANK_SPACES), (23, 32, 128));
+}
+
+#[test]
 fn texts_at_the_limit(rt: HostRuntime) {
-    assert_eq!(rt; FULL_TEXT.len(), INLINE_CAP);
-    assert_eq!(rt; LONG_TEXT.len(), INLINE_CAP + 1);
-    assert_eq!(rt; LONG_BLANK.len(), INLINE_CAP + 1);
+    for text in [FULL_TEXT, FULL_CAPITALS] {
+        assert_eq!(rt; text.len(), INLINE_CAP, "{text}");
+    }
+    for text in [LONG_TEXT, LONG_OTHER, LONG_CAPITALS, LONG_BLANK] {
+        assert_eq!(rt; text.len(), INLINE_CAP + 1, "{text}");
+    }
 }
 
 /// A text so many times.

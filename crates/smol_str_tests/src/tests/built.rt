@@ -3,6 +3,7 @@ ghost use Rattle.std.specs.Prelude.{◌≡◌, IfOk};
 ghost use Rattle.std.specs.Str.{chars};
 
 use super::refuse::{can_refuse, end_refusals, refuse_all};
+use super::{LONG_BLANK, repeated};
 use smol_str::{INLINE_CAP, Place, SmolStr, SmolStrBuilder, Step, build};
 use std::alloc::{AllocError, Global};
 use std::process::Abort;
@@ -13,15 +14,31 @@ use std::test::Fail;
 enum Piece {
     Char(char),
     Text(&'static str),
+    /// So many `a`.
+    Letters(usize),
 }
 
-/// Pieces, the text that they make, and its place.
-const ROWS: [(&[Piece], &str, Place); 15] = [
-    (&[], "", Place::Inline),
-    (&[Piece::Char('a'), Piece::Text("bc")], "abc", Place::Inline),
-    (&[Piece::Text("ab")], "ab", Place::Inline),
-    (&[Piece::Text("a"), Piece::Text("b")], "ab", Place::Inline),
-    (&[Piece::Char('a'), Piece::Char('b')], "ab", Place::Inline),
+/// Pieces; the text that they make, so many `a` and then an end; and its place.
+type Row = (&'static [Piece], (usize, &'static str), Place);
+
+const ROWS: [Row; 17] = [
+    (&[], (0, ""), Place::Inline),
+    (
+        &[Piece::Char('a'), Piece::Text("bc")],
+        (0, "abc"),
+        Place::Inline,
+    ),
+    (&[Piece::Text("ab")], (0, "ab"), Place::Inline),
+    (
+        &[Piece::Text("a"), Piece::Text("b")],
+        (0, "ab"),
+        Place::Inline,
+    ),
+    (
+        &[Piece::Char('a'), Piece::Char('b')],
+        (0, "ab"),
+        Place::Inline,
+    ),
     (
         &[
             Piece::Text(""),
@@ -29,80 +46,78 @@ const ROWS: [(&[Piece], &str, Place); 15] = [
             Piece::Text(""),
             Piece::Text("b"),
         ],
-        "ab",
+        (0, "ab"),
         Place::Inline,
     ),
     (
         &[Piece::Char('é'), Piece::Char('€'), Piece::Char('🦀')],
-        "é€🦀",
+        (0, "é€🦀"),
         Place::Inline,
     ),
     (
-        &[Piece::Text("aaaaaaaaaaaaaaaaaaaaaaa")],
-        "aaaaaaaaaaaaaaaaaaaaaaa",
+        &[Piece::Letters(INLINE_CAP)],
+        (INLINE_CAP, ""),
         Place::Inline,
     ),
     (
-        &[Piece::Text("aaaaaaaaaaaaaaaaaaaaaaaa")],
-        "aaaaaaaaaaaaaaaaaaaaaaaa",
+        &[Piece::Letters(INLINE_CAP + 1)],
+        (INLINE_CAP + 1, ""),
         Place::Heap,
     ),
     (
-        &[Piece::Text("aaaaaaaaaaaaaaaaaaaaa"), Piece::Char('é')],
-        "aaaaaaaaaaaaaaaaaaaaaé",
+        &[Piece::Letters(INLINE_CAP - 2), Piece::Char('é')],
+        (INLINE_CAP - 2, "é"),
         Place::Inline,
     ),
     (
-        &[Piece::Text("aaaaaaaaaaaaaaaaaaaaaa"), Piece::Char('é')],
-        "aaaaaaaaaaaaaaaaaaaaaaé",
+        &[Piece::Letters(INLINE_CAP - 1), Piece::Char('é')],
+        (INLINE_CAP - 1, "é"),
         Place::Heap,
     ),
     (
-        &[
-            Piece::Text("aaaaaaaaaaaaaaaaaaaaaaa"),
-            Piece::Text("aaaaaaaaaaaaaaaaaaaaaaa"),
-        ],
-        "aaaaaaaaaaaaaaaaaaaaaaaaaaaaaaaaaaaaaaaaaaaaaa",
+        &[Piece::Letters(23), Piece::Letters(23)],
+        (46, ""),
         Place::Heap,
     ),
+    (&[Piece::Letters(23)], (23, ""), Place::Inline),
+    (&[Piece::Letters(24)], (24, ""), Place::Heap),
     (
         &[Piece::Text("ohnonononononononono!"), Piece::Char('🤯')],
-        "ohnonononononononono!🤯",
+        (0, "ohnonononononononono!🤯"),
         Place::Heap,
     ),
     (
         &[
-            Piece::Text("aaaaaaaaaaaaaaaaaaaaaaaa"),
+            Piece::Letters(INLINE_CAP + 1),
             Piece::Char('b'),
             Piece::Text("€"),
         ],
-        "aaaaaaaaaaaaaaaaaaaaaaaab€",
+        (INLINE_CAP + 1, "b€"),
         Place::Heap,
     ),
-    (
-        &[Piece::Text("                        ")],
-        "                        ",
-        Place::Static,
-    ),
+    (&[Piece::Text(LONG_BLANK)], (0, LONG_BLANK), Place::Static),
 ];
 
 #[test]
 fn test_builder_push_str(rt: HostRuntime) -> Result<(), Fail> {
-    for (pieces, text, place) in ROWS {
-        let builder = of_pieces(SmolStrBuilder::new(rt.alloc()), pieces)?;
-        assert_finishes(&rt, builder, text, place)?;
+    let alloc = rt.alloc();
+    for (pieces, wanted, place) in ROWS {
+        let text = text_of(alloc, wanted)?;
+        let builder = of_pieces(alloc, SmolStrBuilder::new(alloc), pieces)?;
+        assert_finishes(&rt, builder, text.as_str(), place)?;
     }
     Ok(())
 }
 
 #[test]
 fn test_builder_push(rt: HostRuntime) -> Result<(), Fail> {
-    for (_, text, place) in ROWS {
+    for (_, wanted, place) in ROWS {
+        let text = text_of(rt.alloc(), wanted)?;
         let mut builder = SmolStrBuilder::new(rt.alloc());
-        for character in text.chars() {
+        for character in text.as_str().chars() {
             builder.push(character)?;
         }
-        assert_finishes(&rt, builder, text, place)?;
+        assert_finishes(&rt, builder, text.as_str(), place)?;
     }
     Ok(())
 }
@@ -110,12 +125,14 @@ fn test_builder_push(rt: HostRuntime) -> Result<(), Fail> {
 #[test]
 fn every_capacity(rt: HostRuntime) -> Result<(), Fail> {
     let alloc = rt.alloc();
-    for (pieces, text, place) in ROWS {
+    for (pieces, wanted, place) in ROWS {
+        let text = text_of(alloc, wanted)?;
         for capacity in [0, INLINE_CAP, INLINE_CAP + 1, 100] {
             let value = build(alloc, capacity, &steps_of(alloc, pieces)?)?;
-            assert_value(&rt, &value, text, place);
+            assert_value(&rt, &value, text.as_str(), place);
             let builder = SmolStrBuilder::with_capacity(alloc, capacity)?;
-            assert_finishes(&rt, of_pieces(builder, pieces)?, text, place)?;
+            let builder = of_pieces(alloc, builder, pieces)?;
+            assert_finishes(&rt, builder, text.as_str(), place)?;
         }
     }
     Ok(())
@@ -125,18 +142,20 @@ fn every_capacity(rt: HostRuntime) -> Result<(), Fail> {
 #[test]
 fn refused_at_the_boundary(rt: HostRuntime) -> Result<(), Fail> {
     let alloc = rt.alloc();
-    let mut builder = builder_of(alloc, 0, "aaaaaaaaaaaaaaaaaaaaaa")?;
+    let text = repeated(alloc, "a", INLINE_CAP - 1)?;
+    let mut builder = builder_of(alloc, 0, text.as_str())?;
     refuse_all(alloc);
     if builder.push_str("bc").is_ok() {
         assert!(rt; !can_refuse(alloc), "nothing was refused");
         return Ok(());
     }
-    assert_eq!(rt; builder.as_str(), "aaaaaaaaaaaaaaaaaaaaaa");
+    assert_eq!(rt; builder.as_str(), text.as_str());
     assert!(rt; builder.inline_buffer().is_some());
     builder.push('d')?;
     let value = SmolStr::from_builder(builder).map_err(|_| "refused")?;
     end_refusals(alloc);
-    assert_value(&rt, &value, "aaaaaaaaaaaaaaaaaaaaaad", Place::Inline);
+    let whole = text_of(alloc, (INLINE_CAP - 1, "d"))?;
+    assert_value(&rt, &value, whole.as_str(), Place::Inline);
     Ok(())
 }
 
@@ -152,9 +171,10 @@ fn capacity_too_large(rt: HostRuntime) {
 
 #[test]
 fn equal_texts(rt: HostRuntime) -> Result<(), Fail> {
-    for (_, text, place) in ROWS {
-        let small = builder_of(rt.alloc(), 0, text)?;
-        let large = builder_of(rt.alloc(), 100, text)?;
+    for (_, wanted, place) in ROWS {
+        let text = text_of(rt.alloc(), wanted)?;
+        let small = builder_of(rt.alloc(), 0, text.as_str())?;
+        let large = builder_of(rt.alloc(), 100, text.as_str())?;
         let (one, other) = finish_both(small, large)?;
         assert!(rt; one == other, "{text}");
         assert_eq!(rt; one.place(), place, "{text}");
@@ -174,11 +194,24 @@ fn finish_both(a: SmolStrBuilder, b: SmolStrBuilder) -> Result<(SmolStr, SmolStr
     }
 }
 
-fn of_pieces(mut builder: SmolStrBuilder, pieces: &[Piece]) -> Result<SmolStrBuilder, AllocError> {
+/// So many `a`, and then an end.
+fn text_of(alloc: Global, wanted: (usize, &str)) -> Result<String, AllocError> {
+    let (letters, end) = wanted;
+    let mut text = repeated(alloc, "a", letters)?;
+    text.push_str(end)?;
+    Ok(text)
+}
+
+fn of_pieces(
+    alloc: Global,
+    mut builder: SmolStrBuilder,
+    pieces: &[Piece],
+) -> Result<SmolStrBuilder, AllocError> {
     for piece in pieces {
         match piece {
             Piece::Char(character) => builder.push(*character)?,
             Piece::Text(text) => builder.push_str(text)?,
+            Piece::Letters(count) => builder.push_str(repeated(alloc, "a", *count)?.as_str())?,
         }
     }
     Ok(builder)
@@ -199,6 +232,7 @@ fn steps_of(alloc: Global, pieces: &[Piece]) -> Result<Vec<Step>, AllocError> {
         steps.push(match piece {
             Piece::Char(character) => Step::Push(*character),
             Piece::Text(text) => Step::PushStr(String::from_str(alloc, text)?),
+            Piece::Letters(count) => Step::PushStr(repeated(alloc, "a", *count)?),
         })?;
     }
     Ok(steps)

@@ -9,7 +9,7 @@ use super::refuse::{
     start_counts,
 };
 use super::repeated;
-use smol_str::{INLINE_CAP, Place, SmolStr, SmolStrBuilder};
+use smol_str::{BLANK_NEWLINES, INLINE_CAP, Place, SmolStr, SmolStrBuilder};
 use std::alloc::{AllocError, Global};
 use std::process::Abort;
 use std::test::Fail;
@@ -102,13 +102,15 @@ fn assert_collected(
 #[test]
 fn pieces(rt: HostRuntime) -> Result<(), Fail> {
     let alloc = rt.alloc();
-    for newlines in [INLINE_CAP, 32] {
+    for (newlines, place) in [
+        (INLINE_CAP, Place::Static),
+        (BLANK_NEWLINES, Place::Static),
+        (23, Place::Static),
+        (32, Place::Static),
+    ] {
         let newlines = repeated(alloc, "\n", newlines)?;
         let blank = SmolStr::from_strs(alloc, [newlines.as_str(), " "].into_iter())?;
-        assert_eq!(rt;
-            (blank.len(), blank.place()),
-            (newlines.len() + 1, Place::Static)
-        );
+        assert_eq!(rt; (blank.len(), blank.place()), (newlines.len() + 1, place));
     }
 
     let none: Vec<String> = Vec::new(alloc);

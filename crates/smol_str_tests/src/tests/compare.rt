@@ -1,6 +1,6 @@
 //! Equality, order and hashes.
 use super::built::builder_of;
-use super::{LONG_BLANK, LONG_TEXT};
+use super::{LONG_BLANK, LONG_OTHER, LONG_TEXT};
 use smol_str::borsh::from_wire;
 use smol_str::{Place, SmolStr, Step, StrExt, build};
 use std::cmp::Ordering;
@@ -16,7 +16,7 @@ const ORDERS: [(&str, &str, Ordering); 9] = [
     ("é", "z", Ordering::Greater),
     ("a", "a\0", Ordering::Less),
     ("ab", "ab", Ordering::Equal),
-    (LONG_TEXT, "aaaaaaaaaaaaaaaaaaaaaaab", Ordering::Less),
+    (LONG_TEXT, LONG_OTHER, Ordering::Less),
     (LONG_TEXT, LONG_TEXT, Ordering::Equal),
 ];
 

@@ -134,7 +134,7 @@ fn each_character_there_and_back(rt: HostRuntime) -> Result<(), Fail> {
 #[test]
 fn each_request_in_turn(rt: HostRuntime) -> Result<(), Fail> {
     let alloc = rt.alloc();
-    let mut quoted = repeated(alloc, "\"é", 9)?;
+    let mut quoted = repeated(alloc, "\"é", INLINE_CAP)?;
     quoted.push('\u{1}')?;
     for (text, place) in [
         (repeated(alloc, "a", INLINE_CAP)?, Place::Inline),

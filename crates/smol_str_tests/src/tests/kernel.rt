@@ -1,28 +1,35 @@
 //! The loops over bytes, against outside rows, a plain map and std's search.
-use super::{FULL_TEXT, small_texts};
+use super::{FULL_CAPITALS, FULL_TEXT, small_texts};
 use smol_str::kernel::{AsciiCase, convert_while_ascii, next_match};
 use smol_str::{INLINE_CAP, InlineBuffer};
 use std::alloc::Global;
 use std::process::Abort;
 use std::test::Fail;
 
-/// Short texts, a case, and the ASCII front in that case.
-const FRONTS: [(&str, AsciiCase, &str); 8] = [
-    ("ABCDEFGHIJéKLMNOPQ", AsciiCase::Lower, "abcdefghij"),
-    ("@AZ[", AsciiCase::Lower, "@az["),
-    ("", AsciiCase::Upper, ""),
-    (FULL_TEXT, AsciiCase::Upper, "AAAAAAAAAAAAAAAAAAAAAAA"),
-    ("QQQQQQQQQQQQQQQQ", AsciiCase::Lower, "qqqqqqqqqqqqqqqq"),
-    ("QQQQQQQQQQQQQQQQé", AsciiCase::Lower, "qqqqqqqqqqqqqqqq"),
-    ("QQQQQQQQQQQQQQQé", AsciiCase::Lower, "qqqqqqqqqqqqqqq"),
-    ("éQQQQQQQQQQQQQQQQQQQQ", AsciiCase::Lower, ""),
+/// Short texts, a case, the ASCII front in that case, and how many zeros are behind it.
+const FRONTS: [(&str, AsciiCase, &str, usize); 9] = [
+    ("ABCDEFGHIJéKLMNOPQ", AsciiCase::Lower, "abcdefghij", 13),
+    ("@AZ[", AsciiCase::Lower, "@az[", 19),
+    ("", AsciiCase::Upper, "", 23),
+    (FULL_TEXT, AsciiCase::Upper, FULL_CAPITALS, 0),
+    (
+        "aaaaaaaaaaaaaaaaaaaaaaa",
+        AsciiCase::Upper,
+        "AAAAAAAAAAAAAAAAAAAAAAA",
+        0,
+    ),
+    ("QQQQQQQQQQQQQQQQ", AsciiCase::Lower, "qqqqqqqqqqqqqqqq", 7),
+    ("QQQQQQQQQQQQQQQQé", AsciiCase::Lower, "qqqqqqqqqqqqqqqq", 7),
+    ("QQQQQQQQQQQQQQQé", AsciiCase::Lower, "qqqqqqqqqqqqqqq", 8),
+    ("éQQQQQQQQQQQQQQQQQQQQ", AsciiCase::Lower, "", 23),
 ];
 
 #[test]
 fn fronts(rt: HostRuntime) -> Result<(), Fail> {
-    for (text, case, front) in FRONTS {
+    for (text, case, front, zeros) in FRONTS {
         let (buffer, len) = converted(text, case).ok_or("a text too long")?;
         assert_eq!(rt; len, front.len(), "{text}");
+        assert_eq!(rt; buffer.iter().skip(len).count(), zeros, "{text}");
         assert_eq!(rt; buffer.as_slice(), padded(front).as_slice(), "{text}");
     }
     Ok(())

@@ -1,38 +1,53 @@
 //! Where texts are kept.
-use super::{LONG_TEXT, repeated};
-use smol_str::{INLINE_CAP, InlineBuffer, Place, SmolStr, SmolStrBuilder};
+use super::{FULL_TEXT, LONG_TEXT, repeated};
+use smol_str::{
+    BLANK_NEWLINES, BLANK_SPACES, INLINE_CAP, InlineBuffer, Place, SmolStr, SmolStrBuilder,
+};
 use std::alloc::{AllocError, Global};
 use std::process::Abort;
 use std::test::Fail;
 
-/// Each text, and the place of its value.
-const PLACES: [(&str, Place); 7] = [
-    ("", Place::Inline),
-    ("aaaaaaaaaaaaaaaaaaaaaaa", Place::Inline),
-    ("aaaaaaaaaaaaaaaaaaaaaaaa", Place::Heap),
-    ("aaaaaaaaaaaaaaaaaaaaaé", Place::Inline),
-    ("aaaaaaaaaaaaaaaaaaaaaaé", Place::Heap),
-    ("🦀🦀🦀🦀🦀", Place::Inline),
-    ("🦀🦀🦀🦀🦀🦀", Place::Heap),
+/// A text so many times and then an end, and the place of the value.
+const PLACES: [(&str, usize, &str, Place); 10] = [
+    ("", 0, "", Place::Inline),
+    ("a", INLINE_CAP, "", Place::Inline),
+    ("a", INLINE_CAP + 1, "", Place::Heap),
+    ("a", INLINE_CAP - 2, "é", Place::Inline),
+    ("a", INLINE_CAP - 1, "é", Place::Heap),
+    ("🦀", INLINE_CAP / 4, "", Place::Inline),
+    ("🦀", INLINE_CAP / 4 + 1, "", Place::Heap),
+    ("a", 23, "", Place::Inline),
+    ("a", 24, "", Place::Heap),
+    ("a", 22, "é", Place::Heap),
 ];
 
 /// Newlines, spaces and newlines again, and the place of the text that they make.
-const BLANKS: [(usize, usize, usize, Place); 10] = [
+const BLANKS: [(usize, usize, usize, Place); 17] = [
+    (BLANK_NEWLINES, BLANK_SPACES, 0, Place::Static),
+    (0, BLANK_SPACES + 1, 0, Place::Heap),
+    (BLANK_NEWLINES + 1, 0, 0, Place::Heap),
+    (0, INLINE_CAP, 1, Place::Heap),
+    (1, INLINE_CAP - 1, 0, Place::Inline),
+    (BLANK_NEWLINES, 0, 0, Place::Static),
+    (BLANK_NEWLINES, 1, 1, Place::Heap),
+    (0, INLINE_CAP + 1, 0, Place::Static),
+    (0, BLANK_SPACES, 0, Place::Static),
+    (BLANK_NEWLINES + 1, BLANK_SPACES, 0, Place::Heap),
     (32, 128, 0, Place::Static),
     (0, 129, 0, Place::Heap),
     (33, 0, 0, Place::Heap),
     (0, 23, 1, Place::Heap),
-    (1, 22, 0, Place::Inline),
     (32, 0, 0, Place::Static),
     (32, 1, 1, Place::Heap),
     (0, 24, 0, Place::Static),
-    (0, 128, 0, Place::Static),
-    (33, 128, 0, Place::Heap),
 ];
 
 #[test]
 fn new_places(rt: HostRuntime) -> Result<(), Fail> {
-    for (text, place) in PLACES {
+    for (piece, times, end, place) in PLACES {
+        let mut text = repeated(rt.alloc(), piece, times)?;
+        text.push_str(end)?;
+        let text = text.as_str();
         let value = SmolStr::new(rt.alloc(), text)?;
         assert_eq!(rt; value.as_str(), text);
         assert_eq!(rt; value.place(), place, "{text}");
@@ -75,6 +90,7 @@ fn const_fn_ctor(rt: HostRuntime) -> Result<(), Fail> {
         "HELLO",
         "ABCDEFGHIZKLMNOPQRSTUVW",
         "                       ",
+        FULL_TEXT,
     ];
     for text in texts {
         let value = SmolStr::new_inline(text);
@@ -97,9 +113,9 @@ fn in_turn(alloc: Global, characters: &[char], count: usize) -> Result<String, A
     Ok(text)
 }
 
-/// Texts of 0 to 200 characters, the given ones in turn, are kept as they are.
+/// Texts of 0 to 400 characters, the given ones in turn, are kept as they are.
 fn assert_round_trips(rt: &impl Abort, alloc: Global, characters: &[char]) -> Result<(), Fail> {
-    for count in 0..=200usize {
+    for count in 0..=400usize {
         let text = in_turn(alloc, characters, count)?;
         let value = SmolStr::new(alloc, text.as_str())?;
         assert_eq!(rt; value.as_str(), text.as_str());

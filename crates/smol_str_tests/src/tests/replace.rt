@@ -65,7 +65,15 @@ type LongRow = (
     Place,
 );
 
-const LONG: [LongRow; 6] = [
+const LONG: [LongRow; 7] = [
+    (
+        ("x", 24),
+        "x",
+        " ",
+        usize::MAX,
+        [(" ", 24), ("", 0)],
+        Place::Static,
+    ),
     (
         ("x", INLINE_CAP + 1),
         "x",

@@ -1,5 +1,5 @@
 //! Case, against outside rows and std's own mappings, which only tests see printed.
-use super::{LONG_BLANK, LONG_TEXT, repeated};
+use super::{LONG_BLANK, LONG_CAPITALS, LONG_TEXT, repeated};
 use smol_str::{INLINE_CAP, Place, SmolStr, StrExt};
 use std::alloc::{AllocError, Global};
 use std::process::Abort;
@@ -25,7 +25,7 @@ fn answer(alloc: Global, call: Call, text: &str) -> Result<SmolStr, AllocError> 
 
 /// A call, a text, the answer and its place. Upstream's test_str_ext is among these and, of replacement,
 /// among the rows of the test beside this one.
-const ROWS: [(Call, &str, &str, Place); 16] = [
+const ROWS: [(Call, &str, &str, Place); 17] = [
     (Call::AsciiLower, "aßΔC", "aßΔc", Place::Inline),
     (Call::AsciiUpper, "aßΔC", "AßΔC", Place::Inline),
     (Call::Upper, "aßΔC", "ASSΔC", Place::Inline),
@@ -40,9 +40,10 @@ const ROWS: [(Call, &str, &str, Place); 16] = [
     (
         Call::AsciiLower,
         "AAAAAAAAAAAAAAAAAAAAAAAA",
-        LONG_TEXT,
+        "aaaaaaaaaaaaaaaaaaaaaaaa",
         Place::Heap,
     ),
+    (Call::AsciiLower, LONG_CAPITALS, LONG_TEXT, Place::Heap),
     (Call::AsciiUpper, LONG_BLANK, LONG_BLANK, Place::Static),
     (Call::Lower, LONG_BLANK, LONG_BLANK, Place::Static),
     (

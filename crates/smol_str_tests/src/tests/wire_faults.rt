@@ -30,9 +30,13 @@ pub fn kind_of(fault: &DecodeFault) -> Kind {
 const NOISE: &[u8] = b"\x1e\0\0\0\xc1\x8a\x5f\xe2\x3a\x9e\x3b\xaa\x01\x08\x6f\x2f\xc0\x32\xab\xe1\
 \x9a\x2f\x4a\x3f\x25\x0d\x8a\x2a\x19\x11\xf0\x7f\x0e\x80";
 
+/// The size 64, and bytes of which the last is not UTF-8.
+const LONG_NOISE: &[u8] = b"\x40\0\0\0aaaaaaaaaaaaaaaaaaaaaaaaaaaaaaaaaaaaaaaa\
+aaaaaaaaaaaaaaaaaaaaaaa\xff";
+
 /// Bytes, the fault, and how many of them a reader has left. Upstream's borsh_non_utf8_stack and
 /// borsh_non_utf8_heap are the first and the last that are not UTF-8.
-const REFUSED: [(&[u8], Kind, usize); 8] = [
+const REFUSED: [(&[u8], Kind, usize); 9] = [
     (b"", Kind::Ended, 0),
     (b"\0\0\0", Kind::Ended, 0),
     (b"\x05\0\0\0\xff", Kind::Ended, 0),
@@ -41,6 +45,7 @@ const REFUSED: [(&[u8], Kind, usize); 8] = [
     (b"\x03\0\0\0\xf0\x9f\x8f", Kind::NotUtf8, 0),
     (b"\x01\0\0\0\xc3\xa9", Kind::NotUtf8, 1),
     (NOISE, Kind::NotUtf8, 0),
+    (LONG_NOISE, Kind::NotUtf8, 0),
 ];
 
 #[test]

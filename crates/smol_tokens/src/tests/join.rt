@@ -21,7 +21,7 @@ fn joined(alloc: Global, input: &[u8]) -> Result<Vec<u8>, RunFault>
 
 #[test]
 fn reports(rt: HostRuntime) -> Result<(), Fail> {
-    let reports: [(&[u8], &[u8]); 6] = [
+    let reports: [(&[u8], &[u8]); 8] = [
         (b"", b"inline 0 \n"),
         (b"\n", b"inline 0 \n"),
         (
@@ -35,6 +35,14 @@ fn reports(rt: HostRuntime) -> Result<(), Fail> {
         (
             b"            \n            ",
             b"static 24                         \n",
+        ),
+        (
+            b"aaaaaaaaaaaaaaaaaaaaaaaaaaaaaaaaaaaaaaaa\nif",
+            b"heap 42 aaaaaaaaaaaaaaaaaaaaaaaaaaaaaaaaaaaaaaaaif\n",
+        ),
+        (
+            b"                    \n                    ",
+            b"static 40                                         \n",
         ),
         (b"\xc3\xa9\r\n\xc3\x9f", b"inline 5 \xc3\xa9\r\xc3\x9f\n"),
     ];

@@ -5,7 +5,7 @@ use std::alloc::{AllocError, Global};
 use std::test::Fail;
 
 /// The words of a mode, an input, and the report on it.
-const REPORTS: [(&[&str], &[u8], &[u8]); 18] = [
+const REPORTS: [(&[&str], &[u8], &[u8]); 21] = [
     (&[], b"abc", b"inline 3 abc\n"),
     (
         &["show"],
@@ -35,6 +35,21 @@ const REPORTS: [(&[&str], &[u8], &[u8]); 18] = [
         &["replace", "x", " "],
         b"xxxxxxxxxxxxxxxxxxxxxxxx",
         b"static 24                         \n",
+    ),
+    (
+        &["show"],
+        b"aaaaaaaaaaaaaaaaaaaaaaaaaaaaaaaaaaaaaaaa",
+        b"heap 40 aaaaaaaaaaaaaaaaaaaaaaaaaaaaaaaaaaaaaaaa\n",
+    ),
+    (
+        &["replace", "x", " "],
+        b"xxxxxxxxxxxxxxxxxxxxxxxxxxxxxxxxxxxxxxxx",
+        b"static 40                                         \n",
+    ),
+    (
+        &["upper"],
+        b"aaaaaaaaaaaaaaaaaaaaaaaaaaaaaaaaaaaaaaaa",
+        b"heap 40 AAAAAAAAAAAAAAAAAAAAAAAAAAAAAAAAAAAAAAAA\n",
     ),
     (&["lower"], b"Ab\r\n", b"inline 3 ab\r\n"),
     (&["upper"], b"a\xc3\x9f", b"inline 3 A\xc3\x9f\n"),

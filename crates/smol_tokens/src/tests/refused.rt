@@ -12,12 +12,14 @@ use std::process::Abort;
 use std::test::Fail;
 
 /// Each input, and the lengths of the reports on it: line by line, in mode join, and in mode tokens.
-const INPUTS: [(&[u8], [usize; 3]); 6] = [
+const INPUTS: [(&[u8], [usize; 3]); 8] = [
     (b"", [0, 10, 0]),
     (b"if\n\nx\n", [12 + 10 + 11, 13, 5 + 3 + 4]),
     (b"aaaaaaaaaaaaaaaaaaaaaaa", [34, 34, 26]),
     (b"                        ", [35, 35, 27]),
     (b"aaaaaaaaaaaaaaaaaaaaaaaa", [33, 33, 27]),
+    (&[b' '; 40], [51, 51, 43]),
+    (&[b'a'; 40], [49, 49, 43]),
     (&[b'a'; 5000], [5011, 5011, 5003]),
 ];
 

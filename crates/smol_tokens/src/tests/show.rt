@@ -7,6 +7,7 @@ use super::streams::{Drip, Failure, empty_drip, trickle_of};
 use crate::fault::RunFault;
 use crate::mode::Mode;
 use crate::run::run;
+use smol_str::BLANK_SPACES;
 use std::alloc::Global;
 use std::test::Fail;
 
@@ -39,7 +40,7 @@ fn shown_whole(alloc: Global, input: &[u8]) -> Result<Vec<u8>, RunFault>
 }
 
 /// Each input, and the report on it.
-const REPORTS: [(&[u8], &[u8]); 8] = [
+const REPORTS: [(&[u8], &[u8]); 10] = [
     (
         b"if\n\naaaaaaaaaaaaaaaaaaaaaaaa",
         b"inline 2 if\ninline 0 \nheap 24 aaaaaaaaaaaaaaaaaaaaaaaa\n",
@@ -47,6 +48,14 @@ const REPORTS: [(&[u8], &[u8]); 8] = [
     (
         b"                        \n",
         b"static 24                         \n",
+    ),
+    (
+        b"aaaaaaaaaaaaaaaaaaaaaaaaaaaaaaaaaaaaaaaa\n",
+        b"heap 40 aaaaaaaaaaaaaaaaaaaaaaaaaaaaaaaaaaaaaaaa\n",
+    ),
+    (
+        b"                                        \n",
+        b"static 40                                         \n",
     ),
     (b"", b""),
     (b"\n", b"inline 0 \n"),
@@ -73,9 +82,10 @@ fn reports(rt: HostRuntime) -> Result<(), Fail> {
 // A space too many for the blank constant.
 #[test]
 fn long_blank_line(rt: HostRuntime) -> Result<(), Fail> {
-    let out = shown_whole(rt.alloc(), &[b' '; 129])?;
-    assert_eq!(rt; out.len(), 139);
-    assert!(rt; out.as_slice().starts_with(b"heap 129  "));
+    let out = shown_whole(rt.alloc(), &[b' '; BLANK_SPACES + 1])?;
+    let wanted = format!(in rt.alloc(); "heap {}  ", BLANK_SPACES + 1)?;
+    assert!(rt; out.as_slice().starts_with(wanted.as_str().as_bytes()));
+    assert_eq!(rt; out.len(), wanted.len() + BLANK_SPACES + 1);
     Ok(())
 }
 

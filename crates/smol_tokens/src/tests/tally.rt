@@ -7,6 +7,9 @@ use std::process::Abort;
 use std::rc::RcStr;
 use std::test::Fail;
 
+/// A text that is neither short nor a blank run.
+const LONG_TEXT: &str = "aaaaaaaaaaaaaaaaaaaaaaaaaaaaaaaaaaaaaaaa";
+
 fn add(tally: &mut Tally, token: SmolStr, times: u64) -> Result<u64, Fail> {
     match tally.add(token, times) {
         Ok(count) => Ok(count),
@@ -96,7 +99,7 @@ fn made_in_four_ways(alloc: Global, text: &'static str) -> Result<[SmolStr; 4], 
 // However a value was made, and wherever it lies, its text is one token.
 #[test]
 fn one_text_is_one_token(rt: HostRuntime) -> Result<(), Fail> {
-    let text = "                        ";
+    let text = "                                        ";
     let mut tally = Tally::new(rt.alloc());
     let mut wanted = 0u64;
     for value in made_in_four_ways(rt.alloc(), text)? {
@@ -146,7 +149,7 @@ fn many_equal_tokens(rt: HostRuntime) -> Result<(), Fail> {
 fn each_request_in_turn(rt: HostRuntime) -> Result<(), Fail> {
     let alloc = rt.alloc();
     let longest = format!(in alloc; "{:a<5000}", "")?;
-    for text in ["c", "aaaaaaaaaaaaaaaaaaaaaaaa", longest.as_str()] {
+    for text in ["c", LONG_TEXT, longest.as_str()] {
         let shared = RcStr::from_str(alloc, text)?;
         let mut sizes_met = 0u32;
         for there in 0..40u64 {

@@ -1,5 +1,5 @@
-//! Sources of this repository as they stood on 2026-11-22, and how many of the tokens of each are inline, static and on
-//! the heap; counted apart, by a pattern search over the same text.
+//! Sources of this repository as they stood on 2026-11-22, and one with long tokens; and how many of the tokens of each
+//! are inline, static and on the heap: counted apart, by a pattern search over the same text.
 
 const PRINT: &str = r#"//! Printed values.
 use smol_str::SmolStr;
@@ -75,4 +75,12 @@ fn reports(rt: HostRuntime) -> Result<(), Fail> {
 }
 "#;
 
-pub const SOURCES: [(&str, [usize; 3]); 2] = [(PRINT, [360, 0, 2]), (JOIN, [639, 1, 2])];
+/// A name of 46 bytes, and an indentation of 44.
+const LONG: &str = r#"let a_name_of_more_bytes_than_a_value_has_room_for =
+                                            1;"#;
+
+pub const SOURCES: [(&str, [usize; 3]); 3] = [
+    (PRINT, [360, 0, 2]),
+    (JOIN, [639, 1, 2]),
+    (LONG, [6, 1, 1]),
+];
