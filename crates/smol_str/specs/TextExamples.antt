@@ -1,6 +1,7 @@
 -- Sizes, blank runs and places of small texts, computed by the checker. Where a limit matters, the example names
--- the constant.
-use Rattle.std.specs.Prelude.{◌≡◌, ◌+◌, ◌-◌, [], ◌∷◌, ◌++◌, replicate, true, false, refl}
+-- the constant; and where two limits do, it holds whichever of them is the larger one.
+use Rattle.std.specs.Prelude.{◌≡◌, ℕ, ◌+◌, ◌-◌, [], ◌∷◌, ◌++◌, replicate, true, false, if◌then◌else◌, nat_le, refl}
+use Rattle.smol_str.specs.declared.value.place.Place.{Place}
 use Rattle.smol_str.specs.declared.value.place.Place.TheVariants.{Inline, Static, Heap}
 use Rattle.smol_str.specs.declared.buffer.TheConstants.{INLINE_CAP}
 use Rattle.smol_str.specs.declared.value.blank.TheConstants.{BLANK_NEWLINES, BLANK_SPACES}
@@ -43,15 +44,19 @@ longest_blank_run : is_blank_run (blank_run BLANK_NEWLINES BLANK_SPACES) ≡ tru
 unfolding is_blank_run
 longest_blank_run = refl
 
-longest_run_is_static : place_of (blank_run BLANK_NEWLINES BLANK_SPACES) ≡ Static
-unfolding place_of is_blank_run lib.Utf8.encode
-longest_run_is_static = refl
+-- of so many bytes: in the buffer where they fit
+abbrev inline_or : Place → ℕ → Place
+inline_or place n = if nat_le n INLINE_CAP then Inline else place
 
-newlines_alone : place_of (replicate BLANK_NEWLINES 10) ≡ Static
+longest_run : place_of (blank_run BLANK_NEWLINES BLANK_SPACES) ≡ inline_or Static (BLANK_NEWLINES + BLANK_SPACES)
+unfolding place_of is_blank_run lib.Utf8.encode
+longest_run = refl
+
+newlines_alone : place_of (replicate BLANK_NEWLINES 10) ≡ inline_or Static BLANK_NEWLINES
 unfolding place_of is_blank_run lib.Utf8.encode
 newlines_alone = refl
 
-newlines_alone_one_too_many : place_of (replicate (BLANK_NEWLINES + 1) 10) ≡ Heap
+newlines_alone_one_too_many : place_of (replicate (BLANK_NEWLINES + 1) 10) ≡ inline_or Heap (BLANK_NEWLINES + 1)
 unfolding place_of is_blank_run lib.Utf8.encode
 newlines_alone_one_too_many = refl
 
