@@ -3,8 +3,10 @@ use super::built::builder_of;
 use super::{LONG_BLANK, LONG_OTHER, LONG_TEXT};
 use smol_str::borsh::from_wire;
 use smol_str::{Place, SmolStr, Step, StrExt, build};
+use std::alloc::Global;
 use std::cmp::Ordering;
 use std::hash::{DefaultHasher, Hash, Hasher};
+use std::process::Abort;
 use std::test::Fail;
 
 /// Two texts, and the order of the first to the second.
@@ -74,22 +76,32 @@ fn pinned_and_new(rt: HostRuntime) -> Result<(), Fail> {
         (LONG_TEXT, Place::Heap),
     ];
     for (text, place) in rows {
-        let value = SmolStr::new(rt.alloc(), text)?;
-        let pinned = SmolStr::new_static(text);
-        assert_eq!(rt; value.place(), place, "{text}");
-        assert_eq!(rt; pinned.place(), Place::Static, "{text}");
-        assert_eq!(rt; pinned.clone()?.place(), Place::Static, "{text}");
-        assert!(rt;
-            !pinned.is_heap_allocated() && pinned.eq_str(text),
-            "{text}"
-        );
-        assert!(rt; value == pinned, "{text}");
-        assert_eq!(rt; hash_of(&value), hash_of(&pinned), "{text}");
-        assert_eq!(rt; hash_of(&value), hash_of(&text), "{text}");
+        assert_pinned_equals(&rt, rt.alloc(), text, place)?;
     }
     let short = SmolStr::new(rt.alloc(), "a")?;
     let longer = SmolStr::new(rt.alloc(), "a\0")?;
     assert!(rt; short != longer);
+    Ok(())
+}
+
+fn assert_pinned_equals(
+    rt: &impl Abort,
+    alloc: Global,
+    text: &'static str,
+    place: Place,
+) -> Result<(), Fail> {
+    let value = SmolStr::new(alloc, text)?;
+    let pinned = SmolStr::new_static(text);
+    assert_eq!(rt; value.place(), place, "{text}");
+    assert_eq!(rt; pinned.place(), Place::Static, "{text}");
+    assert_eq!(rt; pinned.clone()?.place(), Place::Static, "{text}");
+    assert!(rt;
+        !pinned.is_heap_allocated() && pinned.eq_str(text),
+        "{text}"
+    );
+    assert!(rt; value == pinned, "{text}");
+    assert_eq!(rt; hash_of(&value), hash_of(&pinned), "{text}");
+    assert_eq!(rt; hash_of(&value), hash_of(&text), "{text}");
     Ok(())
 }
 
