@@ -45,6 +45,7 @@ impl SmolStr {
     }
 
     /// A value of the text of these bytes; UTF-8 is tested before memory is asked for.
+    #[inline(always)]
     pub fn from_utf8(alloc: Global, bytes: &[u8]) -> Result<SmolStr, FromUtf8Fault>
         ensures ok { IfOk result (λ v. IsUtf8 bytes.now × IsValueOf (chars bytes.now) v) }
         ensures fault { IfErr result (AfterFromUtf8Fault bytes.now) }
