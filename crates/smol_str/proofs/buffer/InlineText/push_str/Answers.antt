@@ -21,3 +21,8 @@ returns c =
     view-append _ _ c.args.text.now c.self.invariant c.utf8.text (omega (arith, len, c.requires))
     (rw c.as_bytes.ensures.value at c.write_at.ensures)
     ∙ ap (λ t. t ++ chars c.args.text.now) c.self.view_is
+
+pub overflow_cast-self : goal.overflow_cast-self
+overflow_cast-self c =
+    let len = len-size _ c.self.invariant ∙ ap size c.self.view_is in
+    omega (arith, len, c.requires)
