@@ -16,7 +16,7 @@ use std::marker::Model;
 use words::{order_words, pack, pack_char, same_words, write_at};
 
 /// The most bytes of a text that lies in the value itself.
-pub const INLINE_CAP: usize = 23;
+pub const INLINE_CAP: usize = 39;
 
 /// The whole buffer of a short text: its bytes, and then zeros.
 pub type InlineBuffer = [u8; INLINE_CAP];

@@ -29,26 +29,26 @@ use smol_str::{BLANK_NEWLINES, BLANK_SPACES, INLINE_CAP};
 use std::alloc::{AllocError, Global};
 
 /// A text that fills a buffer.
-const FULL_TEXT: &str = "aaaaaaaaaaaaaaaaaaaaaaa";
+const FULL_TEXT: &str = "aaaaaaaaaaaaaaaaaaaaaaaaaaaaaaaaaaaaaaa";
 
 /// The same text in capitals.
-const FULL_CAPITALS: &str = "AAAAAAAAAAAAAAAAAAAAAAA";
+const FULL_CAPITALS: &str = "AAAAAAAAAAAAAAAAAAAAAAAAAAAAAAAAAAAAAAA";
 
 /// A text that is a byte too long for a buffer, and no blank run.
-const LONG_TEXT: &str = "aaaaaaaaaaaaaaaaaaaaaaaa";
+const LONG_TEXT: &str = "aaaaaaaaaaaaaaaaaaaaaaaaaaaaaaaaaaaaaaaa";
 
 /// One as long that differs in its last byte.
-const LONG_OTHER: &str = "aaaaaaaaaaaaaaaaaaaaaaab";
+const LONG_OTHER: &str = "aaaaaaaaaaaaaaaaaaaaaaaaaaaaaaaaaaaaaaab";
 
 /// The long text in capitals.
-const LONG_CAPITALS: &str = "AAAAAAAAAAAAAAAAAAAAAAAA";
+const LONG_CAPITALS: &str = "AAAAAAAAAAAAAAAAAAAAAAAAAAAAAAAAAAAAAAAA";
 
 /// A blank run that is a byte too long for a buffer.
-const LONG_BLANK: &str = "                        ";
+const LONG_BLANK: &str = "                                        ";
 
 #[test]
 fn limits(rt: HostRuntime) {
-    assert_eq!(rt; (INLINE_CAP, BLANK_NEWLINES, BLANK_SPACES), (23, 32, 128));
+    assert_eq!(rt; (INLINE_CAP, BLANK_NEWLINES, BLANK_SPACES), (39, 64, 256));
 }
 
 #[test]

@@ -5,13 +5,13 @@ ghost use Rattle.std.specs.Prelude.{◌≡◌, ◌≤◌, length, IfSome, MatchO
 ghost use Rattle.smol_str.specs.Text.{IsBlankRun, blank_run, leading_newlines, all_spaces};
 
 /// The most newlines of a blank run that needs no memory.
-pub const BLANK_NEWLINES: usize = 32;
+pub const BLANK_NEWLINES: usize = 64;
 
 /// The most spaces of a blank run that needs no memory.
-pub const BLANK_SPACES: usize = 128;
+pub const BLANK_SPACES: usize = 256;
 
 const BLANK: &str =
-    "\n\n\n\n\n\n\n\n\n\n\n\n\n\n\n\n\n\n\n\n\n\n\n\n\n\n\n\n\n\n\n\n                                                                                                                                ";
+    "\n\n\n\n\n\n\n\n\n\n\n\n\n\n\n\n\n\n\n\n\n\n\n\n\n\n\n\n\n\n\n\n\n\n\n\n\n\n\n\n\n\n\n\n\n\n\n\n\n\n\n\n\n\n\n\n\n\n\n\n\n\n\n\n                                                                                                                                                                                                                                                                ";
 
 /// The slice of the blank constant that reads as the text; `None` exactly where the text is no
 /// blank run.

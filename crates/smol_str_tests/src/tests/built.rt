@@ -21,7 +21,7 @@ enum Piece {
 /// Pieces; the text that they make, so many `a` and then an end; and its place.
 type Row = (&'static [Piece], (usize, &'static str), Place);
 
-const ROWS: [Row; 17] = [
+const ROWS: [Row; 18] = [
     (&[], (0, ""), Place::Inline),
     (
         &[Piece::Char('a'), Piece::Text("bc")],
@@ -80,11 +80,11 @@ const ROWS: [Row; 17] = [
         Place::Heap,
     ),
     (&[Piece::Letters(23)], (23, ""), Place::Inline),
-    (&[Piece::Letters(24)], (24, ""), Place::Heap),
+    (&[Piece::Letters(24)], (24, ""), Place::Inline),
     (
         &[Piece::Text("ohnonononononononono!"), Piece::Char('🤯')],
         (0, "ohnonononononononono!🤯"),
-        Place::Heap,
+        Place::Inline,
     ),
     (
         &[
@@ -96,6 +96,11 @@ const ROWS: [Row; 17] = [
         Place::Heap,
     ),
     (&[Piece::Text(LONG_BLANK)], (0, LONG_BLANK), Place::Static),
+    (
+        &[Piece::Text("                        ")],
+        (0, "                        "),
+        Place::Inline,
+    ),
 ];
 
 #[test]

@@ -73,11 +73,14 @@ fn characters(rt: HostRuntime) -> Result<(), Fail> {
         ("パーティーへ行_", 22, Place::Inline),
         ("和製漢語", 12, Place::Inline),
         ("部落格", 9, Place::Inline),
-        ("パーティーへ行かないか", 33, Place::Heap),
-        ("パーティーへ行か", 24, Place::Heap),
-        ("사회과학원 어학연구소", 31, Place::Heap),
+        ("パーティーへ行かないか", 33, Place::Inline),
+        ("パーティーへ行か", 24, Place::Inline),
+        ("사회과학원 어학연구소", 31, Place::Inline),
         ("表ポあA鷗ŒéＢ逍Üßªąñ丂㐀𠀀", 43, Place::Heap),
+        ("アアアアアアアアアアアアア", 39, Place::Inline),
+        ("アアアアアアアアアアアアアé", 41, Place::Heap),
         (many.as_str(), 93, Place::Heap),
+        ("                        ", 24, Place::Inline),
         (spaces.as_str(), INLINE_CAP + 1, Place::Static),
     ] {
         assert_collected(&rt, alloc, text, len, place)?;
@@ -105,8 +108,8 @@ fn pieces(rt: HostRuntime) -> Result<(), Fail> {
     for (newlines, place) in [
         (INLINE_CAP, Place::Static),
         (BLANK_NEWLINES, Place::Static),
-        (23, Place::Static),
-        (32, Place::Static),
+        (23, Place::Inline),
+        (32, Place::Inline),
     ] {
         let newlines = repeated(alloc, "\n", newlines)?;
         let blank = SmolStr::from_strs(alloc, [newlines.as_str(), " "].into_iter())?;

@@ -125,7 +125,12 @@ fn keeps_a_shared_text(rt: HostRuntime) -> Result<(), Fail> {
         Ok(back) => assert!(rt; RcStr::ptr_eq(&back, &shared)),
         Err(_) => assert!(rt; false, "it takes no memory"),
     }
-    let rows = [("ab", Place::Inline), (LONG_BLANK, Place::Static)];
+    let rows = [
+        ("ab", Place::Inline),
+        ("aaaaaaaaaaaaaaaaaaaaaaaa", Place::Inline),
+        ("                        ", Place::Inline),
+        (LONG_BLANK, Place::Static),
+    ];
     for (text, place) in rows {
         let value = SmolStr::from_rc_str(RcStr::from_str(alloc, text)?);
         assert_eq!(rt; value.place(), place, "{text:?}");

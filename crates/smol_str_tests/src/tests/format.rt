@@ -56,6 +56,8 @@ fn rows(rt: HostRuntime) -> Result<(), Fail> {
     assert_value(&rt, 42u8.to_smolstr(alloc), "42", Place::Inline)?;
     let row = format_smolstr!(alloc; "{:>width$}", "", width = INLINE_CAP + 1);
     assert_value(&rt, row, spaces.as_str(), Place::Static)?;
+    let row = format_smolstr!(alloc; "{:>24}", "");
+    assert_value(&rt, row, "                        ", Place::Inline)?;
     let full = repeated(alloc, "a", INLINE_CAP)?;
     let row = format_smolstr!(alloc; "{full}a");
     assert_value(&rt, row, long.as_str(), Place::Heap)?;

@@ -139,6 +139,7 @@ fn each_request_in_turn(rt: HostRuntime) -> Result<(), Fail> {
     for (text, place) in [
         (repeated(alloc, "a", INLINE_CAP)?, Place::Inline),
         (repeated(alloc, " ", INLINE_CAP + 1)?, Place::Static),
+        (repeated(alloc, " ", 24)?, Place::Inline),
         (repeated(alloc, "a", INLINE_CAP + 1)?, Place::Heap),
         (repeated(alloc, "a", 5000)?, Place::Heap),
         (quoted, Place::Heap),

@@ -7,21 +7,44 @@ use std::process::Abort;
 use std::test::Fail;
 
 /// Short texts, a case, the ASCII front in that case, and how many zeros are behind it.
-const FRONTS: [(&str, AsciiCase, &str, usize); 9] = [
-    ("ABCDEFGHIJéKLMNOPQ", AsciiCase::Lower, "abcdefghij", 13),
-    ("@AZ[", AsciiCase::Lower, "@az[", 19),
-    ("", AsciiCase::Upper, "", 23),
+const FRONTS: [(&str, AsciiCase, &str, usize); 12] = [
+    ("ABCDEFGHIJéKLMNOPQ", AsciiCase::Lower, "abcdefghij", 29),
+    ("@AZ[", AsciiCase::Lower, "@az[", 35),
+    ("", AsciiCase::Upper, "", 39),
     (FULL_TEXT, AsciiCase::Upper, FULL_CAPITALS, 0),
     (
         "aaaaaaaaaaaaaaaaaaaaaaa",
         AsciiCase::Upper,
         "AAAAAAAAAAAAAAAAAAAAAAA",
-        0,
+        16,
     ),
-    ("QQQQQQQQQQQQQQQQ", AsciiCase::Lower, "qqqqqqqqqqqqqqqq", 7),
-    ("QQQQQQQQQQQQQQQQé", AsciiCase::Lower, "qqqqqqqqqqqqqqqq", 7),
-    ("QQQQQQQQQQQQQQQé", AsciiCase::Lower, "qqqqqqqqqqqqqqq", 8),
-    ("éQQQQQQQQQQQQQQQQQQQQ", AsciiCase::Lower, "", 23),
+    ("QQQQQQQQQQQQQQQQ", AsciiCase::Lower, "qqqqqqqqqqqqqqqq", 23),
+    (
+        "QQQQQQQQQQQQQQQQé",
+        AsciiCase::Lower,
+        "qqqqqqqqqqqqqqqq",
+        23,
+    ),
+    ("QQQQQQQQQQQQQQQé", AsciiCase::Lower, "qqqqqqqqqqqqqqq", 24),
+    ("éQQQQQQQQQQQQQQQQQQQQ", AsciiCase::Lower, "", 39),
+    (
+        "QQQQQQQQQQQQQQQQQQQQQQQQQQQQQQQQé",
+        AsciiCase::Lower,
+        "qqqqqqqqqqqqqqqqqqqqqqqqqqqqqqqq",
+        7,
+    ),
+    (
+        "QQQQQQQQQQQQQQQQQQQQQQQQQQQQQQQé",
+        AsciiCase::Lower,
+        "qqqqqqqqqqqqqqqqqqqqqqqqqqqqqqq",
+        8,
+    ),
+    (
+        "QQQQQQQQQQQQQQQQéQQQQQQQQQQQQQQQQQQQQQ",
+        AsciiCase::Lower,
+        "qqqqqqqqqqqqqqqq",
+        23,
+    ),
 ];
 
 #[test]

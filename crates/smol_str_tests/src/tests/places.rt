@@ -17,8 +17,8 @@ const PLACES: [(&str, usize, &str, Place); 10] = [
     ("🦀", INLINE_CAP / 4, "", Place::Inline),
     ("🦀", INLINE_CAP / 4 + 1, "", Place::Heap),
     ("a", 23, "", Place::Inline),
-    ("a", 24, "", Place::Heap),
-    ("a", 22, "é", Place::Heap),
+    ("a", 24, "", Place::Inline),
+    ("a", 22, "é", Place::Inline),
 ];
 
 /// Newlines, spaces and newlines again, and the place of the text that they make.
@@ -34,12 +34,12 @@ const BLANKS: [(usize, usize, usize, Place); 17] = [
     (0, BLANK_SPACES, 0, Place::Static),
     (BLANK_NEWLINES + 1, BLANK_SPACES, 0, Place::Heap),
     (32, 128, 0, Place::Static),
-    (0, 129, 0, Place::Heap),
-    (33, 0, 0, Place::Heap),
-    (0, 23, 1, Place::Heap),
-    (32, 0, 0, Place::Static),
-    (32, 1, 1, Place::Heap),
-    (0, 24, 0, Place::Static),
+    (0, 129, 0, Place::Static),
+    (33, 0, 0, Place::Inline),
+    (0, 23, 1, Place::Inline),
+    (32, 0, 0, Place::Inline),
+    (32, 1, 1, Place::Inline),
+    (0, 24, 0, Place::Inline),
 ];
 
 #[test]
@@ -147,6 +147,12 @@ fn roundtrip_newlines(rt: HostRuntime) -> Result<(), Fail> {
 #[test]
 fn roundtrip_ws(rt: HostRuntime) -> Result<(), Fail> {
     assert_round_trips(&rt, rt.alloc(), &['\n', ' '])
+}
+
+// The buffer, a byte for the length, and a word for the place.
+#[test]
+fn size_of_a_value(rt: HostRuntime) {
+    assert_eq!(rt; size_of::<SmolStr>(), INLINE_CAP + 1 + 8);
 }
 
 // The text's bytes, and zeros: of a value and of a builder that are inline, and of no other.

@@ -72,7 +72,7 @@ const LONG: [LongRow; 7] = [
         " ",
         usize::MAX,
         [(" ", 24), ("", 0)],
-        Place::Static,
+        Place::Inline,
     ),
     (
         ("x", INLINE_CAP + 1),

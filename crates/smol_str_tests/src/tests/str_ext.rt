@@ -25,7 +25,7 @@ fn answer(alloc: Global, call: Call, text: &str) -> Result<SmolStr, AllocError> 
 
 /// A call, a text, the answer and its place. Upstream's test_str_ext is among these and, of replacement,
 /// among the rows of the test beside this one.
-const ROWS: [(Call, &str, &str, Place); 17] = [
+const ROWS: [(Call, &str, &str, Place); 18] = [
     (Call::AsciiLower, "aßΔC", "aßΔc", Place::Inline),
     (Call::AsciiUpper, "aßΔC", "AßΔC", Place::Inline),
     (Call::Upper, "aßΔC", "ASSΔC", Place::Inline),
@@ -41,10 +41,16 @@ const ROWS: [(Call, &str, &str, Place); 17] = [
         Call::AsciiLower,
         "AAAAAAAAAAAAAAAAAAAAAAAA",
         "aaaaaaaaaaaaaaaaaaaaaaaa",
-        Place::Heap,
+        Place::Inline,
     ),
     (Call::AsciiLower, LONG_CAPITALS, LONG_TEXT, Place::Heap),
     (Call::AsciiUpper, LONG_BLANK, LONG_BLANK, Place::Static),
+    (
+        Call::AsciiUpper,
+        "                        ",
+        "                        ",
+        Place::Inline,
+    ),
     (Call::Lower, LONG_BLANK, LONG_BLANK, Place::Static),
     (
         Call::Lower,

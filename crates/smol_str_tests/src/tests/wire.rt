@@ -19,7 +19,7 @@ pub const LETTERS: &[u8] = b"a\xc3\x9f\xce\x94Ca\xc3\x9f\xce\xb4c";
 const LONG: usize = INLINE_CAP + 1;
 
 // Upstream's borsh_serialize_stack and borsh_serialize_heap are those of 12 and 132 bytes.
-pub const ROWS: [Row; 10] = [
+pub const ROWS: [Row; 11] = [
     ("", 0, 0, b"", Place::Inline),
     ("ab", 1, 2, b"ab", Place::Inline),
     ("🦀", 1, 4, b"\xf0\x9f\xa6\x80", Place::Inline),
@@ -28,8 +28,9 @@ pub const ROWS: [Row; 10] = [
     ("a", INLINE_CAP, INLINE_CAP as u8, b"a", Place::Inline),
     ("a", LONG, LONG as u8, b"a", Place::Heap),
     (" ", LONG, LONG as u8, b" ", Place::Static),
-    ("a", 24, 24, b"a", Place::Heap),
-    (" ", 24, 24, b" ", Place::Static),
+    ("a", 23, 23, b"a", Place::Inline),
+    ("a", 24, 24, b"a", Place::Inline),
+    (" ", 24, 24, b" ", Place::Inline),
 ];
 
 pub fn text_of(alloc: Global, row: Row) -> Result<String, AllocError> {

@@ -121,6 +121,25 @@ fn assert_read(
     was_refused
 }
 
+// A text of 24 bytes, in a wire form that was written when it lay on the heap, and the longest short text.
+#[test]
+fn short_by_the_limit_of_39(rt: HostRuntime) -> Result<(), Fail> {
+    let alloc = rt.alloc();
+    refuse_all(alloc);
+    let read = from_wire(alloc, b"\x18\0\0\0aaaaaaaaaaaaaaaaaaaaaaaa");
+    let made = SmolStr::new(alloc, "aaaaaaaaaaaaaaaaaaaaaaaaaaaaaaaaaaaaaaa");
+    let was_refused = end_refusals(alloc);
+    assert!(rt; !was_refused);
+    let (value, taken) = read?;
+    assert_eq!(rt;
+        (value.as_str(), value.place(), taken),
+        ("aaaaaaaaaaaaaaaaaaaaaaaa", Place::Inline, 28)
+    );
+    let made = made?;
+    assert_eq!(rt; (made.len(), made.place()), (39, Place::Inline));
+    Ok(())
+}
+
 // Resident text is found in bytes without memory, short text by a reader too.
 #[test]
 fn no_request(rt: HostRuntime) -> Result<(), Fail> {

@@ -26,7 +26,7 @@ fn reports(rt: HostRuntime) -> Result<(), Fail> {
         (b"\n", b"inline 0 \n"),
         (
             b"if\n\naaaaaaaaaaaaaaaaaaaaaaaa",
-            b"heap 26 ifaaaaaaaaaaaaaaaaaaaaaaaa\n",
+            b"inline 26 ifaaaaaaaaaaaaaaaaaaaaaaaa\n",
         ),
         (
             b"aaaaaaaaaaaa\nbbbbbbbbbbb\n",
@@ -34,7 +34,7 @@ fn reports(rt: HostRuntime) -> Result<(), Fail> {
         ),
         (
             b"            \n            ",
-            b"static 24                         \n",
+            b"inline 24                         \n",
         ),
         (
             b"aaaaaaaaaaaaaaaaaaaaaaaaaaaaaaaaaaaaaaaa\nif",

@@ -10,13 +10,13 @@ const REPORTS: [(&[&str], &[u8], &[u8]); 21] = [
     (
         &["show"],
         b"if\n\naaaaaaaaaaaaaaaaaaaaaaaa",
-        b"inline 2 if\ninline 0 \nheap 24 aaaaaaaaaaaaaaaaaaaaaaaa\n",
+        b"inline 2 if\ninline 0 \ninline 24 aaaaaaaaaaaaaaaaaaaaaaaa\n",
     ),
     (&["show"], b"", b""),
     (
         &["join"],
         b"if\n\naaaaaaaaaaaaaaaaaaaaaaaa",
-        b"heap 26 ifaaaaaaaaaaaaaaaaaaaaaaaa\n",
+        b"inline 26 ifaaaaaaaaaaaaaaaaaaaaaaaa\n",
     ),
     (&["join"], b"", b"inline 0 \n"),
     (
@@ -34,7 +34,7 @@ const REPORTS: [(&[&str], &[u8], &[u8]); 21] = [
     (
         &["replace", "x", " "],
         b"xxxxxxxxxxxxxxxxxxxxxxxx",
-        b"static 24                         \n",
+        b"inline 24                         \n",
     ),
     (
         &["show"],
@@ -56,7 +56,7 @@ const REPORTS: [(&[&str], &[u8], &[u8]); 21] = [
     (
         &["lower"],
         b"AAAAAAAAAAAAAAAAAAAAAAAA",
-        b"heap 24 aaaaaaaaaaaaaaaaaaaaaaaa\n",
+        b"inline 24 aaaaaaaaaaaaaaaaaaaaaaaa\n",
     ),
     (&["upper"], b"", b""),
     (&["tokens"], b"if\nx\nif", b"2 if\n1 x\n"),

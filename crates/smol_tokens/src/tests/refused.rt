@@ -17,7 +17,7 @@ const INPUTS: [(&[u8], [usize; 3]); 8] = [
     (b"if\n\nx\n", [12 + 10 + 11, 13, 5 + 3 + 4]),
     (b"aaaaaaaaaaaaaaaaaaaaaaa", [34, 34, 26]),
     (b"                        ", [35, 35, 27]),
-    (b"aaaaaaaaaaaaaaaaaaaaaaaa", [33, 33, 27]),
+    (b"aaaaaaaaaaaaaaaaaaaaaaaa", [35, 35, 27]),
     (&[b' '; 40], [51, 51, 43]),
     (&[b'a'; 40], [49, 49, 43]),
     (&[b'a'; 5000], [5011, 5011, 5003]),

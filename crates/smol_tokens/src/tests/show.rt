@@ -43,11 +43,11 @@ fn shown_whole(alloc: Global, input: &[u8]) -> Result<Vec<u8>, RunFault>
 const REPORTS: [(&[u8], &[u8]); 10] = [
     (
         b"if\n\naaaaaaaaaaaaaaaaaaaaaaaa",
-        b"inline 2 if\ninline 0 \nheap 24 aaaaaaaaaaaaaaaaaaaaaaaa\n",
+        b"inline 2 if\ninline 0 \ninline 24 aaaaaaaaaaaaaaaaaaaaaaaa\n",
     ),
     (
         b"                        \n",
-        b"static 24                         \n",
+        b"inline 24                         \n",
     ),
     (
         b"aaaaaaaaaaaaaaaaaaaaaaaaaaaaaaaaaaaaaaaa\n",

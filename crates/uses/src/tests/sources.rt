@@ -80,7 +80,7 @@ const LONG: &str = r#"let a_name_of_more_bytes_than_a_value_has_room_for =
                                             1;"#;
 
 pub const SOURCES: [(&str, [usize; 3]); 3] = [
-    (PRINT, [360, 0, 2]),
-    (JOIN, [639, 1, 2]),
+    (PRINT, [362, 0, 0]),
+    (JOIN, [642, 0, 0]),
     (LONG, [6, 1, 1]),
 ];
