@@ -17,6 +17,7 @@ mod readers;
 mod refuse;
 mod refused_str_ext;
 mod replace;
+mod same;
 mod str_ext;
 mod streams;
 mod wire;

@@ -1,0 +1,6 @@
+//! What the tests of all crates share: memory refused and counted, and readers and writers that fail.
+#![tactic(auto)]
+
+pub mod refuse;
+pub mod streams;
+pub mod texts;

@@ -1,0 +1,193 @@
+//! Memory refused and counted, where a test wants that.
+//!
+//! `./check` preloads a library, `.ci/refuse.c`, that takes requests of certain sizes as messages. No
+//! allocation can have such a size, so without the library each is refused and nothing else happens:
+//! the same tests then run with ample memory, and every count is 0.
+ghost use Rattle.std.specs.Prelude.{◌<◌};
+
+use std::alloc::Global;
+use std::test::Fail;
+
+/// Requests from here up are messages to `.ci/refuse.c`: message k is `BASE + k * WORD`, plus its
+/// argument.
+const BASE: usize = 0x4000_0000_0000_0000;
+
+const WORD: usize = 0x1_0000_0000;
+
+/// More requests than a call under test makes.
+const MOST: u32 = 1000;
+
+/// Which requests for memory are refused, counted from 1; the 0th is no request.
+#[derive(Clone, Copy, PartialEq, Eq, Debug)]
+pub enum Refusals {
+    /// The nth, and no other.
+    One(u32),
+    /// The nth, and each later one.
+    From(u32),
+}
+
+/// From here on these requests are refused.
+pub fn refuse(alloc: Global, refusals: Refusals) {
+    let message = match refusals {
+        Refusals::One(nth) => nth as usize,
+        Refusals::From(nth) => WORD + nth as usize,
+    };
+    let _ = is_granted(alloc, BASE + message);
+}
+
+/// From here on each request for memory is refused.
+pub fn refuse_all(alloc: Global) {
+    refuse(alloc, Refusals::From(1));
+}
+
+/// Nothing is refused from here on. Answers whether something was.
+pub fn end_refusals(alloc: Global) -> bool {
+    is_granted(alloc, BASE + 2 * WORD)
+}
+
+/// Whether memory can be refused in this run.
+pub fn can_refuse(alloc: Global) -> bool {
+    is_granted(alloc, BASE + 3 * WORD)
+}
+
+/// What a call asked the heap for; 0 without the library.
+#[derive(Clone, Copy, PartialEq, Eq, Debug)]
+pub struct Asked {
+    pub requests: u32,
+    pub bytes: u32,
+}
+
+/// Makes a call with each of its requests refused in turn, that one alone and that one with all after it, until a run
+/// meets none. Returns what the call asks for where nothing is refused.
+///
+/// `prepare` makes what the call takes, with ample memory, and `call` is the call under test and nothing else. A run
+/// fails where the call is `Ok` although a request was refused, where it is `Err` although none was, where `holds`
+/// fails, and where a block of memory is left once all is dropped.
+pub fn each_refused<I, T: Drop, E: Drop, P, C, H>(
+    alloc: Global,
+    name: &str,
+    prepare: P,
+    call: C,
+    holds: H,
+) -> Result<Asked, Fail>
+where
+    P: Fn() -> Result<I, Fail>,
+    C: Fn(I) -> Result<T, E>,
+    H: Fn(&Result<T, E>) -> Result<(), Fail>,
+    requires prepares { P.IsAlwaysCallable prepare }
+    requires calls { C.IsAlwaysCallable call }
+    requires compares { H.IsAlwaysCallable holds }
+{
+    for nth in 1..MOST {
+        let alone = run_refused(alloc, name, Refusals::One(nth), &prepare, &call, &holds)?;
+        let with_later = run_refused(alloc, name, Refusals::From(nth), &prepare, &call, &holds)?;
+        match (alone, with_later) {
+            (None, None) => {}
+            (Some(asked), Some(again)) if asked == again => return Ok(asked),
+            _ => return Err(failed(name, "does not always make the same requests")),
+        }
+    }
+    Err(failed(name, "makes too many requests"))
+}
+
+/// One run with these requests refused. Returns what the call asked for, and `None` where a request was refused.
+fn run_refused<I, T: Drop, E: Drop, P, C, H>(
+    alloc: Global,
+    name: &str,
+    refusals: Refusals,
+    prepare: &P,
+    call: &C,
+    holds: &H,
+) -> Result<Option<Asked>, Fail>
+where
+    P: Fn() -> Result<I, Fail>,
+    C: Fn(I) -> Result<T, E>,
+    H: Fn(&Result<T, E>) -> Result<(), Fail>,
+    requires prepares { P.IsAlwaysCallable prepare.now }
+    requires calls { C.IsAlwaysCallable call.now }
+    requires compares { H.IsAlwaysCallable holds.now }
+{
+    start_counts(alloc);
+    let input = prepare()?;
+    let before = count_asked(alloc);
+    refuse(alloc, refusals);
+    let answer = call(input);
+    let was_refused = end_refusals(alloc);
+    let asked = count_asked(alloc).since(before);
+    holds(&answer)?;
+    let gave_up = answer.is_err();
+    drop(answer);
+    if gave_up && !was_refused {
+        return Err(failed(name, "gives up although no request was refused"));
+    }
+    if was_refused && !gave_up {
+        return Err(failed(name, "hides a refusal"));
+    }
+    if count_blocks(alloc) != 0 {
+        return Err(failed(name, "leaks"));
+    }
+    Ok(if was_refused { None } else { Some(asked) })
+}
+
+fn failed(name: &str, why: &str) -> Fail {
+    Fail::new(format_args!("{name} {why}"))
+}
+
+/// What was asked for since the counts began.
+fn count_asked(alloc: Global) -> Asked {
+    Asked {
+        requests: count_requests(alloc),
+        bytes: count_bytes(alloc),
+    }
+}
+
+impl Asked {
+    /// What was asked for after `before`.
+    fn since(self, before: Asked) -> Asked {
+        Asked {
+            requests: self.requests.wrapping_sub(before.requests),
+            bytes: self.bytes.wrapping_sub(before.bytes),
+        }
+    }
+}
+
+/// Every count is 0 from here on.
+pub fn start_counts(alloc: Global) {
+    let _ = is_granted(alloc, BASE + 4 * WORD);
+}
+
+/// How many requests for memory were made since the counts began.
+pub fn count_requests(alloc: Global) -> u32 {
+    count(alloc, 5)
+}
+
+/// How many bytes these requests asked for.
+pub fn count_bytes(alloc: Global) -> u32 {
+    count(alloc, 6)
+}
+
+/// How many blocks of memory were handed out and not freed since the counts began.
+pub fn count_blocks(alloc: Global) -> u32 {
+    count(alloc, 7)
+}
+
+/// A count, bit by bit; 0 without the library.
+fn count(alloc: Global, message: usize) -> u32
+    requires { message < 8 }
+{
+    if !can_refuse(alloc) {
+        return 0;
+    }
+    let mut total = 0;
+    for bit in 0..32u32 {
+        if is_granted(alloc, BASE + message * WORD + bit as usize) {
+            total |= 1u32 << bit;
+        }
+    }
+    total
+}
+
+fn is_granted(alloc: Global, size: usize) -> bool {
+    let asked: Result<Vec<u8>, _> = Vec::with_capacity(alloc, size);
+    asked.is_ok()
+}

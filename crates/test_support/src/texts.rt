@@ -1,0 +1,86 @@
+//! Texts about the limits, made from the library's constants.
+use smol_str::{BLANK_NEWLINES, BLANK_SPACES, INLINE_CAP};
+use std::alloc::{AllocError, Global};
+
+/// A byte more than a buffer has room for.
+const LONG: usize = INLINE_CAP + 1;
+
+/// `a` as often as a buffer has room for.
+pub fn full_text() -> &'static str {
+    text_of(&[b'a'; INLINE_CAP])
+}
+
+/// `A` as often as a buffer has room for.
+pub fn full_capitals() -> &'static str {
+    text_of(&[b'A'; INLINE_CAP])
+}
+
+/// `a` once more than a buffer has room for: no blank run.
+pub fn long_text() -> &'static str {
+    text_of(&[b'a'; LONG])
+}
+
+/// `A` once more than a buffer has room for.
+pub fn long_capitals() -> &'static str {
+    text_of(&[b'A'; LONG])
+}
+
+/// A blank run that is a byte too long for a buffer.
+pub fn long_blank() -> &'static str {
+    text_of(&[b' '; LONG])
+}
+
+/// The text of ASCII bytes; a test of the lengths fails where they are none.
+fn text_of(bytes: &[u8]) -> &str {
+    str::from_utf8(bytes).unwrap_or("")
+}
+
+/// A text so many times.
+pub fn repeated(alloc: Global, text: &str, times: usize) -> Result<String, AllocError> {
+    let mut all = String::new(alloc);
+    for _ in 0..times {
+        all.push_str(text)?;
+    }
+    Ok(all)
+}
+
+/// A text so many times, and then an end.
+pub fn repeated_and(
+    alloc: Global,
+    text: &str,
+    times: usize,
+    end: &str,
+) -> Result<String, AllocError> {
+    let mut all = repeated(alloc, text, times)?;
+    all.push_str(end)?;
+    Ok(all)
+}
+
+/// The longest blank run.
+pub fn longest_blank(alloc: Global) -> Result<String, AllocError> {
+    let mut all = repeated(alloc, "\n", BLANK_NEWLINES)?;
+    all.push_str(repeated(alloc, " ", BLANK_SPACES)?.as_str())?;
+    Ok(all)
+}
+
+/// Every text of at most so many characters out of `a`, `b` and `é`.
+pub fn small_texts(alloc: Global, longest: usize) -> Result<Vec<String>, AllocError> {
+    let mut texts = Vec::new(alloc);
+    texts.push(String::new(alloc))?;
+    let mut begin = 0;
+    for _ in 0..longest {
+        let end = texts.len();
+        for at in begin..end {
+            for character in ['a', 'b', 'é'] {
+                let mut text = String::new(alloc);
+                if let Some(shorter) = texts.get(at) {
+                    text.push_str(shorter.as_str())?;
+                }
+                text.push(character)?;
+                texts.push(text)?;
+            }
+        }
+        begin = end;
+    }
+    Ok(texts)
+}
