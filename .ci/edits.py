@@ -9,19 +9,21 @@ import pathlib
 PARTS = ("src", "specs", "proofs")
 
 
-def edited(edit_path, crate_folder):
-    """The new text of each file that the edit changes, by its path in the crate.
+def edited(edit_path, crate_folder, others=None):
+    """The new text of each file that the edit changes, by its path in the crate. `others` has the new texts of edits
+    that stand in the same copy of the crate.
 
     A ValueError says why an edit cannot be applied, and names its line; the message does not name the edit.
     """
     crate, texts, path, old = pathlib.Path(crate_folder), {}, None, None
+    others = others or {}
     for number, line in enumerate(_read(pathlib.Path(edit_path)).split("\n"), 1):
         word, colon, text = line.partition(":")
         text = text.removeprefix(" ")
         if word == "file" and colon and old is None:
             path = text.strip()
             if path not in texts:
-                texts[path] = _source(crate, path, number)
+                texts[path] = others.get(path) or _source(crate, path, number)
         elif word == "old" and path and text and old is None:
             old = text
         elif word == "new" and colon and old is not None:
@@ -30,7 +32,7 @@ def edited(edit_path, crate_folder):
             raise ValueError(f"line {number} is no 'file: PATH', 'old: TEXT' or 'new: TEXT' in its place")
     if old is not None:
         raise ValueError("its last 'old:' has no 'new:'")
-    unchanged = [path for path, text in texts.items() if text == _source(crate, path, 0)]
+    unchanged = [path for path, text in texts.items() if text == (others.get(path) or _source(crate, path, 0))]
     if unchanged or not texts:
         raise ValueError(f"it changes nothing{''.join(f' in {path}' for path in unchanged)}")
     return texts

@@ -1,0 +1,87 @@
+"""Names the function that each line of a crate's sources belongs to, as the prover names it: `Functions` is what the
+scripts beside this one use. The sources are in the layout of `rt fmt`."""
+import pathlib
+import re
+
+FUNCTION = re.compile(r"( *)(?:pub(?:\([^)]*\))? )?(?:const )?(?:unsafe )?fn (\w+)")
+TYPE = re.compile(r"(?:pub(?:\([^)]*\))? )?(?:struct|enum|trait) (\w+)")
+
+
+class Functions:
+    """The functions of a crate's `src`, which stands in this folder."""
+
+    def __init__(self, crate):
+        self.crate = pathlib.Path(crate)
+        self.files = sorted(self.crate.glob("src/**/*.rt"))
+        self.homes = {}
+        for file in self.files:
+            for name in TYPE.findall(file.read_text(encoding="utf-8")):
+                self.homes.setdefault(name, self.module(file))
+
+    def module(self, file):
+        """The path of a file's module, which begins with the crate's name."""
+        parts = file.relative_to(self.crate / "src").with_suffix("").parts
+        return "::".join([self.crate.name, *(part for part in parts if parts not in (("lib",), ("main",)))])
+
+    def named(self, path):
+        """The name of the function at each line of a file, None outside of functions."""
+        file = self.crate / path
+        lines, module = file.read_text(encoding="utf-8").split("\n"), self.module(file)
+        names, owner, at = [None] * len(lines), module, 0
+        while at < len(lines):
+            if lines[at].startswith(("impl", "pub trait ", "trait ")):
+                owner = self.owner(module, _header(lines, at))
+            elif lines[at] == "}":
+                owner = module
+            found = FUNCTION.match(lines[at])
+            if found:
+                end = _end(lines, at, found[1])
+                names[at:end + 1] = [f"{owner if found[1] else module}::{found[2]}"] * (end + 1 - at)
+                at = end
+            at += 1
+        return names
+
+    def owner(self, module, header):
+        """The path below which the functions of an impl or a trait stand."""
+        declared = TYPE.match(header)
+        if declared:
+            return f"{module}::{declared[1]}"
+        parameters, rest = _parameters(header.removeprefix("impl"))
+        trait, _, of = re.sub(r"\s+where\b.*", "", rest).rpartition(" for ")
+        name, trait = _words(of, parameters), re.sub(r"^[\w:]*::", "", trait)
+        return f"{module}::{name}{_words(trait, parameters)}" if trait else f"{self.homes.get(name, module)}::{name}"
+
+
+def _header(lines, at):
+    """An impl's or a trait's first line, with those after it up to its brace."""
+    end = next((to for to in range(at, len(lines)) if lines[to].endswith("{")), at)
+    return " ".join(line.strip() for line in lines[at:end + 1]).removesuffix("{").strip()
+
+
+def _end(lines, at, indent):
+    """The last line of a function that begins at a line: of its body, or of a trait's clauses where it has none."""
+    for opens in range(at, len(lines)):
+        line = lines[opens]
+        if line in (f"{indent}{{}}", f"{indent}}}") or line.endswith((";", "{}")):
+            return opens
+        if line.endswith("{") and line.startswith(indent) and line[len(indent)] != " ":
+            break
+    return next((to for to in range(opens, len(lines)) if lines[to] == f"{indent}}}"), len(lines) - 1)
+
+
+def _parameters(text):
+    """The names of an impl's type parameters, and what stands behind them."""
+    if not text.startswith("<"):
+        return set(), text.strip()
+    depth = 0
+    for at, character in enumerate(text):
+        depth += (character == "<") - (character == ">" and text[at - 1] not in "-=")
+        if not depth:
+            return set(re.findall(r"(?:^|,)\s*(\w+)", re.sub(r"<.*?>", "", text[1:at]))), text[at + 1:].strip()
+    return set(), text.strip()
+
+
+def _words(of, parameters):
+    """A type or trait in one word: `io::Error` is `IoError`, `&str` is `RefStr`, a parameter is `Any`."""
+    words = re.findall(r"&|(?<!')\b\w+", re.sub(r"'\w+", "", of))
+    return "".join("Ref" if it == "&" else "Any" if it in parameters else it[0].upper() + it[1:] for it in words)
