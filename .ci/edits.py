@@ -47,7 +47,8 @@ def _read(path):
 def _source(crate, path, number):
     plain = pathlib.PurePosixPath(path)
     if str(plain) != path or plain.parts[0] not in PARTS or ".." in plain.parts or not (crate / path).is_file():
-        raise ValueError(f"line {number}: {path} is no file below {', '.join(f'{it}/' for it in PARTS)} of {crate.name}")
+        parts = ", ".join(f"{it}/" for it in PARTS)
+        raise ValueError(f"line {number}: {path} is no file below {parts} of {crate.name}")
     return _read(crate / path)
 
 
