@@ -1,11 +1,15 @@
-"""Reads edit files, that is wrong bodies and wrong definitions: `edited` is what the scripts beside this one use.
+"""Reads edit files, that is wrong bodies and wrong definitions: `edited` is what the scripts beside this one use, and
+`copy_repository` makes the copy in which they try what it returns.
 
 An edit is a text of lines `file: PATH`, `old: TEXT` and `new: TEXT`. Each pair of an old and a new text changes the
 file that was named last, below src/, specs/ or proofs/ of its crate. The old text stands there exactly once, as the
 pairs before it left the file. An edit may change several files, and each of them at several places.
 """
+import os
 import pathlib
+import shutil
 
+TOP = pathlib.Path(__file__).resolve().parent.parent
 PARTS = ("src", "specs", "proofs")
 
 
@@ -38,6 +42,17 @@ def edited(edit_path, crate_folder, others=None):
     return texts
 
 
+def copy_repository(to, crates):
+    """Copies the repository's crates, those named with what their checks have kept."""
+    def left_out(folder, _):
+        is_crate = os.path.dirname(folder) == str(TOP / "crates")
+        return ["out"] if is_crate and os.path.basename(folder) not in crates else []
+
+    shutil.copytree(TOP / "crates", to / "crates", symlinks=True, ignore=left_out)
+    for name in ("crates.txt", "HANDLES"):
+        shutil.copy2(TOP / name, to)
+
+
 def _read(path):
     try:
         with open(path, encoding="utf-8", newline="") as file:
@@ -49,7 +64,8 @@ def _read(path):
 def _source(crate, path, number):
     plain = pathlib.PurePosixPath(path)
     if str(plain) != path or plain.parts[0] not in PARTS or ".." in plain.parts or not (crate / path).is_file():
-        raise ValueError(f"line {number}: {path} is no file below {', '.join(f'{it}/' for it in PARTS)} of {crate.name}")
+        parts = ", ".join(f"{it}/" for it in PARTS)
+        raise ValueError(f"line {number}: {path} is no file below {parts} of {crate.name}")
     return _read(crate / path)
 
 
