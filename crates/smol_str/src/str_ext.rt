@@ -12,7 +12,6 @@ mod case;
 mod full;
 mod replace;
 
-use crate::builder::SmolStrBuilder;
 use crate::kernel::AsciiCase;
 use crate::value::SmolStr;
 use case::to_ascii_case;
@@ -135,12 +134,4 @@ impl StrExt for &str {
     fn to_uppercase_smolstr(&self, alloc: Global) -> Result<SmolStr, AllocError> {
         to_full_case(alloc, self, AsciiCase::Upper)
     }
-}
-
-/// The value of a builder's text.
-fn finished(builder: SmolStrBuilder) -> Result<SmolStr, AllocError>
-    ensures ok { IfOk result (λ v. IsValueOf builder.text v) }
-    ensures refused { OnErr result (¬ (IsShort builder.text)) }
-{
-    Ok(builder.finish()?)
 }

@@ -8,7 +8,6 @@ ghost use Rattle.smol_str.specs.Replace.{replaced, replaced_all};
 ghost use Rattle.smol_str.specs.Replacing.{IsReplacing};
 
 use super::bytes::replace_byte;
-use super::finished;
 use crate::builder::SmolStrBuilder;
 use crate::kernel::next_match;
 use crate::value::SmolStr;
@@ -66,7 +65,7 @@ fn replace_pieces(
     let mut builder = SmolStrBuilder::new(alloc);
     let place = push_replaced(&mut builder, text, from, to, count)?;
     builder.push_str(&text[place..])?;
-    finished(builder)
+    builder.into_value()
 }
 
 /// Appends the text up to the last match that is replaced; answers where the rest begins.

@@ -1,3 +1,5 @@
+use Rattle.std.proofs.Common.{inl}
+use Rattle.std.proofs.lemmas.Result.{on_err_weaker}
 use Rattle.smol_str.proofs.TextLemmas.{OnErr-always}
 use Rattle.smol_str.proofs.ReplacingLemmas.{replacing-boundary, rest-whole, rest-refused}
 use Rattle.smol_str.proofs.str_ext.replace.replace_pieces.Goals as goal
@@ -15,10 +17,11 @@ pub returns-clause-ok : goal.returns-clause-ok
 returns-clause-ok c =
     let whole = rest-whole _ _ _ _ _ _ c.in_ok-place.ensures.ok c.utf8.text _
     (rw c.range_from.ensures.value at c.in_ok-push_str.ensures.ok) in
-    rw whole at c.finished.ensures.ok
+    rw whole at c.into_value.ensures.ok
 
 pub returns-clause-refused : goal.returns-clause-refused
 returns-clause-refused c =
     let whole = rest-whole _ _ _ _ _ _ c.in_ok-place.ensures.ok c.utf8.text _
     (rw c.range_from.ensures.value at c.in_ok-push_str.ensures.ok) in
-    rw whole at c.finished.ensures.refused
+    on_err_weaker c.into_value.result (λ away short. away (inl short))
+    (rw whole at c.into_value.ensures.refused)
