@@ -42,8 +42,8 @@ pub(super) fn replace(
     ensures refused { OnErr result
         (¬ (IsShort (replaced (chars text.now) (chars from.now) (chars to.now) count))) }
 {
-    if from.len() == 1 && to.len() == 1 {
-        replace_byte(alloc, text, from.as_bytes()[0], to.as_bytes()[0], count)
+    if from.len() == 1 && to.len() == 1 && count >= text.len() {
+        replace_byte(alloc, text, from.as_bytes()[0], to.as_bytes()[0])
     } else {
         replace_pieces(alloc, text, from, to, count)
     }
@@ -103,7 +103,7 @@ fn push_between(
     ensures refused { OnErr result (¬ (IsShort (replaced (chars text.now) [] (chars to.now) count))) }
 {
     let mut place = 0;
-    for taken in 0..count {
+    for passed in 0..count {
         match char_at(text, place) {
             Some(character) => {
                 push_before(builder, to, character)?;
