@@ -11,6 +11,7 @@ use Rattle.std.proofs.lemmas.Str.Ascii.{lowercase_ascii, uppercase_ascii, lowerc
 use Rattle.smol_str.specs.declared.buffer.TheConstants.{INLINE_CAP}
 use Rattle.smol_str.specs.declared.kernel.AsciiCase.{AsciiCase}
 use Rattle.smol_str.specs.declared.kernel.AsciiCase.TheVariants.{Lower, Upper}
+use Rattle.smol_str.specs.Text.{size}
 use Rattle.smol_str.specs.Buffer.{IsPacked, packed, padded, unpacked}
 use Rattle.smol_str.specs.Convert.{converted}
 use Rattle.smol_str.proofs.BufferLemmas.{length-padded, len-bytes, IsPacked-packed, unpacked-packed}
@@ -73,6 +74,9 @@ module _ (f : ℕ → ℕ) (m : MovesAscii f) where
 
     pub chars-map : chars (map f bs) ≡ map f (chars bs)
     chars-map = ap chars (sym spelt) ∙ chars-encodes (map f (chars bs)) (scalars-map (chars bs) (scalars-chars bs u))
+
+    pub size-mapped : size (map f (chars bs)) ≡ length bs
+    size-mapped = ap length spelt ∙ length-map bs f
 
 -- of what is packed, all but the length
 map-zeros : (f : ℕ → ℕ) → f 0 ≡ 0 → (n : ℕ) → map f (replicate n 0) ≡ replicate n 0

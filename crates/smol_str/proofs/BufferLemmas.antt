@@ -12,9 +12,6 @@ use Rattle.smol_str.specs.Words.{put_at}
 pub length-padded : (bytes : List ℕ) → length bytes ≤ INLINE_CAP → length (padded bytes) ≡ INLINE_CAP
 length-padded bytes h = omega (arith, length-append {A = ℕ}, length-replicate {A = ℕ} (INLINE_CAP - length bytes) 0)
 
-pub length-packed : (bytes : List ℕ) → length bytes ≤ INLINE_CAP → length (packed bytes) ≡ INLINE_CAP + 1
-length-packed bytes h = omega (arith, length-append (padded bytes) (length bytes ∷ []), length-padded bytes h)
-
 -- what is packed can be read back
 pub last-packed : (bytes : List ℕ) → length bytes ≤ INLINE_CAP → get_or (packed bytes) INLINE_CAP 0 ≡ length bytes
 last-packed bytes h = get_or_at (padded bytes) (length bytes) [] 0 INLINE_CAP (length-padded bytes h)

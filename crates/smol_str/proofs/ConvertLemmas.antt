@@ -73,14 +73,6 @@ pub ascii-told : (b : Bool) (bytes : List ℕ) → MatchBool b (IsAscii bytes) (
 ascii-told true bytes told ascii = refl
 ascii-told false bytes told ascii = absurd (omega (arith, told.1, ascii told.0))
 
--- nothing is done yet
-pub converted-none : (case : AsciiCase) (text : List ℕ) → IsConverted case text (padded []) 0
-converted-none case text = record {
-  inside = omega arith;
-  low = IsAscii-nil;
-  bytes = ap padded (sym (converted-nil case));
-}
-
 -- a short text, of which the first bytes are done
 module _ (case : AsciiCase) (text buffer : List ℕ) (at : ℕ) (f : IsConverted case text buffer at)
     (small : length text ≤ INLINE_CAP) where

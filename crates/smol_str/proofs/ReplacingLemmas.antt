@@ -17,17 +17,6 @@ use Rattle.smol_str.proofs.PushLemmas.{appended-grown, grown-heap}
 use Rattle.smol_str.proofs.ReplaceLemmas.{replaced-none, replaced-matched, replaced-unmatched, replaced-between, replaced-end, replaced-enough, replaced-cut, match_count-limit}
 use Rattle.smol_str.proofs.SplitLemmas.{boundary-parts, chars-drop, chars-middle}
 
--- at the start
-pub replacing-start : (t p w : List ℕ) (n : ℕ) → IsReplacing t p w n n (grown []) 0
-replacing-start t p w n = record {
-  done = [];
-  rest = t;
-  parts = refl;
-  at = refl;
-  draft = refl;
-  text = refl;
-}
-
 pub replacing-boundary : (bs p w : List ℕ) (n m : ℕ) (b : Draft) (i : ℕ) → IsReplacing (chars bs) p w n m b i
     → IsUtf8 bs → IsCharBoundary bs i
 replacing-boundary bs p w n m b i h u = boundary-parts bs h.done h.rest i u h.parts h.at

@@ -12,12 +12,11 @@ mod case;
 mod full;
 mod replace;
 
-use crate::builder::SmolStrBuilder;
 use crate::kernel::AsciiCase;
 use crate::value::SmolStr;
 use case::to_ascii_case;
 use full::to_full_case;
-use replace::{replace, replace_all};
+use replace::replace;
 use std::alloc::{AllocError, Global};
 
 /// Calls of a `str` whose answer is a new text, as a [`SmolStr`].
@@ -117,7 +116,8 @@ impl StrExt for &str {
     }
 
     fn replace_smolstr(&self, alloc: Global, from: &str, to: &str) -> Result<SmolStr, AllocError> {
-        replace_all(alloc, self, from, to)
+        // No text has so many matches that this limit leaves one out.
+        replace(alloc, self, from, to, usize::MAX)
     }
 
     fn to_ascii_lowercase_smolstr(&self, alloc: Global) -> Result<SmolStr, AllocError> {
@@ -135,12 +135,4 @@ impl StrExt for &str {
     fn to_uppercase_smolstr(&self, alloc: Global) -> Result<SmolStr, AllocError> {
         to_full_case(alloc, self, AsciiCase::Upper)
     }
-}
-
-/// The value of a builder's text.
-fn finished(builder: SmolStrBuilder) -> Result<SmolStr, AllocError>
-    ensures ok { IfOk result (λ v. IsValueOf builder.text v) }
-    ensures refused { OnErr result (¬ (IsShort builder.text)) }
-{
-    Ok(builder.finish()?)
 }

@@ -34,9 +34,16 @@ use std::rc::RcStr;
 /// assert_eq!(rt; token.as_str(), "if");
 /// assert_eq!(rt; token.place(), Place::Inline);
 /// ```
-#[derive(Drop)]
 pub struct SmolStr {
     repr: Repr,
+}
+
+// By hand, so that a caller's proof sees one call and no private arms.
+impl Drop for SmolStr {
+    #[inline(always)]
+    fn drop(self) {
+        let SmolStr { repr: _ } = self;
+    }
 }
 
 // Inline: the text lies in the value itself. Static: in memory that lives as long as the program.

@@ -14,7 +14,7 @@
 //! So two texts are equal where their words are, and the first words that differ order them: behind a
 //! text that begins another stand zeros, and then the lesser length. A text is written by words too,
 //! since a value that is filled byte by byte waits where it is moved by words at once.
-ghost use Rattle.std.specs.Prelude.{◌≡◌, ◌+◌, ◌*◌, ◌^◌, ◌<◌, ◌≤◌, length, take, drop, nat_eq, encode_utf8};
+ghost use Rattle.std.specs.Prelude.{◌≡◌, ◌+◌, ◌*◌, ◌<◌, ◌≤◌, length, take, drop, nat_eq, encode_utf8};
 ghost use Rattle.std.specs.Ordering.{nat_cmp};
 ghost use Rattle.std.specs.Cmp.Lexicographic.{pointwise, slice_cmp};
 ghost use Rattle.std.specs.Int.{w64, to_le_bytes, from_be_bytes};

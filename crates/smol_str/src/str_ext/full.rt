@@ -1,6 +1,6 @@
 //! Full case: of an ASCII text that of ASCII; else the ASCII front of a short text by lanes, its rest
 //! by the mapping of each character, and a long text by std's mapping of a whole text.
-ghost use Rattle.std.specs.Prelude.{◌≡◌, ◌<◌, ◌≤◌, [], ◌∷◌, ◌++◌, false, length, IfOk, OnOk, OnErr, IsTrue};
+ghost use Rattle.std.specs.Prelude.{◌≡◌, ◌<◌, ◌≤◌, [], ◌∷◌, false, length, IfOk, OnOk, OnErr, IsTrue};
 ghost use Rattle.std.specs.Option.{option_to_list};
 ghost use Rattle.std.specs.Str.{chars};
 ghost use Rattle.std.specs.String.{string_bytes};
@@ -12,7 +12,6 @@ ghost use Rattle.smol_str.specs.Case.{IsAsciiText};
 ghost use Rattle.smol_str.specs.Convert.{full_case, mapped, IsMappedAlone};
 
 use super::case::{push_front, to_ascii_case_on_heap};
-use super::finished;
 use crate::buffer::{INLINE_CAP, InlineText};
 use crate::builder::SmolStrBuilder;
 use crate::kernel::{AsciiCase, next_match};
@@ -66,7 +65,7 @@ fn short_full_case(alloc: Global, text: &str, case: AsciiCase) -> Result<SmolStr
         return whole_full_case(alloc, text, case);
     }
     push_mapped(&mut builder, rest, case)?;
-    finished(builder)
+    builder.into_value()
 }
 
 /// Whether a character is mapped by what stands around it.

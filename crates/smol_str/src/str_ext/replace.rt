@@ -4,33 +4,17 @@ ghost use Rattle.std.specs.Str.{IsCharBoundary, chars};
 ghost use Rattle.smol_str.specs.Text.{size, IsShort};
 ghost use Rattle.smol_str.specs.Meaning.{IsValueOf};
 ghost use Rattle.smol_str.specs.Draft.{OnHeap, grown, appended};
-ghost use Rattle.smol_str.specs.Replace.{replaced, replaced_all};
+ghost use Rattle.smol_str.specs.Replace.{replaced};
 ghost use Rattle.smol_str.specs.Replacing.{IsReplacing};
 
 use super::bytes::replace_byte;
-use super::finished;
 use crate::builder::SmolStrBuilder;
 use crate::kernel::next_match;
 use crate::value::SmolStr;
 use std::alloc::{AllocError, Global};
 
-/// The text with each match of a pattern replaced: no text has so many that a limit of `usize::MAX`
-/// leaves one out.
-pub(super) fn replace_all(
-    alloc: Global,
-    text: &str,
-    from: &str,
-    to: &str,
-) -> Result<SmolStr, AllocError>
-    ensures ok { IfOk result (λ v.
-        IsValueOf (replaced_all (chars text.now) (chars from.now) (chars to.now)) v) }
-    ensures refused { OnErr result
-        (¬ (IsShort (replaced_all (chars text.now) (chars from.now) (chars to.now)))) }
-{
-    replace(alloc, text, from, to, usize::MAX)
-}
-
-/// The text with the first `count` matches of a pattern replaced.
+/// The text with the first `count` matches of a pattern replaced: one character by another byte for byte
+/// where the limit leaves none out, else by the pieces between matches, pushed into one builder.
 pub(super) fn replace(
     alloc: Global,
     text: &str,
@@ -43,30 +27,13 @@ pub(super) fn replace(
     ensures refused { OnErr result
         (¬ (IsShort (replaced (chars text.now) (chars from.now) (chars to.now) count))) }
 {
-    if from.len() == 1 && to.len() == 1 {
-        replace_byte(alloc, text, from.as_bytes()[0], to.as_bytes()[0], count)
-    } else {
-        replace_pieces(alloc, text, from, to, count)
+    if from.len() == 1 && to.len() == 1 && count >= text.len() {
+        return replace_byte(alloc, text, from.as_bytes()[0], to.as_bytes()[0]);
     }
-}
-
-/// The same by the pieces between matches, pushed into one builder.
-fn replace_pieces(
-    alloc: Global,
-    text: &str,
-    from: &str,
-    to: &str,
-    count: usize,
-) -> Result<SmolStr, AllocError>
-    ensures ok { IfOk result (λ v.
-        IsValueOf (replaced (chars text.now) (chars from.now) (chars to.now) count) v) }
-    ensures refused { OnErr result
-        (¬ (IsShort (replaced (chars text.now) (chars from.now) (chars to.now) count))) }
-{
     let mut builder = SmolStrBuilder::new(alloc);
     let place = push_replaced(&mut builder, text, from, to, count)?;
     builder.push_str(&text[place..])?;
-    finished(builder)
+    builder.into_value()
 }
 
 /// Appends the text up to the last match that is replaced; answers where the rest begins.
@@ -104,7 +71,7 @@ fn push_between(
     ensures refused { OnErr result (¬ (IsShort (replaced (chars text.now) [] (chars to.now) count))) }
 {
     let mut place = 0;
-    for taken in 0..count {
+    for passed in 0..count {
         match char_at(text, place) {
             Some(character) => {
                 push_before(builder, to, character)?;

@@ -133,7 +133,8 @@ impl SmolStr {
         ensures back { IfErr result (λ back. back ≡ self) }
         ensures refused { OnErr result (¬ (self.place ≡ Place.Heap)) }
     {
-        match self.repr {
+        let SmolStr { repr } = self;
+        match repr {
             Repr::Heap(text) => Ok(text),
             repr => {
                 let value = SmolStr { repr };

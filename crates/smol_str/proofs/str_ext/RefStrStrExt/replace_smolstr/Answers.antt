@@ -1,8 +1,15 @@
+use Rattle.std.proofs.Common.{arith}
 use Rattle.std.specs.Str.{chars}
 use Rattle.smol_str.specs.Replace.{cut, no_limit}
 use Rattle.smol_str.proofs.CutLemmas.{IsCut-cut}
-use Rattle.smol_str.proofs.ReplacingLemmas.{joined-text}
+use Rattle.smol_str.proofs.ReplacingLemmas.{joined-text, replaced-unlimited}
 use Rattle.smol_str.proofs.str_ext.RefStrStrExt.replace_smolstr.Goals as goal
+
+pub returns-clause-ok : goal.returns-clause-ok
+returns-clause-ok c =
+    let all = replaced-unlimited c.args.self.now.now (chars c.args.from.now) (chars c.args.to.now) c.type_inv.self
+    18446744073709551615 (omega arith) in
+    rw all at c.replace.ensures.ok
 
 pub returns-clause-cut : goal.returns-clause-cut
 returns-clause-cut c =
@@ -13,4 +20,10 @@ returns-clause-cut c =
 pub returns-clause-text : goal.returns-clause-text
 returns-clause-text c = λ pieces h.
     let t = chars c.args.self.now.now in
-    joined-text c.replace_all.result t (chars c.args.from.now) _ (no_limit t) pieces h c.replace_all.ensures.ok
+    joined-text c.replace.result t (chars c.args.from.now) _ (no_limit t) pieces h (returns-clause-ok c)
+
+pub returns-clause-refused : goal.returns-clause-refused
+returns-clause-refused c =
+    let all = replaced-unlimited c.args.self.now.now (chars c.args.from.now) (chars c.args.to.now) c.type_inv.self
+    18446744073709551615 (omega arith) in
+    rw all at c.replace.ensures.refused

@@ -1,17 +1,17 @@
-use Rattle.smol_str.proofs.ByteLemmas.{IsUtf8-swapped, chars-swapped}
+use Rattle.smol_str.proofs.ByteLemmas.{IsUtf8-each, chars-each}
 use Rattle.smol_str.proofs.str_ext.bytes.replace_in_buffer.Goals as goal
 
 pub from_utf8_unchecked-requires : goal.from_utf8_unchecked-requires
 from_utf8_unchecked-requires c =
-    rw (c.replace_bytes.ensures, c.copy_from_slice.ensures.after, c.as_bytes.ensures.value)
-    (IsUtf8-swapped _ _ c.requires.ascii_from c.requires.ascii_to c.args.text.now c.args.count c.utf8.text)
+    rw (c.replace_each.ensures, c.copy_from_slice.ensures.after, c.as_bytes.ensures.value)
+    (IsUtf8-each _ _ c.requires.ascii_from c.requires.ascii_to c.args.text.now c.utf8.text)
 
 pub returns : goal.returns
 returns c =
-    let same = chars-swapped _ _ c.requires.ascii_from c.requires.ascii_to c.args.text.now c.args.count c.utf8.text in
+    let same = chars-each _ _ c.requires.ascii_from c.requires.ascii_to c.args.text.now c.utf8.text in
     rw (
       c.from_utf8_unchecked.ensures,
-      c.replace_bytes.ensures,
+      c.replace_each.ensures,
       c.copy_from_slice.ensures.after,
       c.as_bytes.ensures.value,
       same,

@@ -1,4 +1,4 @@
-use Rattle.std.proofs.Common.{refl, ap, arith, length}
+use Rattle.std.proofs.Common.{refl, ap, arith, length, inl}
 use Rattle.std.specs.Str.{chars}
 use Rattle.std.proofs.lemmas.Result.{on_err_weaker}
 use Rattle.smol_str.proofs.TextLemmas.{OnErr-always}
@@ -38,7 +38,7 @@ returns-clause-ok c =
     let text = short-text c.args.case _ _ c.in_ok-rest.ensures.rest alone _ _ c.new-builder.ensures
     c.in_ok-rest.ensures.ok
     _ c.in_ok-push_mapped.ensures.ok in
-    rw text at c.finished.ensures.ok
+    rw text at c.into_value.ensures.ok
 
 pub returns-clause-refused : goal.returns-clause-refused
 returns-clause-refused c =
@@ -47,4 +47,5 @@ returns-clause-refused c =
     let text = short-text c.args.case _ _ c.in_ok-rest.ensures.rest alone _ _ c.new-builder.ensures
     c.in_ok-rest.ensures.ok
     _ c.in_ok-push_mapped.ensures.ok in
-    on_err_weaker c.finished.result (full-long c.args.case t) (rw text at c.finished.ensures.refused)
+    on_err_weaker c.into_value.result (λ away. full-long c.args.case t (λ short. away (inl short)))
+    (rw text at c.into_value.ensures.refused)

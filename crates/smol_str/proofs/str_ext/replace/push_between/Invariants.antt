@@ -4,5 +4,5 @@ use Rattle.std.specs.Str.{chars}
 use Rattle.smol_str.specs.Replacing.{IsReplacing}
 use Rattle.smol_str.proofs.str_ext.replace.push_between.Given as goal
 
-abbrev pub invariant-loop-taken : goal.invariant-loop-taken
-invariant-loop-taken l = IsReplacing (chars l.text) [] (chars l.to) l.count (l.count - l.taken) l.builder l.place
+abbrev pub invariant-loop-passed : goal.invariant-loop-passed
+invariant-loop-passed l = IsReplacing (chars l.text) [] (chars l.to) l.count (l.count - l.passed) l.builder l.place
