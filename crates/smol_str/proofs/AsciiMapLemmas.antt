@@ -1,11 +1,13 @@
 -- For ASCII case and the replacement of bytes: what moves ASCII characters alone moves bytes just so.
-use Rattle.std.proofs.Common.{◌≡◌, ℕ, zero, suc, ◌+◌, ◌-◌, ◌/◌, ◌<◌, ◌≤◌, List, [], ◌∷◌, ◌++◌, true, ◌&&◌, length, map, set, get_or, replicate, refl, sym, ap, ◌∙◌, arith, inl, inr}
+use Rattle.std.proofs.Common.{take, drop, append_assoc, append-nil, length-append, length-drop, length-take-le, take-append-drop, ◌≡◌, ℕ, zero, suc, ◌+◌, ◌-◌, ◌/◌, ◌<◌, ◌≤◌, List, [], ◌∷◌, ◌++◌, true, ◌&&◌, length, map, set, get_or, replicate, refl, sym, ap, ◌∙◌, arith, inl, inr}
+use Rattle.std.specs.Simd.Lanes.{put_chunk}
+use Rattle.std.proofs.lemmas.Simd.{put_chunk_is}
 use Rattle.std.specs.Str.{IsUtf8, chars, encode_utf8_all}
 use Rattle.std.specs.Char.{to_ascii_lowercase, to_ascii_uppercase}
 use lib.Utf8.{encode, next, scalar, scalars}
 use Rattle.std.proofs.lemmas.Bool.{cases_lt}
 use Rattle.std.proofs.lemmas.Bool.Decides.{nat_tests}
-use Rattle.std.proofs.lemmas.List.{map-append, length-map, set_at}
+use Rattle.std.proofs.lemmas.List.{take_at, drop_at, take_all, drop_all, map-append, length-map, set_at}
 use Rattle.std.proofs.lemmas.Str.{chars-encodes, encodes-chars, scalars-chars}
 use Rattle.std.proofs.lemmas.Str.Ascii.{lowercase_ascii, uppercase_ascii, lowercase_is, uppercase_is}
 use Rattle.smol_str.specs.declared.buffer.TheConstants.{INLINE_CAP}
@@ -15,9 +17,83 @@ use Rattle.smol_str.specs.Text.{size}
 use Rattle.smol_str.specs.Buffer.{IsPacked, packed, padded, unpacked}
 use Rattle.smol_str.specs.Convert.{converted}
 use Rattle.smol_str.proofs.BufferLemmas.{length-padded, len-bytes, IsPacked-packed, unpacked-packed}
-use Rattle.smol_str.proofs.ConvertLemmas.{length-converted}
+use Rattle.smol_str.proofs.ConvertLemmas.{length-converted, take_one}
 use Rattle.smol_str.proofs.Utf8Lemmas.{Form, one, two, three, four, form, is_one}
 use Rattle.smol_str.proofs.SplitLemmas.{both}
+
+-- ---- bytes mapped in place
+
+-- what is before a place is mapped, and what is behind it is as it was
+pub record IsMapping (f : ℕ → ℕ) (old bytes : List ℕ) (at : ℕ) : Type 0 where
+  pub inside : at ≤ length bytes
+  pub maps : take at bytes ++ map f (drop at bytes) ≡ map f old
+
+pub mapping-start : (f : ℕ → ℕ) (old : List ℕ) → IsMapping f old old 0
+mapping-start f old = record { inside = omega arith; maps = refl }
+
+set_is : (xs : List ℕ) (i x : ℕ) → set xs i x ≡ put_chunk i xs (x ∷ [])
+set_is [] i x = refl
+set_is (y ∷ ys) zero x = put_none ys x
+  where
+    put_none : (zs : List ℕ) (w : ℕ) → w ∷ zs ≡ w ∷ put_chunk zero zs []
+    put_none [] w = refl
+    put_none (z ∷ zs) w = refl
+set_is (y ∷ ys) (suc i) x = ap (λ zs. y ∷ zs) (set_is ys i x)
+
+module _ (f : ℕ → ℕ) (old bytes : List ℕ) (at : ℕ) (h : IsMapping f old bytes at) where
+  -- n bytes more
+  pub mapping-more : (n : ℕ) (new v : List ℕ) → at + n ≤ length bytes → v ≡ map f (take n (drop at bytes))
+      → new ≡ put_chunk at bytes v → IsMapping f old new (at + n)
+  mapping-more n new v room is put =
+      let long : length v ≡ n = ap length is ∙ length-map (take n (drop at bytes)) f
+      ∙ length-take-le n (drop at bytes) (omega (arith, length-drop at bytes)) in
+      let both : length (take at bytes ++ v) ≡ at + n =
+      length-append (take at bytes) v ∙ (λ i. (length-take-le at bytes h.inside) i + long i) in
+      let whole : new ≡ (take at bytes ++ v) ++ drop n (drop at bytes) =
+      put ∙ put_chunk_is at bytes v (omega (arith, room, long))
+      ∙ ap (λ k. take at bytes ++ (v ++ drop k (drop at bytes))) long
+      ∙ sym (append_assoc (take at bytes) v (drop n (drop at bytes))) in
+      record {
+        inside = omega (
+          arith,
+          both,
+          ap length whole,
+          length-append (take at bytes ++ v) (drop n (drop at bytes)),
+        );
+        maps =
+            (λ i. (ap (take (at + n)) whole ∙ take_at (take at bytes ++ v) (drop n (drop at bytes)) (at + n) both) i
+            ++ map f ((ap (drop (at + n)) whole
+            ∙ drop_at (take at bytes ++ v) (drop n (drop at bytes)) (at + n) both) i))
+            ∙ append_assoc (take at bytes) v (map f (drop n (drop at bytes)))
+            ∙ ap (λ w. take at bytes ++ (w ++ map f (drop n (drop at bytes)))) is
+            ∙ ap (λ w. take at bytes ++ w)
+            (sym (map-append f (take n (drop at bytes)) (drop n (drop at bytes)))
+            ∙ ap (map f) (take-append-drop n (drop at bytes)))
+            ∙ h.maps;
+      }
+
+  -- one byte more
+  pub mapping-byte : (x : ℕ) → at < length bytes → x ≡ f (get_or bytes at 0) → IsMapping f old (set bytes at x) (at + 1)
+  mapping-byte x room e =
+      mapping-more 1 (set bytes at x) (x ∷ []) (omega arith)
+      (ap (λ b. b ∷ []) e ∙ sym (ap (map f) (take_one bytes at 0 room))) (set_is bytes at x)
+
+  pub mapping-end : length bytes ≤ at → bytes ≡ map f old
+  mapping-end ended =
+      let none : drop at bytes ≡ [] = drop_all at bytes ended in
+      sym (take-append-drop at bytes) ∙ ap (λ s. take at bytes ++ s) none
+      ∙ sym (ap (λ s. take at bytes ++ map f s) none) ∙ h.maps
+
+  -- the rest of the bytes, all at once
+  pub mapping-rest : (k : ℕ) (new : List ℕ) → k ≡ length bytes - at → new ≡ map f (take k (drop at bytes))
+      → take at bytes ++ (new ++ drop k (drop at bytes)) ≡ map f old
+  mapping-rest k new e is =
+      let long : length (drop at bytes) ≤ k = omega (arith, e, length-drop at bytes) in
+      (λ i. take at bytes ++ ((is ∙ ap (map f) (take_all k (drop at bytes) long)) i
+      ++ (drop_all k (drop at bytes) long) i))
+      ∙ ap (λ w. take at bytes ++ w) (append-nil (map f (drop at bytes))) ∙ h.maps
+
+-- ---- bytes and characters
 
 -- ASCII goes to ASCII, and all else stays
 pub record MovesAscii (f : ℕ → ℕ) : Type 0 where
@@ -94,7 +170,17 @@ map-packed f e bytes h =
     (length-map (padded bytes) f ∙ length-padded bytes h)
     ∙ rw (length-map bytes f, zeros) refl
 
--- case
+-- ---- case
+
+-- a letter in a case
+abbrev pub letter : AsciiCase → ℕ → ℕ
+letter Lower c = to_ascii_lowercase c
+letter Upper c = to_ascii_uppercase c
+
+pub converted-map : (case : AsciiCase) (t : List ℕ) → converted case t ≡ map (letter case) t
+converted-map Lower t = refl
+converted-map Upper t = refl
+
 lower-moves : MovesAscii to_ascii_lowercase
 lower-moves = record { low = lowercase_ascii; others = λ c h. (lowercase_is c).2 (omega (arith, h)) }
 

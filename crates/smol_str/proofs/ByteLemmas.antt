@@ -1,9 +1,9 @@
 -- For `str_ext::bytes`: each of one ASCII character replaced by another, byte for byte.
-use Rattle.std.proofs.Common.{◌≡◌, ℕ, zero, suc, ◌+◌, ◌<◌, ◌≤◌, List, [], ◌∷◌, ◌++◌, Bool, true, false, nat_eq, length, map, get_or, set, take, drop, refl, sym, ap, ◌∙◌, arith, append_assoc, append-nil, length-append, drop-cons, ne_eqb, if◌then◌else◌}
+use Rattle.std.proofs.Common.{◌≡◌, ℕ, zero, suc, ◌+◌, ◌<◌, ◌≤◌, List, [], ◌∷◌, ◌++◌, Bool, true, false, nat_eq, length, get_or, take, refl, sym, ap, ◌∙◌, arith, append-nil, length-append, ne_eqb, if◌then◌else◌}
 use Rattle.std.specs.Str.{IsUtf8, chars, encode_utf8_all}
 use lib.Utf8.{encode}
 use Rattle.std.proofs.lemmas.Bool.Decides.{Decides-eqb}
-use Rattle.std.proofs.lemmas.List.{length-map, take_more_set, drop-set-lt, drop_all, take_at, take-append-drop}
+use Rattle.std.proofs.lemmas.List.{length-map, take_at}
 use Rattle.std.proofs.lemmas.Str.{encodes-chars, length-le-encodes}
 use Rattle.smol_str.specs.declared.buffer.TheConstants.{INLINE_CAP}
 use Rattle.smol_str.specs.Text.{IsShort}
@@ -91,38 +91,6 @@ pub each-replaced : (x y : ℕ) (bs : List ℕ) (n : ℕ) → IsUtf8 bs → leng
     → each_replaced x y (chars bs) ≡ replaced (chars bs) (x ∷ []) (y ∷ []) n
 each-replaced x y bs n u h =
     each-swapped x y (chars bs) n (omega (arith, h, length-le-encodes (chars bs), size-chars bs u))
-
--- ---- the loop over the bytes
-
-cut : (bytes : List ℕ) (at : ℕ) → at < length bytes → drop at bytes ≡ get_or bytes at 0 ∷ drop (at + 1) bytes
-cut bytes at inside =
-    let more : suc at ≡ at + 1 = omega arith in
-    drop-cons bytes at 0 inside ∙ ap (λ i. get_or bytes at 0 ∷ drop i bytes) more
-
--- what is before a place is done
-abbrev pub IsMapping : (ℕ → ℕ) → List ℕ → List ℕ → ℕ → Type 0
-IsMapping f old bytes at = take at bytes ++ map f (drop at bytes) ≡ map f old
-
-pub mapping-start : (f : ℕ → ℕ) (old : List ℕ) → IsMapping f old old 0
-mapping-start f [] = refl
-mapping-start f (b ∷ old) = refl
-
-pub mapping-step : (f : ℕ → ℕ) (old bytes : List ℕ) (at x : ℕ) → at < length bytes → IsMapping f old bytes at
-    → x ≡ f (get_or bytes at 0) → IsMapping f old (set bytes at x) (at + 1)
-mapping-step f old bytes at x inside h e =
-    ap (λ s. take (at + 1) (set bytes at x) ++ map f s) (drop-set-lt (at + 1) bytes at x (omega arith))
-    ∙ ap (λ s. s ++ map f (drop (at + 1) bytes)) (take_more_set bytes at x inside)
-    ∙ append_assoc (take at bytes) (x ∷ []) (map f (drop (at + 1) bytes))
-    ∙ ap (λ s. take at bytes ++ s)
-    (ap (λ b. b ∷ map f (drop (at + 1) bytes)) e ∙ sym (ap (map f) (cut bytes at inside)))
-    ∙ h
-
-pub mapping-end : (f : ℕ → ℕ) (old bytes : List ℕ) (at : ℕ) → IsMapping f old bytes at → length bytes ≤ at
-    → bytes ≡ map f old
-mapping-end f old bytes at h ended =
-    let none : drop at bytes ≡ [] = drop_all at bytes ended in
-    sym (take-append-drop at bytes) ∙ ap (λ s. take at bytes ++ s) none
-    ∙ sym (ap (λ s. take at bytes ++ map f s) none) ∙ h
 
 -- a text of one byte is one ASCII character
 pub record IsOneByte (bs : List ℕ) : Type 0 where

@@ -1,15 +1,15 @@
 //! The loops over the bytes of a text: ASCII case by sixteen lanes, and the search for a pattern.
-ghost use Rattle.std.specs.Prelude.{◌≡◌, ◌↔◌, ◌<◌, ◌≤◌, ◌+◌, ℕ, List, [], ◌∷◌, ◌++◌, Some, None, false, IsTrue, length, take, drop, slice_index, encode_utf8_all};
+ghost use Rattle.std.specs.Prelude.{◌≡◌, ◌↔◌, ◌<◌, ◌≤◌, ◌+◌, ℕ, List, ◌++◌, Some, None, false, IsTrue, length, take, drop, slice_index, encode_utf8_all};
 ghost use Rattle.std.specs.Str.{IsAscii, IsCharBoundary, chars};
 ghost use Rattle.std.specs.Simd.Lanes.{Each1, put_chunk};
 ghost use Rattle.memchr.specs.Find.{FindsNeedle};
 ghost use Rattle.smol_str.specs.Text.{size};
 ghost use Rattle.smol_str.specs.Buffer.{padded};
 ghost use Rattle.smol_str.specs.Case.{lower, upper, front};
-ghost use Rattle.smol_str.specs.Convert.{converted, IsConverted};
+ghost use Rattle.smol_str.specs.Convert.{converted, IsAsciiFront};
 ghost use Rattle.smol_str.specs.Cut.{Occurs, IsNextMatch};
 
-use crate::buffer::{INLINE_CAP, InlineBuffer};
+use crate::buffer::{INLINE_CAP, InlineBuffer, InlineText};
 use memchr::{memchr, memmem};
 use std::simd::prelude::*;
 
@@ -38,11 +38,9 @@ pub fn convert_while_ascii(text: &str, case: AsciiCase) -> (InlineBuffer, usize)
     ensures bytes { result.0 ≡ padded (encode_utf8_all (converted case (front (chars text.now)))) }
     ensures len { result.1 ≡ length (front (chars text.now)) }
 {
-    let bytes = text.as_bytes();
-    let mut buffer = [0; INLINE_CAP];
-    let at = convert_chunks(bytes, case, &mut buffer);
-    let len = convert_bytes(bytes, case, &mut buffer, at);
-    (buffer, len)
+    let len = front_len(text.as_bytes());
+    let front = InlineText::from_short(&text[..len]).in_case(case);
+    (*front.buffer(), len)
 }
 
 /// The byte place of the first match of a pattern at or after `from`, `None` where there is none.
@@ -65,48 +63,32 @@ pub fn next_match(text: &str, from: usize, pattern: &str) -> Option<usize>
     Some(from + found)
 }
 
-/// Maps chunks of sixteen bytes, up to one that is not ASCII; answers how many bytes are done.
-fn convert_chunks(bytes: &[u8], case: AsciiCase, buffer: &mut InlineBuffer) -> usize
-    requires short { length bytes.now ≤ INLINE_CAP }
-    requires empty { buffer.old ≡ padded [] }
-    ensures all { IsConverted case bytes.now buffer.new result }
-    ensures stops { result + LANES ≤ length bytes.now → ¬ (IsAscii (take LANES (drop result bytes.now))) }
-{
-    let mut at = 0;
-    while bytes.len() - at >= LANES {
-        let lanes = load::<LANES>(bytes, at);
-        if has_high(lanes) {
-            return at;
-        }
-        store(buffer, at, convert_lanes(lanes, case));
-        at += LANES;
-    }
-    at
-}
-
-/// Maps bytes from `start` on, up to one that is not ASCII; answers how many bytes are done.
-fn convert_bytes(bytes: &[u8], case: AsciiCase, buffer: &mut InlineBuffer, start: usize) -> usize
-    requires short { length bytes.now ≤ INLINE_CAP }
-    requires begun { IsConverted case bytes.now buffer.old start }
-    ensures all { IsConverted case bytes.now buffer.new result }
+/// How many bytes come before the first one past ASCII.
+fn front_len(bytes: &[u8]) -> usize
+    ensures all { IsAsciiFront bytes.now result }
     ensures stops { result < length bytes.now → 128 ≤ slice_index bytes.now result }
 {
-    let mut at = start;
+    let mut at = ascii_chunks(bytes);
     while at < bytes.len() && bytes[at] < 128 {
-        buffer[at] = convert_byte(bytes[at], case);
         at += 1;
     }
     at
 }
 
-/// A byte in a case.
-fn convert_byte(byte: u8, case: AsciiCase) -> u8
-    ensures { result ∷ [] ≡ converted case (byte ∷ []) }
+/// How many bytes the chunks of sixteen have that come before one that is not ASCII.
+#[inline(always)]
+fn ascii_chunks(bytes: &[u8]) -> usize
+    ensures all { IsAsciiFront bytes.now result }
+    ensures stops { result + LANES ≤ length bytes.now → ¬ (IsAscii (take LANES (drop result bytes.now))) }
 {
-    match case {
-        AsciiCase::Lower => byte.to_ascii_lowercase(),
-        AsciiCase::Upper => byte.to_ascii_uppercase(),
+    let mut at = 0;
+    while bytes.len() - at >= LANES {
+        if has_high(load::<LANES>(bytes, at)) {
+            return at;
+        }
+        at += LANES;
     }
+    at
 }
 
 /// Whether no byte is past ASCII.
@@ -114,12 +96,9 @@ fn convert_byte(byte: u8, case: AsciiCase) -> u8
 pub(crate) fn is_all_ascii(bytes: &[u8]) -> bool
     ensures { IsTrue result ↔ IsAscii bytes.now }
 {
-    let mut at = 0;
-    while bytes.len() - at >= LANES {
-        if has_high(load::<LANES>(bytes, at)) {
-            return false;
-        }
-        at += LANES;
+    let mut at = ascii_chunks(bytes);
+    if bytes.len() - at >= LANES {
+        return false;
     }
     if bytes.len() - at >= 8 {
         if has_high(load::<8>(bytes, at)) {

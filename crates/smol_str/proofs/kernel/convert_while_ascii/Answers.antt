@@ -1,14 +1,21 @@
-use Rattle.smol_str.proofs.ConvertLemmas.{front-bytes, front-length}
+use Rattle.smol_str.proofs.ConvertLemmas.{front-boundary_at, front-text, front-length}
 use Rattle.smol_str.proofs.kernel.convert_while_ascii.Goals as goal
+
+pub range-requires-clause-end_boundary : goal.range-requires-clause-end_boundary
+range-requires-clause-end_boundary c =
+    let all = rw c.as_bytes.ensures.value at c.front_len-len.ensures.all in
+    let stops = rw c.as_bytes.ensures.value at c.front_len-len.ensures.stops in
+    front-boundary_at _ _ c.utf8.text all stops
 
 pub returns-clause-bytes : goal.returns-clause-bytes
 returns-clause-bytes c =
-    let all = rw c.as_bytes-bytes.ensures.value at c.convert_bytes-len.ensures.all in
-    let stops = rw c.as_bytes-bytes.ensures.value at c.convert_bytes-len.ensures.stops in
-    front-bytes _ _ _ _ c.utf8.text all stops
+    let all = rw c.as_bytes.ensures.value at c.front_len-len.ensures.all in
+    let stops = rw c.as_bytes.ensures.value at c.front_len-len.ensures.stops in
+    let front = front-text _ _ c.utf8.text all stops in
+    rw (c.in_case-front.ensures.text, c.from_short.ensures, c.range.ensures.value, front) at c.buffer.ensures
 
 pub returns-clause-len : goal.returns-clause-len
 returns-clause-len c =
-    let all = rw c.as_bytes-bytes.ensures.value at c.convert_bytes-len.ensures.all in
-    let stops = rw c.as_bytes-bytes.ensures.value at c.convert_bytes-len.ensures.stops in
-    front-length _ _ _ _ c.utf8.text all stops
+    let all = rw c.as_bytes.ensures.value at c.front_len-len.ensures.all in
+    let stops = rw c.as_bytes.ensures.value at c.front_len-len.ensures.stops in
+    front-length _ _ c.utf8.text all stops

@@ -1,5 +1,6 @@
 use Rattle.std.proofs.Common.{◌≡◌, ◌∙◌, ◌<◌, arith, length, get_or, nat_eq, if◌then◌else◌}
-use Rattle.smol_str.proofs.ByteLemmas.{mapping-start, mapping-step, mapping-end, each-taken, each-kept}
+use Rattle.smol_str.proofs.AsciiMapLemmas.{mapping-start, mapping-byte, mapping-end}
+use Rattle.smol_str.proofs.ByteLemmas.{each-taken, each-kept}
 use Rattle.smol_str.proofs.str_ext.bytes.replace_each.Goals.{then-byte-from, else-byte-from}
 use Rattle.smol_str.proofs.str_ext.bytes.replace_each.Goals as goal
 
@@ -17,7 +18,7 @@ loop-at-preserved c =
       | then-byte-from w ↦ w.bytes-is ∙ each-taken x y b w.if-byte-from.true
       | else-byte-from w ↦ w.bytes-is ∙ each-kept x y b w.if-byte-from.false
     ] in
-    mapping-step _ _ _ c.loop-at.at _ inside c.loop-at.invariant byte
+    mapping-byte _ _ _ c.loop-at.at c.loop-at.invariant _ inside byte
 
 pub returns : goal.returns
 returns c =
