@@ -1,0 +1,81 @@
+//! `run` in mode Join.
+ghost use Rattle.std.specs.Prelude.{◌≡◌, IfOk, IsUtf8, encode_utf8_all};
+ghost use Rattle.std.specs.Str.{chars};
+ghost use Rattle.smol_tokens_core.specs.Report.{report};
+
+use super::rows::answer;
+use super::same::{holds, same_bytes};
+use smol_str::INLINE_CAP;
+use smol_tokens_core::fault::RunFault;
+use smol_tokens_core::mode::Mode;
+use smol_tokens_core::run::run;
+use std::alloc::Global;
+use std::process::Abort;
+use std::test::Fail;
+use test_support::texts::{full_text, long_blank, long_text, repeated};
+
+/// The report by std's reader and writer over memory, and by the promise of `run` what it is.
+fn joined(alloc: Global, input: &[u8]) -> Result<Vec<u8>, RunFault>
+    ensures { IfOk result (λ out. IsUtf8 input.now × (out.items ≡ encode_utf8_all (report Mode.Join (chars input.now)))) }
+{
+    let mut reader = input;
+    let mut out = Vec::new(alloc);
+    run(alloc, Mode::Join, &mut reader, &mut out)?;
+    Ok(out)
+}
+
+/// Each input, and the report on it.
+const REPORTS: [(&[u8], &[u8]); 6] = [
+    (b"", b"inline 0 \n"),
+    (b"\n", b"inline 0 \n"),
+    (
+        b"if\n\naaaaaaaaaaaaaaaaaaaaaaaa",
+        b"inline 26 ifaaaaaaaaaaaaaaaaaaaaaaaa\n",
+    ),
+    (
+        b"aaaaaaaaaaaa\nbbbbbbbbbbb\n",
+        b"inline 23 aaaaaaaaaaaabbbbbbbbbbb\n",
+    ),
+    (
+        b"            \n            ",
+        b"inline 24                         \n",
+    ),
+    (b"\xc3\xa9\r\n\xc3\x9f", b"inline 5 \xc3\xa9\r\xc3\x9f\n"),
+];
+
+#[test]
+fn reports(rt: HostRuntime) -> Result<(), Fail> {
+    for (input, wanted) in REPORTS {
+        let out = joined(rt.alloc(), input)?;
+        same_bytes(&rt, out.as_slice(), wanted, &input);
+    }
+    let faulty = joined(rt.alloc(), b"a\n\xff");
+    holds(&rt, matches!(faulty, Err(RunFault::NotUtf8)), &"byte FF");
+    Ok(())
+}
+
+// Two lines whose text together no buffer has room for; of some neither is too long by itself.
+#[test]
+fn long_together(rt: HostRuntime) -> Result<(), Fail> {
+    let alloc = rt.alloc();
+    check_two(&rt, alloc, (long_text(), "if"), "heap")?;
+    check_two(&rt, alloc, (full_text(), "a"), "heap")?;
+    check_two(&rt, alloc, (long_blank(), " "), "static")?;
+    let spaces = repeated(alloc, " ", INLINE_CAP)?;
+    check_two(&rt, alloc, (" ", spaces.as_str()), "static")
+}
+
+/// The report on two lines: their text is kept in the place.
+fn check_two(
+    rt: &impl Abort,
+    alloc: Global,
+    (first, second): (&str, &str),
+    place: &str,
+) -> Result<(), Fail> {
+    let input = format!(in alloc; "{first}\n{second}")?;
+    let out = joined(alloc, input.as_str().as_bytes())?;
+    let together = format!(in alloc; "{first}{second}")?;
+    let wanted = answer(alloc, place, together.as_str())?;
+    same_bytes(rt, out.as_slice(), wanted.as_str().as_bytes(), &input);
+    Ok(())
+}
