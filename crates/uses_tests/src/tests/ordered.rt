@@ -1,8 +1,9 @@
 //! Sorted names, in the order of their characters.
-use crate::ordered::sorted_union;
+use super::same::{same, same_text};
 use smol_str::SmolStr;
 use std::alloc::{AllocError, Global};
 use std::test::Fail;
+use uses::ordered::sorted_union;
 
 #[test]
 fn a_union(rt: HostRuntime) -> Result<(), Fail> {
@@ -11,9 +12,9 @@ fn a_union(rt: HostRuntime) -> Result<(), Fail> {
     let right = values(alloc, &["", "\u{10000}", "b", "\u{ffff}"])?;
     let union = sorted_union(left, right)?;
     let wanted = ["", "aa", "b", "b", "é", "\u{ffff}", "\u{10000}"];
-    assert_eq!(rt; union.len(), wanted.len());
+    same(&rt, &union.len(), &wanted.len(), &"union");
     for (value, text) in union.iter().zip(wanted.iter()) {
-        assert_eq!(rt; value.as_str(), *text);
+        same_text(&rt, value.as_str(), text, text);
     }
     Ok(())
 }

@@ -3,6 +3,6 @@ mod headers;
 mod lexer;
 mod ordered;
 mod records;
-mod refuse;
+mod same;
 mod sources;
 mod symbols;
