@@ -9,8 +9,7 @@ use smol_str::INLINE_CAP;
 use smol_tokens_core::fault::RunFault;
 use smol_tokens_core::mode::Mode;
 use smol_tokens_core::run::run;
-use std::alloc::Global;
-use std::process::Abort;
+use std::alloc::{AllocError, Global};
 use std::test::Fail;
 use test_support::texts::{full_text, long_blank, long_text, repeated};
 
@@ -57,25 +56,33 @@ fn reports(rt: HostRuntime) -> Result<(), Fail> {
 // Two lines whose text together no buffer has room for; of some neither is too long by itself.
 #[test]
 fn long_together(rt: HostRuntime) -> Result<(), Fail> {
-    let alloc = rt.alloc();
-    check_two(&rt, alloc, (long_text(), "if"), "heap")?;
-    check_two(&rt, alloc, (full_text(), "a"), "heap")?;
-    check_two(&rt, alloc, (long_blank(), " "), "static")?;
-    let spaces = repeated(alloc, " ", INLINE_CAP)?;
-    check_two(&rt, alloc, (" ", spaces.as_str()), "static")
+    let spaces = repeated(rt.alloc(), " ", INLINE_CAP)?;
+    let lines = [
+        (long_text(), "if", "heap"),
+        (full_text(), "a", "heap"),
+        (long_blank(), " ", "static"),
+        (" ", spaces.as_str(), "static"),
+    ];
+    for (first, second, place) in lines {
+        let out = joined_two(rt.alloc(), first, second)?;
+        let wanted = answer_to_two(rt.alloc(), place, first, second)?;
+        same_bytes(&rt, out.as_slice(), wanted.as_str().as_bytes(), &place);
+    }
+    Ok(())
 }
 
-/// The report on two lines: their text is kept in the place.
-fn check_two(
-    rt: &impl Abort,
-    alloc: Global,
-    (first, second): (&str, &str),
-    place: &str,
-) -> Result<(), Fail> {
+fn joined_two(alloc: Global, first: &str, second: &str) -> Result<Vec<u8>, Fail> {
     let input = format!(in alloc; "{first}\n{second}")?;
-    let out = joined(alloc, input.as_str().as_bytes())?;
+    Ok(joined(alloc, input.as_str().as_bytes())?)
+}
+
+/// The text of both lines is kept in the place.
+fn answer_to_two(
+    alloc: Global,
+    place: &str,
+    first: &str,
+    second: &str,
+) -> Result<String, AllocError> {
     let together = format!(in alloc; "{first}{second}")?;
-    let wanted = answer(alloc, place, together.as_str())?;
-    same_bytes(rt, out.as_slice(), wanted.as_str().as_bytes(), &input);
-    Ok(())
+    answer(alloc, place, together.as_str())
 }

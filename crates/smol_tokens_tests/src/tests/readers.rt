@@ -44,27 +44,37 @@ pub fn run_by(
     Ok(answer_of(run(alloc, mode, reader, writer)))
 }
 
-/// Runs into a writer that never fails, and answers what it took; no buffer was empty or above a piece.
+/// Runs into a writer that never fails; no buffer was empty or above a piece.
 fn read_by(
     rt: &impl Abort,
     alloc: Global,
-    words: &[&str],
+    words: Words,
     reader: &mut Trickle<'_>,
-) -> Result<(Answer, Vec<u8>), Fail> {
-    let mut writer = empty_drip(alloc, usize::MAX, 0, Failure::TakesNone);
-    let answer = run_by(alloc, words, reader, &mut writer)?;
+    writer: &mut Drip,
+) -> Result<Answer, Fail> {
+    let answer = run_by(alloc, words, reader, writer)?;
     holds(rt, reader.least >= 1 && reader.most <= PIECE, &words);
-    Ok((answer, writer.taken))
+    Ok(answer)
+}
+
+/// A writer that never fails.
+fn sound_drip(alloc: Global) -> Drip {
+    empty_drip(alloc, usize::MAX, 0, Failure::TakesNone)
 }
 
 #[test]
 fn fails_at_each_call(rt: HostRuntime) -> Result<(), Fail> {
     for row in all_rows(rt.alloc())?.iter() {
-        for step in STEPS {
-            let calls = check_whole(&rt, rt.alloc(), row, step)?;
-            for error in READ_ERRORS {
-                check_failures(&rt, rt.alloc(), row, step, error, calls)?;
-            }
+        check_row(&rt, rt.alloc(), row)?;
+    }
+    Ok(())
+}
+
+fn check_row(rt: &impl Abort, alloc: Global, row: &Row) -> Result<(), Fail> {
+    for step in STEPS {
+        let calls = check_whole(rt, alloc, row, step)?;
+        for error in READ_ERRORS {
+            check_failures(rt, alloc, row, (step, error), calls)?;
         }
     }
     Ok(())
@@ -74,16 +84,18 @@ fn fails_at_each_call(rt: HostRuntime) -> Result<(), Fail> {
 /// the input has ended.
 fn check_whole(rt: &impl Abort, alloc: Global, row: &Row, step: usize) -> Result<usize, Fail> {
     let mut reader = trickle_of(row.input.as_slice(), step, 0);
-    let (answer, taken) = read_by(rt, alloc, row.words, &mut reader)?;
+    let mut writer = sound_drip(alloc);
+    let answer = read_by(rt, alloc, row.words, &mut reader, &mut writer)?;
     same(rt, &answer, &Answer::Done, &(row.words, step));
-    holds(
-        rt,
-        taken.as_slice() == row.report.as_slice(),
-        &(row.words, step),
-    );
+    let is_whole = writer.taken.as_slice() == row.report.as_slice();
+    holds(rt, is_whole, &(row.words, step));
     if step == 1 {
-        let wanted = row.input.len().saturating_add(1);
-        same(rt, &reader.calls, &wanted, &row.words);
+        same(
+            rt,
+            &reader.calls,
+            &row.input.len().saturating_add(1),
+            &row.words,
+        );
     }
     Ok(reader.calls)
 }
@@ -92,15 +104,14 @@ fn check_failures(
     rt: &impl Abort,
     alloc: Global,
     row: &Row,
-    step: usize,
-    error: ErrorKind,
+    (step, error): (usize, ErrorKind),
     calls: usize,
 ) -> Result<(), Fail> {
     for fails_at in 1..calls.saturating_add(1) {
         if is_tried(fails_at.saturating_mul(step), row.input.len()) {
             let mut reader = trickle_of(row.input.as_slice(), step, fails_at);
             reader.failure = error;
-            check_failure(rt, alloc, row, &mut reader)?;
+            check_failure(rt, alloc, row.words, &mut reader)?;
         }
     }
     Ok(())
@@ -110,13 +121,14 @@ fn check_failures(
 fn check_failure(
     rt: &impl Abort,
     alloc: Global,
-    row: &Row,
+    words: Words,
     reader: &mut Trickle<'_>,
 ) -> Result<(), Fail> {
-    let (answer, taken) = read_by(rt, alloc, row.words, reader)?;
-    let about = (row.words, reader.step, reader.fails_at);
+    let mut writer = sound_drip(alloc);
+    let answer = read_by(rt, alloc, words, reader, &mut writer)?;
+    let about = (words, reader.step, reader.fails_at);
     same(rt, &answer, &Answer::Io(reader.failure), &about);
-    holds(rt, taken.is_empty(), &about);
+    holds(rt, writer.taken.is_empty(), &about);
     same(rt, &reader.calls, &reader.fails_at, &about);
     Ok(())
 }
@@ -127,16 +139,21 @@ const CHARACTERS: &str = "aßΔ\nC€🦀";
 // An input that ends is whole, and not UTF-8 where it ends within a character.
 #[test]
 fn end_after_each_byte(rt: HostRuntime) -> Result<(), Fail> {
-    let input = CHARACTERS.as_bytes();
     for (words, _, _) in LETTERS {
-        for end in 0..=input.len() {
-            let wanted = if CHARACTERS.is_char_boundary(end) {
-                Answer::Done
-            } else {
-                Answer::NotUtf8
-            };
-            check_answers(&rt, rt.alloc(), words, &input[..end], wanted)?;
-        }
+        check_ends(&rt, rt.alloc(), words)?;
+    }
+    Ok(())
+}
+
+fn check_ends(rt: &impl Abort, alloc: Global, words: Words) -> Result<(), Fail> {
+    let input = CHARACTERS.as_bytes();
+    for end in 0..=input.len() {
+        let wanted = if CHARACTERS.is_char_boundary(end) {
+            Answer::Done
+        } else {
+            Answer::NotUtf8
+        };
+        check_answers(rt, alloc, words, &input[..end], wanted)?;
     }
     Ok(())
 }
@@ -144,15 +161,18 @@ fn end_after_each_byte(rt: HostRuntime) -> Result<(), Fail> {
 // The only byte, the last of whole pieces and of a part of one, and a surrogate.
 #[test]
 fn not_utf8(rt: HostRuntime) -> Result<(), Fail> {
-    let alloc = rt.alloc();
     for (words, _, _) in LETTERS {
-        check_answers(&rt, alloc, words, b"\xed\xa0\x80\n", Answer::NotUtf8)?;
-        for count in [0, PIECE - 1, 2 * PIECE, 9000] {
-            let input = ending_badly(alloc, count)?;
-            check_answers(&rt, alloc, words, input.as_slice(), Answer::NotUtf8)?;
-        }
+        check_not_utf8(&rt, rt.alloc(), words)?;
     }
     Ok(())
+}
+
+fn check_not_utf8(rt: &impl Abort, alloc: Global, words: Words) -> Result<(), Fail> {
+    for count in [0, PIECE - 1, 2 * PIECE, 9000] {
+        let input = ending_badly(alloc, count)?;
+        check_answers(rt, alloc, words, input.as_slice(), Answer::NotUtf8)?;
+    }
+    check_answers(rt, alloc, words, b"\xed\xa0\x80\n", Answer::NotUtf8)
 }
 
 /// So many letters, and a byte that no text has.
@@ -172,10 +192,11 @@ fn check_answers(
 ) -> Result<(), Fail> {
     for step in STEPS {
         let mut reader = trickle_of(input, step, 0);
-        let (answer, taken) = read_by(rt, alloc, words, &mut reader)?;
+        let mut writer = sound_drip(alloc);
+        let answer = read_by(rt, alloc, words, &mut reader, &mut writer)?;
         same(rt, &answer, &wanted, &(words, step));
         holds(rt, reader.rest.is_empty(), &(words, step));
-        let is_kept_back = wanted == Answer::Done || taken.is_empty();
+        let is_kept_back = wanted == Answer::Done || writer.taken.is_empty();
         holds(rt, is_kept_back, &(words, step));
     }
     Ok(())

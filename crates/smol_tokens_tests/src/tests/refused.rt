@@ -9,7 +9,7 @@ use smol_tokens_core::run::run;
 use std::alloc::Global;
 use std::process::Abort;
 use std::test::Fail;
-use test_support::refuse::{can_refuse, each_refused};
+use test_support::refuse::{can_refuse, each_refused_by_value};
 use test_support::streams::{Drip, Failure, empty_drip, trickle_of};
 use test_support::texts::{long_blank, long_text, repeated};
 
@@ -70,12 +70,12 @@ fn check_mode(
     let ample = report_by(alloc, words, input)?;
     same(rt, &ample.len(), &len, &words);
     let name = format!(in alloc; "run {words:?} on {} bytes", input.len())?;
-    let asked = each_refused(
+    let asked = each_refused_by_value(
         alloc,
         name.as_str(),
         || prepared(alloc, words, len),
         |prepared| ended(alloc, input, prepared),
-        |ended| check_ended(rt, ended, ample.as_slice(), words),
+        |ended| check_ended(rt, &ended, ample.as_slice(), name.as_str()),
     )?;
     let is_met = asked.requests > 0;
     same(rt, &is_met, &(can_refuse(alloc) && len > 0), &name);
@@ -105,18 +105,13 @@ fn check_ended(
     rt: &impl Abort,
     ended: &Result<Vec<u8>, Faulty>,
     wanted: &[u8],
-    words: Words,
+    name: &str,
 ) -> Result<(), Fail> {
     match ended {
-        Ok(taken) => holds(rt, taken.as_slice() == wanted, &words),
-        Err((RunFault::OutOfMemory, taken)) => {
-            holds(
-                rt,
-                taken.is_empty(),
-                &("written after want of memory", words),
-            );
-        }
-        Err((fault, _)) => return Err(Fail::new(format_args!("{words:?}: {fault:?}"))),
+        Ok(taken) => holds(rt, taken.as_slice() == wanted, &name),
+        // nothing is written after want of memory
+        Err((RunFault::OutOfMemory, taken)) => holds(rt, taken.is_empty(), &name),
+        Err((fault, _)) => return Err(Fail::new(format_args!("{name}: {fault:?}"))),
     }
     Ok(())
 }

@@ -30,6 +30,10 @@ fn check_add(
     Ok(())
 }
 
+fn count_of(tally: &Tally, text: &'static str) -> Option<u64> {
+    tally.count(&SmolStr::new_static(text))
+}
+
 fn check_at(
     rt: &impl Abort,
     tally: &Tally,
@@ -48,8 +52,7 @@ fn check_tally(rt: &impl Abort, tally: &Tally, wanted: &[(&'static str, u64)]) -
     same(rt, &tally.len(), &wanted.len(), &wanted);
     for (index, (text, count)) in wanted.iter().enumerate() {
         check_at(rt, tally, index, text, *count)?;
-        let found = tally.count(&SmolStr::new_static(text));
-        same(rt, &found, &Some(*count), text);
+        same(rt, &count_of(tally, text), &Some(*count), text);
     }
     holds(rt, tally.at(wanted.len()).is_none(), &wanted);
     Ok(())
@@ -58,27 +61,28 @@ fn check_tally(rt: &impl Abort, tally: &Tally, wanted: &[(&'static str, u64)]) -
 #[test]
 fn counted(rt: HostRuntime) -> Result<(), Fail> {
     let mut tally = Tally::new(rt.alloc());
-    check_tally(&rt, &tally, &[])?;
-    check_add(&rt, &mut tally, SmolStr::new_inline("a"), 0, 0)?;
-    check_tally(&rt, &tally, &[("a", 0)])?;
-    let missing = tally.count(&SmolStr::new_inline("b"));
-    same(&rt, &missing, &None, &"b");
-    check_add(&rt, &mut tally, SmolStr::new_static("a"), 2, 2)?;
-    check_tally(&rt, &tally, &[("a", 2)])?;
-    check_add(
-        &rt,
-        &mut tally,
-        SmolStr::new_inline("b"),
-        u64::MAX,
-        u64::MAX,
-    )?;
-    check_add(&rt, &mut tally, SmolStr::new_inline("a"), 1, 3)?;
-    check_tally(&rt, &tally, &[("a", 3), ("b", u64::MAX)])?;
-    check_counts_of_values(&rt, &tally)
+    check_one_token(&rt, &mut tally)?;
+    check_two_tokens(&rt, &mut tally)?;
+    check_values(&rt, &tally)
+}
+
+fn check_one_token(rt: &impl Abort, tally: &mut Tally) -> Result<(), Fail> {
+    check_tally(rt, tally, &[])?;
+    check_add(rt, tally, SmolStr::new_inline("a"), 0, 0)?;
+    check_tally(rt, tally, &[("a", 0)])?;
+    same(rt, &count_of(tally, "b"), &None, &"b");
+    check_add(rt, tally, SmolStr::new_static("a"), 2, 2)?;
+    check_tally(rt, tally, &[("a", 2)])
+}
+
+fn check_two_tokens(rt: &impl Abort, tally: &mut Tally) -> Result<(), Fail> {
+    check_add(rt, tally, SmolStr::new_inline("b"), u64::MAX, u64::MAX)?;
+    check_add(rt, tally, SmolStr::new_inline("a"), 1, 3)?;
+    check_tally(rt, tally, &[("a", 3), ("b", u64::MAX)])
 }
 
 /// Inline values find the counts too, and the value that came first stays.
-fn check_counts_of_values(rt: &impl Abort, tally: &Tally) -> Result<(), Fail> {
+fn check_values(rt: &impl Abort, tally: &Tally) -> Result<(), Fail> {
     let count = tally.count(&SmolStr::new_inline("a"));
     same(rt, &count, &Some(3), &"a");
     let count = tally.count(&SmolStr::new_inline("b"));
@@ -98,11 +102,16 @@ fn full(rt: HostRuntime) -> Result<(), Fail> {
         u64::MAX,
         u64::MAX,
     )?;
+    check_full(&rt, &mut tally)
+}
+
+/// The token that is one too many comes back, and nothing has changed.
+fn check_full(rt: &impl Abort, tally: &mut Tally) -> Result<(), Fail> {
     let back = full_token(tally.add(SmolStr::new_static("a"), 1)).ok_or("not full")?;
-    same_text(&rt, back.as_str(), "a", &"full");
-    same(&rt, &back.place(), &Place::Static, &"full");
-    check_tally(&rt, &tally, &[("a", u64::MAX)])?;
-    check_add(&rt, &mut tally, SmolStr::new_inline("a"), 0, u64::MAX)
+    same_text(rt, back.as_str(), "a", &"full");
+    same(rt, &back.place(), &Place::Static, &"full");
+    check_tally(rt, tally, &[("a", u64::MAX)])?;
+    check_add(rt, tally, SmolStr::new_inline("a"), 0, u64::MAX)
 }
 
 fn full_token(answer: Result<u64, AddFault>) -> Option<SmolStr> {
@@ -116,14 +125,21 @@ fn full_token(answer: Result<u64, AddFault>) -> Option<SmolStr> {
 // However a value was made, and wherever it lies, its text is one token.
 #[test]
 fn one_text_is_one_token(rt: HostRuntime) -> Result<(), Fail> {
-    let alloc = rt.alloc();
-    let text = long_blank();
-    let mut tally = Tally::new(alloc);
-    check_add(&rt, &mut tally, SmolStr::new(alloc, text)?, 1, 1)?;
-    check_add(&rt, &mut tally, SmolStr::new_static(text), 1, 2)?;
-    check_add(&rt, &mut tally, converted(alloc, text)?, 1, 3)?;
-    check_add(&rt, &mut tally, built(alloc, text)?, 1, 4)?;
-    check_tally(&rt, &tally, &[(text, 4)])
+    let mut tally = Tally::new(rt.alloc());
+    check_one_text(&rt, rt.alloc(), &mut tally, long_blank())
+}
+
+fn check_one_text(
+    rt: &impl Abort,
+    alloc: Global,
+    tally: &mut Tally,
+    text: &'static str,
+) -> Result<(), Fail> {
+    check_add(rt, tally, SmolStr::new(alloc, text)?, 1, 1)?;
+    check_add(rt, tally, SmolStr::new_static(text), 1, 2)?;
+    check_add(rt, tally, converted(alloc, text)?, 1, 3)?;
+    check_add(rt, tally, built(alloc, text)?, 1, 4)?;
+    check_tally(rt, tally, &[(text, 4)])
 }
 
 fn converted(alloc: Global, text: &str) -> Result<SmolStr, Fail> {
@@ -146,16 +162,19 @@ fn token(alloc: Global, number: u64) -> Result<SmolStr, Fail> {
 
 #[test]
 fn many_different_tokens(rt: HostRuntime) -> Result<(), Fail> {
-    let alloc = rt.alloc();
-    let mut tally = Tally::new(alloc);
-    for number in 0..MANY {
-        check_add(&rt, &mut tally, token(alloc, number)?, number, number)?;
-    }
+    let mut tally = Tally::new(rt.alloc());
+    check_many(&rt, rt.alloc(), &mut tally)?;
     same(&rt, &tally.len(), &200_000, &"many");
-    check_at(&rt, &tally, 123_456, "token 123456", 123_456)?;
-    let count = tally.count(&token(alloc, 199_999)?);
+    let count = tally.count(&token(rt.alloc(), 199_999)?);
     same(&rt, &count, &Some(199_999), &"the last");
     Ok(())
+}
+
+fn check_many(rt: &impl Abort, alloc: Global, tally: &mut Tally) -> Result<(), Fail> {
+    for number in 0..MANY {
+        check_add(rt, tally, token(alloc, number)?, number, number)?;
+    }
+    check_at(rt, tally, 123_456, "token 123456", 123_456)
 }
 
 #[test]
@@ -197,14 +216,20 @@ fn check_token(rt: &impl Abort, alloc: Global, text: &str) -> Result<(), Fail> {
     Ok(())
 }
 
-/// A tally of the tokens `0`, `1` and so on, each counted as often as it says, and a token that is not there.
+/// A tally of so many tokens, and a token that is not there.
 fn prepared(alloc: Global, shared: &RcStr, there: u64) -> Result<(Tally, SmolStr), Fail> {
+    let tally = tally_of(alloc, there)?;
+    Ok((tally, SmolStr::from_rc_str(shared.clone()?)))
+}
+
+/// The tokens `0`, `1` and so on, each counted as often as it says.
+fn tally_of(alloc: Global, there: u64) -> Result<Tally, Fail> {
     let mut tally = Tally::new(alloc);
     for number in 0..there {
         let text = format!(in alloc; "{number}")?;
         add(&mut tally, SmolStr::new(alloc, text.as_str())?, number)?;
     }
-    Ok((tally, SmolStr::from_rc_str(shared.clone()?)))
+    Ok(tally)
 }
 
 /// How often the new token is added.
@@ -231,11 +256,18 @@ fn check_added(
             same(rt, &count, &TIMES, &there);
             check_last(rt, alloc, &tally, there, shared.as_str())
         }
-        Err((tally, AddFault::OutOfMemory(back))) => {
+        Err((mut tally, fault)) => {
+            let back = refused_token(fault).ok_or("full")?;
             check_back(rt, alloc, shared, &back)?;
-            check_again(rt, alloc, tally, there, back)
+            check_again(rt, alloc, &mut tally, there, back)
         }
-        Err((_tally, AddFault::Full(_token))) => Err("full".into()),
+    }
+}
+
+fn refused_token(fault: AddFault) -> Option<SmolStr> {
+    match fault {
+        AddFault::OutOfMemory(token) => Some(token),
+        AddFault::Full(_token) => None,
     }
 }
 
@@ -244,25 +276,30 @@ fn check_back(rt: &impl Abort, alloc: Global, shared: &RcStr, back: &SmolStr) ->
     let kept = SmolStr::from_rc_str(shared.clone()?);
     same_text(rt, back.as_str(), shared.as_str(), &"back");
     same(rt, &back.place(), &kept.place(), &"back");
-    let handed_out = back.clone()?.into_rc_str(alloc).ok().ok_or("refused")?;
-    let is_shared = RcStr::ptr_eq(&handed_out, shared);
+    let is_shared = shares(alloc, back, shared)?;
     same(rt, &is_shared, &(back.place() == Place::Heap), &"back");
     Ok(())
+}
+
+/// Whether the value's shared text is this one.
+fn shares(alloc: Global, value: &SmolStr, shared: &RcStr) -> Result<bool, Fail> {
+    let handed_out = value.clone()?.into_rc_str(alloc).ok().ok_or("refused")?;
+    Ok(RcStr::ptr_eq(&handed_out, shared))
 }
 
 /// The tally is as before, and takes the token now.
 fn check_again(
     rt: &impl Abort,
     alloc: Global,
-    mut tally: Tally,
+    tally: &mut Tally,
     there: u64,
     back: SmolStr,
 ) -> Result<(), Fail> {
     same(rt, &tally.len(), &(there as usize), &"refused");
-    check_first(rt, alloc, &tally, there)?;
+    check_first(rt, alloc, tally, there)?;
     let text = back.clone()?;
-    check_add(rt, &mut tally, back, TIMES, TIMES)?;
-    check_last(rt, alloc, &tally, there, text.as_str())
+    check_add(rt, tally, back, TIMES, TIMES)?;
+    check_last(rt, alloc, tally, there, text.as_str())
 }
 
 /// The tally begins with so many tokens, each counted as often as it says.
@@ -292,15 +329,23 @@ fn no_request_for_a_token_that_is_there(rt: HostRuntime) -> Result<(), Fail> {
     let alloc = rt.alloc();
     let mut tally = tally_of_two(alloc)?;
     refuse_all(alloc);
-    let answer = tally.add(SmolStr::new_static("b"), 5);
-    let count = tally.count(&SmolStr::new_static("b"));
+    let added = add_five(&mut tally);
+    let count = count_of(&tally, "b");
     let last = tally.at(1).is_some();
-    let empty = Tally::new(alloc).len();
+    let empty = size_of_new(alloc);
     let was_refused = end_refusals(alloc);
     holds(&rt, !was_refused && last && empty == 0, &"no request");
-    same(&rt, &answer.ok(), &Some(7), &"add");
+    same(&rt, &added, &Some(7), &"add");
     same(&rt, &count, &Some(7), &"count");
     Ok(())
+}
+
+fn add_five(tally: &mut Tally) -> Option<u64> {
+    tally.add(SmolStr::new_static("b"), 5).ok()
+}
+
+fn size_of_new(alloc: Global) -> usize {
+    Tally::new(alloc).len()
 }
 
 fn tally_of_two(alloc: Global) -> Result<Tally, Fail> {

@@ -5,6 +5,7 @@ use smol_tokens_core::mode::{Mode, mode_of};
 use std::alloc::{AllocError, Global};
 use std::io;
 use std::io::ErrorKind;
+use std::process::Abort;
 use std::test::Fail;
 use test_support::refuse::{end_refusals, refuse_all};
 
@@ -16,14 +17,10 @@ fn strings(alloc: Global, words: &[&str]) -> Result<Vec<String>, AllocError> {
     Ok(all)
 }
 
-/// What these words ask for.
-fn mode_by(alloc: Global, words: &[&str]) -> Result<Option<Mode>, AllocError> {
-    Ok(mode_of(strings(alloc, words)?))
-}
-
 /// The mode that these words ask for.
 pub fn mode_of_words(alloc: Global, words: &[&str]) -> Result<Mode, Fail> {
-    Ok(mode_by(alloc, words)?.ok_or("no mode")?)
+    let words = strings(alloc, words)?;
+    Ok(mode_of(words).ok_or("no mode")?)
 }
 
 fn name_of(mode: &Mode) -> &'static str {
@@ -48,22 +45,21 @@ fn modes(rt: HostRuntime) -> Result<(), Fail> {
     Ok(())
 }
 
-/// The two texts of mode replace.
-fn texts_of(mode: &Mode) -> Option<(&str, &str)> {
-    match mode {
-        Mode::Replace(from, to) => Some((from.as_str(), to.as_str())),
-        _ => None,
-    }
-}
-
 #[test]
 fn replacements(rt: HostRuntime) -> Result<(), Fail> {
     for (from, to) in [("", "x"), ("x", ""), ("", ""), ("ba", "do")] {
         let mode = mode_of_words(rt.alloc(), &["replace", from, to])?;
-        let (first, second) = texts_of(&mode).ok_or("no replacement")?;
-        same_text(&rt, first, from, &(from, to));
-        same_text(&rt, second, to, &(from, to));
+        check_replacement(&rt, &mode, from, to)?;
     }
+    Ok(())
+}
+
+fn check_replacement(rt: &impl Abort, mode: &Mode, from: &str, to: &str) -> Result<(), Fail> {
+    let Mode::Replace(first, second) = mode else {
+        return Err("no replacement".into());
+    };
+    same_text(rt, first.as_str(), from, &(from, to));
+    same_text(rt, second.as_str(), to, &(from, to));
     Ok(())
 }
 
@@ -93,7 +89,8 @@ const WRONG: [&[&str]; 20] = [
 #[test]
 fn wrong_words(rt: HostRuntime) -> Result<(), Fail> {
     for words in WRONG {
-        holds(&rt, mode_by(rt.alloc(), words)?.is_none(), &words);
+        let words_of = strings(rt.alloc(), words)?;
+        holds(&rt, mode_of(words_of).is_none(), &words);
     }
     Ok(())
 }

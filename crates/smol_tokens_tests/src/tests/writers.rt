@@ -13,10 +13,15 @@ use test_support::streams::{
 #[test]
 fn fails_at_each_call(rt: HostRuntime) -> Result<(), Fail> {
     for row in all_rows(rt.alloc())?.iter() {
-        for step in STEPS {
-            for failure in WRITE_FAILURES {
-                check_failures(&rt, rt.alloc(), row, step, failure)?;
-            }
+        check_row(&rt, rt.alloc(), row)?;
+    }
+    Ok(())
+}
+
+fn check_row(rt: &impl Abort, alloc: Global, row: &Row) -> Result<(), Fail> {
+    for step in STEPS {
+        for failure in WRITE_FAILURES {
+            check_failures(rt, alloc, row, step, failure)?;
         }
     }
     Ok(())
