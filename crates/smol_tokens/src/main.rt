@@ -1,23 +1,12 @@
 //! Reads text from standard input and writes, for each line, where a `SmolStr` would keep it.
 //!
-//! `main` gathers the words, calls [`run::run`] and tells the fault; the promise of the whole
-//! program is the contract of `run`.
+//! `main` gathers the words, calls [`run`] and tells the fault; the promise of the whole program is
+//! the contract of `run`.
 #![tactic(auto)]
 
-mod fault;
-pub mod laws;
-mod lines;
-mod mode;
-mod report;
-mod run;
-mod tally;
-#[cfg(test)]
-mod tests;
-mod tokens;
-
-use fault::{RunFault, fault_line};
-use mode::mode_of;
-use run::run;
+use smol_tokens_core::fault::{RunFault, fault_line};
+use smol_tokens_core::mode::mode_of;
+use smol_tokens_core::run::run;
 use std::process::ExitCode;
 use std::{env, io};
 

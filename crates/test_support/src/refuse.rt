@@ -78,6 +78,31 @@ where
     requires calls { C.IsAlwaysCallable call }
     requires compares { H.IsAlwaysCallable holds }
 {
+    each_refused_by_value(
+        alloc,
+        name,
+        prepare,
+        call,
+        |answer: Result<T, E>| holds(&answer),
+    )
+}
+
+/// [`each_refused`] where `holds` takes what the call returned: it sees that what a refusal left behind can be used.
+pub fn each_refused_by_value<I, T: Drop, E: Drop, P, C, H>(
+    alloc: Global,
+    name: &str,
+    prepare: P,
+    call: C,
+    holds: H,
+) -> Result<Asked, Fail>
+where
+    P: Fn() -> Result<I, Fail>,
+    C: Fn(I) -> Result<T, E>,
+    H: Fn(Result<T, E>) -> Result<(), Fail>,
+    requires prepares { P.IsAlwaysCallable prepare }
+    requires calls { C.IsAlwaysCallable call }
+    requires compares { H.IsAlwaysCallable holds }
+{
     for nth in 1..MOST {
         let alone = run_refused(alloc, name, Refusals::One(nth), &prepare, &call, &holds)?;
         let with_later = run_refused(alloc, name, Refusals::From(nth), &prepare, &call, &holds)?;
@@ -102,7 +127,7 @@ fn run_refused<I, T: Drop, E: Drop, P, C, H>(
 where
     P: Fn() -> Result<I, Fail>,
     C: Fn(I) -> Result<T, E>,
-    H: Fn(&Result<T, E>) -> Result<(), Fail>,
+    H: Fn(Result<T, E>) -> Result<(), Fail>,
     requires prepares { P.IsAlwaysCallable prepare.now }
     requires calls { C.IsAlwaysCallable call.now }
     requires compares { H.IsAlwaysCallable holds.now }
@@ -114,9 +139,8 @@ where
     let answer = call(input);
     let was_refused = end_refusals(alloc);
     let asked = count_asked(alloc).since(before);
-    holds(&answer)?;
     let gave_up = answer.is_err();
-    drop(answer);
+    holds(answer)?;
     if gave_up && !was_refused {
         return Err(failed(name, "gives up although no request was refused"));
     }

@@ -12,7 +12,5 @@ pub mod lexer;
 pub mod ordered;
 pub mod records;
 pub mod symbols;
-#[cfg(test)]
-mod tests;
 pub mod values;
 pub mod wire;

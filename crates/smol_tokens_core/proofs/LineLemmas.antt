@@ -1,0 +1,89 @@
+-- For the laws of lines and for the first line: what the lines of a text are, and how they give the text back.
+use Rattle.std.proofs.Common.{◌≡◌, ◌≢◌, ℕ, ◌<◌, ◌==◌, List, [], ◌∷◌, ◌++◌, Bool, true, false, cond, ◌⊎◌, inl, inr}
+use Rattle.std.proofs.Common.{⊎_elim, length, refl, sym, ap, ◌∙◌, subst, arith, append_assoc, append-nil}
+use Rattle.std.specs.Prelude.{All}
+use Rattle.std.specs.List.{onto_first, slice_split, flat_map}
+use Rattle.std.proofs.lemmas.Bool.{eqb-false, ne_eqb}
+use Rattle.std.proofs.lemmas.List.Elements.{All-nil, All-cons, All-weaker, All-head, All-tail}
+use Rattle.std.proofs.lemmas.List.Splits.{slice_split_at, slice_split_none, length-slice_split}
+use Rattle.smol_str.specs.Cut.{joined_by}
+use Rattle.smol_tokens_core.specs.Lines.{is_newline, newline, lines, without_empty_last, HasNoNewline, ended}
+use Rattle.smol_tokens_core.proofs.PieceLemmas.{lines-pieces, joined-pieces, lines-nil, lines-cons}
+
+-- a piece in front of others is no last one
+before : (q : List ℕ) (pieces : List (List ℕ)) → 0 < length pieces
+    → without_empty_last (q ∷ pieces) ≡ q ∷ without_empty_last pieces
+before q [] some = absurd (omega arith)
+before q (r ∷ rs) some = refl
+
+-- what stands before the first newline is the first line
+pub lines-first : (q t : List ℕ) → All (λ c. is_newline c ≡ false) q → lines (q ++ 10 ∷ t) ≡ q ∷ lines t
+lines-first q t none =
+    let count = length-slice_split is_newline t in
+    lines-pieces (q ++ 10 ∷ t) ∙ ap without_empty_last (slice_split_at is_newline q 10 t none refl)
+    ∙ before q (slice_split is_newline t) (omega arith) ∙ ap (λ ls. q ∷ ls) (sym (lines-pieces t))
+
+-- without a newline the text is the one line, if it is not empty
+pub lines-last : (q : List ℕ) → All (λ c. is_newline c ≡ false) q → lines q ≡ without_empty_last (q ∷ [])
+lines-last q none = lines-pieces q ∙ ap without_empty_last (slice_split_none is_newline q none)
+
+none_newline : (q : List ℕ) → HasNoNewline q → All (λ c. is_newline c ≡ false) q
+none_newline q h = All-weaker (λ c. c ≢ 10) (λ c. is_newline c ≡ false) (λ c ne. ne_eqb c 10 ne) q h
+
+-- lines that were written are read again, and an unfinished one counts where it is not empty
+pub lines-ended : (qs : List (List ℕ)) (q : List ℕ) → All HasNoNewline qs → HasNoNewline q
+    → lines (ended qs ++ q) ≡ qs ++ without_empty_last (q ∷ [])
+lines-ended [] q h k = lines-last q (none_newline q k)
+lines-ended (r ∷ rs) q h k =
+    ap lines (append_assoc (r ++ newline) (ended rs) q ∙ append_assoc r newline (ended rs ++ q))
+    ∙ lines-first r (ended rs ++ q) (none_newline r (All-head HasNoNewline r rs h))
+    ∙ ap (λ s. r ∷ s) (lines-ended rs q (All-tail HasNoNewline r rs h) k)
+
+-- no line has a newline
+no_newline_step : (c : ℕ) (qs : List (List ℕ)) → (b : Bool) → (c == 10) ≡ b → All HasNoNewline qs
+    → All HasNoNewline (cond b ([] ∷ qs) (onto_first c qs))
+no_newline_step c qs true e h = All-cons HasNoNewline [] qs (All-nil (λ c. c ≢ 10)) h
+no_newline_step c [] false e h =
+    All-cons HasNoNewline (c ∷ []) []
+    (All-cons (λ c. c ≢ 10) c [] (eqb-false c 10 e) (All-nil (λ c. c ≢ 10))) (All-nil HasNoNewline)
+no_newline_step c (q ∷ qs) false e h =
+    All-cons HasNoNewline (c ∷ q) qs
+    (All-cons (λ c. c ≢ 10) c q (eqb-false c 10 e) (All-head HasNoNewline q qs h)) (All-tail HasNoNewline q qs h)
+
+pub HasNoNewline-lines : (t : List ℕ) → All HasNoNewline (lines t)
+HasNoNewline-lines [] = rw lines-nil (All-nil HasNoNewline)
+HasNoNewline-lines (c ∷ t) = rw (lines-cons c t) (no_newline_step c (lines t) (c == 10) refl (HasNoNewline-lines t))
+
+-- an empty last piece that is left out costs one pattern
+abbrev GivesBack : List ℕ → List (List ℕ) → List ℕ → Type 0
+GivesBack p qs t = (joined_by p qs ≡ t) ⊎ (joined_by p qs ++ p ≡ t)
+
+joined_more : (p q r : List ℕ) (rs : List (List ℕ)) → joined_by p (q ∷ r ∷ rs) ≡ q ++ (p ++ joined_by p (r ∷ rs))
+joined_more p q r rs = ap (λ xs. q ++ xs) (append_assoc p r (flat_map (λ y. p ++ y) rs))
+
+joined_step : (p q r : List ℕ) (rs ss : List (List ℕ)) → GivesBack p (r ∷ ss) (joined_by p (r ∷ rs))
+    → GivesBack p (q ∷ r ∷ ss) (joined_by p (q ∷ r ∷ rs))
+joined_step p q r rs ss h =
+    let all = joined_more p q r rs in
+    let kept = joined_more p q r ss in
+    ⊎_elim
+    (λ e. inl (kept ∙ ap (λ s. q ++ (p ++ s)) e ∙ sym all))
+    (λ e. inr (ap (λ s. s ++ p) kept ∙ append_assoc q (p ++ joined_by p (r ∷ ss)) p
+    ∙ ap (λ s. q ++ s) (append_assoc p (joined_by p (r ∷ ss)) p)
+    ∙ ap (λ s. q ++ (p ++ s)) e ∙ sym all))
+    h
+
+joined_kept : (p : List ℕ) (qs : List (List ℕ)) → GivesBack p (without_empty_last qs) (joined_by p qs)
+joined_kept p [] = inl refl
+joined_kept p ([] ∷ []) = inl refl
+joined_kept p ((c ∷ q) ∷ []) = inl refl
+joined_kept p (q ∷ [] ∷ []) =
+    inr (ap (λ s. s ++ p) (append-nil q) ∙ ap (λ s. q ++ s) (sym (append-nil (p ++ []) ∙ append-nil p)))
+joined_kept p (q ∷ (c ∷ r) ∷ []) = inl refl
+joined_kept p (q ∷ r ∷ s ∷ ss) = joined_step p q r (s ∷ ss) (without_empty_last (s ∷ ss)) (joined_kept p (r ∷ s ∷ ss))
+
+pub joined-lines : (t : List ℕ) → (joined_by newline (lines t) ≡ t) ⊎ (joined_by newline (lines t) ++ newline ≡ t)
+joined-lines t =
+    rw (lines-pieces t)
+    (subst (λ s. GivesBack newline (without_empty_last (slice_split is_newline t)) s) (joined-pieces t)
+    (joined_kept newline (slice_split is_newline t)))

@@ -1,0 +1,74 @@
+-- For the reports: the bytes of answer lines and of count lines, one after another.
+use Rattle.std.proofs.Common.{◌≡◌, ℕ, ◌+◌, ◌<◌, ◌^◌, List, [], ◌∷◌, ◌++◌, Some, take, refl, sym, ap, ◌∙◌}
+use Rattle.std.proofs.Common.{codes, encode_utf8_all}
+use Rattle.std.specs.Fmt.{decimal}
+use Rattle.std.specs.List.{flat_map}
+use Rattle.std.specs.Prelude.{slice_get}
+use Rattle.std.proofs.lemmas.List.{append-nil, take_more}
+use Rattle.std.proofs.lemmas.Option.{slice_get_within, get_or_from_slice_get}
+use Rattle.std.proofs.lemmas.List.Concat.{flat_map-append}
+use Rattle.std.proofs.lemmas.Str.{encodes-append, encodes-IsAscii}
+use Rattle.std.proofs.lemmas.Fmt.{IsAscii-decimal}
+use Rattle.smol_str.specs.declared.value.place.Place.{Place}
+use Rattle.smol_str.specs.declared.value.place.Place.TheVariants.{Inline, Static, Heap}
+use Rattle.smol_str.specs.Text.{size}
+use Rattle.smol_str.specs.Meaning.{Meaning, IsValueOf}
+use Rattle.smol_tokens_core.specs.declared.mode.Mode.{Mode}
+use Rattle.smol_tokens_core.specs.declared.mode.Mode.TheVariants.{Show, Join, Lower, Upper, Replace, Tokens}
+use Rattle.smol_tokens_core.specs.Report.{place_word, answer_line, answer, count_line, report, lines_report}
+
+encodes-place_word : (place : Place) → encode_utf8_all (place_word place) ≡ place_word place
+unfolding lib.Utf8.encode
+encodes-place_word Inline = refl
+encodes-place_word Static = refl
+encodes-place_word Heap = refl
+
+encodes-decimal : (n : ℕ) → n < 2 ^ 64 → encode_utf8_all (decimal n) ≡ decimal n
+encodes-decimal n small = encodes-IsAscii (decimal n) (IsAscii-decimal n small)
+
+-- an answer line, in bytes
+pub encodes-answer_line : (place : Place) (n : ℕ) (t : List ℕ) → n < 2 ^ 64
+    → encode_utf8_all (answer_line place n t)
+    ≡ place_word place ++ (codes " " ++ (decimal n ++ (codes " " ++ (encode_utf8_all t ++ codes "\n"))))
+unfolding lib.Utf8.encode
+encodes-answer_line place n t small = simp (encodes-append, encodes-place_word, encodes-decimal n small)
+
+-- a count line, in bytes
+pub encodes-count_line : (t : List ℕ) (n : ℕ) → n < 2 ^ 64
+    → encode_utf8_all (count_line (t, n)) ≡ decimal n ++ (codes " " ++ (encode_utf8_all t ++ codes "\n"))
+unfolding lib.Utf8.encode
+encodes-count_line t n small = simp (encodes-append, encodes-decimal n small)
+
+-- the answer line of a value of the text
+pub answer_line-value : (t : List ℕ) (v : Meaning) → IsValueOf t v → answer_line v.place (size v.text) v.text ≡ answer t
+answer_line-value t v is = rw (is.text, is.place) refl
+
+-- what is out, and one item's answer after it
+pub report-last : {A : Type 0} (f : A → List ℕ) (items : List A) (x : A) (out new : List ℕ)
+    → out ≡ encode_utf8_all (flat_map f items) → new ≡ out ++ encode_utf8_all (f x)
+    → new ≡ encode_utf8_all (flat_map f (items ++ x ∷ []))
+report-last f items x out new so_far is =
+    let more : flat_map f (items ++ x ∷ []) ≡ flat_map f items ++ f x =
+    flat_map-append f items (x ∷ []) ∙ ap (λ t. flat_map f items ++ t) (append-nil (f x)) in
+    is ∙ ap (λ bytes. bytes ++ encode_utf8_all (f x)) so_far ∙ sym (encodes-append (flat_map f items) (f x))
+    ∙ ap encode_utf8_all (sym more)
+
+-- the same, where the items are taken by their places
+pub report-next : {A : Type 0} (f : A → List ℕ) (items : List A) (i : ℕ) (x : A) (out new : List ℕ)
+    → slice_get items i ≡ Some x → out ≡ encode_utf8_all (flat_map f (take i items))
+    → new ≡ out ++ encode_utf8_all (f x) → new ≡ encode_utf8_all (flat_map f (take (i + 1) items))
+report-next f items i x out new at so_far is =
+    report-last f (take i items) x out new so_far is
+    ∙ ap (λ xs. encode_utf8_all (flat_map f xs))
+    (sym (take_more items i x (slice_get_within items i x at)
+    ∙ ap (λ y. take i items ++ y ∷ []) (get_or_from_slice_get items i x x at)))
+
+-- every mode but join and tokens answers line by line
+pub report-lines : (mode : Mode) (t : List ℕ) → ¬ (mode ≡ Join) → ¬ (mode ≡ Tokens)
+    → lines_report mode t ≡ report mode t
+report-lines Show t not_join not_tokens = refl
+report-lines Join t not_join not_tokens = absurd (not_join refl)
+report-lines Lower t not_join not_tokens = refl
+report-lines Upper t not_join not_tokens = refl
+report-lines (Replace from to) t not_join not_tokens = refl
+report-lines Tokens t not_join not_tokens = absurd (not_tokens refl)

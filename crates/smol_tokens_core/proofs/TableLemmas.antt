@@ -1,0 +1,140 @@
+-- For the laws of tallies by steps: a list in which no token stands twice is its tally, and takes one more entry.
+use Rattle.std.proofs.Common.{◌≡◌, ◌≢◌, ℕ, ◌+◌, suc, List, [], ◌∷◌, ◌++◌, Bool, true, false, cond, Some, unwrap_or}
+use Rattle.std.proofs.Common.{refl, sym, ap, ◌∙◌, subst, arith, append-nil}
+use Rattle.std.specs.Prelude.{not, All}
+use Rattle.std.specs.List.{AllPairs}
+use Rattle.std.specs.Map.{lookup}
+use Rattle.indexmap.specs.IndexMap.{insert_entry}
+use Rattle.std.proofs.lemmas.List.Elements.{filter-append, All-head, All-tail}
+use Rattle.smol_tokens_core.specs.Tally.{is_same, tokens, times_of, tally}
+use Rattle.smol_tokens_core.proofs.ListLemmas.{filter_yes}
+use Rattle.smol_tokens_core.proofs.SightLemmas.{same_from, is_same_itself, by_same, other_from, other_way}
+use Rattle.smol_tokens_core.proofs.TallyLemmas.{times-append, times_here, times_other, times_of-tally}
+use Rattle.smol_tokens_core.proofs.TallyLemmas.{tally-again, once-tally, without_token, tally-cons}
+
+-- the token has no entry
+abbrev IsNew : List ℕ → List (List ℕ × ℕ) → Type 0
+IsNew t [] = Unit {0}
+IsNew t (e ∷ es) = (is_same t e.0 ≡ false) × IsNew t es
+
+-- no token has two entries
+abbrev IsTable : List (List ℕ × ℕ) → Type 0
+IsTable [] = Unit {0}
+IsTable (e ∷ es) = IsNew e.0 es × IsTable es
+
+-- the same, by std's word
+new_from : (t : List ℕ) (es : List (List ℕ × ℕ)) → All (λ u. t ≢ u) (tokens es) → IsNew t es
+new_from t [] h = tt
+new_from t (e ∷ es) h = (
+  other_from t e.0 (All-head (λ u. t ≢ u) e.0 (tokens es) h),
+  new_from t es (All-tail (λ u. t ≢ u) e.0 (tokens es) h),
+)
+
+table_from : (es : List (List ℕ × ℕ)) → AllPairs (λ s t. s ≢ t) (tokens es) → IsTable es
+table_from [] h = tt
+table_from (e ∷ es) h = (
+  new_from e.0 es (λ k d l. h 0 (suc k) d (omega arith) (omega arith)),
+  table_from es (λ i j d l k. h (suc i) (suc j) d (omega arith) (omega arith)),
+)
+
+-- of a new token
+new_times : (t : List ℕ) (es : List (List ℕ × ℕ)) → IsNew t es → times_of t es ≡ 0
+new_times t [] h = refl
+new_times t (e ∷ es) h = times_other t e es h.0 ∙ new_times t es h.1
+
+new_kept : (t : List ℕ) (es : List (List ℕ × ℕ)) → IsNew t es → without_token t es ≡ es
+new_kept t [] h = refl
+new_kept t (e ∷ es) h = filter_yes (λ e. not (is_same t e.0)) e es (ap not h.0) ∙ ap (λ s. e ∷ s) (new_kept t es h.1)
+
+new_put : (t : List ℕ) (es : List (List ℕ × ℕ)) (v : ℕ) → IsNew t es → insert_entry is_same es t v ≡ es ++ (t, v) ∷ []
+new_put t [] v h = refl
+new_put t (e ∷ es) v h =
+    ap (λ b. cond b ((e.0, v) ∷ es) (e ∷ insert_entry is_same es t v)) h.0 ∙ ap (λ s. e ∷ s) (new_put t es v h.1)
+
+-- an entry for another token leaves a token new
+put_kept : (k t : List ℕ) (es : List (List ℕ × ℕ)) (v : ℕ) → is_same k t ≡ false → IsNew k es
+    → IsNew k (insert_entry is_same es t v)
+put_kept k t [] v d h = (d, tt)
+put_kept k t (e ∷ es) v d h =
+    let Put : Bool → Type 0 = λ b. IsNew k (cond b ((e.0, v) ∷ es) (e ∷ insert_entry is_same es t v)) in
+    by_same t e.0
+    (λ x. subst Put (sym x) (h.0, h.1))
+    (λ x. subst Put (sym x) (h.0, put_kept k t es v d h.1))
+
+drop_last : (t k : List ℕ) (es : List (List ℕ × ℕ)) (v : ℕ) → k ≡ t → IsNew k es
+    → without_token k (es ++ (t, v) ∷ []) ≡ es
+drop_last t k es v same h =
+    filter-append (λ e. not (is_same k e.0)) es ((t, v) ∷ [])
+    ∙ ap (λ s. s ++ without_token k ((t, v) ∷ [])) (new_kept k es h)
+    ∙ ap (λ b. es ++ cond (not b) ((t, v) ∷ []) []) (ap (is_same k) (sym same) ∙ is_same_itself k) ∙ append-nil es
+
+-- the number that a table has for a token, and 0 where it has none
+abbrev had : List ℕ → List (List ℕ × ℕ) → ℕ
+had t es = unwrap_or (lookup (is_same t) es) 0
+
+-- what the first entry makes of a step, by whether it is the token's
+stepped : (t : List ℕ) (n : ℕ) (e : List ℕ × ℕ) (es : List (List ℕ × ℕ)) (b : Bool) → is_same t e.0 ≡ b
+    → insert_entry is_same (e ∷ es) t (had t (e ∷ es) + n)
+    ≡ cond b ((e.0, e.1 + n) ∷ es) (e ∷ insert_entry is_same es t (had t es + n))
+stepped t n e es true x =
+    ap (λ b. cond b ((e.0, unwrap_or (cond b (Some e.1) (lookup (is_same t) es)) 0 + n) ∷ es)
+    (e ∷ insert_entry is_same es t (unwrap_or (cond b (Some e.1) (lookup (is_same t) es)) 0 + n))) x
+stepped t n e es false x =
+    ap (λ b. cond b ((e.0, unwrap_or (cond b (Some e.1) (lookup (is_same t) es)) 0 + n) ∷ es)
+    (e ∷ insert_entry is_same es t (unwrap_or (cond b (Some e.1) (lookup (is_same t) es)) 0 + n))) x
+
+-- what a table is after one more entry
+put : (es : List (List ℕ × ℕ)) (t : List ℕ) (n : ℕ) → IsTable es
+    → tally (es ++ (t, n) ∷ []) ≡ insert_entry is_same es t (had t es + n)
+put [] t n h =
+    let sum : times_of t ((t, n) ∷ []) ≡ 0 + n = omega (arith, times_here t (t, n) [] (is_same_itself t)) in
+    ap (λ m. (t, m) ∷ []) sum
+put (e ∷ es) t n h =
+    by_same t e.0
+    (λ x.
+    let same : e.0 ≡ t = sym (same_from t e.0 x) in
+    let rest : without_token e.0 (tally (es ++ (t, n) ∷ [])) ≡ es =
+    ap (without_token e.0)
+    (put es t n h.1 ∙ new_put t es (had t es + n) (subst (λ k. IsNew k es) same h.0))
+    ∙ drop_last t e.0 es (had t es + n) same h.0 in
+    let here : times_of e.0 ((t, n) ∷ []) ≡ n + 0 =
+    times_here e.0 (t, n) [] (ap (λ k. is_same k t) same ∙ is_same_itself t) in
+    let sum : times_of e.0 (es ++ (t, n) ∷ []) ≡ n =
+    omega (arith, times-append e.0 es ((t, n) ∷ []), new_times e.0 es h.0, here) in
+    tally-cons e (es ++ (t, n) ∷ []) ∙ (λ i. (e.0, e.1 + sum i) ∷ rest i) ∙ sym (stepped t n e es true x))
+    (λ x.
+    let d : is_same e.0 t ≡ false = other_way t e.0 x in
+    let rest : without_token e.0 (tally (es ++ (t, n) ∷ [])) ≡ insert_entry is_same es t (had t es + n) =
+    ap (without_token e.0) (put es t n h.1)
+    ∙ new_kept e.0 (insert_entry is_same es t (had t es + n)) (put_kept e.0 t es (had t es + n) d h.0) in
+    let sum : e.1 + times_of e.0 (es ++ (t, n) ∷ []) ≡ e.1 =
+    omega (arith, times-append e.0 es ((t, n) ∷ []), new_times e.0 es h.0, times_other e.0 (t, n) [] d) in
+    tally-cons e (es ++ (t, n) ∷ []) ∙ (λ i. (e.0, sum i) ∷ rest i) ∙ sym (stepped t n e es false x))
+
+kept : (es : List (List ℕ × ℕ)) → IsTable es → tally es ≡ es
+kept [] h = refl
+kept (e ∷ es) h =
+    let sum : e.1 + times_of e.0 es ≡ e.1 = omega (arith, new_times e.0 es h.0) in
+    tally-cons e es ∙ (λ i. (e.0, sum i) ∷ without_token e.0 (kept es h.1 i)) ∙ ap (λ s. e ∷ s) (new_kept e.0 es h.0)
+
+found : (t : List ℕ) (es : List (List ℕ × ℕ)) → IsTable es → had t es ≡ times_of t es
+found t [] h = refl
+found t (e ∷ es) h =
+    by_same t e.0
+    (λ x.
+    let none : times_of t es ≡ 0 = new_times t es (subst (λ k. IsNew k es) (sym (same_from t e.0 x)) h.0) in
+    ap (λ b. unwrap_or (cond b (Some e.1) (lookup (is_same t) es)) 0) x ∙ omega (arith, none, times_here t e es x))
+    (λ x. ap (λ b. unwrap_or (cond b (Some e.1) (lookup (is_same t) es)) 0) x ∙ found t es h.1
+    ∙ sym (times_other t e es x))
+
+pub tally-table : (es : List (List ℕ × ℕ)) → AllPairs (λ s u. s ≢ u) (tokens es) → tally es ≡ es
+tally-table es h = kept es (table_from es h)
+
+pub lookup-tally : (es : List (List ℕ × ℕ)) (t : List ℕ) → unwrap_or (lookup (is_same t) (tally es)) 0 ≡ times_of t es
+lookup-tally es t = found t (tally es) (table_from (tally es) (once-tally es)) ∙ times_of-tally t es
+
+pub tally-added : (es : List (List ℕ × ℕ)) (t : List ℕ) (n : ℕ)
+    → tally (es ++ (t, n) ∷ []) ≡ insert_entry is_same (tally es) t (times_of t es + n)
+tally-added es t n =
+    sym (tally-again es ((t, n) ∷ [])) ∙ put (tally es) t n (table_from (tally es) (once-tally es))
+    ∙ ap (λ m. insert_entry is_same (tally es) t (m + n)) (lookup-tally es t)

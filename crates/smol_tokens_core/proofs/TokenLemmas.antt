@@ -1,0 +1,53 @@
+-- For `tally_lines`: lines counted one after another, and what a count that is full says of all lines.
+use Rattle.std.proofs.Common.{◌≡◌, ℕ, ◌+◌, List, [], ◌∷◌, ◌++◌, cond, map, refl, sym, ap, ◌∙◌, arith}
+use Rattle.std.specs.Prelude.{count_by}
+use Rattle.std.proofs.lemmas.List.{map-append, append_assoc}
+use Rattle.std.proofs.lemmas.List.Sums.{sum_by-cons, sum_by-append}
+use Rattle.smol_tokens_core.specs.Lines.{lines}
+use Rattle.smol_tokens_core.specs.Tally.{is_same, times_of, tally, seen_once}
+use Rattle.smol_tokens_core.specs.TallyFaults.{AfterAddFault, run_fault_of}
+use Rattle.smol_tokens_core.specs.ReportFaults.{HasNoReport}
+use Rattle.smol_tokens_core.specs.declared.mode.Mode.TheVariants.{Tokens}
+use Rattle.smol_tokens_core.specs.declared.tally.AddFault.{AddFault}
+use Rattle.smol_tokens_core.specs.declared.tally.AddFault.TheVariants.{OutOfMemory, Full}
+use Rattle.smol_tokens_core.proofs.SightLemmas.{is_same_itself}
+use Rattle.smol_tokens_core.proofs.TallyLemmas.{times_of-tally, tally-again}
+
+-- of texts that were seen once each, the times are how often a text stands
+pub times_of-seen_once : (t : List ℕ) (texts : List (List ℕ))
+    → times_of t (seen_once texts) ≡ count_by (is_same t) texts
+times_of-seen_once t [] = refl
+times_of-seen_once t (u ∷ us) =
+    sum_by-cons (λ pair. cond (is_same t pair.0) pair.1 0) (u, 1) (seen_once us)
+    ∙ ap (λ n. cond (is_same t u) 1 0 + n) (times_of-seen_once t us)
+    ∙ sym (sum_by-cons (λ v. cond (is_same t v) 1 0) u us)
+
+-- one text more
+pub tally-seen : {A : Type 0} (f : A → List ℕ) (seen : List A) (x : A) (t : List ℕ) (old new : List (List ℕ × ℕ))
+    → old ≡ tally (seen_once (map f seen)) → t ≡ f x → new ≡ tally (old ++ (t, 1) ∷ [])
+    → new ≡ tally (seen_once (map f (seen ++ x ∷ [])))
+tally-seen f seen x t old new so_far same added =
+    added ∙ (λ i. tally (so_far i ++ (same i, 1) ∷ [])) ∙ tally-again (seen_once (map f seen)) ((f x, 1) ∷ [])
+    ∙ ap tally (sym (ap seen_once (map-append f seen (x ∷ [])) ∙ map-append (λ t. (t, 1)) (map f seen) (f x ∷ [])))
+
+pub lines-seen : {A : Type 0} (f : A → List ℕ) (seen : List A) (x : A) (all left rest : List (List ℕ))
+    → all ≡ map f seen ++ left → left ≡ f x ∷ rest → all ≡ map f (seen ++ x ∷ []) ++ rest
+lines-seen f seen x all left rest is next =
+    is ∙ ap (λ us. map f seen ++ us) next
+    ∙ sym (ap (λ us. us ++ rest) (map-append f seen (x ∷ [])) ∙ append_assoc (map f seen) (f x ∷ []) rest)
+
+-- the lines so far with the one that was not counted are a front of the lines
+pub no_report-add : (t line : List ℕ) (seen rest left : List (List ℕ)) (old : List (List ℕ × ℕ)) (fault : AddFault)
+    → old ≡ tally (seen_once seen) → lines t ≡ seen ++ left → left ≡ line ∷ rest → AfterAddFault old line 1 fault
+    → HasNoReport Tokens t (run_fault_of fault)
+no_report-add t line seen rest left old (OutOfMemory token) so_far is next new = tt
+no_report-add t line seen rest left old (Full token) so_far is next full =
+    let before : times_of line old ≡ count_by (is_same line) seen =
+    ap (times_of line) so_far ∙ times_of-tally line (seen_once seen) ∙ times_of-seen_once line seen in
+    let worth : List ℕ → ℕ = λ u. cond (is_same line u) 1 0 in
+    let first : count_by (is_same line) (line ∷ rest) ≡ 1 + count_by (is_same line) rest =
+    sum_by-cons worth line rest ∙ ap (λ b. cond b 1 0 + count_by (is_same line) rest) (is_same_itself line) in
+    let whole : count_by (is_same line) (lines t)
+    ≡ count_by (is_same line) seen + count_by (is_same line) (line ∷ rest) =
+    ap (count_by (is_same line)) (is ∙ ap (λ us. seen ++ us) next) ∙ sum_by-append worth seen (line ∷ rest) in
+    (refl, (line, omega (arith, before, first, whole)))

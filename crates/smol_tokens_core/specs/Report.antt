@@ -1,0 +1,87 @@
+-- What the program writes of a text, as characters.
+--     place_word p       the word for a place
+--     answer t           the answer line of a text
+--     count_line e       the count line of a token and how often it stands
+--     show_report t, join_report t, lower_report t, upper_report t, replace_report from to t, tokens_report t
+--                        what is written of t in the mode of that name
+--     report mode t      what the program writes in a mode
+--     line_text mode l   what a line is made to in a mode
+--     lines_report mode t    the answer line of what each line is made to
+use Rattle.std.specs.Prelude.{ℕ, List, ◌++◌, codes}
+use Rattle.std.specs.List.{concat, flat_map}
+use Rattle.std.specs.Fmt.{decimal}
+use Rattle.std.specs.Str.{chars}
+use Rattle.std.specs.String.{string_bytes}
+use Rattle.smol_str.specs.Text.{size, place_of}
+use Rattle.smol_str.specs.declared.value.place.Place.{Place}
+use Rattle.smol_str.specs.declared.value.place.Place.TheVariants.{Inline, Static, Heap}
+use Rattle.smol_str.specs.Case.{lower, upper}
+use Rattle.smol_str.specs.Replace.{replaced_all}
+use Rattle.smol_tokens_core.specs.Lines.{lines}
+use Rattle.smol_tokens_core.specs.Tally.{tally, seen_once}
+use Rattle.smol_tokens_core.specs.declared.mode.Mode.{Mode}
+use Rattle.smol_tokens_core.specs.declared.mode.Mode.TheVariants.{Show, Join, Lower, Upper, Replace, Tokens}
+
+-- the word for a place
+abbrev pub place_word : Place → List ℕ
+place_word Inline = codes "inline"
+place_word Static = codes "static"
+place_word Heap = codes "heap"
+
+-- a place's word, a size in decimal and a text, with a space between each two, and a newline
+abbrev pub answer_line : Place → ℕ → List ℕ → List ℕ
+answer_line place n t = place_word place ++ (codes " " ++ (decimal n ++ (codes " " ++ (t ++ codes "\n"))))
+
+-- the answer line of a text: its place, its size in bytes, itself
+abbrev pub answer : List ℕ → List ℕ
+answer t = answer_line (place_of t) (size t) t
+
+-- the answer line of each line
+abbrev pub show_report : List ℕ → List ℕ
+show_report t = flat_map answer (lines t)
+
+-- one answer line: of all lines joined
+abbrev pub join_report : List ℕ → List ℕ
+join_report t = answer (concat (lines t))
+
+-- the answer line of each line in small letters of ASCII
+abbrev pub lower_report : List ℕ → List ℕ
+lower_report t = flat_map (λ line. answer (lower line)) (lines t)
+
+-- the answer line of each line in capital letters of ASCII
+abbrev pub upper_report : List ℕ → List ℕ
+upper_report t = flat_map (λ line. answer (upper line)) (lines t)
+
+-- the answer line of each line, with `to` in place of each match of `from`
+abbrev pub replace_report : List ℕ → List ℕ → List ℕ → List ℕ
+replace_report from to t = flat_map (λ line. answer (replaced_all line from to)) (lines t)
+
+-- a count in decimal, a space, the token, and a newline
+abbrev pub count_line : List ℕ × ℕ → List ℕ
+count_line e = decimal e.1 ++ (codes " " ++ (e.0 ++ codes "\n"))
+
+-- the count line of each different line, in order of first sight
+abbrev pub tokens_report : List ℕ → List ℕ
+tokens_report t = flat_map count_line (tally (seen_once (lines t)))
+
+-- what is written in each mode
+abbrev pub report : Mode → List ℕ → List ℕ
+report Show t = show_report t
+report Join t = join_report t
+report Lower t = lower_report t
+report Upper t = upper_report t
+report (Replace from to) t = replace_report (chars (string_bytes from)) (chars (string_bytes to)) t
+report Tokens t = tokens_report t
+
+-- what a line is made to in a mode; modes join and tokens take it as it is, too
+abbrev pub line_text : Mode → List ℕ → List ℕ
+line_text Show line = line
+line_text Join line = line
+line_text Lower line = lower line
+line_text Upper line = upper line
+line_text (Replace from to) line = replaced_all line (chars (string_bytes from)) (chars (string_bytes to))
+line_text Tokens line = line
+
+-- the answer line of what each line is made to: the report of each mode but join and tokens
+abbrev pub lines_report : Mode → List ℕ → List ℕ
+lines_report mode t = flat_map (λ line. answer (line_text mode line)) (lines t)

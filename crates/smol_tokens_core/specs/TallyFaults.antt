@@ -1,0 +1,24 @@
+-- When each fault of a tally comes, what it gives back, and what it makes of a run.
+use Rattle.std.specs.Prelude.{◌≡◌, ℕ, ◌+◌, ◌≤◌, ◌^◌, List, None}
+use Rattle.std.specs.Map.{lookup}
+use Rattle.smol_str.specs.Meaning.{Meaning}
+use Rattle.smol_tokens_core.specs.declared.tally.AddFault.{AddFault}
+use Rattle.smol_tokens_core.specs.declared.tally.AddFault.TheVariants.{OutOfMemory, Full}
+use Rattle.smol_tokens_core.specs.declared.fault.RunFault.{RunFault}
+use Rattle.smol_tokens_core.specs.declared.fault.RunFault.TheVariants as run
+use Rattle.smol_tokens_core.specs.Tally.{is_same, times_of}
+
+-- of t, with so many times, to a tally of the pairs: t is new; or its count would be no `u64`
+abbrev pub AfterAddFault : List (List ℕ × ℕ) → List ℕ → ℕ → AddFault → Type 0
+AfterAddFault pairs t times (OutOfMemory token) = lookup (is_same t) pairs ≡ None
+AfterAddFault pairs t times (Full token) = 2 ^ 64 ≤ times_of t pairs + times
+
+-- the token that was handed in
+abbrev pub given_back : AddFault → Meaning
+given_back (OutOfMemory token) = token
+given_back (Full token) = token
+
+-- the token is let go
+abbrev pub run_fault_of : AddFault → RunFault
+run_fault_of (OutOfMemory token) = run.OutOfMemory
+run_fault_of (Full token) = run.Full

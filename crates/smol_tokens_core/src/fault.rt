@@ -1,0 +1,74 @@
+//! Why a run failed, and how that is told.
+ghost use Rattle.std.specs.Prelude.{◌≡◌};
+ghost use Rattle.smol_tokens_core.specs.FaultLine.{line_of};
+ghost use Rattle.smol_tokens_core.specs.ReadFaults.{run_fault};
+ghost use Rattle.smol_tokens_core.specs.TallyFaults.{run_fault_of};
+ghost use Rattle.smol_tokens_core.specs.declared.fault.RunFault.TheVariants.{OutOfMemory, Io};
+
+use crate::tally::AddFault;
+use smol_str::stream::ReadFault;
+use std::alloc::AllocError;
+use std::io;
+
+/// Why a run failed; the contract of [`crate::run::run`] says what stands after each.
+#[derive(Debug, Drop)]
+pub enum RunFault {
+    /// The input is not UTF-8.
+    NotUtf8,
+    /// Memory was refused.
+    OutOfMemory,
+    /// A token stands more than `u64::MAX` times in the input.
+    Full,
+    /// The reader or the writer failed, or the writer took no byte.
+    Io(io::Error),
+}
+
+impl From<AllocError> for RunFault {
+    ghost from_gives = { λ _ fault. fault ≡ OutOfMemory };
+
+    fn from(_refused: AllocError) -> RunFault {
+        RunFault::OutOfMemory
+    }
+}
+
+impl From<io::Error> for RunFault {
+    ghost from_gives = { λ e fault. fault ≡ Io e };
+
+    fn from(e: io::Error) -> RunFault {
+        RunFault::Io(e)
+    }
+}
+
+impl From<ReadFault> for RunFault {
+    ghost from_gives = { λ reading fault. fault ≡ run_fault reading };
+
+    fn from(reading: ReadFault) -> RunFault {
+        match reading {
+            ReadFault::OutOfMemory => RunFault::OutOfMemory,
+            ReadFault::Io(e) => RunFault::Io(e),
+        }
+    }
+}
+
+impl From<AddFault> for RunFault {
+    ghost from_gives = { λ adding fault. fault ≡ run_fault_of adding };
+
+    fn from(adding: AddFault) -> RunFault {
+        match adding {
+            AddFault::OutOfMemory(_token) => RunFault::OutOfMemory,
+            AddFault::Full(_token) => RunFault::Full,
+        }
+    }
+}
+
+/// The line that tells a fault on standard error, without its newline.
+pub fn fault_line(fault: &RunFault) -> &'static str
+    ensures { result.now ≡ line_of fault.now }
+{
+    match fault {
+        RunFault::NotUtf8 => "not UTF-8",
+        RunFault::OutOfMemory => "out of memory",
+        RunFault::Full => "full",
+        RunFault::Io(_) => "read or write failed",
+    }
+}

@@ -1,0 +1,67 @@
+//! What the definitions in `specs/` mean: laws over every text and every list of pairs, each the
+//! contract of a function that does nothing.
+ghost use Rattle.std.specs.Prelude.{◌≡◌, ◌≢◌, ◌⊎◌, ◌+◌, ℕ, List, [], ◌∷◌, ◌++◌, All, AllPairs, unwrap_or, count_by};
+ghost use Rattle.std.specs.List.{onto_first, slice_split};
+ghost use Rattle.std.specs.Map.{lookup};
+ghost use Rattle.indexmap.specs.IndexMap.{insert_entry};
+ghost use Rattle.smol_str.specs.Cut.{IsCut, joined_by};
+ghost use Rattle.smol_str.specs.Replace.{no_limit};
+ghost use Rattle.smol_tokens_core.specs.Lines.{is_newline, newline, lines, without_empty_last, HasNoNewline, ended};
+ghost use Rattle.smol_tokens_core.specs.Tally.{is_same, tokens, times_of, tally, seen_once};
+
+/// The lines of a text are the pieces between newlines that std's `split` of a slice gives, without
+/// a last piece that is empty.
+pub fn lines_are_pieces()
+    ensures { (t : List ℕ) → lines t ≡ without_empty_last (slice_split is_newline t) }
+{}
+
+/// The lines of a text are the pieces of its unlimited cut at the newline, without a last piece that
+/// is empty; they hold no newline, and joined or written again they give the text.
+///
+/// The last law needs its premises: a newline in one of the lines would end that line.
+pub fn lines_of_a_text()
+    ensures pieces { (t : List ℕ) (pieces : List (List ℕ)) →
+        IsCut t newline (no_limit t) pieces → lines t ≡ without_empty_last pieces }
+    ensures joined { (t : List ℕ) →
+        (joined_by newline (lines t) ≡ t) ⊎ (joined_by newline (lines t) ++ newline ≡ t) }
+    ensures no_newline { (t : List ℕ) → All HasNoNewline (lines t) }
+    ensures read_back { (whole : List (List ℕ)) (last : List ℕ) →
+        All HasNoNewline whole → HasNoNewline last →
+        lines (ended whole ++ last) ≡ whole ++ without_empty_last (last ∷ []) }
+{}
+
+/// The lines of a text from its left, character by character.
+pub fn lines_from_left()
+    ensures empty { lines [] ≡ [] }
+    ensures newline_ends_a_line { (t : List ℕ) → lines (newline ++ t) ≡ [] ∷ lines t }
+    ensures other_character { (c : ℕ) (t : List ℕ) →
+        HasNoNewline (c ∷ []) → lines (c ∷ t) ≡ onto_first c (lines t) }
+{}
+
+/// A tally counts each token once, in order of first sight, and can be taken up again; texts that
+/// were seen once each have as many times as they stand in the list.
+pub fn tallies()
+    ensures taken_up_again { (pairs more : List (List ℕ × ℕ)) →
+        tally (tally pairs ++ more) ≡ tally (pairs ++ more) }
+    ensures counts { (pairs : List (List ℕ × ℕ)) →
+        All (λ entry. entry.1 ≡ times_of entry.0 pairs) (tally pairs) }
+    ensures sums { (t : List ℕ) (pairs : List (List ℕ × ℕ)) →
+        times_of t (tally pairs) ≡ times_of t pairs }
+    ensures once { (pairs : List (List ℕ × ℕ)) → AllPairs (λ s t. s ≢ t) (tokens (tally pairs)) }
+    ensures of_texts { (t : List ℕ) (texts : List (List ℕ)) →
+        times_of t (seen_once texts) ≡ count_by (is_same t) texts }
+    ensures old_tokens_first { (pairs more : List (List ℕ × ℕ)) →
+        (new : List (List ℕ)) × (tokens (tally (pairs ++ more)) ≡ tokens (tally pairs) ++ new) }
+{}
+
+/// Adding one pair to a tally is one look-up and one insert of a map in insertion order.
+///
+/// Only a list without repeats is a tally: that of two pairs of one token has one entry.
+pub fn tally_by_steps()
+    ensures added { (pairs : List (List ℕ × ℕ)) (t : List ℕ) (times : ℕ) →
+        tally (pairs ++ (t, times) ∷ []) ≡ insert_entry is_same (tally pairs) t (times_of t pairs + times) }
+    ensures found { (pairs : List (List ℕ × ℕ)) (t : List ℕ) →
+        unwrap_or (lookup (is_same t) (tally pairs)) 0 ≡ times_of t pairs }
+    ensures without_repeats { (pairs : List (List ℕ × ℕ)) →
+        AllPairs (λ s t. s ≢ t) (tokens pairs) → tally pairs ≡ pairs }
+{}

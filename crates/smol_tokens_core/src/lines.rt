@@ -1,0 +1,52 @@
+//! The lines of a text, one after another.
+ghost use Rattle.std.specs.Prelude.{◌≡◌, ◌<◌, [], ◌∷◌, length, MatchOption, IfSome};
+ghost use Rattle.std.specs.Iterator.{YieldsFirstBy, item_count};
+ghost use Rattle.std.specs.Str.{chars};
+ghost use Rattle.smol_tokens_core.specs.Lines.{lines};
+
+/// The first line of a text, without its newline, and what follows it; `None` where there is no
+/// line.
+///
+/// Unlike `str::lines`, a carriage return stays in its line.
+pub fn first_line(text: &str) -> Option<(&str, &str)>
+    ensures cut { MatchOption result (lines (chars text.now) ≡ [])
+        (λ cut. lines (chars text.now) ≡ chars cut.0.now ∷ lines (chars cut.1.now)) }
+    ensures shorter { IfSome result (λ cut. length cut.1.now < length text.now) }
+{
+    if text.is_empty() {
+        return None;
+    }
+    match text.split_once('\n') {
+        Some(cut) => Some(cut),
+        None => Some((text, "")),
+    }
+}
+
+/// The lines of a text in order, without their newlines.
+#[derive(Drop)]
+pub struct Lines<'a> {
+    rest: &'a str,
+}
+
+impl<'a> Lines<'a> {
+    /// All lines of a text.
+    pub fn of(text: &'a str) -> Lines<'a>
+        ensures { result.rest.now ≡ text.now }
+    {
+        Lines { rest: text }
+    }
+}
+
+impl<'a> Iterator for Lines<'a> {
+    type Item = &'a str;
+
+    ghost next_gives = { YieldsFirstBy (λ line. chars line.now) (λ s. lines (chars s.rest.now)) };
+
+    ghost remaining = { item_count (λ s. lines (chars s.rest.now)) };
+
+    fn next(&mut self) -> Option<&'a str> {
+        let (line, after) = first_line(self.rest)?;
+        self.rest = after;
+        Some(line)
+    }
+}

@@ -1,0 +1,87 @@
+//! The report on a text.
+ghost use Rattle.std.specs.Prelude.{◌≡◌, ◌++◌, IfOk, IfErr, OnOk, encode_utf8_all};
+ghost use Rattle.std.specs.Str.{chars};
+ghost use Rattle.std.specs.String.{string_bytes};
+ghost use Rattle.smol_str.specs.Text.{size};
+ghost use Rattle.smol_str.specs.Meaning.{IsValueOf};
+ghost use Rattle.smol_tokens_core.specs.Report.{place_word, answer_line, line_text, lines_report, join_report, report};
+ghost use Rattle.smol_tokens_core.specs.ReportFaults.{HasNoReport};
+
+use crate::fault::RunFault;
+use crate::lines::Lines;
+use crate::mode::Mode;
+use crate::tokens::count_lines;
+use smol_str::{FormatError, Place, SmolStr, StrExt, format_smolstr};
+use std::alloc::{AllocError, Global};
+
+/// The whole report on a text.
+///
+/// It is [`RunFault::Full`] only in mode tokens, where a line stands more than `u64::MAX` times.
+pub fn make_report(alloc: Global, mode: Mode, text: &str) -> Result<String, RunFault>
+    ensures ok { IfOk result (λ out. string_bytes out ≡ encode_utf8_all (report mode (chars text.now))) }
+    ensures fault { IfErr result (HasNoReport mode (chars text.now)) }
+{
+    let report = match &mode {
+        Mode::Join => join(alloc, text)?,
+        Mode::Tokens => count_lines(alloc, text)?,
+        _ => answer_lines(alloc, &mode, text)?,
+    };
+    Ok(report)
+}
+
+/// The answer line of what each line is made to in a mode.
+fn answer_lines(alloc: Global, mode: &Mode, text: &str) -> Result<String, AllocError>
+    ensures { IfOk result (λ out. string_bytes out ≡ encode_utf8_all (lines_report mode.now (chars text.now))) }
+{
+    let mut out = String::new(alloc);
+    for line in Lines::of(text) {
+        push_answer(alloc, &mut out, value_of(alloc, mode, line)?)?;
+    }
+    Ok(out)
+}
+
+/// What a line is made to in a mode.
+fn value_of(alloc: Global, mode: &Mode, line: &str) -> Result<SmolStr, AllocError>
+    ensures { IfOk result (λ v. IsValueOf (line_text mode.now (chars line.now)) v) }
+{
+    match mode {
+        Mode::Show | Mode::Join | Mode::Tokens => SmolStr::new(alloc, line),
+        Mode::Lower => line.to_ascii_lowercase_smolstr(alloc),
+        Mode::Upper => line.to_ascii_uppercase_smolstr(alloc),
+        Mode::Replace(from, to) => line.replace_smolstr(alloc, from.as_str(), to.as_str()),
+    }
+}
+
+/// One answer line: of all lines joined.
+fn join(alloc: Global, text: &str) -> Result<String, AllocError>
+    ensures { IfOk result (λ out. string_bytes out ≡ encode_utf8_all (join_report (chars text.now))) }
+{
+    let value = SmolStr::from_strs(alloc, Lines::of(text))?;
+    let mut out = String::new(alloc);
+    push_answer(alloc, &mut out, value)?;
+    Ok(out)
+}
+
+/// Appends the answer line of a value.
+fn push_answer(alloc: Global, out: &mut String, value: SmolStr) -> Result<(), AllocError>
+    ensures { OnOk result (string_bytes out.new ≡ string_bytes out.old
+        ++ encode_utf8_all (answer_line value.place (size value.text) value.text)) }
+{
+    let place = word_of(value.place());
+    let size = value.len();
+    match format_smolstr!(alloc; "{place} {size} {value}\n") {
+        Ok(answer) => out.push_str(answer.as_str()),
+        Err(FormatError) => Err(AllocError),
+    }
+}
+
+/// The word that an answer line has for a place.
+fn word_of(place: Place) -> &'static str
+    ensures { result.now ≡ place_word place }
+{
+    match place {
+        Place::Inline => "inline",
+        Place::Static => "static",
+        Place::Heap => "heap",
+    }
+}

@@ -1,0 +1,39 @@
+//! The program, over any reader and writer.
+ghost use Rattle.std.specs.Prelude.{OnOk, IfErr};
+ghost use Rattle.smol_tokens_core.specs.Faults.{WroteReport, AfterFault};
+
+use crate::fault::RunFault;
+use crate::mode::Mode;
+use crate::report::make_report;
+use smol_str::stream::{read_all, write_steps};
+use std::alloc::Global;
+use std::io::{Read, Write};
+
+/// Reads to the end, tests UTF-8, puts the report together, and writes it.
+///
+/// This is the promise of the program. After `Ok` the reader is at its end, its bytes are the UTF-8
+/// of some text, and exactly the report on that text was written. Nothing is written before the
+/// whole report is there, so after [`RunFault::NotUtf8`], [`RunFault::OutOfMemory`] and
+/// [`RunFault::Full`] nothing was written; after [`RunFault::Io`] nothing, or a beginning of the
+/// report. A reader or writer that does not tell its bytes is claimed nothing of.
+pub fn run<R: Read, W: Write>(
+    alloc: Global,
+    mode: Mode,
+    reader: &mut R,
+    writer: &mut W,
+) -> Result<(), RunFault>
+    ensures ok { OnOk result
+        (WroteReport mode (R.remaining reader.old) (R.remaining reader.new)
+        (W.contents writer.old) (W.contents writer.new)) }
+    ensures fault { IfErr result
+        (AfterFault mode (R.remaining reader.old) (R.remaining reader.new)
+        (W.contents writer.old) (W.contents writer.new)) }
+{
+    let input = read_all(alloc, reader)?;
+    let Ok(text) = str::from_utf8(input.as_slice()) else {
+        return Err(RunFault::NotUtf8);
+    };
+    let report = make_report(alloc, mode, text)?;
+    write_steps(writer, report.as_bytes())?;
+    Ok(())
+}

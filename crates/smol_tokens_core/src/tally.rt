@@ -1,0 +1,108 @@
+//! How often each token was seen.
+ghost use Rattle.std.specs.Prelude.{◌≡◌, ◌<◌, ◌+◌, ◌^◌, [], ◌∷◌, ◌++◌, Some, SomeIff, IfOk, IfErr, OnOk, OnErr, length, slice_get, option_map};
+ghost use Rattle.std.specs.Map.{lookup};
+ghost use Rattle.smol_tokens_core.specs.Tally.{is_same, times_of, tally, HasEachOnce};
+ghost use Rattle.smol_tokens_core.specs.TallyFaults.{AfterAddFault, given_back};
+
+use indexmap::IndexMap;
+use smol_str::SmolStr;
+use std::alloc::Global;
+use std::marker::Model;
+
+/// Why a token was not counted; it is given back, and the tally is as before.
+#[derive(Debug, Drop)]
+pub enum AddFault {
+    /// The token was not in the tally, and memory was refused.
+    OutOfMemory(SmolStr),
+    /// The count would pass `u64::MAX`.
+    Full(SmolStr),
+}
+
+/// A table of tokens and how often each was counted, in order of first sight.
+///
+/// It means the list of pairs of a token's text and its count, each text once. Tokens are told apart
+/// by their texts alone: values of one text in different places are one token. A token that is there
+/// keeps its position and the value that came first.
+///
+/// ```
+/// let mut seen = Tally::new(alloc);
+/// seen.add(SmolStr::new_inline("if"), 1)?;
+/// assert_eq!(rt; seen.count(&SmolStr::new_inline("if")), Some(1));
+/// ```
+#[derive(Drop)]
+pub struct Tally {
+    counts: IndexMap<SmolStr, u64>,
+}
+
+impl Model for Tally {
+    ghost use Rattle.std.specs.Prelude.{ℕ, List};
+    ghost use Rattle.smol_tokens_core.specs.Tally.{by_text, HasEachOnce};
+
+    ghost Value = { List (List ℕ × ℕ) };
+
+    ghost view = { λ s. by_text s.counts.entries };
+
+    ghost invariant = { λ s. HasEachOnce (by_text s.counts.entries) };
+}
+
+impl Tally {
+    /// An empty tally, which takes no memory.
+    pub fn new(alloc: Global) -> Tally
+        ensures { result ≡ [] }
+    {
+        Tally {
+            counts: IndexMap::new(alloc),
+        }
+    }
+
+    /// Counts a token so many `times` more, and answers its count then.
+    ///
+    /// A new token goes last, also with 0 `times`. Nothing changes after a refusal, and the token
+    /// comes back in it: it is [`AddFault::Full`] where the count would pass `u64::MAX`, which is
+    /// tested first; and [`AddFault::OutOfMemory`] where there is no room for a new token. A token
+    /// that is there takes no memory.
+    pub fn add(&mut self, token: SmolStr, times: u64) -> Result<u64, AddFault>
+        ensures ok { OnOk result (self.new ≡ tally (self.old ++ (token.text, times) ∷ [])) }
+        ensures count { IfOk result (λ count. lookup (is_same token.text) self.new ≡ Some count) }
+        ensures fits { OnOk result (times_of token.text self.old + times < 2 ^ 64) }
+
+        ensures fault { IfErr result (AfterAddFault self.old token.text times) }
+        ensures back { IfErr result (λ fault. given_back fault ≡ token) }
+        ensures unchanged { OnErr result (self.new ≡ self.old) }
+    {
+        if let Some(count) = self.counts.get_mut(&token) {
+            let Some(more) = count.checked_add(times) else {
+                return Err(AddFault::Full(token));
+            };
+            *count = more;
+            return Ok(more);
+        }
+        if let Err(refused) = self.counts.insert(token, times) {
+            return Err(AddFault::OutOfMemory(refused.value.0));
+        }
+        Ok(times)
+    }
+
+    /// The count of a token, by its text; `None` where it was never added.
+    pub fn count(&self, token: &SmolStr) -> Option<u64>
+        ensures { result ≡ lookup (is_same token.now.text) self.now }
+    {
+        self.counts.get(token).copied()
+    }
+
+    /// The number of different tokens.
+    pub fn len(&self) -> usize
+        ensures len { result ≡ length self.now }
+        ensures once { HasEachOnce self.now }
+    {
+        self.counts.len()
+    }
+
+    /// The token at a position, from 0 in order of first sight, and its count.
+    pub fn at(&self, index: usize) -> Option<(&SmolStr, u64)>
+        ensures { option_map (λ entry. (entry.0.now.text, entry.1)) result ≡ slice_get self.now index }
+    {
+        let (token, count) = self.counts.get_index(index)?;
+        Some((token, *count))
+    }
+}

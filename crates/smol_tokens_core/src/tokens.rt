@@ -1,0 +1,59 @@
+//! The report of mode tokens: how often each line stands.
+ghost use Rattle.std.specs.Prelude.{◌≡◌, ◌++◌, IfOk, IfErr, OnOk, encode_utf8_all};
+ghost use Rattle.std.specs.List.{flat_map};
+ghost use Rattle.std.specs.Str.{chars};
+ghost use Rattle.std.specs.String.{string_bytes};
+ghost use Rattle.smol_tokens_core.specs.declared.mode.Mode.TheVariants.{Tokens};
+ghost use Rattle.smol_tokens_core.specs.Lines.{lines};
+ghost use Rattle.smol_tokens_core.specs.Tally.{tally, seen_once};
+ghost use Rattle.smol_tokens_core.specs.Report.{count_line, tokens_report};
+ghost use Rattle.smol_tokens_core.specs.ReportFaults.{HasNoReport};
+
+use crate::fault::RunFault;
+use crate::lines::Lines;
+use crate::tally::Tally;
+use smol_str::SmolStr;
+use std::alloc::{AllocError, Global};
+
+/// The count of each different line of a text, and the line, in order of first sight.
+pub fn count_lines(alloc: Global, text: &str) -> Result<String, RunFault>
+    ensures ok { IfOk result (λ out. string_bytes out ≡ encode_utf8_all (tokens_report (chars text.now))) }
+    ensures fault { IfErr result (HasNoReport Tokens (chars text.now)) }
+{
+    let tally = tally_lines(alloc, text)?;
+    Ok(write_counts(alloc, &tally)?)
+}
+
+/// The lines of a text as tokens, each counted once where it stands.
+fn tally_lines(alloc: Global, text: &str) -> Result<Tally, RunFault>
+    ensures ok { IfOk result (λ counts. counts ≡ tally (seen_once (lines (chars text.now)))) }
+    ensures fault { IfErr result (HasNoReport Tokens (chars text.now)) }
+{
+    let mut tally = Tally::new(alloc);
+    for line in Lines::of(text) {
+        tally.add(SmolStr::new(alloc, line)?, 1)?;
+    }
+    Ok(tally)
+}
+
+/// The count line of each token.
+fn write_counts(alloc: Global, tally: &Tally) -> Result<String, AllocError>
+    ensures { IfOk result (λ out. string_bytes out ≡ encode_utf8_all (flat_map count_line tally.now)) }
+{
+    let mut out = String::new(alloc);
+    for index in 0..tally.len() {
+        if let Some((token, count)) = tally.at(index) {
+            push_count(&mut out, token, count)?;
+        }
+    }
+    Ok(out)
+}
+
+/// Appends the count line of a token.
+fn push_count(out: &mut String, token: &SmolStr, count: u64) -> Result<(), AllocError>
+    ensures { OnOk result (string_bytes out.new ≡ string_bytes out.old
+        ++ encode_utf8_all (count_line (token.now.text, count))) }
+{
+    let token = token.as_str();
+    write!(out, "{count} {token}\n")
+}

@@ -1,0 +1,11 @@
+//! Tests of what no clause says: outside values, readers and writers that fail, and memory refused.
+mod join;
+mod modes;
+mod readers;
+mod refused;
+mod rows;
+mod same;
+mod show;
+mod tally;
+mod words;
+mod writers;

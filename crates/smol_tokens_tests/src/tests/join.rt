@@ -1,0 +1,88 @@
+//! `run` in mode Join.
+ghost use Rattle.std.specs.Prelude.{◌≡◌, IfOk, IsUtf8, encode_utf8_all};
+ghost use Rattle.std.specs.Str.{chars};
+ghost use Rattle.smol_tokens_core.specs.Report.{report};
+
+use super::rows::answer;
+use super::same::{holds, same_bytes};
+use smol_str::INLINE_CAP;
+use smol_tokens_core::fault::RunFault;
+use smol_tokens_core::mode::Mode;
+use smol_tokens_core::run::run;
+use std::alloc::{AllocError, Global};
+use std::test::Fail;
+use test_support::texts::{full_text, long_blank, long_text, repeated};
+
+/// The report by std's reader and writer over memory, and by the promise of `run` what it is.
+fn joined(alloc: Global, input: &[u8]) -> Result<Vec<u8>, RunFault>
+    ensures { IfOk result (λ out. IsUtf8 input.now × (out.items ≡ encode_utf8_all (report Mode.Join (chars input.now)))) }
+{
+    let mut reader = input;
+    let mut out = Vec::new(alloc);
+    run(alloc, Mode::Join, &mut reader, &mut out)?;
+    Ok(out)
+}
+
+/// Each input, and the report on it.
+const REPORTS: [(&[u8], &[u8]); 6] = [
+    (b"", b"inline 0 \n"),
+    (b"\n", b"inline 0 \n"),
+    (
+        b"if\n\naaaaaaaaaaaaaaaaaaaaaaaa",
+        b"inline 26 ifaaaaaaaaaaaaaaaaaaaaaaaa\n",
+    ),
+    (
+        b"aaaaaaaaaaaa\nbbbbbbbbbbb\n",
+        b"inline 23 aaaaaaaaaaaabbbbbbbbbbb\n",
+    ),
+    (
+        b"            \n            ",
+        b"inline 24                         \n",
+    ),
+    (b"\xc3\xa9\r\n\xc3\x9f", b"inline 5 \xc3\xa9\r\xc3\x9f\n"),
+];
+
+#[test]
+fn reports(rt: HostRuntime) -> Result<(), Fail> {
+    for (input, wanted) in REPORTS {
+        let out = joined(rt.alloc(), input)?;
+        same_bytes(&rt, out.as_slice(), wanted, &input);
+    }
+    let faulty = joined(rt.alloc(), b"a\n\xff");
+    holds(&rt, matches!(faulty, Err(RunFault::NotUtf8)), &"byte FF");
+    Ok(())
+}
+
+// Two lines whose text together no buffer has room for; of some neither is too long by itself.
+#[test]
+fn long_together(rt: HostRuntime) -> Result<(), Fail> {
+    let spaces = repeated(rt.alloc(), " ", INLINE_CAP)?;
+    let lines = [
+        (long_text(), "if", "heap"),
+        (full_text(), "a", "heap"),
+        (long_blank(), " ", "static"),
+        (" ", spaces.as_str(), "static"),
+    ];
+    for (first, second, place) in lines {
+        let out = joined_two(rt.alloc(), first, second)?;
+        let wanted = answer_to_two(rt.alloc(), place, first, second)?;
+        same_bytes(&rt, out.as_slice(), wanted.as_str().as_bytes(), &place);
+    }
+    Ok(())
+}
+
+fn joined_two(alloc: Global, first: &str, second: &str) -> Result<Vec<u8>, Fail> {
+    let input = format!(in alloc; "{first}\n{second}")?;
+    Ok(joined(alloc, input.as_str().as_bytes())?)
+}
+
+/// The text of both lines is kept in the place.
+fn answer_to_two(
+    alloc: Global,
+    place: &str,
+    first: &str,
+    second: &str,
+) -> Result<String, AllocError> {
+    let together = format!(in alloc; "{first}{second}")?;
+    answer(alloc, place, together.as_str())
+}

@@ -1,0 +1,203 @@
+//! `run` in every mode, over readers of every step, which end after each byte and fail at each call.
+use super::rows::{LETTERS, Row, Words, all_rows};
+use super::same::{holds, same};
+use super::words::mode_of_words;
+use smol_str::stream::PIECE;
+use smol_tokens_core::fault::RunFault;
+use smol_tokens_core::run::run;
+use std::alloc::{AllocError, Global};
+use std::io::ErrorKind;
+use std::process::Abort;
+use std::test::Fail;
+use test_support::streams::{
+    Drip, Failure, READ_ERRORS, STEPS, Trickle, empty_drip, is_tried, trickle_of,
+};
+
+/// An answer of `run`, without what a fault tells of itself.
+#[derive(Clone, Copy, PartialEq, Eq, Debug)]
+pub enum Answer {
+    Done,
+    NotUtf8,
+    OutOfMemory,
+    Full,
+    Io(ErrorKind),
+}
+
+fn answer_of(ended: Result<(), RunFault>) -> Answer {
+    match ended {
+        Ok(()) => Answer::Done,
+        Err(RunFault::NotUtf8) => Answer::NotUtf8,
+        Err(RunFault::OutOfMemory) => Answer::OutOfMemory,
+        Err(RunFault::Full) => Answer::Full,
+        Err(RunFault::Io(error)) => Answer::Io(error.kind()),
+    }
+}
+
+/// Runs in the mode of these words.
+pub fn run_by(
+    alloc: Global,
+    words: &[&str],
+    reader: &mut Trickle<'_>,
+    writer: &mut Drip,
+) -> Result<Answer, Fail> {
+    let mode = mode_of_words(alloc, words)?;
+    Ok(answer_of(run(alloc, mode, reader, writer)))
+}
+
+/// Runs into a writer that never fails; no buffer was empty or above a piece.
+fn read_by(
+    rt: &impl Abort,
+    alloc: Global,
+    words: Words,
+    reader: &mut Trickle<'_>,
+    writer: &mut Drip,
+) -> Result<Answer, Fail> {
+    let answer = run_by(alloc, words, reader, writer)?;
+    holds(rt, reader.least >= 1 && reader.most <= PIECE, &words);
+    Ok(answer)
+}
+
+/// A writer that never fails.
+fn sound_drip(alloc: Global) -> Drip {
+    empty_drip(alloc, usize::MAX, 0, Failure::TakesNone)
+}
+
+#[test]
+fn fails_at_each_call(rt: HostRuntime) -> Result<(), Fail> {
+    for row in all_rows(rt.alloc())?.iter() {
+        check_row(&rt, rt.alloc(), row)?;
+    }
+    Ok(())
+}
+
+fn check_row(rt: &impl Abort, alloc: Global, row: &Row) -> Result<(), Fail> {
+    for step in STEPS {
+        let calls = check_whole(rt, alloc, row, step)?;
+        for error in READ_ERRORS {
+            check_failures(rt, alloc, row, (step, error), calls)?;
+        }
+    }
+    Ok(())
+}
+
+/// The report on the input is written whole, after so many calls: by single bytes each is one, and one more says that
+/// the input has ended.
+fn check_whole(rt: &impl Abort, alloc: Global, row: &Row, step: usize) -> Result<usize, Fail> {
+    let mut reader = trickle_of(row.input.as_slice(), step, 0);
+    let mut writer = sound_drip(alloc);
+    let answer = read_by(rt, alloc, row.words, &mut reader, &mut writer)?;
+    same(rt, &answer, &Answer::Done, &(row.words, step));
+    let is_whole = writer.taken.as_slice() == row.report.as_slice();
+    holds(rt, is_whole, &(row.words, step));
+    if step == 1 {
+        same(
+            rt,
+            &reader.calls,
+            &row.input.len().saturating_add(1),
+            &row.words,
+        );
+    }
+    Ok(reader.calls)
+}
+
+fn check_failures(
+    rt: &impl Abort,
+    alloc: Global,
+    row: &Row,
+    (step, error): (usize, ErrorKind),
+    calls: usize,
+) -> Result<(), Fail> {
+    for fails_at in 1..calls.saturating_add(1) {
+        if is_tried(fails_at.saturating_mul(step), row.input.len()) {
+            let mut reader = trickle_of(row.input.as_slice(), step, fails_at);
+            reader.failure = error;
+            check_failure(rt, alloc, row.words, &mut reader)?;
+        }
+    }
+    Ok(())
+}
+
+/// The reader's error is told at once, and nothing is written.
+fn check_failure(
+    rt: &impl Abort,
+    alloc: Global,
+    words: Words,
+    reader: &mut Trickle<'_>,
+) -> Result<(), Fail> {
+    let mut writer = sound_drip(alloc);
+    let answer = read_by(rt, alloc, words, reader, &mut writer)?;
+    let about = (words, reader.step, reader.fails_at);
+    same(rt, &answer, &Answer::Io(reader.failure), &about);
+    holds(rt, writer.taken.is_empty(), &about);
+    same(rt, &reader.calls, &reader.fails_at, &about);
+    Ok(())
+}
+
+/// Characters of one to four bytes, in two lines.
+const CHARACTERS: &str = "aßΔ\nC€🦀";
+
+// An input that ends is whole, and not UTF-8 where it ends within a character.
+#[test]
+fn end_after_each_byte(rt: HostRuntime) -> Result<(), Fail> {
+    for (words, _, _) in LETTERS {
+        check_ends(&rt, rt.alloc(), words)?;
+    }
+    Ok(())
+}
+
+fn check_ends(rt: &impl Abort, alloc: Global, words: Words) -> Result<(), Fail> {
+    let input = CHARACTERS.as_bytes();
+    for end in 0..=input.len() {
+        let wanted = if CHARACTERS.is_char_boundary(end) {
+            Answer::Done
+        } else {
+            Answer::NotUtf8
+        };
+        check_answers(rt, alloc, words, &input[..end], wanted)?;
+    }
+    Ok(())
+}
+
+// The only byte, the last of whole pieces and of a part of one, and a surrogate.
+#[test]
+fn not_utf8(rt: HostRuntime) -> Result<(), Fail> {
+    for (words, _, _) in LETTERS {
+        check_not_utf8(&rt, rt.alloc(), words)?;
+    }
+    Ok(())
+}
+
+fn check_not_utf8(rt: &impl Abort, alloc: Global, words: Words) -> Result<(), Fail> {
+    for count in [0, PIECE - 1, 2 * PIECE, 9000] {
+        let input = ending_badly(alloc, count)?;
+        check_answers(rt, alloc, words, input.as_slice(), Answer::NotUtf8)?;
+    }
+    check_answers(rt, alloc, words, b"\xed\xa0\x80\n", Answer::NotUtf8)
+}
+
+/// So many letters, and a byte that no text has.
+fn ending_badly(alloc: Global, count: usize) -> Result<Vec<u8>, AllocError> {
+    let mut input = vec![in alloc; b'a'; count]?;
+    input.push(0xff)?;
+    Ok(input)
+}
+
+/// The answer by every step, after the whole input came; nothing is written after a fault.
+fn check_answers(
+    rt: &impl Abort,
+    alloc: Global,
+    words: Words,
+    input: &[u8],
+    wanted: Answer,
+) -> Result<(), Fail> {
+    for step in STEPS {
+        let mut reader = trickle_of(input, step, 0);
+        let mut writer = sound_drip(alloc);
+        let answer = read_by(rt, alloc, words, &mut reader, &mut writer)?;
+        same(rt, &answer, &wanted, &(words, step));
+        holds(rt, reader.rest.is_empty(), &(words, step));
+        let is_kept_back = wanted == Answer::Done || writer.taken.is_empty();
+        holds(rt, is_kept_back, &(words, step));
+    }
+    Ok(())
+}

@@ -1,8 +1,0 @@
-//! The callers, each run once over values from outside, and memory refused.
-mod headers;
-mod lexer;
-mod ordered;
-mod records;
-mod refuse;
-mod sources;
-mod symbols;

@@ -1,0 +1,8 @@
+//! The callers, each run once over values from outside, and memory refused.
+mod headers;
+mod lexer;
+mod ordered;
+mod records;
+mod same;
+mod sources;
+mod symbols;

@@ -1,0 +1,65 @@
+//! Records: the bytes of one, read back both ways, and cut at each place.
+use super::same::{holds, same, same_text};
+use smol_str::SmolStr;
+use smol_str::borsh::DecodeFault;
+use std::process::Abort;
+use std::test::Fail;
+use uses::records::{Field, field_from_wire, read_field, write_field};
+
+/// A size of four bytes and then a text, twice, with two bytes after it.
+const BYTES: &[u8] = b"\x02\0\0\0if\x03\0\0\0\xc3\xa9xyz";
+
+/// How many of them are the record.
+const LEN: usize = 13;
+
+#[test]
+fn a_field_is_read_back(rt: HostRuntime) -> Result<(), Fail> {
+    let alloc = rt.alloc();
+    let mut reader = BYTES;
+    check_field(&rt, read_field(alloc, &mut reader))?;
+    same(&rt, &reader, &b"yz".as_slice(), &"rest");
+    check_field(&rt, field_from_wire(alloc, BYTES).map(|read| read.0))
+}
+
+#[test]
+fn the_bytes_of_a_field(rt: HostRuntime) -> Result<(), Fail> {
+    let field = Field {
+        name: SmolStr::new_inline("if"),
+        value: SmolStr::new_inline("éx"),
+    };
+    let mut written = Vec::new(rt.alloc());
+    holds(&rt, write_field(&mut written, &field).is_ok(), &"written");
+    same(
+        &rt,
+        &written.as_slice(),
+        &BYTES.get(..LEN).ok_or("too few bytes")?,
+        &"written",
+    );
+    Ok(())
+}
+
+fn check_field(rt: &impl Abort, read: Result<Field, DecodeFault>) -> Result<(), Fail> {
+    let Ok(field) = read else {
+        return Err("the record was not read".into());
+    };
+    same_text(rt, field.name.as_str(), "if", &"name");
+    same_text(rt, field.value.as_str(), "éx", &"value");
+    Ok(())
+}
+
+#[test]
+fn a_cut_field_has_ended(rt: HostRuntime) -> Result<(), Fail> {
+    let alloc = rt.alloc();
+    for len in 0..LEN {
+        let whole = BYTES.get(..len).ok_or("too few bytes")?;
+        let mut reader = whole;
+        holds(&rt, has_ended(read_field(alloc, &mut reader)), &len);
+        let read = field_from_wire(alloc, whole).map(|read| read.0);
+        holds(&rt, has_ended(read), &len);
+    }
+    Ok(())
+}
+
+fn has_ended(read: Result<Field, DecodeFault>) -> bool {
+    matches!(read, Err(DecodeFault::Ended))
+}

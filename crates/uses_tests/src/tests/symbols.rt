@@ -1,0 +1,70 @@
+//! The symbol table: the ids of names that come again, and memory refused.
+use super::same::same;
+use std::alloc::Global;
+use std::process::Abort;
+use std::test::Fail;
+use test_support::refuse::{can_refuse, each_refused_by_value};
+use test_support::texts::long_text;
+use uses::symbols::Symbols;
+
+#[test]
+fn each_name_has_its_id(rt: HostRuntime) -> Result<(), Fail> {
+    let mut symbols = Symbols::new(rt.alloc());
+    // each name and the id that it is to have, in the order in which they come
+    let names = [
+        ("if", 0),
+        (long_text(), 1),
+        ("", 2),
+        ("if", 0),
+        ("é", 3),
+        (long_text(), 1),
+    ];
+    for (name, id) in names {
+        check_id(&rt, &mut symbols, name, id)?;
+    }
+    Ok(())
+}
+
+fn check_id(rt: &impl Abort, symbols: &mut Symbols, name: &str, id: usize) -> Result<(), Fail> {
+    same(rt, &symbols.intern(name)?, &id, &name);
+    Ok(())
+}
+
+// After a refusal the table is as before, and takes another name.
+#[test]
+fn each_request_in_turn(rt: HostRuntime) -> Result<(), Fail> {
+    let alloc = rt.alloc();
+    let asked = each_refused_by_value(
+        alloc,
+        "Symbols::intern",
+        || table_of_one(&rt, alloc),
+        |symbols| interned(symbols),
+        |ended| check_interned(&rt, ended),
+    )?;
+    same(&rt, &(asked.requests > 0), &can_refuse(alloc), &"requests");
+    Ok(())
+}
+
+fn table_of_one(rt: &impl Abort, alloc: Global) -> Result<Symbols, Fail> {
+    let mut symbols = Symbols::new(alloc);
+    check_id(rt, &mut symbols, "if", 0)?;
+    Ok(symbols)
+}
+
+/// The new id, and the table, also where it was refused.
+fn interned(mut symbols: Symbols) -> Result<(Symbols, usize), Symbols> {
+    match symbols.intern(long_text()) {
+        Ok(id) => Ok((symbols, id)),
+        Err(_refused) => Err(symbols),
+    }
+}
+
+fn check_interned(rt: &impl Abort, ended: Result<(Symbols, usize), Symbols>) -> Result<(), Fail> {
+    match ended {
+        Ok((mut symbols, id)) => {
+            same(rt, &id, &1, &"the new name");
+            check_id(rt, &mut symbols, "else", 2)
+        }
+        Err(mut symbols) => check_id(rt, &mut symbols, "else", 1),
+    }
+}
