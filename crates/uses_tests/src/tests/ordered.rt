@@ -2,21 +2,30 @@
 use super::same::{same, same_text};
 use smol_str::SmolStr;
 use std::alloc::{AllocError, Global};
+use std::process::Abort;
 use std::test::Fail;
 use uses::ordered::sorted_union;
 
 #[test]
 fn a_union(rt: HostRuntime) -> Result<(), Fail> {
-    let alloc = rt.alloc();
-    let left = values(alloc, &["b", "aa", "é"])?;
-    let right = values(alloc, &["", "\u{10000}", "b", "\u{ffff}"])?;
-    let union = sorted_union(left, right)?;
+    let left = ["b", "aa", "é"];
+    let right = ["", "\u{10000}", "b", "\u{ffff}"];
+    let union = union_of(rt.alloc(), &left, &right)?;
     let wanted = ["", "aa", "b", "b", "é", "\u{ffff}", "\u{10000}"];
-    same(&rt, &union.len(), &wanted.len(), &"union");
-    for (value, text) in union.iter().zip(wanted.iter()) {
-        same_text(&rt, value.as_str(), text, text);
-    }
+    check_texts(&rt, &union, &wanted);
     Ok(())
+}
+
+fn union_of(alloc: Global, left: &[&str], right: &[&str]) -> Result<Vec<SmolStr>, AllocError> {
+    let left = values(alloc, left)?;
+    sorted_union(left, values(alloc, right)?)
+}
+
+fn check_texts(rt: &impl Abort, values: &[SmolStr], texts: &[&str]) {
+    same(rt, &values.len(), &texts.len(), &texts);
+    for (value, text) in values.iter().zip(texts.iter()) {
+        same_text(rt, value.as_str(), text, &texts);
+    }
 }
 
 fn values(alloc: Global, texts: &[&str]) -> Result<Vec<SmolStr>, AllocError> {
