@@ -4,16 +4,14 @@ ghost use Rattle.std.specs.Iterator.{at_most, YieldsFirst};
 ghost use Rattle.std.specs.Vec.Iter.{into_iter_items};
 
 use super::built::builder_of;
-use super::refuse::{
-    Refusals, can_refuse, count_blocks, count_refusals, end_refusals, refuse, refuse_all,
-    start_counts,
-};
-use super::repeated;
+use super::same::{holds, same, same_place, same_text, same_value};
 use smol_str::{BLANK_NEWLINES, INLINE_CAP, Place, SmolStr, SmolStrBuilder};
 use std::alloc::{AllocError, Global};
 use std::process::Abort;
 use std::test::Fail;
 use std::vec::IntoIter;
+use test_support::refuse::{Asked, can_refuse, each_refused, end_refusals, refuse_all};
+use test_support::texts::{long_blank, repeated, repeated_and};
 
 /// An iterator whose lower hint may promise more items than come.
 #[derive(Drop)]
@@ -38,8 +36,15 @@ impl<T: Drop> Iterator for Hinted<T> {
     }
 }
 
+fn with_hint<T: Drop>(items: Vec<T>, lower: usize) -> Hinted<T> {
+    Hinted {
+        items: items.into_iter(),
+        lower,
+    }
+}
+
 /// The calls that draw items.
-#[derive(Clone, Copy, Debug)]
+#[derive(Clone, Copy, PartialEq, Eq, Debug)]
 enum Call {
     FromChars,
     FromStrs,
@@ -60,253 +65,34 @@ const CALLS: [Call; 7] = [
     Call::ExtendStrings,
 ];
 
-// Upstream's test_from_char_iterator, and spaces.
-#[test]
-fn characters(rt: HostRuntime) -> Result<(), Fail> {
-    let alloc = rt.alloc();
-    let many = repeated(alloc, "a", 93)?;
-    let spaces = repeated(alloc, " ", INLINE_CAP + 1)?;
-    for (text, len, place) in [
-        ("if", 2, Place::Inline),
-        ("for", 3, Place::Inline),
-        ("impl", 4, Place::Inline),
-        ("パーティーへ行_", 22, Place::Inline),
-        ("和製漢語", 12, Place::Inline),
-        ("部落格", 9, Place::Inline),
-        ("パーティーへ行かないか", 33, Place::Inline),
-        ("パーティーへ行か", 24, Place::Inline),
-        ("사회과학원 어학연구소", 31, Place::Inline),
-        ("表ポあA鷗ŒéＢ逍Üßªąñ丂㐀𠀀", 43, Place::Heap),
-        ("アアアアアアアアアアアアア", 39, Place::Inline),
-        ("アアアアアアアアアアアアアé", 41, Place::Heap),
-        (many.as_str(), 93, Place::Heap),
-        ("                        ", 24, Place::Inline),
-        (spaces.as_str(), INLINE_CAP + 1, Place::Static),
-    ] {
-        assert_collected(&rt, alloc, text, len, place)?;
-    }
-    Ok(())
+/// What a call draws.
+#[derive(Drop)]
+enum Items<'p, 's> {
+    Chars(Hinted<char>),
+    Strs(Hinted<&'p str>),
+    Strings(Hinted<String>),
+    StringRefs(Hinted<&'s String>),
 }
 
-fn assert_collected(
-    rt: &impl Abort,
-    alloc: Global,
-    text: &str,
-    len: usize,
-    place: Place,
-) -> Result<(), Fail> {
-    let value = SmolStr::from_chars(alloc, text.chars())?;
-    assert_eq!(rt; value.as_str(), text);
-    assert_eq!(rt; value.len(), len, "{text}");
-    assert_eq!(rt; value.place(), place, "{text}");
-    Ok(())
-}
-
-#[test]
-fn pieces(rt: HostRuntime) -> Result<(), Fail> {
-    let alloc = rt.alloc();
-    for (newlines, place) in [
-        (INLINE_CAP, Place::Static),
-        (BLANK_NEWLINES, Place::Static),
-        (23, Place::Inline),
-        (32, Place::Inline),
-    ] {
-        let newlines = repeated(alloc, "\n", newlines)?;
-        let blank = SmolStr::from_strs(alloc, [newlines.as_str(), " "].into_iter())?;
-        assert_eq!(rt; (blank.len(), blank.place()), (newlines.len() + 1, place));
-    }
-
-    let none: Vec<String> = Vec::new(alloc);
-    let empty = SmolStr::from_strings(alloc, none.into_iter())?;
-    assert_eq!(rt; (empty.len(), empty.place()), (0, Place::Inline));
-
-    let strings = strings_of(alloc, &["if", "", "x"])?;
-    let refs = SmolStr::from_string_refs(alloc, strings.iter())?;
-    let owned = SmolStr::from_strings(alloc, strings.into_iter())?;
-    assert_eq!(rt; (owned.as_str(), owned.place()), ("ifx", Place::Inline));
-    assert!(rt; refs == owned);
-    Ok(())
-}
-
-// Upstream's from_string_iter and from_str_iter, with fixed texts: piece i has i mod 5 times an é.
-#[test]
-fn many_pieces(rt: HostRuntime) -> Result<(), Fail> {
-    let alloc = rt.alloc();
-    let mut strings = Vec::new(alloc);
-    let mut text = String::new(alloc);
-    for i in 1..100usize {
-        let piece = repeated(alloc, "é", i % 5)?;
-        text.push_str(piece.as_str())?;
-        strings.push(piece).ok().ok_or("refused")?;
-        let value = SmolStr::from_string_refs(alloc, strings.iter())?;
-        assert_eq!(rt; value.as_str(), text.as_str());
-        assert_eq!(rt; (value.len(), value.is_empty()), (text.len(), false));
-        assert_eq!(rt; value.is_heap_allocated(), text.len() > INLINE_CAP, "{i}");
-    }
-    let value = SmolStr::from_strings(alloc, strings.into_iter())?;
-    assert_eq!(rt; value.as_str(), text.as_str());
-    Ok(())
-}
-
-// Upstream's from_buf_and_chars_size_hinted_heap.
-#[test]
-fn extended_past_the_buffer(rt: HostRuntime) -> Result<(), Fail> {
-    let mut builder = builder_of(rt.alloc(), 0, "abcdefghijklmnopqr")?;
-    builder.extend_chars("_0x1x2x3x4x5x6x7x8x9x10x11x12x13".chars())?;
-    let text = "abcdefghijklmnopqr_0x1x2x3x4x5x6x7x8x9x10x11x12x13";
-    assert_eq!(rt; builder.as_str(), text);
-    let value = builder.finish().ok().ok_or("refused")?;
-    assert_eq!(rt; (value.as_str(), value.place()), (text, Place::Heap));
-    Ok(())
-}
-
-// Hints reserve nothing: the largest would be refused. Upstream's test_bad_size_hint_char_iter is among these.
-#[test]
-fn hints(rt: HostRuntime) -> Result<(), Fail> {
-    let alloc = rt.alloc();
-    let long = repeated(alloc, "a", INLINE_CAP + 1)?;
-    let longer = repeated(alloc, "a", 70_000)?;
-    for call in CALLS {
-        for lower in [1024, usize::MAX, 0] {
-            for (pieces, text, place) in [
-                (["tes", "", "ting"], "testing", Place::Inline),
-                (["", long.as_str(), ""], long.as_str(), Place::Heap),
-                (["", longer.as_str(), ""], longer.as_str(), Place::Heap),
-            ] {
-                let (answer, _) = call_refused(alloc, call, &pieces, lower, Refusals::One(0))?;
-                let value = answer.ok().ok_or("refused")?;
-                assert_eq!(rt; value.as_str(), text, "{call:?}");
-                assert_eq!(rt; value.place(), place, "{call:?}");
-            }
-        }
-    }
-    Ok(())
-}
-
-#[test]
-fn each_request_in_turn(rt: HostRuntime) -> Result<(), Fail> {
-    let alloc = rt.alloc();
-    let full = repeated(alloc, "a", INLINE_CAP)?;
-    let many = repeated(alloc, "a", 4999)?;
-    for call in CALLS {
-        for (pieces, needs_memory) in [
-            ([full.as_str(), "a"], true),
-            ([many.as_str(), "a"], true),
-            (["", full.as_str()], false),
-        ] {
-            let requests = count_refusals(|refusals| {
-                start_counts(alloc);
-                let (answer, was_refused) = call_refused(alloc, call, &pieces, 0, refusals)?;
-                assert_eq!(rt; answer.is_err(), was_refused, "{call:?}");
-                assert!(rt; has_pieces(call, &answer, &pieces), "{call:?}");
-                drop(answer);
-                assert_eq!(rt; count_blocks(alloc), 0, "{call:?} leaks");
-                Ok(was_refused)
-            })?;
-            assert_eq!(rt; requests > 0, needs_memory && can_refuse(alloc), "{call:?}");
-        }
-    }
-    Ok(())
-}
-
-/// Whether a value has the text of all pieces, and a builder that of the first few items. Each
-/// character of the pieces is an item where characters are drawn.
-fn has_pieces(call: Call, answer: &Answer, pieces: &[&str; 2]) -> bool {
-    let [first, second] = *pieces;
-    let is_whole = |text: &str| text.strip_prefix(first) == Some(second);
-    match answer {
-        Ok(value) => is_whole(value.as_str()),
-        Err(None) => true,
-        Err(Some(builder)) => {
-            let text = builder.as_str();
-            let is_front = first.starts_with(text) && matches!(call, Call::ExtendChars);
-            text.is_empty() || text == first || is_whole(text) || is_front
-        }
-    }
-}
-
-// Where two bytes are left, the third text is refused, and those before it stay.
-#[test]
-fn extending_refused(rt: HostRuntime) -> Result<(), Fail> {
-    let alloc = rt.alloc();
-    let start = repeated(alloc, "a", INLINE_CAP - 2)?;
-    let mut builder = builder_of(alloc, 0, start.as_str())?;
-    refuse_all(alloc);
-    let answer = builder.extend_strs(["b", "c", "de", "f"].into_iter());
-    end_refusals(alloc);
-    if !can_refuse(alloc) {
-        return Ok(());
-    }
-    assert!(rt; answer.is_err());
-    assert_eq!(rt; builder.as_str().strip_prefix(start.as_str()), Some("bc"));
-    assert!(rt; builder.inline_buffer().is_some());
-    Ok(())
-}
-
-#[test]
-fn builders_cloned_and_compared(rt: HostRuntime) -> Result<(), Fail> {
-    let alloc = rt.alloc();
-    let heap = builder_of(alloc, 100, "ab")?;
-    let inline = builder_of(alloc, 0, "ab")?;
-    assert!(rt; heap == inline && heap != builder_of(alloc, 0, "b")?);
-
-    refuse_all(alloc);
-    let copy = inline.clone();
-    assert!(rt; !end_refusals(alloc));
-    assert!(rt; copy? == inline);
-
-    refuse_all(alloc);
-    let refused = heap.clone();
-    assert_eq!(rt; end_refusals(alloc), refused.is_err());
-    let mut copy = heap.clone()?;
-    copy.push('c')?;
-    assert!(rt; copy.inline_buffer().is_none());
-    assert_eq!(rt; (heap.as_str(), copy.as_str()), ("ab", "abc"));
-    Ok(())
-}
-
-/// The value that a call makes, an extended builder finished; or the builder, where there is one.
-type Answer = Result<SmolStr, Option<SmolStrBuilder>>;
-
-/// The call's answer on the pieces, with these requests for memory refused; and whether one was.
-fn call_refused(
+/// The pieces as items; the strings are the same pieces.
+fn items_of<'p, 's>(
     alloc: Global,
     call: Call,
-    pieces: &[&str],
+    pieces: &[&'p str],
+    strings: &'s [String],
     lower: usize,
-    refusals: Refusals,
-) -> Result<(Answer, bool), Fail> {
-    let strings = strings_of(alloc, pieces)?;
-    let chars = with_hint(chars_of(alloc, pieces)?, lower);
-    let strs = with_hint(pieces.iter().copied().collect(alloc)?, lower);
-    let refs = with_hint(strings.iter().collect(alloc)?, lower);
-    let owned = with_hint(strings_of(alloc, pieces)?, lower);
-    let mut builder = SmolStrBuilder::new(alloc);
-    refuse(alloc, refusals);
-    let answer = match call {
-        Call::FromChars => SmolStr::from_chars(alloc, chars).map_err(|_| None),
-        Call::FromStrs => SmolStr::from_strs(alloc, strs).map_err(|_| None),
-        Call::FromStrings => SmolStr::from_strings(alloc, owned).map_err(|_| None),
-        Call::FromStringRefs => SmolStr::from_string_refs(alloc, refs).map_err(|_| None),
-        Call::ExtendChars => finished(builder.extend_chars(chars), builder),
-        Call::ExtendStrs => finished(builder.extend_strs(strs), builder),
-        Call::ExtendStrings => finished(builder.extend_strings(refs), builder),
-    };
-    let was_refused = end_refusals(alloc);
-    Ok((answer, was_refused))
-}
-
-fn finished(answer: Result<(), AllocError>, builder: SmolStrBuilder) -> Answer {
-    match answer {
-        Ok(()) => builder.finish().map_err(|back| Some(back)),
-        Err(_) => Err(Some(builder)),
-    }
-}
-
-fn with_hint<T: Drop>(items: Vec<T>, lower: usize) -> Hinted<T> {
-    Hinted {
-        items: items.into_iter(),
-        lower,
+) -> Result<Items<'p, 's>, AllocError> {
+    match call {
+        Call::FromChars | Call::ExtendChars => {
+            Ok(Items::Chars(with_hint(chars_of(alloc, pieces)?, lower)))
+        }
+        Call::FromStrs | Call::ExtendStrs => {
+            Ok(Items::Strs(with_hint(pieces.iter().copied().collect(alloc)?, lower)))
+        }
+        Call::FromStrings => Ok(Items::Strings(with_hint(strings_of(alloc, pieces)?, lower))),
+        Call::FromStringRefs | Call::ExtendStrings => {
+            Ok(Items::StringRefs(with_hint(strings.iter().collect(alloc)?, lower)))
+        }
     }
 }
 
@@ -326,4 +112,488 @@ fn strings_of(alloc: Global, pieces: &[&str]) -> Result<Vec<String>, AllocError>
         strings.push(String::from_str(alloc, piece)?)?;
     }
     Ok(strings)
+}
+
+/// Whether the call extends a builder.
+fn extends(call: Call) -> bool {
+    matches!(
+        call,
+        Call::ExtendChars | Call::ExtendStrs | Call::ExtendStrings
+    )
+}
+
+/// The value that a call makes, an extended builder finished.
+fn value_of(alloc: Global, call: Call, items: Items<'_, '_>) -> Result<SmolStr, AllocError> {
+    if !extends(call) {
+        return made(alloc, items);
+    }
+    match extended(alloc, items) {
+        Ok(value) => Ok(value),
+        Err(_builder) => Err(AllocError),
+    }
+}
+
+fn made(alloc: Global, items: Items<'_, '_>) -> Result<SmolStr, AllocError> {
+    match items {
+        Items::Chars(chars) => SmolStr::from_chars(alloc, chars),
+        Items::Strs(strs) => SmolStr::from_strs(alloc, strs),
+        Items::Strings(strings) => SmolStr::from_strings(alloc, strings),
+        Items::StringRefs(refs) => SmolStr::from_string_refs(alloc, refs),
+    }
+}
+
+/// The value of a builder that was extended, or the builder. None is extended by strings that are owned.
+fn extended(alloc: Global, items: Items<'_, '_>) -> Result<SmolStr, SmolStrBuilder> {
+    let mut builder = SmolStrBuilder::new(alloc);
+    let answer = match items {
+        Items::Chars(chars) => builder.extend_chars(chars),
+        Items::Strs(strs) => builder.extend_strs(strs),
+        Items::Strings(_strings) => Err(AllocError),
+        Items::StringRefs(refs) => builder.extend_strings(refs),
+    };
+    finished(answer, builder)
+}
+
+fn finished(
+    answer: Result<(), AllocError>,
+    builder: SmolStrBuilder,
+) -> Result<SmolStr, SmolStrBuilder> {
+    match answer {
+        Ok(()) => builder.finish(),
+        Err(_) => Err(builder),
+    }
+}
+
+#[test]
+fn test_from_char_iterator(rt: HostRuntime) -> Result<(), Fail> {
+    let many = repeated(rt.alloc(), "a", 93)?;
+    for (text, len, place) in [
+        ("if", 2, Place::Inline),
+        ("for", 3, Place::Inline),
+        ("impl", 4, Place::Inline),
+        ("パーティーへ行_", 22, Place::Inline),
+        ("和製漢語", 12, Place::Inline),
+        ("部落格", 9, Place::Inline),
+        ("パーティーへ行かないか", 33, Place::Inline),
+        ("パーティーへ行か", 24, Place::Inline),
+        ("사회과학원 어학연구소", 31, Place::Inline),
+        ("表ポあA鷗ŒéＢ逍Üßªąñ丂㐀𠀀", 43, Place::Heap),
+        (many.as_str(), 93, Place::Heap),
+    ] {
+        assert_collected(&rt, rt.alloc(), text, len, place)?;
+    }
+    Ok(())
+}
+
+/// What fills a buffer behind characters of three bytes, and what is more than fits there.
+const FILL: [&str; 3] = ["", "a", "aa"];
+
+const MORE: [&str; 3] = ["é", "aé", "aaé"];
+
+#[test]
+fn characters(rt: HostRuntime) -> Result<(), Fail> {
+    let spaces = "                        ";
+    assert_collected(&rt, rt.alloc(), spaces, 24, Place::Inline)?;
+    assert_collected(&rt, rt.alloc(), long_blank(), INLINE_CAP + 1, Place::Static)?;
+    let full = repeated_and(rt.alloc(), "ア", INLINE_CAP / 3, FILL[INLINE_CAP % 3])?;
+    assert_collected(&rt, rt.alloc(), full.as_str(), INLINE_CAP, Place::Inline)?;
+    let longer = repeated_and(rt.alloc(), "ア", INLINE_CAP / 3, MORE[INLINE_CAP % 3])?;
+    assert_collected(
+        &rt,
+        rt.alloc(),
+        longer.as_str(),
+        INLINE_CAP + 2,
+        Place::Heap,
+    )
+}
+
+fn assert_collected(
+    rt: &impl Abort,
+    alloc: Global,
+    text: &str,
+    len: usize,
+    place: Place,
+) -> Result<(), Fail> {
+    let value = SmolStr::from_chars(alloc, text.chars())?;
+    same_value(rt, &value, text, place, &text);
+    same(rt, &value.len(), &len, &text);
+    Ok(())
+}
+
+#[test]
+fn pieces(rt: HostRuntime) -> Result<(), Fail> {
+    for (newlines, place) in [
+        (INLINE_CAP, Place::Static),
+        (BLANK_NEWLINES, Place::Static),
+        (23, Place::Inline),
+        (32, Place::Inline),
+    ] {
+        assert_blank(&rt, rt.alloc(), newlines, place)?;
+    }
+    Ok(())
+}
+
+fn assert_blank(rt: &impl Abort, alloc: Global, newlines: usize, place: Place) -> Result<(), Fail> {
+    let first = repeated(alloc, "\n", newlines)?;
+    let blank = SmolStr::from_strs(alloc, [first.as_str(), " "].into_iter())?;
+    same(rt, &blank.len(), &newlines.saturating_add(1), &newlines);
+    same_place(rt, &blank, place, &newlines);
+    Ok(())
+}
+
+#[test]
+fn no_pieces(rt: HostRuntime) -> Result<(), Fail> {
+    let none: Vec<String> = Vec::new(rt.alloc());
+    let empty = SmolStr::from_strings(rt.alloc(), none.into_iter())?;
+    same_value(&rt, &empty, "", Place::Inline, &"no pieces");
+    Ok(())
+}
+
+#[test]
+fn owned_and_borrowed_pieces(rt: HostRuntime) -> Result<(), Fail> {
+    let strings = strings_of(rt.alloc(), &["if", "", "x"])?;
+    let refs = SmolStr::from_string_refs(rt.alloc(), strings.iter())?;
+    same_value(&rt, &refs, "ifx", Place::Inline, &"borrowed");
+    let owned = SmolStr::from_strings(rt.alloc(), strings.into_iter())?;
+    same_value(&rt, &owned, "ifx", Place::Inline, &"owned");
+    same(&rt, &refs, &owned, &"both");
+    Ok(())
+}
+
+// Upstream's have pieces at random: here piece i, counted from 1, is `é` i mod 5 times.
+#[test]
+fn from_string_iter(rt: HostRuntime) -> Result<(), Fail> {
+    for count in 1..100 {
+        let pieces = first_pieces(rt.alloc(), count)?;
+        let value = SmolStr::from_strings(rt.alloc(), pieces.into_iter())?;
+        assert_joined(&rt, rt.alloc(), &value, count)?;
+    }
+    Ok(())
+}
+
+#[test]
+fn from_str_iter(rt: HostRuntime) -> Result<(), Fail> {
+    for count in 1..100 {
+        let pieces = first_pieces(rt.alloc(), count)?;
+        let value = SmolStr::from_string_refs(rt.alloc(), pieces.iter())?;
+        assert_joined(&rt, rt.alloc(), &value, count)?;
+    }
+    Ok(())
+}
+
+fn first_pieces(alloc: Global, count: usize) -> Result<Vec<String>, AllocError> {
+    let mut pieces = Vec::new(alloc);
+    for number in 1..=count {
+        pieces.push(repeated(alloc, "é", number % 5)?)?;
+    }
+    Ok(pieces)
+}
+
+fn first_letters(count: usize) -> usize {
+    let mut letters = 0usize;
+    for number in 1..=count {
+        letters = letters.saturating_add(number % 5);
+    }
+    letters
+}
+
+fn assert_joined(
+    rt: &impl Abort,
+    alloc: Global,
+    value: &SmolStr,
+    count: usize,
+) -> Result<(), Fail> {
+    let text = repeated(alloc, "é", first_letters(count))?;
+    let place = if text.len() > INLINE_CAP {
+        Place::Heap
+    } else {
+        Place::Inline
+    };
+    same_value(rt, value, text.as_str(), place, &count);
+    holds(rt, !value.is_empty(), &count);
+    Ok(())
+}
+
+#[test]
+fn from_buf_and_chars_size_hinted_heap(rt: HostRuntime) -> Result<(), Fail> {
+    let mut builder = builder_of(rt.alloc(), 0, "abcdefghijklmnopqr")?;
+    builder.extend_chars("_0x1x2x3x4x5x6x7x8x9x10x11x12x13".chars())?;
+    let text = "abcdefghijklmnopqr_0x1x2x3x4x5x6x7x8x9x10x11x12x13";
+    same_text(&rt, builder.as_str(), text, &"builder");
+    let value = builder.finish().ok().ok_or("refused")?;
+    same_value(&rt, &value, text, Place::Heap, &"value");
+    Ok(())
+}
+
+#[test]
+fn test_bad_size_hint_char_iter(rt: HostRuntime) -> Result<(), Fail> {
+    let chars = chars_of(rt.alloc(), &["testing"])?;
+    let collected = SmolStr::from_chars(rt.alloc(), with_hint(chars, 1024))?;
+    same_value(&rt, &collected, "testing", Place::Inline, &"collected");
+    let new = SmolStr::new(rt.alloc(), "testing")?;
+    same_place(&rt, &new, Place::Inline, &"new");
+    same(&rt, &new, &collected, &"both");
+    Ok(())
+}
+
+// Hints reserve nothing: the largest would be refused.
+#[test]
+fn hints(rt: HostRuntime) -> Result<(), Fail> {
+    for lower in [1024, usize::MAX, 0] {
+        let pieces = ["tes", "", "ting"];
+        assert_hinted(&rt, rt.alloc(), &pieces, lower, "testing", Place::Inline)?;
+        assert_hinted_letters(&rt, rt.alloc(), INLINE_CAP + 1, lower)?;
+        assert_hinted_letters(&rt, rt.alloc(), 70_000, lower)?;
+    }
+    Ok(())
+}
+
+fn assert_hinted_letters(
+    rt: &impl Abort,
+    alloc: Global,
+    letters: usize,
+    lower: usize,
+) -> Result<(), Fail> {
+    let text = repeated(alloc, "a", letters)?;
+    let pieces = ["", text.as_str(), ""];
+    assert_hinted(rt, alloc, &pieces, lower, text.as_str(), Place::Heap)
+}
+
+fn assert_hinted(
+    rt: &impl Abort,
+    alloc: Global,
+    pieces: &[&str],
+    lower: usize,
+    text: &str,
+    place: Place,
+) -> Result<(), Fail> {
+    let strings = strings_of(alloc, pieces)?;
+    for call in CALLS {
+        let items = items_of(alloc, call, pieces, strings.as_slice(), lower)?;
+        match value_of(alloc, call, items) {
+            Ok(value) => same_value(rt, &value, text, place, &(call, lower)),
+            Err(_) => holds(rt, false, &(call, lower)),
+        }
+    }
+    Ok(())
+}
+
+#[test]
+fn each_request_in_turn(rt: HostRuntime) -> Result<(), Fail> {
+    for letters in [INLINE_CAP, 4999] {
+        let first = repeated(rt.alloc(), "a", letters)?;
+        assert_requests(&rt, rt.alloc(), &[first.as_str(), "a"], true)?;
+    }
+    let full = repeated(rt.alloc(), "a", INLINE_CAP)?;
+    assert_requests(&rt, rt.alloc(), &["", full.as_str()], false)
+}
+
+fn assert_requests(
+    rt: &impl Abort,
+    alloc: Global,
+    pieces: &[&str; 2],
+    needs_memory: bool,
+) -> Result<(), Fail> {
+    let whole = joined(alloc, pieces)?;
+    for call in CALLS {
+        let asked = if extends(call) {
+            extended_refused(alloc, call, pieces, whole.as_str())?
+        } else {
+            made_refused(alloc, call, pieces, whole.as_str())?
+        };
+        let makes_requests = needs_memory && can_refuse(alloc);
+        same(rt, &(asked.requests > 0), &makes_requests, &call);
+    }
+    Ok(())
+}
+
+fn joined(alloc: Global, pieces: &[&str; 2]) -> Result<String, AllocError> {
+    let mut whole = String::new(alloc);
+    for piece in pieces {
+        whole.push_str(piece)?;
+    }
+    Ok(whole)
+}
+
+fn made_refused(alloc: Global, call: Call, pieces: &[&str; 2], whole: &str) -> Result<Asked, Fail> {
+    each_refused(
+        alloc,
+        name_of(call),
+        || Ok(strings_of(alloc, pieces)?),
+        |strings| made_of(alloc, call, strings, pieces, whole),
+        |answer| check_made(answer, whole),
+    )
+}
+
+/// The strings are the same pieces; what is drawn is made before, or needs no memory.
+fn made_of(
+    alloc: Global,
+    call: Call,
+    strings: Vec<String>,
+    pieces: &[&str; 2],
+    whole: &str,
+) -> Result<SmolStr, AllocError> {
+    match call {
+        Call::FromStrings => SmolStr::from_strings(alloc, with_hint(strings, 0)),
+        Call::FromStringRefs => SmolStr::from_string_refs(alloc, strings.iter()),
+        Call::FromStrs => SmolStr::from_strs(alloc, [pieces[0], pieces[1]].into_iter()),
+        _ => SmolStr::from_chars(alloc, whole.chars()),
+    }
+}
+
+fn extended_refused(
+    alloc: Global,
+    call: Call,
+    pieces: &[&str; 2],
+    whole: &str,
+) -> Result<Asked, Fail> {
+    each_refused(
+        alloc,
+        name_of(call),
+        || Ok(strings_of(alloc, pieces)?),
+        |strings| extended_by(alloc, call, strings, pieces, whole),
+        |answer| check_extended(answer, call, pieces, whole),
+    )
+}
+
+fn extended_by(
+    alloc: Global,
+    call: Call,
+    strings: Vec<String>,
+    pieces: &[&str; 2],
+    whole: &str,
+) -> Result<SmolStr, SmolStrBuilder> {
+    let mut builder = SmolStrBuilder::new(alloc);
+    let answer = match call {
+        Call::ExtendStrings => builder.extend_strings(strings.iter()),
+        Call::ExtendStrs => builder.extend_strs([pieces[0], pieces[1]].into_iter()),
+        _ => builder.extend_chars(whole.chars()),
+    };
+    finished(answer, builder)
+}
+
+fn name_of(call: Call) -> &'static str {
+    match call {
+        Call::FromChars => "from_chars",
+        Call::FromStrs => "from_strs",
+        Call::FromStrings => "from_strings",
+        Call::FromStringRefs => "from_string_refs",
+        Call::ExtendChars => "extend_chars",
+        Call::ExtendStrs => "extend_strs",
+        Call::ExtendStrings => "extend_strings",
+    }
+}
+
+/// A value that was made has the text of all pieces.
+fn check_made(answer: &Result<SmolStr, AllocError>, whole: &str) -> Result<(), Fail> {
+    match answer {
+        Ok(value) => check(value.as_str() == whole, value.as_str()),
+        Err(_) => Ok(()),
+    }
+}
+
+/// A value has the text of all pieces, and a builder that of the first few items.
+fn check_extended(
+    answer: &Result<SmolStr, SmolStrBuilder>,
+    call: Call,
+    pieces: &[&str; 2],
+    whole: &str,
+) -> Result<(), Fail> {
+    match answer {
+        Ok(value) => check(value.as_str() == whole, value.as_str()),
+        Err(builder) => {
+            let text = builder.as_str();
+            check(text == whole || has_stopped(text, call, pieces), text)
+        }
+    }
+}
+
+/// Each character of the pieces is an item where characters are drawn.
+fn has_stopped(text: &str, call: Call, pieces: &[&str; 2]) -> bool {
+    let [first, _] = *pieces;
+    text.is_empty() || text == first || call == Call::ExtendChars && first.starts_with(text)
+}
+
+fn check(is_right: bool, text: &str) -> Result<(), Fail> {
+    if is_right {
+        return Ok(());
+    }
+    Err(Fail::new(format_args!("{text:?} is not the text of the items")))
+}
+
+// Where two bytes are left, the third text is refused, and those before it stay.
+#[test]
+fn extending_refused(rt: HostRuntime) -> Result<(), Fail> {
+    let start = repeated(rt.alloc(), "a", INLINE_CAP - 2)?;
+    let mut builder = builder_of(rt.alloc(), 0, start.as_str())?;
+    refuse_all(rt.alloc());
+    let gave_up = builder
+        .extend_strs(["b", "c", "de", "f"].into_iter())
+        .is_err();
+    end_refusals(rt.alloc());
+    same(&rt, &gave_up, &can_refuse(rt.alloc()), &"extend_strs");
+    if gave_up {
+        assert_stopped(&rt, &builder, start.as_str());
+    }
+    Ok(())
+}
+
+fn assert_stopped(rt: &impl Abort, builder: &SmolStrBuilder, start: &str) {
+    same(
+        rt,
+        &builder.as_str().strip_prefix(start),
+        &Some("bc"),
+        &start,
+    );
+    holds(rt, builder.inline_buffer().is_some(), &start);
+}
+
+#[test]
+fn builders_compared(rt: HostRuntime) -> Result<(), Fail> {
+    for (text, is_same) in [("ab", true), ("b", false)] {
+        let heap = builder_of(rt.alloc(), 100, "ab")?;
+        let inline = builder_of(rt.alloc(), 0, text)?;
+        same(&rt, &(heap == inline), &is_same, &text);
+        same(&rt, &(heap != inline), &!is_same, &text);
+    }
+    Ok(())
+}
+
+#[test]
+fn builders_cloned(rt: HostRuntime) -> Result<(), Fail> {
+    let heap = builder_of(rt.alloc(), 100, "ab")?;
+    assert_copied(&rt, &heap)?;
+    same_text(&rt, heap.as_str(), "ab", &"heap");
+    Ok(())
+}
+
+fn assert_copied(rt: &impl Abort, heap: &SmolStrBuilder) -> Result<(), Fail> {
+    let mut copy = heap.clone()?;
+    holds(rt, copy == *heap, &"ab");
+    copy.push('c')?;
+    holds(rt, copy.inline_buffer().is_none(), &"abc");
+    same_text(rt, copy.as_str(), "abc", &"copy");
+    Ok(())
+}
+
+// Only a clone of a builder on the heap takes memory.
+#[test]
+fn builders_cloned_refused(rt: HostRuntime) -> Result<(), Fail> {
+    for (capacity, needs_memory) in [(0, false), (100, true)] {
+        let builder = builder_of(rt.alloc(), capacity, "ab")?;
+        refuse_all(rt.alloc());
+        let copy = builder.clone();
+        let was_refused = end_refusals(rt.alloc());
+        same(
+            &rt,
+            &was_refused,
+            &(needs_memory && can_refuse(rt.alloc())),
+            &capacity,
+        );
+        match copy {
+            Ok(copy) => holds(&rt, copy == builder && !was_refused, &capacity),
+            Err(_) => holds(&rt, was_refused, &capacity),
+        }
+    }
+    Ok(())
 }

@@ -1,12 +1,13 @@
 //! Wire forms, written and read again by readers and writers of every step.
-use super::repeated;
-use super::streams::{Failure, STEPS, empty_drip, trickle_of};
+use super::same::{holds, same, same_place, same_text, same_value};
 use smol_str::borsh::{BorshDeserialize, BorshSerialize, from_wire, length_prefix};
 use smol_str::stream::PIECE;
 use smol_str::{INLINE_CAP, Place, SmolStr};
 use std::alloc::{AllocError, Global};
 use std::process::Abort;
 use std::test::Fail;
+use test_support::streams::{Failure, STEPS, empty_drip, trickle_of};
+use test_support::texts::repeated;
 
 /// A text and its wire form: a unit and how many times the text has it; the size's lowest byte, which
 /// three zeros follow, and the bytes of the unit; and the place where the text is read.
@@ -18,13 +19,17 @@ pub const LETTERS: &[u8] = b"a\xc3\x9f\xce\x94Ca\xc3\x9f\xce\xb4c";
 /// A byte more than a value has room for.
 const LONG: usize = INLINE_CAP + 1;
 
-// Upstream's borsh_serialize_stack and borsh_serialize_heap are those of 12 and 132 bytes.
+/// The texts of 12 and of 132 bytes.
+const OF_12: Row = ("aßΔCaßδc", 1, 12, LETTERS, Place::Inline);
+
+const OF_132: Row = ("aßΔCaßδc", 11, 132, LETTERS, Place::Heap);
+
 pub const ROWS: [Row; 11] = [
     ("", 0, 0, b"", Place::Inline),
     ("ab", 1, 2, b"ab", Place::Inline),
     ("🦀", 1, 4, b"\xf0\x9f\xa6\x80", Place::Inline),
-    ("aßΔCaßδc", 1, 12, LETTERS, Place::Inline),
-    ("aßΔCaßδc", 11, 132, LETTERS, Place::Heap),
+    OF_12,
+    OF_132,
     ("a", INLINE_CAP, INLINE_CAP as u8, b"a", Place::Inline),
     ("a", LONG, LONG as u8, b"a", Place::Heap),
     (" ", LONG, LONG as u8, b" ", Place::Static),
@@ -45,121 +50,201 @@ pub fn form_of(alloc: Global, row: Row) -> Result<Vec<u8>, AllocError> {
     Ok(form)
 }
 
+/// The size, and so many `a`.
+pub fn letters(alloc: Global, size: u32, count: u32) -> Result<Vec<u8>, AllocError> {
+    let mut form = Vec::from_slice(alloc, &size.to_le_bytes())?;
+    for _ in 0..count {
+        form.push(b'a')?;
+    }
+    Ok(form)
+}
+
 #[test]
 fn written(rt: HostRuntime) -> Result<(), Fail> {
-    let alloc = rt.alloc();
-    for row in ROWS {
-        let text = text_of(alloc, row)?;
-        let form = form_of(alloc, row)?;
-        let value = SmolStr::new(alloc, text.as_str())?;
-        for step in STEPS {
-            let mut writer = empty_drip(alloc, step, 0, Failure::TakesNone);
-            value.serialize(&mut writer)?;
-            assert_eq!(rt;
-                writer.taken.as_slice(),
-                form.as_slice(),
-                "{text}, by {step}"
-            );
-        }
-        let mut all = Vec::new(alloc);
-        value.serialize(&mut all)?;
-        assert_eq!(rt; all.as_slice(), form.as_slice(), "{text}");
+    for row in &ROWS {
+        assert_written(&rt, rt.alloc(), *row)?;
     }
     Ok(())
+}
+
+fn assert_written(rt: &impl Abort, alloc: Global, row: Row) -> Result<(), Fail> {
+    let form = form_of(alloc, row)?;
+    let value = value_of(alloc, row)?;
+    for step in STEPS {
+        assert_steps(rt, alloc, &value, form.as_slice(), step)?;
+    }
+    assert_form(rt, alloc, &value, form.as_slice())
+}
+
+fn assert_steps(
+    rt: &impl Abort,
+    alloc: Global,
+    value: &SmolStr,
+    form: &[u8],
+    step: usize,
+) -> Result<(), Fail> {
+    let mut writer = empty_drip(alloc, step, 0, Failure::TakesNone);
+    value.serialize(&mut writer)?;
+    same(rt, &writer.taken.as_slice(), &form, &(value, step));
+    Ok(())
+}
+
+fn assert_form(rt: &impl Abort, alloc: Global, value: &SmolStr, form: &[u8]) -> Result<(), Fail> {
+    let mut all = Vec::new(alloc);
+    value.serialize(&mut all)?;
+    same(rt, &all.as_slice(), &form, value);
+    Ok(())
+}
+
+fn value_of(alloc: Global, row: Row) -> Result<SmolStr, AllocError> {
+    SmolStr::new(alloc, text_of(alloc, row)?.as_str())
 }
 
 // Two bytes follow each form; they are left.
 #[test]
 fn read_again(rt: HostRuntime) -> Result<(), Fail> {
-    let alloc = rt.alloc();
-    for row in ROWS {
-        let text = text_of(alloc, row)?;
-        let mut bytes = form_of(alloc, row)?;
-        let size = bytes.len();
-        bytes.extend_from_slice(b"a\xff")?;
-        let (value, taken) = from_wire(alloc, bytes.as_slice())?;
-        assert_eq!(rt; value.as_str(), text.as_str());
-        assert_eq!(rt; value.place(), row.4, "{text}");
-        assert_eq!(rt; taken, size, "{text}");
-        for step in STEPS {
-            let mut reader = trickle_of(bytes.as_slice(), step, 0);
-            let value = SmolStr::deserialize_reader(alloc, &mut reader)?;
-            assert_eq!(rt; value.as_str(), text.as_str());
-            assert_eq!(rt; value.place(), row.4, "{text}, by {step}");
-            assert_eq!(rt; reader.rest, b"a\xff".as_slice(), "{text}, by {step}");
-            assert!(rt;
-                reader.least >= 1 && reader.most <= PIECE,
-                "{text}, by {step}"
-            );
-        }
+    for row in &ROWS {
+        assert_read_again(&rt, rt.alloc(), *row)?;
     }
+    Ok(())
+}
+
+fn assert_read_again(rt: &impl Abort, alloc: Global, row: Row) -> Result<(), Fail> {
+    let text = text_of(alloc, row)?;
+    let mut bytes = form_of(alloc, row)?;
+    let size = bytes.len();
+    bytes.extend_from_slice(b"a\xff")?;
+    assert_found(rt, alloc, bytes.as_slice(), size, text.as_str(), row.4)?;
+    for step in STEPS {
+        assert_read(
+            rt,
+            alloc,
+            bytes.as_slice(),
+            step,
+            text.as_str(),
+            row.4,
+            b"a\xff",
+        )?;
+    }
+    Ok(())
+}
+
+/// The bytes begin with a form of so many bytes, which gives the text.
+fn assert_found(
+    rt: &impl Abort,
+    alloc: Global,
+    bytes: &[u8],
+    size: usize,
+    text: &str,
+    place: Place,
+) -> Result<(), Fail> {
+    let (value, taken) = from_wire(alloc, bytes)?;
+    same_value(rt, &value, text, place, &size);
+    same(rt, &taken, &size, &value);
+    Ok(())
+}
+
+/// A reader of `step` bytes a call gives the text, by buffers that are within a piece, and has the rest left.
+fn assert_read(
+    rt: &impl Abort,
+    alloc: Global,
+    bytes: &[u8],
+    step: usize,
+    text: &str,
+    place: Place,
+    rest: &[u8],
+) -> Result<(), Fail> {
+    let mut reader = trickle_of(bytes, step, 0);
+    let value = SmolStr::deserialize_reader(alloc, &mut reader)?;
+    same_value(rt, &value, text, place, &step);
+    same(rt, &reader.rest, &rest, &(&value, step));
+    holds(
+        rt,
+        reader.least >= 1 && reader.most <= PIECE,
+        &(&value, step),
+    );
+    Ok(())
+}
+
+#[test]
+fn borsh_serialize_stack(rt: HostRuntime) -> Result<(), Fail> {
+    assert_equal_again(&rt, rt.alloc(), OF_12)
+}
+
+#[test]
+fn borsh_serialize_heap(rt: HostRuntime) -> Result<(), Fail> {
+    assert_equal_again(&rt, rt.alloc(), OF_132)
+}
+
+fn assert_equal_again(rt: &impl Abort, alloc: Global, row: Row) -> Result<(), Fail> {
+    let value = value_of(alloc, row)?;
+    let form = form_of(alloc, row)?;
+    assert_form(rt, alloc, &value, form.as_slice())?;
+    let (again, _) = from_wire(alloc, form.as_slice())?;
+    same(rt, &again, &value, &"again");
+    same_place(rt, &again, row.4, &"again");
     Ok(())
 }
 
 // A pinned value is written as any other, and what is read is where its text belongs.
 #[test]
 fn pinned(rt: HostRuntime) -> Result<(), Fail> {
-    let alloc = rt.alloc();
-    let mut form = Vec::new(alloc);
-    SmolStr::new_static("ab").serialize(&mut form)?;
-    let (value, _) = from_wire(alloc, form.as_slice())?;
-    assert_eq!(rt; value.place(), Place::Inline);
-    assert!(rt; value == SmolStr::new_static("ab"));
+    let value = SmolStr::new_static("ab");
+    assert_form(&rt, rt.alloc(), &value, b"\x02\0\0\0ab")?;
+    let (again, _) = from_wire(rt.alloc(), b"\x02\0\0\0ab")?;
+    same_place(&rt, &again, Place::Inline, &"again");
+    same(&rt, &again, &value, &"again");
     Ok(())
 }
 
 #[test]
 fn one_after_another(rt: HostRuntime) -> Result<(), Fail> {
-    let alloc = rt.alloc();
     let mut reader = trickle_of(b"\x01\0\0\0a\0\0\0\0", 2, 0);
     for text in ["a", ""] {
-        let value = SmolStr::deserialize_reader(alloc, &mut reader)?;
-        assert_eq!(rt; value.as_str(), text);
+        let value = SmolStr::deserialize_reader(rt.alloc(), &mut reader)?;
+        same_text(&rt, value.as_str(), text, &text);
     }
-    assert!(rt; reader.rest.is_empty());
+    holds(&rt, reader.rest.is_empty(), &"the rest");
     Ok(())
 }
 
 // Characters of three bytes, so that pieces end within one.
 #[test]
 fn characters_across_pieces(rt: HostRuntime) -> Result<(), Fail> {
-    let alloc = rt.alloc();
-    let text = repeated(alloc, "€", 5000)?;
-    let mut form = Vec::from_slice(alloc, &[0x98, 0x3a, 0, 0])?;
-    form.extend_from_slice(text.as_bytes())?;
     for step in [1, 7, PIECE - 1, PIECE, PIECE + 1] {
-        assert_read(&rt, alloc, form.as_slice(), step, text.as_str())?;
+        assert_long(&rt, rt.alloc(), [0x98, 0x3a, 0, 0], "€", step)?;
     }
     Ok(())
 }
 
 #[test]
 fn long_body(rt: HostRuntime) -> Result<(), Fail> {
-    let alloc = rt.alloc();
-    let text = repeated(alloc, "a", 5000)?;
-    let mut form = Vec::from_slice(alloc, &[0x88, 0x13, 0, 0])?;
-    form.extend_from_slice(text.as_bytes())?;
     for step in [1, usize::MAX] {
-        assert_read(&rt, alloc, form.as_slice(), step, text.as_str())?;
+        assert_long(&rt, rt.alloc(), [0x88, 0x13, 0, 0], "a", step)?;
     }
     Ok(())
 }
 
-/// A reader of `step` bytes a call gives the text on the heap, by buffers that are within a piece.
-fn assert_read(
+/// A text of 5,000 characters, which has this size.
+fn assert_long(
     rt: &impl Abort,
     alloc: Global,
-    form: &[u8],
+    size: [u8; 4],
+    character: &str,
     step: usize,
-    text: &str,
 ) -> Result<(), Fail> {
-    let mut reader = trickle_of(form, step, 0);
-    let value = SmolStr::deserialize_reader(alloc, &mut reader)?;
-    assert!(rt; value.as_str() == text, "by {step}");
-    assert_eq!(rt; value.place(), Place::Heap);
-    assert!(rt; reader.rest.is_empty(), "by {step}");
-    assert!(rt; reader.least >= 1 && reader.most <= PIECE, "by {step}");
-    Ok(())
+    let text = repeated(alloc, character, 5000)?;
+    let mut form = Vec::from_slice(alloc, &size)?;
+    form.extend_from_slice(text.as_bytes())?;
+    assert_read(
+        rt,
+        alloc,
+        form.as_slice(),
+        step,
+        text.as_str(),
+        Place::Heap,
+        b"",
+    )
 }
 
 #[test]
@@ -171,6 +256,6 @@ fn prefixes(rt: HostRuntime) {
         (4294967296, None),
         (usize::MAX, None),
     ] {
-        assert_eq!(rt; length_prefix(size), bytes, "{size}");
+        same(&rt, &length_prefix(size), &bytes, &size);
     }
 }

@@ -1,13 +1,14 @@
 //! Each call that writes, over writers of every step, which fail at each call.
 use super::readers::forms;
-use super::streams::{Drip, Failure, STEPS, WRITE_FAILURES, empty_drip, is_tried};
+use super::same::{holds, same};
 use smol_str::SmolStr;
 use smol_str::borsh::{BorshSerialize, EncodeFault, from_wire};
 use smol_str::stream::write_steps;
 use std::alloc::Global;
-use std::io;
+use std::io::ErrorKind;
 use std::process::Abort;
 use std::test::Fail;
+use test_support::streams::{Drip, Failure, STEPS, WRITE_FAILURES, empty_drip, is_tried};
 
 /// A call that writes a wire form.
 #[derive(Clone, Copy, Debug)]
@@ -15,6 +16,9 @@ enum Call {
     Serialize,
     WriteSteps,
 }
+
+/// A call, the size of a wire form, how many bytes the writer takes a call, and where it fails.
+type Row = (Call, usize, usize, usize);
 
 /// A value and its wire form.
 #[derive(Drop)]
@@ -24,71 +28,83 @@ struct Written<'a> {
 }
 
 /// The error of the writer, where it failed.
-fn write_by(
-    call: Call,
-    written: &Written<'_>,
-    writer: &mut Drip,
-) -> Result<Option<io::Error>, Fail> {
+fn write_by(call: Call, written: &Written<'_>, writer: &mut Drip) -> Option<ErrorKind> {
     match call {
-        Call::WriteSteps => Ok(write_steps(writer, written.form).err()),
-        Call::Serialize => match written.value.serialize(writer) {
-            Ok(()) => Ok(None),
-            Err(EncodeFault::Io(error)) => Ok(Some(error)),
-            Err(EncodeFault::TooLong) => Err("a form that is too long".into()),
-        },
+        Call::WriteSteps => steps_written(written.form, writer),
+        Call::Serialize => serialized(&written.value, writer),
+    }
+}
+
+fn steps_written(form: &[u8], writer: &mut Drip) -> Option<ErrorKind> {
+    match write_steps(writer, form) {
+        Ok(()) => None,
+        Err(error) => Some(error.kind()),
+    }
+}
+
+/// A form that is too long is told as an error that no writer here has.
+fn serialized(value: &SmolStr, writer: &mut Drip) -> Option<ErrorKind> {
+    match value.serialize(writer) {
+        Ok(()) => None,
+        Err(EncodeFault::Io(error)) => Some(error.kind()),
+        Err(EncodeFault::TooLong) => Some(ErrorKind::FileTooLarge),
     }
 }
 
 #[test]
 fn fails_at_each_call(rt: HostRuntime) -> Result<(), Fail> {
-    let alloc = rt.alloc();
-    for form in forms(alloc)?.iter() {
+    for form in forms(rt.alloc())?.iter() {
+        let (value, _) = from_wire(rt.alloc(), form.as_slice())?;
         let form = form.as_slice();
-        let (value, _) = from_wire(alloc, form)?;
         let written = Written { value, form };
         for call in [Call::Serialize, Call::WriteSteps] {
             for step in STEPS {
-                assert_fails(&rt, alloc, call, &written, step)?;
+                assert_fails(&rt, rt.alloc(), call, &written, step);
             }
         }
     }
     Ok(())
 }
 
-/// The call gives up at once, with the writer's own error, and what was taken is a beginning.
-fn assert_fails(
+/// The call gives up at once; a failure after its last write is not met.
+fn assert_fails(rt: &impl Abort, alloc: Global, call: Call, written: &Written<'_>, step: usize) {
+    let calls = count_calls(rt, alloc, call, written, step, 0);
+    for fails_at in 1..=calls {
+        if is_tried(fails_at.saturating_mul(step), written.form.len()) {
+            for failure in WRITE_FAILURES {
+                assert_failure(rt, alloc, call, written, step, fails_at, failure);
+            }
+        }
+    }
+    let after = count_calls(rt, alloc, call, written, step, calls.saturating_add(1));
+    same(rt, &after, &calls, &(call, written.form.len(), step));
+}
+
+/// The call gives up with the writer's own error, and what was taken is a beginning.
+fn assert_failure(
     rt: &impl Abort,
     alloc: Global,
     call: Call,
     written: &Written<'_>,
     step: usize,
-) -> Result<(), Fail> {
-    let form = written.form;
-    let calls = count_calls(rt, alloc, call, written, step, 0)?;
-    for (failure, kind) in WRITE_FAILURES {
-        for fails_at in 1..=calls {
-            if !is_tried(fails_at.saturating_mul(step), form.len()) {
-                continue;
-            }
-            let mut writer = empty_drip(alloc, step, fails_at, failure);
-            match write_by(call, written, &mut writer)? {
-                Some(error) => assert_eq!(rt; error.kind(), kind, "{call:?} by {step}"),
-                None => assert!(rt; false, "{call:?} by {step}, at call {fails_at}"),
-            }
-            let taken = writer.taken.as_slice();
-            assert!(rt;
-                form.starts_with(taken),
-                "{call:?} by {step}, at call {fails_at}"
-            );
-            assert_eq!(rt; writer.calls, fails_at, "{call:?} by {step}");
-            if step == 1 {
-                assert_eq!(rt; taken.len(), fails_at.saturating_sub(1), "{call:?}");
-            }
-        }
+    fails_at: usize,
+    failure: (Failure, ErrorKind),
+) {
+    let row = (call, written.form.len(), step, fails_at);
+    let (failure, kind) = failure;
+    let mut writer = empty_drip(alloc, step, fails_at, failure);
+    same(rt, &write_by(call, written, &mut writer), &Some(kind), &row);
+    same(rt, &writer.calls, &fails_at, &row);
+    assert_beginning(rt, &writer, written.form, &row);
+}
+
+/// By single bytes, each call before the failure took one.
+fn assert_beginning(rt: &impl Abort, writer: &Drip, form: &[u8], row: &Row) {
+    let taken = writer.taken.as_slice();
+    holds(rt, form.starts_with(taken), row);
+    if writer.step == 1 {
+        same(rt, &taken.len(), &writer.fails_at.saturating_sub(1), row);
     }
-    let after = count_calls(rt, alloc, call, written, step, calls.saturating_add(1))?;
-    assert_eq!(rt; after, calls, "{call:?} by {step}");
-    Ok(())
 }
 
 /// How often a writer is called that does not fail before all is written: by single bytes once a byte.
@@ -99,16 +115,13 @@ fn count_calls(
     written: &Written<'_>,
     step: usize,
     fails_at: usize,
-) -> Result<usize, Fail> {
+) -> usize {
+    let row = (call, written.form.len(), step, fails_at);
     let mut writer = empty_drip(alloc, step, fails_at, Failure::TakesNone);
-    let error = write_by(call, written, &mut writer)?;
-    assert!(rt; error.is_none(), "{call:?} by {step}");
-    assert!(rt;
-        writer.taken.as_slice() == written.form,
-        "{call:?} by {step}"
-    );
+    same(rt, &write_by(call, written, &mut writer), &None, &row);
+    holds(rt, writer.taken.as_slice() == written.form, &row);
     if step == 1 {
-        assert_eq!(rt; writer.calls, written.form.len(), "{call:?}");
+        same(rt, &writer.calls, &written.form.len(), &row);
     }
-    Ok(writer.calls)
+    writer.calls
 }
