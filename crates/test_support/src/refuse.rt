@@ -158,7 +158,7 @@ fn failed(name: &str, why: &str) -> Fail {
 }
 
 /// What was asked for since the counts began.
-fn count_asked(alloc: Global) -> Asked {
+pub fn count_asked(alloc: Global) -> Asked {
     Asked {
         requests: count_requests(alloc),
         bytes: count_bytes(alloc),
@@ -167,7 +167,7 @@ fn count_asked(alloc: Global) -> Asked {
 
 impl Asked {
     /// What was asked for after `before`.
-    fn since(self, before: Asked) -> Asked {
+    pub fn since(self, before: Asked) -> Asked {
         Asked {
             requests: self.requests.wrapping_sub(before.requests),
             bytes: self.bytes.wrapping_sub(before.bytes),

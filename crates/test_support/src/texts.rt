@@ -35,6 +35,13 @@ fn text_of(bytes: &[u8]) -> &str {
     str::from_utf8(bytes).unwrap_or("")
 }
 
+/// Two texts in a row.
+pub fn joined(alloc: Global, front: &str, back: &str) -> Result<String, AllocError> {
+    let mut all = String::from_str(alloc, front)?;
+    all.push_str(back)?;
+    Ok(all)
+}
+
 /// A text so many times.
 pub fn repeated(alloc: Global, text: &str, times: usize) -> Result<String, AllocError> {
     let mut all = String::new(alloc);

@@ -2,41 +2,43 @@
 ghost use Rattle.std.specs.Prelude.{◌≡◌, IfOk};
 ghost use Rattle.std.specs.Str.{chars};
 
-use super::refuse::{can_refuse, end_refusals, refuse_all};
-use super::{LONG_BLANK, repeated};
+use super::same::{holds, same, same_place, same_text, same_value};
 use smol_str::{INLINE_CAP, Place, SmolStr, SmolStrBuilder, Step, build};
 use std::alloc::{AllocError, Global};
 use std::process::Abort;
 use std::test::Fail;
+use test_support::builders::builder_of;
+use test_support::refuse::{can_refuse, each_refused, end_refusals, refuse_all};
+use test_support::texts::{repeated, repeated_and};
 
 /// What a row appends.
 #[derive(Clone, Copy)]
 enum Piece {
     Char(char),
     Text(&'static str),
-    /// So many `a`.
-    Letters(usize),
+    /// A text so many times.
+    Times(&'static str, usize),
 }
 
-/// Pieces; the text that they make, so many `a` and then an end; and its place.
-type Row = (&'static [Piece], (usize, &'static str), Place);
+/// Pieces; the text that they make, a text so many times and then an end; and its place.
+type Row = (&'static [Piece], (&'static str, usize, &'static str), Place);
 
-const ROWS: [Row; 18] = [
-    (&[], (0, ""), Place::Inline),
+static ROWS: [Row; 18] = [
+    (&[], ("", 0, ""), Place::Inline),
     (
         &[Piece::Char('a'), Piece::Text("bc")],
-        (0, "abc"),
+        ("", 0, "abc"),
         Place::Inline,
     ),
-    (&[Piece::Text("ab")], (0, "ab"), Place::Inline),
+    (&[Piece::Text("ab")], ("", 0, "ab"), Place::Inline),
     (
         &[Piece::Text("a"), Piece::Text("b")],
-        (0, "ab"),
+        ("", 0, "ab"),
         Place::Inline,
     ),
     (
         &[Piece::Char('a'), Piece::Char('b')],
-        (0, "ab"),
+        ("", 0, "ab"),
         Place::Inline,
     ),
     (
@@ -46,100 +48,116 @@ const ROWS: [Row; 18] = [
             Piece::Text(""),
             Piece::Text("b"),
         ],
-        (0, "ab"),
+        ("", 0, "ab"),
         Place::Inline,
     ),
     (
         &[Piece::Char('é'), Piece::Char('€'), Piece::Char('🦀')],
-        (0, "é€🦀"),
+        ("", 0, "é€🦀"),
         Place::Inline,
     ),
     (
-        &[Piece::Letters(INLINE_CAP)],
-        (INLINE_CAP, ""),
+        &[Piece::Times("a", INLINE_CAP)],
+        ("a", INLINE_CAP, ""),
         Place::Inline,
     ),
     (
-        &[Piece::Letters(INLINE_CAP + 1)],
-        (INLINE_CAP + 1, ""),
+        &[Piece::Times("a", INLINE_CAP + 1)],
+        ("a", INLINE_CAP + 1, ""),
         Place::Heap,
     ),
     (
-        &[Piece::Letters(INLINE_CAP - 2), Piece::Char('é')],
-        (INLINE_CAP - 2, "é"),
+        &[Piece::Times("a", INLINE_CAP - 2), Piece::Char('é')],
+        ("a", INLINE_CAP - 2, "é"),
         Place::Inline,
     ),
     (
-        &[Piece::Letters(INLINE_CAP - 1), Piece::Char('é')],
-        (INLINE_CAP - 1, "é"),
+        &[Piece::Times("a", INLINE_CAP - 1), Piece::Char('é')],
+        ("a", INLINE_CAP - 1, "é"),
         Place::Heap,
     ),
     (
-        &[Piece::Letters(23), Piece::Letters(23)],
-        (46, ""),
+        &[Piece::Times("a", 23), Piece::Times("a", 23)],
+        ("a", 46, ""),
         Place::Heap,
     ),
-    (&[Piece::Letters(23)], (23, ""), Place::Inline),
-    (&[Piece::Letters(24)], (24, ""), Place::Inline),
+    (&[Piece::Times("a", 23)], ("a", 23, ""), Place::Inline),
+    (&[Piece::Times("a", 24)], ("a", 24, ""), Place::Inline),
     (
         &[Piece::Text("ohnonononononononono!"), Piece::Char('🤯')],
-        (0, "ohnonononononononono!🤯"),
+        ("", 0, "ohnonononononononono!🤯"),
         Place::Inline,
     ),
     (
         &[
-            Piece::Letters(INLINE_CAP + 1),
+            Piece::Times("a", INLINE_CAP + 1),
             Piece::Char('b'),
             Piece::Text("€"),
         ],
-        (INLINE_CAP + 1, "b€"),
+        ("a", INLINE_CAP + 1, "b€"),
         Place::Heap,
     ),
-    (&[Piece::Text(LONG_BLANK)], (0, LONG_BLANK), Place::Static),
     (
-        &[Piece::Text("                        ")],
-        (0, "                        "),
-        Place::Inline,
+        &[Piece::Times(" ", INLINE_CAP + 1)],
+        (" ", INLINE_CAP + 1, ""),
+        Place::Static,
     ),
+    (&[Piece::Times(" ", 24)], (" ", 24, ""), Place::Inline),
 ];
+
+/// The table, behind a function: one that names it is dear to prove.
+fn rows() -> &'static [Row] {
+    &ROWS
+}
 
 #[test]
 fn test_builder_push_str(rt: HostRuntime) -> Result<(), Fail> {
-    let alloc = rt.alloc();
-    for (pieces, wanted, place) in ROWS {
-        let text = text_of(alloc, wanted)?;
-        let builder = of_pieces(alloc, SmolStrBuilder::new(alloc), pieces)?;
-        assert_finishes(&rt, builder, text.as_str(), place)?;
+    for row in rows() {
+        assert_pieces(&rt, rt.alloc(), SmolStrBuilder::new(rt.alloc()), row)?;
     }
     Ok(())
 }
 
 #[test]
 fn test_builder_push(rt: HostRuntime) -> Result<(), Fail> {
-    for (_, wanted, place) in ROWS {
-        let text = text_of(rt.alloc(), wanted)?;
-        let mut builder = SmolStrBuilder::new(rt.alloc());
-        for character in text.as_str().chars() {
-            builder.push(character)?;
-        }
-        assert_finishes(&rt, builder, text.as_str(), place)?;
+    for row in rows() {
+        let text = text_of(rt.alloc(), row)?;
+        let builder = of_characters(rt.alloc(), text.as_str())?;
+        assert_finishes(&rt, builder, text.as_str(), row.2)?;
     }
     Ok(())
 }
 
 #[test]
 fn every_capacity(rt: HostRuntime) -> Result<(), Fail> {
-    let alloc = rt.alloc();
-    for (pieces, wanted, place) in ROWS {
-        let text = text_of(alloc, wanted)?;
-        for capacity in [0, INLINE_CAP, INLINE_CAP + 1, 100] {
-            let value = build(alloc, capacity, &steps_of(alloc, pieces)?)?;
-            assert_value(&rt, &value, text.as_str(), place);
-            let builder = SmolStrBuilder::with_capacity(alloc, capacity)?;
-            let builder = of_pieces(alloc, builder, pieces)?;
-            assert_finishes(&rt, builder, text.as_str(), place)?;
+    for capacity in [0, INLINE_CAP, INLINE_CAP + 1, 100] {
+        for row in rows() {
+            let builder = SmolStrBuilder::with_capacity(rt.alloc(), capacity)?;
+            assert_pieces(&rt, rt.alloc(), builder, row)?;
+            assert_steps_at(&rt, rt.alloc(), capacity, row)?;
         }
     }
+    Ok(())
+}
+
+fn assert_pieces(
+    rt: &impl Abort,
+    alloc: Global,
+    mut builder: SmolStrBuilder,
+    row: &Row,
+) -> Result<(), Fail> {
+    for piece in row.0 {
+        append(alloc, &mut builder, *piece)?;
+    }
+    let text = text_of(alloc, row)?;
+    assert_finishes(rt, builder, text.as_str(), row.2)
+}
+
+fn assert_steps_at(rt: &impl Abort, alloc: Global, capacity: usize, row: &Row) -> Result<(), Fail> {
+    let text = text_of(alloc, row)?;
+    let steps = steps_of(alloc, row.0)?;
+    let value = build(alloc, capacity, &steps)?;
+    same_value(rt, &value, text.as_str(), row.2, &capacity);
     Ok(())
 }
 
@@ -148,44 +166,114 @@ fn every_capacity(rt: HostRuntime) -> Result<(), Fail> {
 fn refused_at_the_boundary(rt: HostRuntime) -> Result<(), Fail> {
     let alloc = rt.alloc();
     let text = repeated(alloc, "a", INLINE_CAP - 1)?;
-    let mut builder = builder_of(alloc, 0, text.as_str())?;
-    refuse_all(alloc);
-    if builder.push_str("bc").is_ok() {
-        assert!(rt; !can_refuse(alloc), "nothing was refused");
-        return Ok(());
-    }
-    assert_eq!(rt; builder.as_str(), text.as_str());
-    assert!(rt; builder.inline_buffer().is_some());
-    builder.push('d')?;
-    let value = SmolStr::from_builder(builder).map_err(|_| "refused")?;
-    end_refusals(alloc);
-    let whole = text_of(alloc, (INLINE_CAP - 1, "d"))?;
-    assert_value(&rt, &value, whole.as_str(), Place::Inline);
+    let asked = each_refused(
+        alloc,
+        "push_str of two bytes where one is left",
+        || Ok(builder_of(alloc, 0, text.as_str())?),
+        |builder| append_two_bytes(builder),
+        |answer| assert_at_boundary(&rt, alloc, text.as_str(), answer),
+    )?;
+    same(&rt, &(asked.requests > 0), &can_refuse(alloc), &"requests");
     Ok(())
+}
+
+/// A builder that is refused the two bytes comes back.
+fn append_two_bytes(mut builder: SmolStrBuilder) -> Result<SmolStrBuilder, SmolStrBuilder> {
+    match builder.push_str("bc") {
+        Ok(()) => Ok(builder),
+        Err(AllocError) => Err(builder),
+    }
+}
+
+fn assert_at_boundary(
+    rt: &impl Abort,
+    alloc: Global,
+    text: &str,
+    answer: &Result<SmolStrBuilder, SmolStrBuilder>,
+) -> Result<(), Fail> {
+    match answer {
+        Ok(builder) => assert_two_bytes_more(rt, alloc, text, builder),
+        Err(back) => assert_comes_back(rt, alloc, text, back),
+    }
+}
+
+fn assert_two_bytes_more(
+    rt: &impl Abort,
+    alloc: Global,
+    text: &str,
+    builder: &SmolStrBuilder,
+) -> Result<(), Fail> {
+    let whole = repeated_and(alloc, text, 1, "bc")?;
+    same_text(rt, builder.as_str(), whole.as_str(), &"two bytes more");
+    holds(rt, builder.inline_buffer().is_none(), &whole);
+    Ok(())
+}
+
+fn assert_comes_back(
+    rt: &impl Abort,
+    alloc: Global,
+    text: &str,
+    back: &SmolStrBuilder,
+) -> Result<(), Fail> {
+    same_text(rt, back.as_str(), text, &"a builder that came back");
+    holds(rt, back.inline_buffer().is_some(), &text);
+    refuse_all(alloc);
+    let value = with_a_byte_more(back)?;
+    holds(rt, !end_refusals(alloc), &"a byte more takes no memory");
+    assert_a_byte_more(rt, alloc, &value, text)
+}
+
+fn assert_a_byte_more(
+    rt: &impl Abort,
+    alloc: Global,
+    value: &SmolStr,
+    text: &str,
+) -> Result<(), Fail> {
+    let whole = repeated_and(alloc, text, 1, "d")?;
+    same_value(rt, value, whole.as_str(), Place::Inline, &"a byte more");
+    Ok(())
+}
+
+fn with_a_byte_more(builder: &SmolStrBuilder) -> Result<SmolStr, AllocError> {
+    let mut builder = builder.clone()?;
+    builder.push('d')?;
+    Ok(SmolStr::from_builder(builder)?)
 }
 
 // No allocation can have such a capacity.
 #[test]
 fn capacity_too_large(rt: HostRuntime) {
     for capacity in [usize::MAX, usize::MAX / 2 + 1] {
-        assert!(rt; build(rt.alloc(), capacity, &[]).is_err(), "{capacity}");
-        let builder = SmolStrBuilder::with_capacity(rt.alloc(), capacity);
-        assert!(rt; builder.is_err(), "{capacity}");
+        holds(&rt, !is_built(rt.alloc(), capacity), &capacity);
+        holds(&rt, !is_made(rt.alloc(), capacity), &capacity);
     }
+}
+
+fn is_built(alloc: Global, capacity: usize) -> bool {
+    build(alloc, capacity, &[]).is_ok()
+}
+
+fn is_made(alloc: Global, capacity: usize) -> bool {
+    SmolStrBuilder::with_capacity(alloc, capacity).is_ok()
 }
 
 #[test]
 fn equal_texts(rt: HostRuntime) -> Result<(), Fail> {
-    for (_, wanted, place) in ROWS {
-        let text = text_of(rt.alloc(), wanted)?;
-        let small = builder_of(rt.alloc(), 0, text.as_str())?;
-        let large = builder_of(rt.alloc(), 100, text.as_str())?;
-        let (one, other) = finish_both(small, large)?;
-        assert!(rt; one == other, "{text}");
-        assert_eq!(rt; one.place(), place, "{text}");
-        assert_eq!(rt; other.place(), place, "{text}");
+    for row in rows() {
+        let text = text_of(rt.alloc(), row)?;
+        let (one, other) = made_twice(rt.alloc(), text.as_str())?;
+        holds(&rt, one == other, &text);
+        same_place(&rt, &one, row.2, &text);
+        same_place(&rt, &other, row.2, &text);
     }
     Ok(())
+}
+
+/// The values of a builder without and of one with capacity.
+fn made_twice(alloc: Global, text: &str) -> Result<(SmolStr, SmolStr), AllocError> {
+    let small = builder_of(alloc, 0, text)?;
+    let large = builder_of(alloc, 100, text)?;
+    finish_both(small, large)
 }
 
 /// The values of two builders with one text. Whatever their kinds, the values mean the same.
@@ -199,48 +287,48 @@ fn finish_both(a: SmolStrBuilder, b: SmolStrBuilder) -> Result<(SmolStr, SmolStr
     }
 }
 
-/// So many `a`, and then an end.
-fn text_of(alloc: Global, wanted: (usize, &str)) -> Result<String, AllocError> {
-    let (letters, end) = wanted;
-    let mut text = repeated(alloc, "a", letters)?;
-    text.push_str(end)?;
-    Ok(text)
+/// The text of a row.
+fn text_of(alloc: Global, row: &Row) -> Result<String, AllocError> {
+    let (text, times, end) = row.1;
+    repeated_and(alloc, text, times, end)
 }
 
-fn of_pieces(
-    alloc: Global,
-    mut builder: SmolStrBuilder,
-    pieces: &[Piece],
-) -> Result<SmolStrBuilder, AllocError> {
-    for piece in pieces {
-        match piece {
-            Piece::Char(character) => builder.push(*character)?,
-            Piece::Text(text) => builder.push_str(text)?,
-            Piece::Letters(count) => builder.push_str(repeated(alloc, "a", *count)?.as_str())?,
-        }
+fn append(alloc: Global, builder: &mut SmolStrBuilder, piece: Piece) -> Result<(), AllocError> {
+    match piece {
+        Piece::Char(character) => builder.push(character),
+        Piece::Text(text) => builder.push_str(text),
+        Piece::Times(text, times) => builder.push_str(repeated(alloc, text, times)?.as_str()),
+    }
+}
+
+/// A new builder that has the characters of a text.
+fn of_characters(alloc: Global, text: &str) -> Result<SmolStrBuilder, AllocError> {
+    let mut builder = SmolStrBuilder::new(alloc);
+    for character in text.chars() {
+        builder.push(character)?;
     }
     Ok(builder)
 }
 
-/// A builder of this capacity that has the text.
-pub fn builder_of(alloc: Global, capacity: usize, text: &str) -> Result<SmolStrBuilder, AllocError>
-    ensures { IfOk result (λ builder. builder.text ≡ chars text.now) }
-{
-    let mut builder = SmolStrBuilder::with_capacity(alloc, capacity)?;
-    builder.push_str(text)?;
-    Ok(builder)
+/// The value of a builder.
+pub fn value_of(builder: SmolStrBuilder) -> Result<SmolStr, AllocError> {
+    Ok(builder.finish()?)
 }
 
 fn steps_of(alloc: Global, pieces: &[Piece]) -> Result<Vec<Step>, AllocError> {
     let mut steps = Vec::new(alloc);
     for piece in pieces {
-        steps.push(match piece {
-            Piece::Char(character) => Step::Push(*character),
-            Piece::Text(text) => Step::PushStr(String::from_str(alloc, text)?),
-            Piece::Letters(count) => Step::PushStr(repeated(alloc, "a", *count)?),
-        })?;
+        steps.push(step_of(alloc, *piece)?)?;
     }
     Ok(steps)
+}
+
+fn step_of(alloc: Global, piece: Piece) -> Result<Step, AllocError> {
+    match piece {
+        Piece::Char(character) => Ok(Step::Push(character)),
+        Piece::Text(text) => Ok(Step::PushStr(String::from_str(alloc, text)?)),
+        Piece::Times(text, times) => Ok(Step::PushStr(repeated(alloc, text, times)?)),
+    }
 }
 
 /// The builder has the text, and finishes to its value.
@@ -250,16 +338,10 @@ fn assert_finishes(
     text: &str,
     place: Place,
 ) -> Result<(), Fail> {
-    assert_eq!(rt; builder.as_str(), text);
-    assert_eq!(rt; builder.len(), text.len(), "{text}");
-    assert_eq!(rt; builder.is_empty(), text.is_empty(), "{text}");
-    let value = builder.finish().map_err(|_| "refused")?;
-    assert_value(rt, &value, text, place);
+    same_text(rt, builder.as_str(), text, &"a builder");
+    same(rt, &builder.len(), &text.len(), &text);
+    same(rt, &builder.is_empty(), &text.is_empty(), &text);
+    let value = value_of(builder)?;
+    same_value(rt, &value, text, place, &"a builder's value");
     Ok(())
-}
-
-fn assert_value(rt: &impl Abort, value: &SmolStr, text: &str, place: Place) {
-    assert_eq!(rt; value.as_str(), text);
-    assert_eq!(rt; value.len(), text.len(), "{text}");
-    assert_eq!(rt; value.place(), place, "{text}");
 }

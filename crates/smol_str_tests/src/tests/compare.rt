@@ -1,16 +1,18 @@
 //! Equality, order and hashes.
-use super::built::builder_of;
-use super::{LONG_BLANK, LONG_OTHER, LONG_TEXT};
+use super::built::value_of;
+use super::same::{holds, same, same_place};
 use smol_str::borsh::from_wire;
-use smol_str::{Place, SmolStr, Step, StrExt, build};
+use smol_str::{INLINE_CAP, Place, SmolStr, Step, StrExt, build};
 use std::alloc::Global;
 use std::cmp::Ordering;
 use std::hash::{DefaultHasher, Hash, Hasher};
 use std::process::Abort;
 use std::test::Fail;
+use test_support::builders::builder_of;
+use test_support::texts::{long_blank, long_text, repeated_and};
 
 /// Two texts, and the order of the first to the second.
-const ORDERS: [(&str, &str, Ordering); 9] = [
+static ORDERS: [(&str, &str, Ordering); 7] = [
     ("\u{FFFD}", "\u{10000}", Ordering::Less),
     ("", "a", Ordering::Less),
     ("Z", "a", Ordering::Less),
@@ -18,45 +20,98 @@ const ORDERS: [(&str, &str, Ordering); 9] = [
     ("é", "z", Ordering::Greater),
     ("a", "a\0", Ordering::Less),
     ("ab", "ab", Ordering::Equal),
-    (LONG_TEXT, LONG_OTHER, Ordering::Less),
-    (LONG_TEXT, LONG_TEXT, Ordering::Equal),
 ];
 
-// The right side also as a pinned value, so that places differ.
 #[test]
 fn orders(rt: HostRuntime) -> Result<(), Fail> {
-    for (left, right, order) in ORDERS {
-        let value = SmolStr::new(rt.alloc(), left)?;
-        let owned = String::from_str(rt.alloc(), right)?;
-        for other in [SmolStr::new(rt.alloc(), right)?, SmolStr::new_static(right)] {
-            assert_eq!(rt; value.cmp(&other), order, "{left:?}, {right:?}");
-            assert_eq!(rt;
-                value.partial_cmp(&other),
-                Some(order),
-                "{left:?}, {right:?}"
-            );
-            assert_eq!(rt; other.cmp(&value), order.reverse(), "{left:?}, {right:?}");
-            assert_eq!(rt;
-                value == other,
-                order == Ordering::Equal,
-                "{left:?}, {right:?}"
-            );
-        }
-        assert_eq!(rt; value.cmp_str(right), order, "{left:?}, {right:?}");
-        assert_eq!(rt; value.cmp_string(&owned), order, "{left:?}, {right:?}");
-        assert_eq!(rt;
-            value.eq_str(right),
-            order == Ordering::Equal,
-            "{left:?}, {right:?}"
-        );
-        assert_eq!(rt;
-            value.eq_string(&owned),
-            order == Ordering::Equal,
-            "{left:?}, {right:?}"
-        );
+    for &(left, right, order) in &ORDERS {
+        assert_orders(&rt, rt.alloc(), (left, right), order)?;
+        assert_order_to_pinned(&rt, rt.alloc(), left, right, order)?;
     }
-    assert_eq!(rt; SmolStr::new_static("ab").cmp_str("abc"), Ordering::Less);
     Ok(())
+}
+
+#[test]
+fn order_of_a_pinned_value(rt: HostRuntime) {
+    let pinned = SmolStr::new_static("ab");
+    same(&rt, &pinned.cmp_str("abc"), &Ordering::Less, &pinned);
+}
+
+// Texts that differ in their last byte, and not before it.
+#[test]
+fn orders_of_long_texts(rt: HostRuntime) -> Result<(), Fail> {
+    let alloc = rt.alloc();
+    let text = long_text();
+    let other = repeated_and(alloc, "a", INLINE_CAP, "b")?;
+    assert_orders(&rt, alloc, (text, other.as_str()), Ordering::Less)?;
+    assert_order_to_pinned(&rt, alloc, other.as_str(), text, Ordering::Greater)?;
+    assert_orders(&rt, alloc, (text, text), Ordering::Equal)?;
+    assert_order_to_pinned(&rt, alloc, text, text, Ordering::Equal)
+}
+
+fn assert_orders(
+    rt: &impl Abort,
+    alloc: Global,
+    texts: (&str, &str),
+    order: Ordering,
+) -> Result<(), Fail> {
+    assert_order_of_values(rt, alloc, texts, order)?;
+    assert_order_of_texts(rt, alloc, texts, order)
+}
+
+/// The right side as a pinned value, so that places differ.
+fn assert_order_to_pinned(
+    rt: &impl Abort,
+    alloc: Global,
+    left: &str,
+    right: &'static str,
+    order: Ordering,
+) -> Result<(), Fail> {
+    let value = SmolStr::new(alloc, left)?;
+    assert_order(rt, &value, &SmolStr::new_static(right), order);
+    Ok(())
+}
+
+fn assert_order_of_values(
+    rt: &impl Abort,
+    alloc: Global,
+    texts: (&str, &str),
+    order: Ordering,
+) -> Result<(), Fail> {
+    let value = SmolStr::new(alloc, texts.0)?;
+    let other = SmolStr::new(alloc, texts.1)?;
+    assert_order(rt, &value, &other, order);
+    Ok(())
+}
+
+fn assert_order_of_texts(
+    rt: &impl Abort,
+    alloc: Global,
+    texts: (&str, &str),
+    order: Ordering,
+) -> Result<(), Fail> {
+    let value = SmolStr::new(alloc, texts.0)?;
+    let owned = String::from_str(alloc, texts.1)?;
+    assert_order_of_text(rt, &value, &owned, order);
+    Ok(())
+}
+
+fn assert_order(rt: &impl Abort, value: &SmolStr, other: &SmolStr, order: Ordering) {
+    let row = (value, other);
+    same(rt, &value.cmp(other), &order, &row);
+    same(rt, &value.partial_cmp(other), &Some(order), &row);
+    same(rt, &other.cmp(value), &order.reverse(), &row);
+    holds(rt, (value == other) == (order == Ordering::Equal), &row);
+}
+
+fn assert_order_of_text(rt: &impl Abort, value: &SmolStr, owned: &String, order: Ordering) {
+    let text = owned.as_str();
+    let is_equal = order == Ordering::Equal;
+    let row = (value, text);
+    same(rt, &value.cmp_str(text), &order, &row);
+    same(rt, &value.cmp_string(owned), &order, &row);
+    holds(rt, value.eq_str(text) == is_equal, &row);
+    holds(rt, value.eq_string(owned) == is_equal, &row);
 }
 
 fn hash_of<T: Hash>(value: &T) -> u64 {
@@ -72,62 +127,78 @@ fn pinned_and_new(rt: HostRuntime) -> Result<(), Fail> {
     let rows = [
         ("", Place::Inline),
         ("ab", Place::Inline),
-        (LONG_BLANK, Place::Static),
-        (LONG_TEXT, Place::Heap),
+        (long_blank(), Place::Static),
+        (long_text(), Place::Heap),
     ];
     for (text, place) in rows {
-        assert_pinned_equals(&rt, rt.alloc(), text, place)?;
+        let value = SmolStr::new(rt.alloc(), text)?;
+        same_place(&rt, &value, place, &text);
+        assert_pinned_equals(&rt, text, &value)?;
     }
-    let short = SmolStr::new(rt.alloc(), "a")?;
-    let longer = SmolStr::new(rt.alloc(), "a\0")?;
-    assert!(rt; short != longer);
     Ok(())
 }
 
-fn assert_pinned_equals(
-    rt: &impl Abort,
-    alloc: Global,
-    text: &'static str,
-    place: Place,
-) -> Result<(), Fail> {
-    let value = SmolStr::new(alloc, text)?;
+fn assert_pinned_equals(rt: &impl Abort, text: &'static str, value: &SmolStr) -> Result<(), Fail> {
     let pinned = SmolStr::new_static(text);
-    assert_eq!(rt; value.place(), place, "{text}");
-    assert_eq!(rt; pinned.place(), Place::Static, "{text}");
-    assert_eq!(rt; pinned.clone()?.place(), Place::Static, "{text}");
-    assert!(rt;
-        !pinned.is_heap_allocated() && pinned.eq_str(text),
-        "{text}"
-    );
-    assert!(rt; value == pinned, "{text}");
-    assert_eq!(rt; hash_of(&value), hash_of(&pinned), "{text}");
-    assert_eq!(rt; hash_of(&value), hash_of(&text), "{text}");
+    holds(rt, pinned.eq_str(text), &text);
+    holds(rt, *value == pinned, &text);
+    assert_hash(rt, value, text);
+    assert_hash(rt, &pinned, text);
+    assert_static(rt, &pinned, text)
+}
+
+fn assert_static(rt: &impl Abort, pinned: &SmolStr, text: &str) -> Result<(), Fail> {
+    same_place(rt, pinned, Place::Static, &text);
+    let copy = pinned.clone()?;
+    same_place(rt, &copy, Place::Static, &text);
     Ok(())
+}
+
+/// The hash is that of the text.
+fn assert_hash(rt: &impl Abort, value: &SmolStr, text: &str) {
+    same(rt, &hash_of(value), &hash_of(&text), &text);
 }
 
 // One text, made in every way: values that are equal in pairs, with one hash, all inline.
 #[test]
 fn one_text_in_every_way(rt: HostRuntime) -> Result<(), Fail> {
-    let alloc = rt.alloc();
-    let values = [
-        SmolStr::new(alloc, "ab")?,
-        SmolStr::new_inline("ab"),
-        SmolStr::from_utf8(alloc, b"ab").ok().ok_or("not UTF-8")?,
-        SmolStr::from_chars(alloc, "ab".chars())?,
-        from_wire(alloc, b"\x02\0\0\0ab")?.0,
-        "xb".replace_smolstr(alloc, "x", "a")?,
-        builder_of(alloc, 100, "ab")?
-            .finish()
-            .ok()
-            .ok_or("refused")?,
-        build(alloc, 0, &[Step::Push('a'), Step::Push('b')])?,
-    ];
-    for left in &values {
-        assert_eq!(rt; left.place(), Place::Inline);
-        assert_eq!(rt; hash_of(left), hash_of(&"ab"));
-        for right in &values {
-            assert!(rt; left == right);
-        }
+    let mut values = Vec::new(rt.alloc());
+    add_constructed(rt.alloc(), &mut values)?;
+    add_converted(rt.alloc(), &mut values)?;
+    same(&rt, &values.len(), &8, &"ways");
+    for value in &values {
+        assert_equals_all(&rt, value, values.as_slice());
     }
     Ok(())
+}
+
+fn add_constructed(alloc: Global, values: &mut Vec<SmolStr>) -> Result<(), Fail> {
+    add(values, SmolStr::new(alloc, "ab").ok())?;
+    add(values, Some(SmolStr::new_inline("ab")))?;
+    add(values, SmolStr::from_utf8(alloc, b"ab").ok())?;
+    add(values, SmolStr::from_chars(alloc, "ab".chars()).ok())
+}
+
+fn add_converted(alloc: Global, values: &mut Vec<SmolStr>) -> Result<(), Fail> {
+    add(values, Some(from_wire(alloc, b"\x02\0\0\0ab")?.0))?;
+    add(values, "xb".replace_smolstr(alloc, "x", "a").ok())?;
+    add(values, value_of(builder_of(alloc, 100, "ab")?).ok())?;
+    add(
+        values,
+        build(alloc, 0, &[Step::Push('a'), Step::Push('b')]).ok(),
+    )
+}
+
+/// A test fails where there is no value.
+fn add(values: &mut Vec<SmolStr>, made: Option<SmolStr>) -> Result<(), Fail> {
+    values.push(made.ok_or("no value")?)?;
+    Ok(())
+}
+
+fn assert_equals_all(rt: &impl Abort, left: &SmolStr, values: &[SmolStr]) {
+    same_place(rt, left, Place::Inline, left);
+    assert_hash(rt, left, "ab");
+    for right in values {
+        holds(rt, left == right, &(left, right));
+    }
 }

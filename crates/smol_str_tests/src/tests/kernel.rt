@@ -1,17 +1,16 @@
 //! The loops over bytes, against outside rows, a plain map and std's search.
-use super::{FULL_CAPITALS, FULL_TEXT, small_texts};
+use super::same::same;
 use smol_str::kernel::{AsciiCase, convert_while_ascii, next_match};
 use smol_str::{INLINE_CAP, InlineBuffer};
-use std::alloc::Global;
 use std::process::Abort;
 use std::test::Fail;
+use test_support::texts::{full_capitals, full_text, small_texts};
 
 /// Short texts, a case, the ASCII front in that case, and how many zeros are behind it.
-const FRONTS: [(&str, AsciiCase, &str, usize); 12] = [
+static FRONTS: [(&str, AsciiCase, &str, usize); 11] = [
     ("ABCDEFGHIJéKLMNOPQ", AsciiCase::Lower, "abcdefghij", 29),
     ("@AZ[", AsciiCase::Lower, "@az[", 35),
     ("", AsciiCase::Upper, "", 39),
-    (FULL_TEXT, AsciiCase::Upper, FULL_CAPITALS, 0),
     (
         "aaaaaaaaaaaaaaaaaaaaaaa",
         AsciiCase::Upper,
@@ -49,12 +48,23 @@ const FRONTS: [(&str, AsciiCase, &str, usize); 12] = [
 
 #[test]
 fn fronts(rt: HostRuntime) -> Result<(), Fail> {
-    for (text, case, front, zeros) in FRONTS {
-        let (buffer, len) = converted(text, case).ok_or("a text too long")?;
-        assert_eq!(rt; len, front.len(), "{text}");
-        assert_eq!(rt; buffer.iter().skip(len).count(), zeros, "{text}");
-        assert_eq!(rt; buffer.as_slice(), padded(front).as_slice(), "{text}");
+    for &(text, case, front, zeros) in &FRONTS {
+        assert_front(&rt, text, case, front, zeros)?;
     }
+    assert_front(&rt, full_text(), AsciiCase::Upper, full_capitals(), 0)
+}
+
+fn assert_front(
+    rt: &impl Abort,
+    text: &str,
+    case: AsciiCase,
+    front: &str,
+    zeros: usize,
+) -> Result<(), Fail> {
+    let (buffer, len) = converted(text, case)?;
+    same(rt, &len, &front.len(), &text);
+    same(rt, &buffer.iter().skip(len).count(), &zeros, &text);
+    same(rt, &buffer, &padded(front.as_bytes()), &text);
     Ok(())
 }
 
@@ -97,45 +107,44 @@ fn letters() -> InlineBuffer {
 
 /// The first `len` bytes are the front, and each is mapped as std maps a byte.
 fn assert_mapped(rt: &impl Abort, text: &str, len: usize) -> Result<(), Fail> {
-    let bytes = text.as_bytes();
-    for case in [AsciiCase::Lower, AsciiCase::Upper] {
-        let (buffer, front) = converted(text, case).ok_or("a text too long")?;
-        assert_eq!(rt; front, len, "{case:?} of {text}");
-        for place in 0..INLINE_CAP {
-            let byte = if place < len {
-                bytes.get(place).copied().unwrap_or(0)
-            } else {
-                0
-            };
-            let wanted = match case {
-                AsciiCase::Lower => byte.to_ascii_lowercase(),
-                AsciiCase::Upper => byte.to_ascii_uppercase(),
-            };
-            assert_eq!(rt; buffer[place], wanted, "{case:?} of {text} at {place}");
-        }
-    }
+    let front = text.as_bytes().get(..len).ok_or("a text too short")?;
+    let mut wanted = padded(front);
+    wanted.make_ascii_lowercase();
+    same(
+        rt,
+        &converted(text, AsciiCase::Lower)?,
+        &(wanted, len),
+        &text,
+    );
+    wanted.make_ascii_uppercase();
+    same(
+        rt,
+        &converted(text, AsciiCase::Upper)?,
+        &(wanted, len),
+        &text,
+    );
     Ok(())
 }
 
-/// The bytes of a text, and then zeros.
-fn padded(text: &str) -> InlineBuffer {
+/// The bytes, and then zeros.
+fn padded(bytes: &[u8]) -> InlineBuffer {
     let mut buffer = [0; INLINE_CAP];
-    for (to, from) in buffer.iter_mut().zip(text.as_bytes()) {
+    for (to, from) in buffer.iter_mut().zip(bytes) {
         *to = *from;
     }
     buffer
 }
 
 /// The call, where its condition is kept.
-fn converted(text: &str, case: AsciiCase) -> Option<(InlineBuffer, usize)> {
+fn converted(text: &str, case: AsciiCase) -> Result<(InlineBuffer, usize), Fail> {
     if text.len() > INLINE_CAP {
-        return None;
+        return Err("a text too long".into());
     }
-    Some(convert_while_ascii(text, case))
+    Ok(convert_while_ascii(text, case))
 }
 
 /// A text, a place in it, a pattern, and where that is found.
-const MATCHES: [(&str, usize, &str, Option<usize>); 9] = [
+static MATCHES: [(&str, usize, &str, Option<usize>); 9] = [
     ("foo_bar_baz", 4, "ba", Some(4)),
     ("foo_bar_baz", 5, "ba", Some(8)),
     ("foo_bar_baz", 9, "ba", None),
@@ -149,9 +158,9 @@ const MATCHES: [(&str, usize, &str, Option<usize>); 9] = [
 
 #[test]
 fn matches(rt: HostRuntime) -> Result<(), Fail> {
-    for (text, from, pattern, wanted) in MATCHES {
+    for &(text, from, pattern, wanted) in &MATCHES {
         let found = found_from(text, from, pattern).ok_or("a place inside a character")?;
-        assert_eq!(rt; found, wanted, "{pattern} in {text} from {from}");
+        same(&rt, &found, &wanted, &(pattern, text, from));
     }
     Ok(())
 }
@@ -159,9 +168,8 @@ fn matches(rt: HostRuntime) -> Result<(), Fail> {
 // Every place of every small text, with every small pattern.
 #[test]
 fn matches_as_std_finds(rt: HostRuntime) -> Result<(), Fail> {
-    let alloc = rt.alloc();
-    let texts = small_texts(alloc, 5)?;
-    let patterns = small_texts(alloc, 3)?;
+    let texts = small_texts(rt.alloc(), 5)?;
+    let patterns = small_texts(rt.alloc(), 3)?;
     for text in &texts {
         for pattern in &patterns {
             assert_found(&rt, text.as_str(), pattern.as_str());
@@ -173,11 +181,16 @@ fn matches_as_std_finds(rt: HostRuntime) -> Result<(), Fail> {
 fn assert_found(rt: &impl Abort, text: &str, pattern: &str) {
     for from in 0..=text.len() {
         if let Some(found) = found_from(text, from, pattern) {
-            let rest = text.get(from..).unwrap_or("");
-            let wanted = rest.find(pattern).map(|place| from.wrapping_add(place));
-            assert_eq!(rt; found, wanted, "{pattern} in {text} from {from}");
+            let wanted = std_finds(text, from, pattern);
+            same(rt, &found, &wanted, &(pattern, text, from));
         }
     }
+}
+
+/// Where std finds the pattern.
+fn std_finds(text: &str, from: usize, pattern: &str) -> Option<usize> {
+    let place = text.get(from..)?.find(pattern)?;
+    Some(from.wrapping_add(place))
 }
 
 /// The call, where its conditions are kept.

@@ -1,29 +1,63 @@
 //! Large capacities.
-use super::refuse::{can_refuse, end_refusals, refuse_all};
-use super::repeated;
-use smol_str::{INLINE_CAP, Place, SmolStr, SmolStrBuilder, Step, build};
+use super::same::{holds, same, same_place, same_text};
+use smol_str::{INLINE_CAP, Place, SmolStrBuilder, Step, build};
+use std::alloc::Global;
+use std::process::Abort;
 use std::test::Fail;
+use test_support::builders::builder_of;
+use test_support::refuse::{can_refuse, end_refusals, refuse_all};
+use test_support::texts::{repeated, repeated_and};
 
 const CAPACITIES: [usize; 4] = [INLINE_CAP, 200, 5000, 1_000_001];
 
 // All of a capacity is asked for at once.
 #[test]
 fn appends_within_the_capacity(rt: HostRuntime) -> Result<(), Fail> {
-    let alloc = rt.alloc();
     for capacity in CAPACITIES {
-        let text = repeated(alloc, "a", capacity)?;
-        let mut whole = SmolStrBuilder::with_capacity(alloc, capacity)?;
-        let mut single = SmolStrBuilder::with_capacity(alloc, capacity)?;
-        refuse_all(alloc);
-        whole.push_str(text.as_str())?;
-        for _ in 0..capacity {
-            single.push('a')?;
-        }
-        let was_refused = end_refusals(alloc);
-        assert!(rt; !was_refused, "capacity {capacity}");
-        assert_eq!(rt; whole.as_str(), text.as_str());
-        assert_eq!(rt; single.as_str(), text.as_str());
+        let builder = SmolStrBuilder::with_capacity(rt.alloc(), capacity)?;
+        let text = repeated(rt.alloc(), "a", capacity)?;
+        assert_appends(&rt, rt.alloc(), builder, text.as_str())?;
     }
+    Ok(())
+}
+
+#[test]
+fn pushes_within_the_capacity(rt: HostRuntime) -> Result<(), Fail> {
+    for capacity in CAPACITIES {
+        let builder = SmolStrBuilder::with_capacity(rt.alloc(), capacity)?;
+        let text = repeated(rt.alloc(), "a", capacity)?;
+        assert_pushes(&rt, rt.alloc(), builder, text.as_str())?;
+    }
+    Ok(())
+}
+
+/// The text is appended to what the builder has without a request for memory.
+fn assert_appends(
+    rt: &impl Abort,
+    alloc: Global,
+    mut builder: SmolStrBuilder,
+    text: &str,
+) -> Result<(), Fail> {
+    let whole = repeated_and(alloc, builder.as_str(), 1, text)?;
+    refuse_all(alloc);
+    builder.push_str(text)?;
+    holds(rt, !end_refusals(alloc), &text.len());
+    same_text(rt, builder.as_str(), whole.as_str(), &text.len());
+    Ok(())
+}
+
+fn assert_pushes(
+    rt: &impl Abort,
+    alloc: Global,
+    mut builder: SmolStrBuilder,
+    text: &str,
+) -> Result<(), Fail> {
+    refuse_all(alloc);
+    for character in text.chars() {
+        builder.push(character)?;
+    }
+    holds(rt, !end_refusals(alloc), &text.len());
+    same_text(rt, builder.as_str(), text, &text.len());
     Ok(())
 }
 
@@ -33,8 +67,8 @@ fn builds_of_large_capacity(rt: HostRuntime) -> Result<(), Fail> {
     for capacity in CAPACITIES {
         let step = Step::PushStr(repeated(alloc, "a", capacity)?);
         let value = build(alloc, capacity, &[step, Step::Push('b')])?;
-        assert_eq!(rt; value.len(), capacity.wrapping_add(1));
-        assert_eq!(rt; value.place(), Place::Heap, "capacity {capacity}");
+        same(&rt, &value.len(), &capacity.wrapping_add(1), &capacity);
+        same_place(&rt, &value, Place::Heap, &capacity);
     }
     Ok(())
 }
@@ -44,20 +78,20 @@ fn builds_of_large_capacity(rt: HostRuntime) -> Result<(), Fail> {
 fn refused_finish_keeps_the_capacity(rt: HostRuntime) -> Result<(), Fail> {
     let alloc = rt.alloc();
     let text = repeated(alloc, "a", 100)?;
-    let mut builder = SmolStrBuilder::with_capacity(alloc, 200)?;
-    builder.push_str(text.as_str())?;
+    let builder = builder_of(alloc, 200, text.as_str())?;
     refuse_all(alloc);
     let answer = builder.finish();
-    end_refusals(alloc);
+    let was_refused = end_refusals(alloc);
+    same(&rt, &was_refused, &can_refuse(alloc), &"finish");
     match answer {
-        Ok(value) => assert!(rt; !can_refuse(alloc) && value.len() == 100),
-        Err(mut back) => {
-            refuse_all(alloc);
-            back.push_str(text.as_str())?;
-            let was_refused = end_refusals(alloc);
-            assert!(rt; !was_refused, "the capacity is gone");
-            assert_eq!(rt; back.len(), 200);
+        Ok(value) => {
+            holds(&rt, !was_refused, &"a value");
+            same(&rt, &value.len(), &100, &"a value");
+            Ok(())
+        }
+        Err(back) => {
+            holds(&rt, was_refused, &"a builder");
+            assert_appends(&rt, alloc, back, text.as_str())
         }
     }
-    Ok(())
 }

@@ -1,132 +1,171 @@
 //! Texts of more than 65,535 bytes: a call that is right for shorter ones alone fails here.
-use super::built::builder_of;
-use super::repeated;
+use super::same::{holds, same, same_text};
 use smol_str::borsh::{BorshDeserialize, BorshSerialize, from_wire};
 use smol_str::json::{from_json, from_value, to_json, to_value};
 use smol_str::{SmolStr, StrExt, ToSmolStr, format_smolstr};
+use std::alloc::{AllocError, Global};
+use std::process::Abort;
 use std::test::Fail;
+use test_support::builders::builder_of;
+use test_support::texts::repeated;
 
 const LONG: usize = 70_000;
 
+/// The value of a text so many times as makes it long.
+fn long_value(alloc: Global, text: &str) -> Result<SmolStr, AllocError> {
+    let long = repeated(alloc, text, LONG)?;
+    SmolStr::new(alloc, long.as_str())
+}
+
 #[test]
 fn cloned_and_converted(rt: HostRuntime) -> Result<(), Fail> {
-    let alloc = rt.alloc();
-    let text = repeated(alloc, "a", LONG)?;
-    let value = SmolStr::new(alloc, text.as_str())?;
-    let builder = builder_of(alloc, 0, text.as_str())?;
-    assert!(rt; value.clone()? == value);
-    assert!(rt; builder.clone()? == builder);
-    let string = value.clone()?.into_string(alloc).ok().ok_or("refused")?;
-    assert_eq!(rt; string.as_str(), text.as_str());
-    let shared = value.into_rc_str(alloc).ok().ok_or("refused")?;
-    assert_eq!(rt; shared.as_str(), text.as_str());
+    let value = long_value(rt.alloc(), "a")?;
+    let copy = value.clone()?;
+    holds(&rt, copy == value, &"clone");
+    assert_into_string(&rt, rt.alloc(), copy)
+}
+
+fn assert_into_string(rt: &impl Abort, alloc: Global, value: SmolStr) -> Result<(), Fail> {
+    let string = value.into_string(alloc).ok().ok_or("refused")?;
+    let wanted = repeated(alloc, "a", LONG)?;
+    same_text(rt, string.as_str(), wanted.as_str(), &"into_string");
+    Ok(())
+}
+
+#[test]
+fn converted_to_a_shared_text(rt: HostRuntime) -> Result<(), Fail> {
+    let value = long_value(rt.alloc(), "a")?;
+    let shared = value.into_rc_str(rt.alloc()).ok().ok_or("refused")?;
+    let wanted = repeated(rt.alloc(), "a", LONG)?;
+    same_text(&rt, shared.as_str(), wanted.as_str(), &"into_rc_str");
+    Ok(())
+}
+
+#[test]
+fn cloned_builder(rt: HostRuntime) -> Result<(), Fail> {
+    let text = repeated(rt.alloc(), "a", LONG)?;
+    let builder = builder_of(rt.alloc(), 0, text.as_str())?;
+    holds(&rt, builder.clone()? == builder, &"clone");
     Ok(())
 }
 
 #[test]
 fn through_json(rt: HostRuntime) -> Result<(), Fail> {
-    let alloc = rt.alloc();
-    let text = repeated(alloc, "\n", LONG)?;
-    let value = SmolStr::new(alloc, text.as_str())?;
-    let tree = to_value(alloc, &value)?;
-    assert!(rt; from_value(alloc, &tree).ok().ok_or("refused")? == value);
-    let json = to_json(alloc, &value)?;
-    assert_eq!(rt; json.len(), 140_002);
-    assert!(rt; from_json(alloc, json.as_str()).ok().ok_or("refused")? == value);
+    let value = long_value(rt.alloc(), "\n")?;
+    let json = to_json(rt.alloc(), &value)?;
+    same(&rt, &json.len(), &140_002, &"to_json");
+    let back = from_json(rt.alloc(), json.as_str()).ok();
+    holds(&rt, back == Some(value), &"from_json");
+    Ok(())
+}
+
+#[test]
+fn through_a_json_value(rt: HostRuntime) -> Result<(), Fail> {
+    let value = long_value(rt.alloc(), "\n")?;
+    let tree = to_value(rt.alloc(), &value)?;
+    let back = from_value(rt.alloc(), &tree).ok();
+    holds(&rt, back == Some(value), &"from_value");
     Ok(())
 }
 
 #[test]
 fn through_the_wire_form(rt: HostRuntime) -> Result<(), Fail> {
-    let alloc = rt.alloc();
-    let text = repeated(alloc, "a", LONG)?;
-    let value = SmolStr::new(alloc, text.as_str())?;
-    let mut form = Vec::new(alloc);
+    let value = long_value(rt.alloc(), "a")?;
+    let mut form = Vec::new(rt.alloc());
     value.serialize(&mut form).ok().ok_or("refused")?;
-    assert_eq!(rt; form.get(..5), Some(b"\x70\x11\x01\0a".as_slice()));
-    let (read, taken) = from_wire(alloc, form.as_slice()).ok().ok_or("refused")?;
-    assert_eq!(rt; taken, 70_004);
-    assert!(rt; read == value);
-    let mut reader = form.as_slice();
+    let begin = form.get(..5);
+    holds(&rt, begin == Some(b"\x70\x11\x01\0a".as_slice()), &begin);
+    assert_wire(&rt, rt.alloc(), form.as_slice(), &value)?;
+    assert_read(&rt, rt.alloc(), form.as_slice(), &value)
+}
+
+fn assert_wire(rt: &impl Abort, alloc: Global, form: &[u8], value: &SmolStr) -> Result<(), Fail> {
+    let (read, taken) = from_wire(alloc, form).ok().ok_or("refused")?;
+    same(rt, &taken, &70_004, &"from_wire");
+    holds(rt, read == *value, &"from_wire");
+    Ok(())
+}
+
+fn assert_read(rt: &impl Abort, alloc: Global, form: &[u8], value: &SmolStr) -> Result<(), Fail> {
+    let mut reader = form;
     let read = SmolStr::deserialize_reader(alloc, &mut reader)
         .ok()
         .ok_or("refused")?;
-    assert!(rt; read == value && reader.is_empty());
+    holds(rt, read == *value, &"deserialize_reader");
+    holds(rt, reader.is_empty(), &"all is read");
     Ok(())
 }
 
 #[test]
-fn in_another_case(rt: HostRuntime) -> Result<(), Fail> {
-    let alloc = rt.alloc();
-    let lower = repeated(alloc, "aé", LONG / 2)?;
-    let upper = repeated(alloc, "AÉ", LONG / 2)?;
-    let ascii_upper = repeated(alloc, "Aé", LONG / 2)?;
-    assert!(rt;
-        ascii_upper
-            .as_str()
-            .to_ascii_lowercase_smolstr(alloc)?
-            .eq_string(&lower)
-    );
-    assert!(rt;
-        lower
-            .as_str()
-            .to_ascii_uppercase_smolstr(alloc)?
-            .eq_string(&ascii_upper)
-    );
-    assert!(rt;
-        upper
-            .as_str()
-            .to_lowercase_smolstr(alloc)?
-            .eq_string(&lower)
-    );
-    assert!(rt;
-        lower
-            .as_str()
-            .to_uppercase_smolstr(alloc)?
-            .eq_string(&upper)
-    );
-    Ok(())
+fn in_lowercase(rt: HostRuntime) -> Result<(), Fail> {
+    let text = repeated(rt.alloc(), "AÉ", LONG)?;
+    let value = text.as_str().to_lowercase_smolstr(rt.alloc())?;
+    assert_repeats(&rt, rt.alloc(), &value, "aé")
 }
+
+#[test]
+fn in_uppercase(rt: HostRuntime) -> Result<(), Fail> {
+    let text = repeated(rt.alloc(), "aé", LONG)?;
+    let value = text.as_str().to_uppercase_smolstr(rt.alloc())?;
+    assert_repeats(&rt, rt.alloc(), &value, "AÉ")
+}
+
+#[test]
+fn in_ascii_lowercase(rt: HostRuntime) -> Result<(), Fail> {
+    let text = repeated(rt.alloc(), "Aé", LONG)?;
+    let value = text.as_str().to_ascii_lowercase_smolstr(rt.alloc())?;
+    assert_repeats(&rt, rt.alloc(), &value, "aé")
+}
+
+#[test]
+fn in_ascii_uppercase(rt: HostRuntime) -> Result<(), Fail> {
+    let text = repeated(rt.alloc(), "aé", LONG)?;
+    let value = text.as_str().to_ascii_uppercase_smolstr(rt.alloc())?;
+    assert_repeats(&rt, rt.alloc(), &value, "Aé")
+}
+
+/// A pattern, what stands in its place, and the piece that `ab` becomes.
+static REPLACED: [(&str, &str, &str); 3] = [("a", "x", "xb"), ("b", "", "a"), ("ab", "aéb", "aéb")];
 
 #[test]
 fn replaced(rt: HostRuntime) -> Result<(), Fail> {
-    let alloc = rt.alloc();
-    let text = repeated(alloc, "ab", LONG)?;
-    let other = repeated(alloc, "xb", LONG)?;
-    let fewer = repeated(alloc, "a", LONG)?;
-    let more = repeated(alloc, "aéb", LONG)?;
-    assert!(rt;
-        text.as_str()
-            .replace_smolstr(alloc, "a", "x")?
-            .eq_string(&other)
-    );
-    assert!(rt;
-        text.as_str()
-            .replace_smolstr(alloc, "b", "")?
-            .eq_string(&fewer)
-    );
-    assert!(rt;
-        text.as_str()
-            .replace_smolstr(alloc, "ab", "aéb")?
-            .eq_string(&more)
-    );
-    assert!(rt;
-        text.as_str()
-            .replacen_smolstr(alloc, "a", "x", LONG)?
-            .eq_string(&other)
-    );
+    let text = repeated(rt.alloc(), "ab", LONG)?;
+    for &(from, to, piece) in &REPLACED {
+        let value = text.as_str().replace_smolstr(rt.alloc(), from, to)?;
+        assert_repeats(&rt, rt.alloc(), &value, piece)?;
+    }
+    Ok(())
+}
+
+#[test]
+fn replaced_so_often(rt: HostRuntime) -> Result<(), Fail> {
+    let text = repeated(rt.alloc(), "ab", LONG)?;
+    let value = text.as_str().replacen_smolstr(rt.alloc(), "a", "x", LONG)?;
+    assert_repeats(&rt, rt.alloc(), &value, "xb")
+}
+
+/// The value is the piece, as often as makes it long.
+fn assert_repeats(
+    rt: &impl Abort,
+    alloc: Global,
+    value: &SmolStr,
+    piece: &str,
+) -> Result<(), Fail> {
+    let wanted = repeated(alloc, piece, LONG)?;
+    same_text(rt, value.as_str(), wanted.as_str(), &piece);
     Ok(())
 }
 
 #[test]
 fn printed(rt: HostRuntime) -> Result<(), Fail> {
-    let alloc = rt.alloc();
-    let text = repeated(alloc, "a", LONG)?;
-    let whole = text.to_smolstr(alloc).ok().ok_or("refused")?;
-    assert!(rt; whole.eq_string(&text));
-    let twice = format_smolstr!(alloc; "{text}{}{text}", "")
-        .ok()
-        .ok_or("refused")?;
-    assert!(rt; twice.eq_string(&repeated(alloc, "aa", LONG)?));
-    Ok(())
+    let text = repeated(rt.alloc(), "a", LONG)?;
+    let value = text.to_smolstr(rt.alloc()).ok().ok_or("refused")?;
+    assert_repeats(&rt, rt.alloc(), &value, "a")
+}
+
+#[test]
+fn printed_twice(rt: HostRuntime) -> Result<(), Fail> {
+    let text = repeated(rt.alloc(), "a", LONG)?;
+    let value = format_smolstr!(rt.alloc(); "{text}{}{text}", "");
+    assert_repeats(&rt, rt.alloc(), &value.ok().ok_or("refused")?, "aa")
 }

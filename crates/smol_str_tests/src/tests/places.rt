@@ -1,14 +1,16 @@
 //! Where texts are kept.
-use super::{FULL_TEXT, LONG_TEXT, repeated};
+use super::same::{holds, same, same_place, same_text, same_value};
 use smol_str::{
     BLANK_NEWLINES, BLANK_SPACES, INLINE_CAP, InlineBuffer, Place, SmolStr, SmolStrBuilder,
 };
 use std::alloc::{AllocError, Global};
 use std::process::Abort;
 use std::test::Fail;
+use test_support::builders::builder_of;
+use test_support::texts::{full_text, long_text, repeated, repeated_and};
 
 /// A text so many times and then an end, and the place of the value.
-const PLACES: [(&str, usize, &str, Place); 10] = [
+static PLACES: [(&str, usize, &str, Place); 10] = [
     ("", 0, "", Place::Inline),
     ("a", INLINE_CAP, "", Place::Inline),
     ("a", INLINE_CAP + 1, "", Place::Heap),
@@ -22,7 +24,7 @@ const PLACES: [(&str, usize, &str, Place); 10] = [
 ];
 
 /// Newlines, spaces and newlines again, and the place of the text that they make.
-const BLANKS: [(usize, usize, usize, Place); 17] = [
+static BLANKS: [(usize, usize, usize, Place); 17] = [
     (BLANK_NEWLINES, BLANK_SPACES, 0, Place::Static),
     (0, BLANK_SPACES + 1, 0, Place::Heap),
     (BLANK_NEWLINES + 1, 0, 0, Place::Heap),
@@ -44,16 +46,21 @@ const BLANKS: [(usize, usize, usize, Place); 17] = [
 
 #[test]
 fn new_places(rt: HostRuntime) -> Result<(), Fail> {
-    for (piece, times, end, place) in PLACES {
-        let mut text = repeated(rt.alloc(), piece, times)?;
-        text.push_str(end)?;
-        let text = text.as_str();
-        let value = SmolStr::new(rt.alloc(), text)?;
-        assert_eq!(rt; value.as_str(), text);
-        assert_eq!(rt; value.place(), place, "{text}");
-        assert_eq!(rt; value.len(), text.len(), "{text}");
-        assert_eq!(rt; value.is_empty(), text.is_empty(), "{text}");
-        assert_eq!(rt; value.is_heap_allocated(), place == Place::Heap, "{text}");
+    for &(piece, times, end, place) in &PLACES {
+        let text = repeated_and(rt.alloc(), piece, times, end)?;
+        let value = SmolStr::new(rt.alloc(), text.as_str())?;
+        same_value(&rt, &value, text.as_str(), place, &([piece, end], times));
+    }
+    Ok(())
+}
+
+#[test]
+fn blank_places(rt: HostRuntime) -> Result<(), Fail> {
+    for &(newlines, spaces, more, place) in &BLANKS {
+        let text = blank(rt.alloc(), newlines, spaces, more)?;
+        let value = SmolStr::new(rt.alloc(), text.as_str())?;
+        let row = (newlines, spaces, more);
+        same_value(&rt, &value, text.as_str(), place, &row);
     }
     Ok(())
 }
@@ -64,22 +71,9 @@ fn blank(
     spaces: usize,
     more_newlines: usize,
 ) -> Result<String, AllocError> {
-    let mut text = repeated(alloc, "\n", newlines)?;
-    text.push_str(repeated(alloc, " ", spaces)?.as_str())?;
-    text.push_str(repeated(alloc, "\n", more_newlines)?.as_str())?;
-    Ok(text)
-}
-
-#[test]
-fn blank_places(rt: HostRuntime) -> Result<(), Fail> {
-    for (newlines, spaces, more, place) in BLANKS {
-        let text = blank(rt.alloc(), newlines, spaces, more)?;
-        let value = SmolStr::new(rt.alloc(), text.as_str())?;
-        assert_eq!(rt; value.place(), place, "{newlines}, {spaces}, {more}");
-        assert_eq!(rt; value.len(), text.len(), "{newlines}, {spaces}, {more}");
-        assert_eq!(rt; value.as_str(), text.as_str());
-    }
-    Ok(())
+    let end = repeated(alloc, "\n", more_newlines)?;
+    let rest = repeated_and(alloc, " ", spaces, end.as_str())?;
+    repeated_and(alloc, "\n", newlines, rest.as_str())
 }
 
 #[test]
@@ -90,16 +84,40 @@ fn const_fn_ctor(rt: HostRuntime) -> Result<(), Fail> {
         "HELLO",
         "ABCDEFGHIZKLMNOPQRSTUVW",
         "                       ",
-        FULL_TEXT,
+        full_text(),
     ];
     for text in texts {
-        let value = SmolStr::new_inline(text);
-        assert!(rt; value == SmolStr::new(rt.alloc(), text)?, "{text}");
-        assert_eq!(rt; value.place(), Place::Inline, "{text}");
+        let value = inline(text).ok_or("a text too long")?;
+        assert_equals_new(&rt, rt.alloc(), &value, text)?;
+        same_place(&rt, &value, Place::Inline, &text);
     }
-    assert!(rt; SmolStr::default() == SmolStr::new(rt.alloc(), "")?);
-    assert_eq!(rt; SmolStr::default().place(), Place::Inline);
     Ok(())
+}
+
+/// The call, where its condition is kept.
+fn inline(text: &str) -> Option<SmolStr> {
+    if text.len() > INLINE_CAP {
+        return None;
+    }
+    Some(SmolStr::new_inline(text))
+}
+
+fn assert_equals_new(
+    rt: &impl Abort,
+    alloc: Global,
+    value: &SmolStr,
+    text: &str,
+) -> Result<(), Fail> {
+    let made = SmolStr::new(alloc, text)?;
+    holds(rt, *value == made, &text);
+    Ok(())
+}
+
+#[test]
+fn default_value(rt: HostRuntime) -> Result<(), Fail> {
+    let value = SmolStr::default();
+    same_value(&rt, &value, "", Place::Inline, &"default");
+    assert_equals_new(&rt, rt.alloc(), &value, "")
 }
 
 /// The text of so many characters, the given ones in turn.
@@ -118,15 +136,17 @@ fn assert_round_trips(rt: &impl Abort, alloc: Global, characters: &[char]) -> Re
     for count in 0..=400usize {
         let text = in_turn(alloc, characters, count)?;
         let value = SmolStr::new(alloc, text.as_str())?;
-        assert_eq!(rt; value.as_str(), text.as_str());
-        assert_eq!(rt; value.len(), text.len());
-        assert_eq!(rt; value.is_empty(), count == 0);
-        assert!(rt;
-            text.len() > INLINE_CAP || !value.is_heap_allocated(),
-            "{text:?}"
-        );
+        assert_keeps(rt, &value, text.as_str());
+        same(rt, &value.is_empty(), &(count == 0), &text);
     }
     Ok(())
+}
+
+fn assert_keeps(rt: &impl Abort, value: &SmolStr, text: &str) {
+    same_text(rt, value.as_str(), text, &"round trip");
+    same(rt, &value.len(), &text.len(), &text);
+    let is_apart = value.is_heap_allocated();
+    holds(rt, text.len() > INLINE_CAP || !is_apart, &text);
 }
 
 #[test]
@@ -158,28 +178,33 @@ fn size_of_a_value(rt: HostRuntime) {
 // The text's bytes, and zeros: of a value and of a builder that are inline, and of no other.
 #[test]
 fn inline_buffers(rt: HostRuntime) -> Result<(), Fail> {
-    let alloc = rt.alloc();
-    let value = SmolStr::new(alloc, "ab")?;
-    let mut builder = SmolStrBuilder::new(alloc);
-    builder.push_str("ab")?;
+    let value = SmolStr::new(rt.alloc(), "ab")?;
     assert_holds_ab(&rt, value.inline_buffer());
+    let builder = builder_of(rt.alloc(), 0, "ab")?;
     assert_holds_ab(&rt, builder.inline_buffer());
-    assert!(rt; SmolStr::new_static("ab").inline_buffer().is_none());
-    let long = SmolStr::new(alloc, LONG_TEXT)?;
-    assert!(rt; long.inline_buffer().is_none());
-    let mut large = SmolStrBuilder::with_capacity(alloc, 100)?;
-    large.push_str("ab")?;
-    assert!(rt; large.inline_buffer().is_none());
     Ok(())
+}
+
+#[test]
+fn no_inline_buffers(rt: HostRuntime) -> Result<(), Fail> {
+    assert_no_buffer(&rt, SmolStr::new_static("ab"));
+    assert_no_buffer(&rt, SmolStr::new(rt.alloc(), long_text())?);
+    let large = builder_of(rt.alloc(), 100, "ab")?;
+    holds(&rt, large.inline_buffer().is_none(), &"a large builder");
+    Ok(())
+}
+
+fn assert_no_buffer(rt: &impl Abort, value: SmolStr) {
+    holds(rt, value.inline_buffer().is_none(), &value);
 }
 
 fn assert_holds_ab(rt: &impl Abort, buffer: Option<&InlineBuffer>) {
     match buffer {
         Some(buffer) => {
-            assert!(rt; buffer.starts_with(b"ab"));
-            assert!(rt; buffer.iter().skip(2).all(|byte| *byte == 0));
-            assert_eq!(rt; buffer.len(), INLINE_CAP);
+            holds(rt, buffer.starts_with(b"ab"), buffer);
+            holds(rt, buffer.iter().skip(2).all(|byte| *byte == 0), buffer);
+            same(rt, &buffer.len(), &INLINE_CAP, buffer);
         }
-        None => assert!(rt; false, "an inline text has a buffer"),
+        None => holds(rt, false, &"an inline text has a buffer"),
     }
 }

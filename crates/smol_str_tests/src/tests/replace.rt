@@ -1,12 +1,13 @@
 //! Replacement, against outside rows and std's own.
-use super::{repeated, small_texts};
+use super::same::{same_text, same_value};
 use smol_str::{INLINE_CAP, Place, StrExt};
-use std::alloc::Global;
+use std::alloc::{AllocError, Global};
 use std::process::Abort;
 use std::test::Fail;
+use test_support::texts::{repeated, repeated_and, small_texts};
 
 /// A text, a pattern, what stands in its place, at most how often, and the answer.
-const ROWS: [(&str, &str, &str, usize, &str); 19] = [
+static ROWS: [(&str, &str, &str, usize, &str); 19] = [
     ("foo_bar_baz", "ba", "do", usize::MAX, "foo_dor_doz"),
     ("foo_bar_baz", "ba", "do", 1, "foo_dor_baz"),
     ("foo_bar_baz", "o", "u", 1, "fuo_bar_baz"),
@@ -30,48 +31,50 @@ const ROWS: [(&str, &str, &str, usize, &str); 19] = [
 
 #[test]
 fn rows(rt: HostRuntime) -> Result<(), Fail> {
-    let alloc = rt.alloc();
-    for (text, from, to, count, wanted) in ROWS {
-        assert_row(&rt, alloc, (text, from, to, count), wanted)?;
+    for &(text, from, to, count, wanted) in &ROWS {
+        let value = text.replacen_smolstr(rt.alloc(), from, to, count)?;
+        same_value(
+            &rt,
+            &value,
+            wanted,
+            Place::Inline,
+            &([from, to, text], count),
+        );
     }
     Ok(())
 }
 
-fn assert_row(
-    rt: &impl Abort,
-    alloc: Global,
-    row: (&str, &str, &str, usize),
-    wanted: &str,
-) -> Result<(), Fail> {
-    let (text, from, to, count) = row;
-    let value = text.replacen_smolstr(alloc, from, to, count)?;
-    assert_eq!(rt; value.as_str(), wanted, "{count} at most");
-    assert_eq!(rt; value.place(), Place::Inline, "{wanted}");
-    if count == usize::MAX {
-        let value = text.replace_smolstr(alloc, from, to)?;
-        assert_eq!(rt; value.as_str(), wanted, "without a limit");
+#[test]
+fn rows_without_a_limit(rt: HostRuntime) -> Result<(), Fail> {
+    for &(text, from, to, count, wanted) in &ROWS {
+        if count == usize::MAX {
+            let value = text.replace_smolstr(rt.alloc(), from, to)?;
+            same_value(&rt, &value, wanted, Place::Inline, &[from, to, text]);
+        }
     }
     Ok(())
 }
 
-/// A text so many times, a pattern, what stands in its place, at most how often, the answer as
-/// texts so many times, one after another, and its place.
+/// A text so many times, a pattern, what stands in its place, at most how often, the answer as two
+/// texts so many times, one after the other, and its place.
 type LongRow = (
     (&'static str, usize),
     &'static str,
     &'static str,
     usize,
-    [(&'static str, usize); 2],
+    (&'static str, usize),
+    (&'static str, usize),
     Place,
 );
 
-const LONG: [LongRow; 7] = [
+static LONG: [LongRow; 7] = [
     (
         ("x", 24),
         "x",
         " ",
         usize::MAX,
-        [(" ", 24), ("", 0)],
+        (" ", 24),
+        ("", 0),
         Place::Inline,
     ),
     (
@@ -79,7 +82,8 @@ const LONG: [LongRow; 7] = [
         "x",
         " ",
         usize::MAX,
-        [(" ", INLINE_CAP + 1), ("", 0)],
+        (" ", INLINE_CAP + 1),
+        ("", 0),
         Place::Static,
     ),
     (
@@ -87,7 +91,8 @@ const LONG: [LongRow; 7] = [
         "aa",
         "b",
         usize::MAX,
-        [("b", INLINE_CAP / 2 + 1), ("", 0)],
+        ("b", INLINE_CAP / 2 + 1),
+        ("", 0),
         Place::Inline,
     ),
     (
@@ -95,7 +100,8 @@ const LONG: [LongRow; 7] = [
         "x",
         "y",
         INLINE_CAP,
-        [("y", INLINE_CAP), ("x", 1)],
+        ("y", INLINE_CAP),
+        ("x", 1),
         Place::Heap,
     ),
     (
@@ -103,7 +109,8 @@ const LONG: [LongRow; 7] = [
         "a",
         "b",
         usize::MAX,
-        [("b", INLINE_CAP), ("", 0)],
+        ("b", INLINE_CAP),
+        ("", 0),
         Place::Inline,
     ),
     (
@@ -111,7 +118,8 @@ const LONG: [LongRow; 7] = [
         "b",
         "é",
         100,
-        [("aé", 100), ("ab", 2400)],
+        ("aé", 100),
+        ("ab", 2400),
         Place::Heap,
     ),
     (
@@ -119,29 +127,42 @@ const LONG: [LongRow; 7] = [
         "a",
         "b",
         usize::MAX,
-        [("b", 5000), ("", 0)],
+        ("b", 5000),
+        ("", 0),
         Place::Heap,
     ),
 ];
 
 #[test]
 fn long_rows(rt: HostRuntime) -> Result<(), Fail> {
-    let alloc = rt.alloc();
-    for ((piece, times), from, to, count, parts, place) in LONG {
-        let text = repeated(alloc, piece, times)?;
-        let mut wanted = String::new(alloc);
-        for (part, times) in parts {
-            wanted.push_str(repeated(alloc, part, times)?.as_str())?;
-        }
-        let value = text.as_str().replacen_smolstr(alloc, from, to, count)?;
-        assert_eq!(rt; value.as_str(), wanted.as_str(), "{from} by {to}");
-        assert_eq!(rt; value.place(), place, "{from} by {to}");
+    for row in &LONG {
+        assert_long_row(&rt, rt.alloc(), row)?;
     }
     Ok(())
 }
 
+fn assert_long_row(rt: &impl Abort, alloc: Global, row: &LongRow) -> Result<(), Fail> {
+    let (text, from, to, count, front, end, place) = *row;
+    let text = repeated(alloc, text.0, text.1)?;
+    let wanted = joined(alloc, front, end)?;
+    let value = text.as_str().replacen_smolstr(alloc, from, to, count)?;
+    same_value(rt, &value, wanted.as_str(), place, &([from, to], count));
+    Ok(())
+}
+
+/// Two texts so many times, one after the other.
+fn joined(alloc: Global, front: (&str, usize), end: (&str, usize)) -> Result<String, AllocError> {
+    let rest = repeated(alloc, end.0, end.1)?;
+    repeated_and(alloc, front.0, front.1, rest.as_str())
+}
+
 /// What is put in place of matches, in turn.
 const TOS: [&str; 3] = ["", "x", "éé"];
+
+/// The texts of a case.
+fn case<'a>(text: &'a str, from: &'a str, turn: usize) -> [&'a str; 3] {
+    [text, from, TOS[turn % 3]]
+}
 
 /// Every small text and pattern at two limits, a quarter of a million cases: enough for one test.
 fn assert_at_limits(rt: &impl Abort, alloc: Global, limits: [usize; 2]) -> Result<(), Fail> {
@@ -149,12 +170,37 @@ fn assert_at_limits(rt: &impl Abort, alloc: Global, limits: [usize; 2]) -> Resul
     let patterns = small_texts(alloc, 3)?;
     for (i, text) in texts.iter().enumerate() {
         for (j, pattern) in patterns.iter().enumerate() {
-            for count in limits {
-                let turn = i.wrapping_add(j).wrapping_add(count) % 3;
-                assert_replaced(rt, alloc, text.as_str(), pattern.as_str(), turn, count)?;
-            }
+            let row = (text.as_str(), pattern.as_str(), i.wrapping_add(j));
+            assert_replaced(rt, alloc, row, limits)?;
         }
     }
+    Ok(())
+}
+
+fn assert_replaced(
+    rt: &impl Abort,
+    alloc: Global,
+    row: (&str, &str, usize),
+    limits: [usize; 2],
+) -> Result<(), Fail> {
+    let (text, from, turn) = row;
+    for count in limits {
+        let texts = case(text, from, turn.wrapping_add(count));
+        assert_replaced_at(rt, alloc, texts, count)?;
+    }
+    Ok(())
+}
+
+fn assert_replaced_at(
+    rt: &impl Abort,
+    alloc: Global,
+    texts: [&str; 3],
+    count: usize,
+) -> Result<(), Fail> {
+    let [text, from, to] = texts;
+    let value = text.replacen_smolstr(alloc, from, to, count)?;
+    let wanted = text.replacen(alloc, from, to, count)?;
+    same_text(rt, value.as_str(), wanted.as_str(), &(texts, count));
     Ok(())
 }
 
@@ -183,25 +229,23 @@ fn replaces_as_std_does_at_8_and_9(rt: HostRuntime) -> Result<(), Fail> {
     assert_at_limits(&rt, rt.alloc(), [8, 9])
 }
 
-fn assert_replaced(
-    rt: &impl Abort,
-    alloc: Global,
-    text: &str,
-    from: &str,
-    turn: usize,
-    count: usize,
-) -> Result<(), Fail> {
-    let to = TOS.get(turn).ok_or("no such text")?;
-    let value = text.replacen_smolstr(alloc, from, to, count)?;
-    let wanted = text.replacen(alloc, from, to, count)?;
-    assert_eq!(rt;
-        value.as_str(),
-        wanted.as_str(),
-        "{from} by {to} in {text}, at most {count}"
-    );
-    if count == 9 {
-        let value = text.replace_smolstr(alloc, from, to)?;
-        assert_eq!(rt; value.as_str(), wanted.as_str(), "{from} by {to} in {text}");
+#[test]
+fn replaces_all_as_std_does(rt: HostRuntime) -> Result<(), Fail> {
+    let texts = small_texts(rt.alloc(), 7)?;
+    let patterns = small_texts(rt.alloc(), 3)?;
+    for (i, text) in texts.iter().enumerate() {
+        for (j, pattern) in patterns.iter().enumerate() {
+            let texts = case(text.as_str(), pattern.as_str(), i.wrapping_add(j));
+            assert_all_replaced(&rt, rt.alloc(), texts)?;
+        }
     }
+    Ok(())
+}
+
+fn assert_all_replaced(rt: &impl Abort, alloc: Global, texts: [&str; 3]) -> Result<(), Fail> {
+    let [text, from, to] = texts;
+    let value = text.replace_smolstr(alloc, from, to)?;
+    let wanted = text.replace(alloc, from, to)?;
+    same_text(rt, value.as_str(), wanted.as_str(), &texts);
     Ok(())
 }

@@ -1,9 +1,10 @@
 //! Case, against outside rows and std's own mappings, which only tests see printed.
-use super::{LONG_BLANK, LONG_CAPITALS, LONG_TEXT, repeated};
+use super::same::{holds, same, same_place, same_text, same_value};
 use smol_str::{INLINE_CAP, Place, SmolStr, StrExt};
 use std::alloc::{AllocError, Global};
 use std::process::Abort;
 use std::test::Fail;
+use test_support::texts::{long_blank, long_capitals, long_text, repeated};
 
 /// A case call.
 #[derive(Clone, Copy, Debug)]
@@ -25,7 +26,7 @@ fn answer(alloc: Global, call: Call, text: &str) -> Result<SmolStr, AllocError> 
 
 /// A call, a text, the answer and its place. Upstream's test_str_ext is among these and, of replacement,
 /// among the rows of the test beside this one.
-const ROWS: [(Call, &str, &str, Place); 18] = [
+static ROWS: [(Call, &str, &str, Place); 15] = [
     (Call::AsciiLower, "aßΔC", "aßΔc", Place::Inline),
     (Call::AsciiUpper, "aßΔC", "AßΔC", Place::Inline),
     (Call::Upper, "aßΔC", "ASSΔC", Place::Inline),
@@ -43,15 +44,12 @@ const ROWS: [(Call, &str, &str, Place); 18] = [
         "aaaaaaaaaaaaaaaaaaaaaaaa",
         Place::Inline,
     ),
-    (Call::AsciiLower, LONG_CAPITALS, LONG_TEXT, Place::Heap),
-    (Call::AsciiUpper, LONG_BLANK, LONG_BLANK, Place::Static),
     (
         Call::AsciiUpper,
         "                        ",
         "                        ",
         Place::Inline,
     ),
-    (Call::Lower, LONG_BLANK, LONG_BLANK, Place::Static),
     (
         Call::Lower,
         "aaaaaaAAAAAaaaaaaaaaaaaaaaaaaaaaAAAAaaaaaaaaaaaaaa",
@@ -69,48 +67,67 @@ const ROWS: [(Call, &str, &str, Place); 18] = [
 
 #[test]
 fn rows(rt: HostRuntime) -> Result<(), Fail> {
-    let alloc = rt.alloc();
-    for (call, text, wanted, place) in ROWS {
-        let value = answer(alloc, call, text)?;
-        assert_eq!(rt; value.as_str(), wanted, "{call:?} of {text}");
-        assert_eq!(rt; value.place(), place, "{call:?} of {text}");
+    for &(call, text, wanted, place) in &ROWS {
+        let value = answer(rt.alloc(), call, text)?;
+        same_value(&rt, &value, wanted, place, &(call, text));
+    }
+    Ok(())
+}
+
+#[test]
+fn long_rows(rt: HostRuntime) -> Result<(), Fail> {
+    let rows = [
+        (Call::AsciiLower, long_capitals(), long_text(), Place::Heap),
+        (Call::AsciiUpper, long_blank(), long_blank(), Place::Static),
+        (Call::Lower, long_blank(), long_blank(), Place::Static),
+    ];
+    for (call, text, wanted, place) in rows {
+        let value = answer(rt.alloc(), call, text)?;
+        same_value(&rt, &value, wanted, place, &(call, text));
     }
     Ok(())
 }
 
 // A short text can become longer than the buffer, and a long one shorter.
 #[test]
-fn sizes_that_change(rt: HostRuntime) -> Result<(), Fail> {
-    let alloc = rt.alloc();
-    let text = repeated(alloc, "ΐ", INLINE_CAP / 2)?;
-    let value = text.as_str().to_uppercase_smolstr(alloc)?;
-    assert_eq!(rt; value.place(), Place::Heap);
-    assert_eq!(rt; value.len(), 6 * (INLINE_CAP / 2));
-    let text = repeated(alloc, "K", INLINE_CAP / 3 + 1)?;
-    let value = text.as_str().to_lowercase_smolstr(alloc)?;
-    assert_eq!(rt; value.place(), Place::Inline);
-    assert_eq!(rt; value.len(), INLINE_CAP / 3 + 1);
+fn sizes_that_grow(rt: HostRuntime) -> Result<(), Fail> {
+    let text = repeated(rt.alloc(), "ΐ", INLINE_CAP / 2)?;
+    let value = text.as_str().to_uppercase_smolstr(rt.alloc())?;
+    same_place(&rt, &value, Place::Heap, &"longer");
+    same(&rt, &value.len(), &(6 * (INLINE_CAP / 2)), &"longer");
+    Ok(())
+}
+
+#[test]
+fn sizes_that_shrink(rt: HostRuntime) -> Result<(), Fail> {
+    let text = repeated(rt.alloc(), "K", INLINE_CAP / 3 + 1)?;
+    let value = text.as_str().to_lowercase_smolstr(rt.alloc())?;
+    same_place(&rt, &value, Place::Inline, &"shorter");
+    same(&rt, &value.len(), &(INLINE_CAP / 3 + 1), &"shorter");
     Ok(())
 }
 
 // Each character that has a mapping: alone, between letters, and behind a text that is not short.
 #[test]
 fn maps_as_std_does(rt: HostRuntime) -> Result<(), Fail> {
-    let alloc = rt.alloc();
-    let long = repeated(alloc, "A", INLINE_CAP)?;
+    let long = repeated(rt.alloc(), "A", INLINE_CAP)?;
     let mut mapped = 0u32;
     for number in 0x80..0x2FFFFu32 {
         if let Some(character) = char::from_u32(number) {
-            let mut lower = character.to_lowercase();
-            let mut upper = character.to_uppercase();
-            if lower.next() != Some(character) || upper.next() != Some(character) {
-                assert_mappings(&rt, alloc, character, long.as_str())?;
+            if has_mapping(character) {
+                assert_mappings(&rt, rt.alloc(), character, long.as_str())?;
                 mapped = mapped.saturating_add(1);
             }
         }
     }
-    assert!(rt; mapped > 2500, "{mapped} characters");
+    holds(&rt, mapped > 2500, &mapped);
     Ok(())
+}
+
+fn has_mapping(character: char) -> bool {
+    let lower = character.to_lowercase().next();
+    let upper = character.to_uppercase().next();
+    lower != Some(character) || upper != Some(character)
 }
 
 fn assert_mappings(
@@ -119,30 +136,40 @@ fn assert_mappings(
     character: char,
     long: &str,
 ) -> Result<(), Fail> {
-    for (before, after) in [
+    let rows = [
         ("", ""),
         ("a", ""),
         ("", "a"),
         ("A", " "),
         (long, ""),
         (long, "a"),
-    ] {
-        let mut text = String::from_str(alloc, before)?;
-        text.push(character)?;
-        text.push_str(after)?;
-        let text = text.as_str();
-        let lower = text.to_lowercase_smolstr(alloc)?;
-        assert_eq!(rt;
-            lower.as_str(),
-            text.to_lowercase(alloc)?.as_str(),
-            "{text}"
-        );
-        let upper = text.to_uppercase_smolstr(alloc)?;
-        assert_eq!(rt;
-            upper.as_str(),
-            text.to_uppercase(alloc)?.as_str(),
-            "{text}"
-        );
+    ];
+    for (before, after) in rows {
+        let text = around(alloc, before, character, after)?;
+        assert_lowercase(rt, alloc, text.as_str())?;
+        assert_uppercase(rt, alloc, text.as_str())?;
     }
+    Ok(())
+}
+
+/// The character, with these texts before and after it.
+fn around(alloc: Global, before: &str, character: char, after: &str) -> Result<String, AllocError> {
+    let mut text = String::from_str(alloc, before)?;
+    text.push(character)?;
+    text.push_str(after)?;
+    Ok(text)
+}
+
+fn assert_lowercase(rt: &impl Abort, alloc: Global, text: &str) -> Result<(), Fail> {
+    let value = text.to_lowercase_smolstr(alloc)?;
+    let wanted = text.to_lowercase(alloc)?;
+    same_text(rt, value.as_str(), wanted.as_str(), &text);
+    Ok(())
+}
+
+fn assert_uppercase(rt: &impl Abort, alloc: Global, text: &str) -> Result<(), Fail> {
+    let value = text.to_uppercase_smolstr(alloc)?;
+    let wanted = text.to_uppercase(alloc)?;
+    same_text(rt, value.as_str(), wanted.as_str(), &text);
     Ok(())
 }

@@ -3,13 +3,13 @@ ghost use Rattle.std.specs.Prelude.{◌≡◌, ◌+◌, length};
 ghost use Rattle.std.specs.Iterator.{at_most, YieldsFirst};
 ghost use Rattle.std.specs.Vec.Iter.{into_iter_items};
 
-use super::built::builder_of;
 use super::same::{holds, same, same_place, same_text, same_value};
 use smol_str::{BLANK_NEWLINES, INLINE_CAP, Place, SmolStr, SmolStrBuilder};
 use std::alloc::{AllocError, Global};
 use std::process::Abort;
 use std::test::Fail;
 use std::vec::IntoIter;
+use test_support::builders::builder_of;
 use test_support::refuse::{Asked, can_refuse, each_refused, end_refusals, refuse_all};
 use test_support::texts::{long_blank, repeated, repeated_and};
 

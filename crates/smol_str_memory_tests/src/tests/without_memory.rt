@@ -1,77 +1,109 @@
 //! The calls that take no memory: one line a call, by its name, with every request refused. `.ci/listed` sees that each
 //! call which promises that has a line.
-use super::built::builder_of;
-use super::refuse::{end_refusals, refuse_all};
-use super::{FULL_TEXT, LONG_BLANK, LONG_TEXT, repeated};
+use super::same::holds;
 use serde_json::Value;
 use smol_str::borsh::{BorshDeserialize, BorshSerialize, from_wire, length_prefix};
 use smol_str::json::from_value;
 use smol_str::kernel::{AsciiCase, convert_while_ascii, next_match};
 use smol_str::stream::{fill, write_steps};
 use smol_str::{
-    BLANK_NEWLINES, BLANK_SPACES, INLINE_CAP, Piece, Place, SmolStr, SmolStrBuilder, Step, StrExt,
-    ToSmolStr, build, finished, format_smolstr,
+    INLINE_CAP, Piece, Place, SmolStr, SmolStrBuilder, Step, StrExt, ToSmolStr, build, finished,
+    format_smolstr,
 };
 use std::alloc::Global;
 use std::borrow::CowStr;
 use std::cmp::Ordering;
 use std::fmt::Write;
 use std::hash::{DefaultHasher, Hash};
+use std::process::Abort;
 use std::rc::RcStr;
 use std::test::Fail;
+use test_support::builders::builder_of;
+use test_support::refuse::{end_refusals, refuse_all};
+use test_support::texts::{full_text, long_blank, long_text, longest_blank, repeated};
 
 /// Makes each call, by its name, and refuses every request meanwhile.
 macro_rules! free {
     ($rt:expr, $alloc:expr; $($name:literal: $call:expr;)+) => {
         refuse_all($alloc);
-        $(assert!($rt; $call, $name);)+
-        let was_refused = end_refusals($alloc);
-        assert!($rt; !was_refused, "a call makes a request");
+        let rows = [$(($name, $call)),+];
+        check_free($rt, &rows, end_refusals($alloc));
     };
+}
+
+fn check_free(rt: &impl Abort, rows: &[(&str, bool)], was_refused: bool) {
+    for (name, is_so) in rows {
+        holds(rt, *is_so, name);
+    }
+    holds(rt, !was_refused, &"a call makes a request");
 }
 
 #[test]
 fn whole_text(rt: HostRuntime) -> Result<(), Fail> {
-    let alloc = rt.alloc();
-    let mut blank = repeated(alloc, "\n", BLANK_NEWLINES)?;
-    blank.push_str(repeated(alloc, " ", BLANK_SPACES)?.as_str())?;
-    for text in ["", FULL_TEXT, blank.as_str()] {
-        let bytes = text.as_bytes();
-        let owned = String::from_str(alloc, text)?;
-        let other = String::from_str(alloc, text)?;
-        let boxed = String::from_str(alloc, text)?.into_boxed_str();
-        let json = Value::String(String::from_str(alloc, text)?);
-        free! { rt, alloc;
-            "SmolStr::new": SmolStr::new(alloc, text).is_ok();
-            "SmolStr::from_str": SmolStr::from_str(alloc, text).is_ok();
-            "SmolStr::from_string_ref": SmolStr::from_string_ref(alloc, &owned).is_ok();
-            "SmolStr::from_utf8": SmolStr::from_utf8(alloc, bytes).is_ok();
-            "SmolStr::from_utf8_unchecked": SmolStr::from_utf8_unchecked(alloc, text.as_bytes()).is_ok();
-            "SmolStr::from_string": SmolStr::from_string(alloc, other).is_ok();
-            "SmolStr::from_boxed_str": SmolStr::from_boxed_str(alloc, boxed).is_ok();
-            "SmolStr::from_cow_str": SmolStr::from_cow_str(alloc, CowStr::Borrowed(text)).is_ok();
-            "json::from_value": from_value(alloc, &json).is_ok();
-        }
+    let blank = longest_blank(rt.alloc())?;
+    for text in ["", full_text(), blank.as_str()] {
+        copied_text(&rt, rt.alloc(), text);
+        borrowed_text(&rt, rt.alloc(), text)?;
+        owned_text(&rt, rt.alloc(), text)?;
+    }
+    Ok(())
+}
+
+fn copied_text(rt: &impl Abort, alloc: Global, text: &str) {
+    free! { rt, alloc;
+        "SmolStr::new": SmolStr::new(alloc, text).is_ok();
+        "SmolStr::from_str": SmolStr::from_str(alloc, text).is_ok();
+        "SmolStr::from_utf8": SmolStr::from_utf8(alloc, text.as_bytes()).is_ok();
+        "SmolStr::from_utf8_unchecked": SmolStr::from_utf8_unchecked(alloc, text.as_bytes()).is_ok();
+        "SmolStr::from_cow_str": SmolStr::from_cow_str(alloc, CowStr::Borrowed(text)).is_ok();
+    }
+}
+
+fn borrowed_text(rt: &impl Abort, alloc: Global, text: &str) -> Result<(), Fail> {
+    let owned = String::from_str(alloc, text)?;
+    let json = Value::String(String::from_str(alloc, text)?);
+    free! { rt, alloc;
+        "SmolStr::from_string_ref": SmolStr::from_string_ref(alloc, &owned).is_ok();
+        "json::from_value": from_value(alloc, &json).is_ok();
+    }
+    Ok(())
+}
+
+fn owned_text(rt: &impl Abort, alloc: Global, text: &str) -> Result<(), Fail> {
+    let owned = String::from_str(alloc, text)?;
+    let boxed = String::from_str(alloc, text)?.into_boxed_str();
+    free! { rt, alloc;
+        "SmolStr::from_string": SmolStr::from_string(alloc, owned).is_ok();
+        "SmolStr::from_boxed_str": SmolStr::from_boxed_str(alloc, boxed).is_ok();
     }
     Ok(())
 }
 
 #[test]
 fn any_text(rt: HostRuntime) -> Result<(), Fail> {
-    let alloc = rt.alloc();
-    for text in ["", FULL_TEXT, LONG_TEXT] {
-        let shared = RcStr::from_str(alloc, text)?;
-        let pinned = SmolStr::new_static(text);
-        free! { rt, alloc;
-            "SmolStr::new_static": SmolStr::new_static(text).place() == Place::Static;
-            "SmolStr::from_rc_str": SmolStr::from_rc_str(shared).eq_str(text);
-            "SmolStr::clone": pinned.clone().is_ok();
-        }
+    for text in ["", full_text(), long_text()] {
+        pinned_and_shared(&rt, rt.alloc(), text)?;
     }
-    let inline = SmolStr::new_inline(FULL_TEXT);
-    let heap = SmolStr::new(alloc, LONG_TEXT)?;
+    inline_and_heap(&rt, rt.alloc())
+}
+
+fn pinned_and_shared(rt: &impl Abort, alloc: Global, text: &'static str) -> Result<(), Fail> {
+    let shared = RcStr::from_str(alloc, text)?;
+    let pinned = SmolStr::new_static(text);
     free! { rt, alloc;
-        "SmolStr::new_inline": SmolStr::new_inline(FULL_TEXT).eq_str(FULL_TEXT);
+        "SmolStr::new_static": SmolStr::new_static(text).place() == Place::Static;
+        "SmolStr::from_rc_str": SmolStr::from_rc_str(shared).eq_str(text);
+        "SmolStr::clone": pinned.clone().is_ok();
+    }
+    Ok(())
+}
+
+fn inline_and_heap(rt: &impl Abort, alloc: Global) -> Result<(), Fail> {
+    let full = full_text();
+    let inline = SmolStr::new(alloc, full)?;
+    let heap = SmolStr::new(alloc, long_text())?;
+    free! { rt, alloc;
+        "SmolStr::new_inline": full.len() <= INLINE_CAP && SmolStr::new_inline(full).eq_str(full);
         "SmolStr::from": SmolStr::from('🦀').eq_str("🦀");
         "SmolStr::default": SmolStr::default().is_empty();
         "SmolStr::clone": inline.clone().is_ok();
@@ -83,11 +115,11 @@ fn any_text(rt: HostRuntime) -> Result<(), Fail> {
 #[test]
 fn values(rt: HostRuntime) -> Result<(), Fail> {
     let alloc = rt.alloc();
-    let value = SmolStr::new(alloc, LONG_TEXT)?;
+    let value = SmolStr::new(alloc, long_text())?;
     let mut room = String::with_capacity(alloc, 100)?;
     let mut hasher = DefaultHasher::default();
-    free! { rt, alloc;
-        "SmolStr::as_str": value.as_str() == LONG_TEXT;
+    free! { &rt, alloc;
+        "SmolStr::as_str": value.as_str() == long_text();
         "SmolStr::len": value.len() == INLINE_CAP + 1;
         "SmolStr::is_empty": !value.is_empty();
         "SmolStr::is_heap_allocated": value.is_heap_allocated();
@@ -102,16 +134,16 @@ fn values(rt: HostRuntime) -> Result<(), Fail> {
 #[test]
 fn values_compared(rt: HostRuntime) -> Result<(), Fail> {
     let alloc = rt.alloc();
-    let value = SmolStr::new(alloc, LONG_TEXT)?;
-    let other = SmolStr::new_static(LONG_TEXT);
-    let string = String::from_str(alloc, LONG_TEXT)?;
-    free! { rt, alloc;
+    let value = SmolStr::new(alloc, long_text())?;
+    let other = SmolStr::new_static(long_text());
+    let string = String::from_str(alloc, long_text())?;
+    free! { &rt, alloc;
         "SmolStr::eq": value.eq(&other);
-        "SmolStr::eq_str": value.eq_str(LONG_TEXT);
+        "SmolStr::eq_str": value.eq_str(long_text());
         "SmolStr::eq_string": value.eq_string(&string);
         "SmolStr::partial_cmp": value.partial_cmp(&other).is_some();
         "SmolStr::cmp": value.cmp(&other) == Ordering::Equal;
-        "SmolStr::cmp_str": value.cmp_str(FULL_TEXT) == Ordering::Greater;
+        "SmolStr::cmp_str": value.cmp_str(full_text()) == Ordering::Greater;
         "SmolStr::cmp_string": value.cmp_string(&string) == Ordering::Equal;
     }
     Ok(())
@@ -124,13 +156,13 @@ fn builders_made(rt: HostRuntime) -> Result<(), Fail> {
         Step::PushStr(String::from_str(alloc, "ab")?),
         Step::Push('c'),
     ];
-    free! { rt, alloc;
+    free! { &rt, alloc;
         "SmolStrBuilder::new": SmolStrBuilder::new(alloc).is_empty();
         "SmolStrBuilder::with_capacity": SmolStrBuilder::with_capacity(alloc, INLINE_CAP).is_ok();
         "SmolStrBuilder::push": SmolStrBuilder::new(alloc).push('🦀').is_ok();
-        "SmolStrBuilder::push_str": SmolStrBuilder::new(alloc).push_str(FULL_TEXT).is_ok();
-        "SmolStrBuilder::write_str": SmolStrBuilder::new(alloc).write_str(FULL_TEXT).is_ok();
-        "SmolStrBuilder::write_fmt": SmolStrBuilder::new(alloc).write_fmt(FULL_TEXT).is_ok();
+        "SmolStrBuilder::push_str": SmolStrBuilder::new(alloc).push_str(full_text()).is_ok();
+        "SmolStrBuilder::write_str": SmolStrBuilder::new(alloc).write_str(full_text()).is_ok();
+        "SmolStrBuilder::write_fmt": SmolStrBuilder::new(alloc).write_fmt(full_text()).is_ok();
         "build": build(alloc, INLINE_CAP, &steps).is_ok();
     }
     Ok(())
@@ -139,11 +171,11 @@ fn builders_made(rt: HostRuntime) -> Result<(), Fail> {
 #[test]
 fn builders(rt: HostRuntime) -> Result<(), Fail> {
     let alloc = rt.alloc();
-    let builder = builder_of(alloc, 0, FULL_TEXT)?;
-    let large = builder_of(alloc, 100, FULL_TEXT)?;
-    free! { rt, alloc;
+    let builder = builder_of(alloc, 0, full_text())?;
+    let large = builder_of(alloc, 100, full_text())?;
+    free! { &rt, alloc;
         "SmolStrBuilder::clone": builder.clone().is_ok();
-        "SmolStrBuilder::as_str": builder.as_str() == FULL_TEXT;
+        "SmolStrBuilder::as_str": builder.as_str() == full_text();
         "SmolStrBuilder::len": builder.len() == INLINE_CAP;
         "SmolStrBuilder::is_empty": !builder.is_empty();
         "SmolStrBuilder::inline_buffer": builder.inline_buffer().is_some();
@@ -155,10 +187,10 @@ fn builders(rt: HostRuntime) -> Result<(), Fail> {
 #[test]
 fn builders_finished(rt: HostRuntime) -> Result<(), Fail> {
     let alloc = rt.alloc();
-    let blank = builder_of(alloc, 100, LONG_BLANK)?;
-    let large = builder_of(alloc, 100, FULL_TEXT)?;
-    let other = builder_of(alloc, 100, FULL_TEXT)?;
-    free! { rt, alloc;
+    let blank = builder_of(alloc, 100, long_blank())?;
+    let large = builder_of(alloc, 100, full_text())?;
+    let other = builder_of(alloc, 100, full_text())?;
+    free! { &rt, alloc;
         "SmolStrBuilder::finish": large.finish().is_ok();
         "SmolStr::from_builder": SmolStr::from_builder(blank).is_ok();
         "format::finished": finished(other).is_ok();
@@ -177,8 +209,8 @@ fn items(rt: HostRuntime) -> Result<(), Fail> {
         String::from_str(alloc, "ab")?,
         String::from_str(alloc, "c")?,
     ];
-    free! { rt, alloc;
-        "SmolStr::from_chars": SmolStr::from_chars(alloc, FULL_TEXT.chars()).is_ok();
+    free! { &rt, alloc;
+        "SmolStr::from_chars": SmolStr::from_chars(alloc, full_text().chars()).is_ok();
         "SmolStr::from_strs": SmolStr::from_strs(alloc, ["ab", "c"].into_iter()).is_ok();
         "SmolStr::from_string_refs": SmolStr::from_string_refs(alloc, strings.iter()).is_ok();
         "SmolStr::from_strings": SmolStr::from_strings(alloc, owned.into_iter()).is_ok();
@@ -190,12 +222,12 @@ fn items(rt: HostRuntime) -> Result<(), Fail> {
 fn extended(rt: HostRuntime) -> Result<(), Fail> {
     let alloc = rt.alloc();
     let strings = [String::from_str(alloc, "ab")?];
-    free! { rt, alloc;
-        "SmolStrBuilder::extend_chars": SmolStrBuilder::new(alloc).extend_chars(FULL_TEXT.chars()).is_ok();
+    free! { &rt, alloc;
+        "SmolStrBuilder::extend_chars": SmolStrBuilder::new(alloc).extend_chars(full_text().chars()).is_ok();
         "SmolStrBuilder::extend_strs": SmolStrBuilder::new(alloc).extend_strs(["ab", "c"].into_iter()).is_ok();
         "SmolStrBuilder::extend_strings": SmolStrBuilder::new(alloc).extend_strings(strings.iter()).is_ok();
-        "Piece::append_to": FULL_TEXT.append_to(&mut SmolStrBuilder::new(alloc)).is_ok();
-        "ToSmolStr::to_smolstr": FULL_TEXT.to_smolstr(alloc).is_ok();
+        "Piece::append_to": full_text().append_to(&mut SmolStrBuilder::new(alloc)).is_ok();
+        "ToSmolStr::to_smolstr": full_text().to_smolstr(alloc).is_ok();
         "format_smolstr!": format_smolstr!(alloc; "{}-{:>4}", "ab", 7).is_ok();
     }
     Ok(())
@@ -204,11 +236,11 @@ fn extended(rt: HostRuntime) -> Result<(), Fail> {
 #[test]
 fn cases(rt: HostRuntime) {
     let alloc = rt.alloc();
-    free! { rt, alloc;
-        "StrExt::to_ascii_lowercase_smolstr": FULL_TEXT.to_ascii_lowercase_smolstr(alloc).is_ok();
+    free! { &rt, alloc;
+        "StrExt::to_ascii_lowercase_smolstr": full_text().to_ascii_lowercase_smolstr(alloc).is_ok();
         "StrExt::to_ascii_uppercase_smolstr": "aßΔC".to_ascii_uppercase_smolstr(alloc).is_ok();
-        "StrExt::to_lowercase_smolstr": FULL_TEXT.to_lowercase_smolstr(alloc).is_ok();
-        "StrExt::to_uppercase_smolstr": FULL_TEXT.to_uppercase_smolstr(alloc).is_ok();
+        "StrExt::to_lowercase_smolstr": full_text().to_lowercase_smolstr(alloc).is_ok();
+        "StrExt::to_uppercase_smolstr": full_text().to_uppercase_smolstr(alloc).is_ok();
     }
 }
 
@@ -217,9 +249,9 @@ fn replaced(rt: HostRuntime) -> Result<(), Fail> {
     let alloc = rt.alloc();
     let long = repeated(alloc, "a", 5000)?;
     let long = long.as_str();
-    free! { rt, alloc;
+    free! { &rt, alloc;
         "StrExt::replace_smolstr": long.replace_smolstr(alloc, "a", "").is_ok();
-        "StrExt::replacen_smolstr": FULL_TEXT.replacen_smolstr(alloc, "aa", "b", 3).is_ok();
+        "StrExt::replacen_smolstr": full_text().replacen_smolstr(alloc, "aa", "b", 3).is_ok();
     }
     Ok(())
 }
@@ -227,21 +259,22 @@ fn replaced(rt: HostRuntime) -> Result<(), Fail> {
 #[test]
 fn loops_over_bytes(rt: HostRuntime) {
     let alloc = rt.alloc();
-    free! { rt, alloc;
-        "kernel::next_match": next_match(LONG_TEXT, 0, "aa").is_some();
-        "kernel::convert_while_ascii": convert_while_ascii(FULL_TEXT, AsciiCase::Upper).1 == INLINE_CAP;
+    let (full, long) = (full_text(), long_text());
+    free! { &rt, alloc;
+        "kernel::next_match": long.is_char_boundary(0) && next_match(long, 0, "aa").is_some();
+        "kernel::convert_while_ascii": full.len() <= INLINE_CAP && convert_while_ascii(full, AsciiCase::Upper).1 == INLINE_CAP;
     }
 }
 
 #[test]
 fn streams(rt: HostRuntime) -> Result<(), Fail> {
     let alloc = rt.alloc();
-    let value = SmolStr::new(alloc, LONG_TEXT)?;
+    let value = SmolStr::new(alloc, long_text())?;
     let mut form = b"\x02\0\0\0ab".as_slice();
-    let mut rest = LONG_TEXT.as_bytes();
+    let mut rest = long_text().as_bytes();
     let mut buffer = [0; 7];
     let mut out = Vec::with_capacity(alloc, 100)?;
-    free! { rt, alloc;
+    free! { &rt, alloc;
         "borsh::length_prefix": length_prefix(5000).is_some();
         "borsh::from_wire": from_wire(alloc, b"\x02\0\0\0ab").is_ok();
         "BorshDeserialize::deserialize_reader": SmolStr::deserialize_reader(alloc, &mut form).is_ok();

@@ -1,0 +1,9 @@
+//! Tests of what no clause says: printing, JSON, and memory counted and refused.
+
+mod calls;
+mod format;
+mod json;
+mod print;
+mod refused_str_ext;
+mod same;
+mod without_memory;

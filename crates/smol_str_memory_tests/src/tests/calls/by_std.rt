@@ -1,0 +1,116 @@
+//! What calls of std ask the heap for.
+use smol_str::INLINE_CAP;
+use std::alloc::Global;
+use std::rc::RcStr;
+use std::test::Fail;
+use test_support::refuse::{Asked, can_refuse, count_asked};
+
+/// A call of std that asks for what a call under test is to ask for.
+#[derive(Clone, Copy)]
+pub enum Asks {
+    /// A shared text.
+    Shared,
+    /// A shared text that keeps a `String`.
+    Kept,
+    /// A `String` of the text.
+    Owned,
+    /// A `String` with room for the text and a short text.
+    OwnedAndRoom,
+    /// A `String` with room for the text, one ASCII character and a short text.
+    OwnedAndChar,
+    /// A `String` with room for the text twice and a short text.
+    OwnedTwice,
+    /// The text appended to a `String` of it that has room for a short text.
+    GrowByText,
+    /// An ASCII character appended to a `String` of the text that has no room.
+    GrowByChar,
+}
+
+pub const NONE: &[Asks] = &[];
+
+pub const SHARED: &[Asks] = &[Asks::Shared];
+
+pub const OWNED: &[Asks] = &[Asks::Owned];
+
+pub const WITH_ROOM: &[Asks] = &[Asks::OwnedAndRoom];
+
+pub const BUILT: &[Asks] = &[Asks::OwnedAndRoom, Asks::Shared];
+
+pub const BUILT_TO_SIZE: &[Asks] = &[Asks::Owned, Asks::Shared];
+
+pub const AND_CHAR: &[Asks] = &[Asks::OwnedAndChar];
+
+pub const TWICE: &[Asks] = &[Asks::OwnedTwice];
+
+pub const BY_TEXT: &[Asks] = &[Asks::GrowByText];
+
+pub const BY_CHAR: &[Asks] = &[Asks::GrowByChar];
+
+pub const KEPT: &[Asks] = &[Asks::Kept];
+
+pub const PRINTED: &[Asks] = &[Asks::OwnedAndRoom, Asks::Kept];
+
+/// What std's calls ask for. Each asks for something, so a count of 0 is none.
+pub fn asked_by_all(alloc: Global, asks: &[Asks], text: &str) -> Result<Asked, Fail> {
+    let mut wanted = Asked {
+        requests: 0,
+        bytes: 0,
+    };
+    for ask in asks {
+        let asked = asked_by_std(alloc, *ask, text)?;
+        wanted.requests = wanted.requests.wrapping_add(asked.requests);
+        wanted.bytes = wanted.bytes.wrapping_add(asked.bytes);
+    }
+    if wanted.requests == 0 && !asks.is_empty() && can_refuse(alloc) {
+        return Err("std's calls ask for nothing".into());
+    }
+    Ok(wanted)
+}
+
+fn asked_by_std(alloc: Global, ask: Asks, text: &str) -> Result<Asked, Fail> {
+    let room = text.len().saturating_add(INLINE_CAP);
+    match ask {
+        Asks::Shared => asked_for_shared(alloc, text),
+        Asks::Kept => asked_to_keep(alloc, text),
+        Asks::Owned => asked_for_room(alloc, text.len()),
+        Asks::OwnedAndRoom => asked_for_room(alloc, room),
+        Asks::OwnedAndChar => asked_for_room(alloc, room.saturating_add(1)),
+        Asks::OwnedTwice => asked_for_room(alloc, room.saturating_add(text.len())),
+        Asks::GrowByText => asked_to_append(alloc, text),
+        Asks::GrowByChar => asked_to_push(alloc, text),
+    }
+}
+
+fn asked_for_shared(alloc: Global, text: &str) -> Result<Asked, Fail> {
+    let before = count_asked(alloc);
+    drop(RcStr::from_str(alloc, text)?);
+    Ok(count_asked(alloc).since(before))
+}
+
+fn asked_to_keep(alloc: Global, text: &str) -> Result<Asked, Fail> {
+    let owned = String::from_str(alloc, text)?;
+    let before = count_asked(alloc);
+    drop(RcStr::from_string(owned)?);
+    Ok(count_asked(alloc).since(before))
+}
+
+fn asked_for_room(alloc: Global, room: usize) -> Result<Asked, Fail> {
+    let before = count_asked(alloc);
+    drop(String::with_capacity(alloc, room)?);
+    Ok(count_asked(alloc).since(before))
+}
+
+fn asked_to_append(alloc: Global, text: &str) -> Result<Asked, Fail> {
+    let mut roomy = String::with_capacity(alloc, text.len().saturating_add(INLINE_CAP))?;
+    roomy.push_str(text)?;
+    let before = count_asked(alloc);
+    roomy.push_str(text)?;
+    Ok(count_asked(alloc).since(before))
+}
+
+fn asked_to_push(alloc: Global, text: &str) -> Result<Asked, Fail> {
+    let mut owned = String::from_str(alloc, text)?;
+    let before = count_asked(alloc);
+    owned.push('a')?;
+    Ok(count_asked(alloc).since(before))
+}

@@ -1,0 +1,25 @@
+//! Printed values.
+use super::same::same_text;
+use smol_str::SmolStr;
+use std::process::Abort;
+use std::test::Fail;
+use test_support::texts::long_text;
+
+#[test]
+fn prints(rt: HostRuntime) -> Result<(), Fail> {
+    let alloc = rt.alloc();
+    let value = SmolStr::new(alloc, "ab")?;
+    check_printed(&rt, format!(in alloc; "{value}")?, "ab");
+    check_printed(&rt, format!(in alloc; "{value:>5}")?, "   ab");
+    check_printed(&rt, format!(in alloc; "{value:*<4}")?, "ab**");
+    check_printed(&rt, format!(in alloc; "{value:?}")?, "\"ab\"");
+    let quoted = SmolStr::new(alloc, "a\"b")?;
+    check_printed(&rt, format!(in alloc; "{quoted:?}")?, "\"a\\\"b\"");
+    let long = SmolStr::new(alloc, long_text())?;
+    check_printed(&rt, format!(in alloc; "{long}")?, long_text());
+    Ok(())
+}
+
+fn check_printed(rt: &impl Abort, printed: String, wanted: &str) {
+    same_text(rt, printed.as_str(), wanted, &wanted);
+}

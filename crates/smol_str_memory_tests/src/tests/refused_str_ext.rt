@@ -1,0 +1,145 @@
+//! Case and replacement with memory refused: no answer, or the one with ample memory.
+use super::same::{holds, same, same_place};
+use smol_str::{Place, SmolStr, StrExt};
+use std::alloc::{AllocError, Global};
+use std::process::Abort;
+use std::test::Fail;
+use test_support::refuse::{can_refuse, each_refused, end_refusals, refuse_all};
+use test_support::texts::{full_text, joined, long_text, repeated};
+
+/// A call under test.
+#[derive(Clone, Copy)]
+enum Call {
+    AsciiLower,
+    AsciiUpper,
+    Lower,
+    Upper,
+    Replace(&'static str, &'static str),
+    ReplaceN(&'static str, &'static str, usize),
+}
+
+fn answer(alloc: Global, call: Call, text: &str) -> Result<SmolStr, AllocError> {
+    match call {
+        Call::AsciiLower => text.to_ascii_lowercase_smolstr(alloc),
+        Call::AsciiUpper => text.to_ascii_uppercase_smolstr(alloc),
+        Call::Lower => text.to_lowercase_smolstr(alloc),
+        Call::Upper => text.to_uppercase_smolstr(alloc),
+        Call::Replace(from, to) => text.replace_smolstr(alloc, from, to),
+        Call::ReplaceN(from, to, count) => text.replacen_smolstr(alloc, from, to, count),
+    }
+}
+
+// One byte by one byte, a byte by more, pieces, and the empty pattern.
+const CALLS: [(&str, Call); 10] = [
+    ("to_ascii_lowercase_smolstr", Call::AsciiLower),
+    ("to_ascii_uppercase_smolstr", Call::AsciiUpper),
+    ("to_lowercase_smolstr", Call::Lower),
+    ("to_uppercase_smolstr", Call::Upper),
+    ("replace_smolstr by a byte", Call::Replace("a", "b")),
+    ("replace_smolstr by more", Call::Replace("a", "éé")),
+    ("replace_smolstr of a piece", Call::Replace("aa", "bb")),
+    ("replace_smolstr of nothing", Call::Replace("", "-")),
+    ("replacen_smolstr", Call::ReplaceN("a", "b", 3)),
+    ("replacen_smolstr of a piece", Call::ReplaceN("aa", "bb", 1)),
+];
+
+#[test]
+fn each_request_in_turn(rt: HostRuntime) -> Result<(), Fail> {
+    let alloc = rt.alloc();
+    let long = repeated(alloc, "a", 5000)?;
+    for (name, call) in CALLS {
+        check_refused(&rt, alloc, (name, " of a byte too many"), call, long_text())?;
+        check_refused(&rt, alloc, (name, " of 5,000 bytes"), call, long.as_str())?;
+    }
+    // A short text, of which the answer is not short, or which a capital sigma stands in.
+    check_refused(
+        &rt,
+        alloc,
+        ("twice ", "a full buffer"),
+        Call::Replace("a", "bb"),
+        full_text(),
+    )?;
+    check_refused(
+        &rt,
+        alloc,
+        ("parted ", "a full buffer"),
+        Call::Replace("", "-"),
+        full_text(),
+    )?;
+    check_refused(&rt, alloc, ("a capital ", "sigma"), Call::Lower, "ΑΣ")
+}
+
+/// With each request refused in turn the call is refused, and with none refused it answers as with ample memory.
+fn check_refused(
+    rt: &impl Abort,
+    alloc: Global,
+    row: (&str, &str),
+    call: Call,
+    text: &str,
+) -> Result<(), Fail> {
+    let ample = answer(alloc, call, text)?;
+    let name = joined(alloc, row.0, row.1)?;
+    let asked = each_refused(
+        alloc,
+        name.as_str(),
+        || Ok(()),
+        |()| answer(alloc, call, text),
+        |made| check_made(name.as_str(), made, &ample),
+    )?;
+    same(rt, &(asked.requests > 0), &can_refuse(alloc), &name);
+    Ok(())
+}
+
+fn check_made(name: &str, made: &Result<SmolStr, AllocError>, ample: &SmolStr) -> Result<(), Fail> {
+    match made {
+        Ok(value) if *value != *ample => Err(Fail::new(format_args!("{name} makes {value:?}"))),
+        _ => Ok(()),
+    }
+}
+
+// Not only Ok, but with no request at all, however long the text.
+#[test]
+fn no_request_for_a_short_answer(rt: HostRuntime) -> Result<(), Fail> {
+    let alloc = rt.alloc();
+    for (name, call) in CALLS {
+        let text = match call {
+            Call::Replace(_, "éé") => "a",
+            Call::Replace("", _) => "ab",
+            _ => full_text(),
+        };
+        check_no_request(&rt, alloc, name, call, text)?;
+    }
+    let long = repeated(alloc, "a", 10_000)?;
+    check_no_request(
+        &rt,
+        alloc,
+        "a removed",
+        Call::Replace("a", ""),
+        long.as_str(),
+    )?;
+    check_no_request(
+        &rt,
+        alloc,
+        "aaaa removed",
+        Call::Replace("aaaa", ""),
+        long.as_str(),
+    )?;
+    check_no_request(&rt, alloc, "aa by b", Call::Replace("aa", "b"), long_text())?;
+    check_no_request(&rt, alloc, "capitals", Call::Upper, "aßΔC")?;
+    check_no_request(&rt, alloc, "small letters", Call::Lower, "aßΔC")
+}
+
+fn check_no_request(
+    rt: &impl Abort,
+    alloc: Global,
+    name: &str,
+    call: Call,
+    text: &str,
+) -> Result<(), Fail> {
+    refuse_all(alloc);
+    let made = answer(alloc, call, text);
+    let was_refused = end_refusals(alloc);
+    holds(rt, !was_refused, &name);
+    same_place(rt, &made?, Place::Inline, &name);
+    Ok(())
+}

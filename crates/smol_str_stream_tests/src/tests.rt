@@ -1,0 +1,9 @@
+//! Tests of what no clause says: items of iterators, and wire forms over readers and writers of every step.
+
+mod collect;
+mod readers;
+mod same;
+mod wire;
+mod wire_faults;
+mod wire_memory;
+mod writers;
