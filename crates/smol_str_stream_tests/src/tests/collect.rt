@@ -192,19 +192,28 @@ const MORE: [&str; 3] = ["é", "aé", "aaé"];
 
 #[test]
 fn characters(rt: HostRuntime) -> Result<(), Fail> {
-    let spaces = "                        ";
-    assert_collected(&rt, rt.alloc(), spaces, 24, Place::Inline)?;
-    assert_collected(&rt, rt.alloc(), long_blank(), INLINE_CAP + 1, Place::Static)?;
-    let full = repeated_and(rt.alloc(), "ア", INLINE_CAP / 3, FILL[INLINE_CAP % 3])?;
-    assert_collected(&rt, rt.alloc(), full.as_str(), INLINE_CAP, Place::Inline)?;
-    let longer = repeated_and(rt.alloc(), "ア", INLINE_CAP / 3, MORE[INLINE_CAP % 3])?;
-    assert_collected(
+    let alloc = rt.alloc();
+    assert_collected(&rt, alloc, "                        ", 24, Place::Inline)?;
+    assert_collected(&rt, alloc, long_blank(), INLINE_CAP + 1, Place::Static)?;
+    assert_wide(&rt, alloc, FILL[INLINE_CAP % 3], INLINE_CAP, Place::Inline)?;
+    assert_wide(
         &rt,
-        rt.alloc(),
-        longer.as_str(),
+        alloc,
+        MORE[INLINE_CAP % 3],
         INLINE_CAP + 2,
         Place::Heap,
     )
+}
+
+fn assert_wide(
+    rt: &impl Abort,
+    alloc: Global,
+    end: &str,
+    len: usize,
+    place: Place,
+) -> Result<(), Fail> {
+    let text = repeated_and(alloc, "ア", INLINE_CAP / 3, end)?;
+    assert_collected(rt, alloc, text.as_str(), len, place)
 }
 
 fn assert_collected(
@@ -251,13 +260,21 @@ fn no_pieces(rt: HostRuntime) -> Result<(), Fail> {
 
 #[test]
 fn owned_and_borrowed_pieces(rt: HostRuntime) -> Result<(), Fail> {
-    let strings = strings_of(rt.alloc(), &["if", "", "x"])?;
-    let refs = SmolStr::from_string_refs(rt.alloc(), strings.iter())?;
-    same_value(&rt, &refs, "ifx", Place::Inline, &"borrowed");
-    let owned = SmolStr::from_strings(rt.alloc(), strings.into_iter())?;
+    let borrowed = of_borrowed(rt.alloc(), &["if", "", "x"])?;
+    same_value(&rt, &borrowed, "ifx", Place::Inline, &"borrowed");
+    let owned = of_owned(rt.alloc(), &["if", "", "x"])?;
     same_value(&rt, &owned, "ifx", Place::Inline, &"owned");
-    same(&rt, &refs, &owned, &"both");
+    same(&rt, &borrowed, &owned, &"both");
     Ok(())
+}
+
+fn of_borrowed(alloc: Global, pieces: &[&str]) -> Result<SmolStr, AllocError> {
+    let strings = strings_of(alloc, pieces)?;
+    SmolStr::from_string_refs(alloc, strings.iter())
+}
+
+fn of_owned(alloc: Global, pieces: &[&str]) -> Result<SmolStr, AllocError> {
+    SmolStr::from_strings(alloc, strings_of(alloc, pieces)?.into_iter())
 }
 
 // Upstream's have pieces at random: here piece i, counted from 1, is `é` i mod 5 times.
@@ -327,13 +344,16 @@ fn from_buf_and_chars_size_hinted_heap(rt: HostRuntime) -> Result<(), Fail> {
 
 #[test]
 fn test_bad_size_hint_char_iter(rt: HostRuntime) -> Result<(), Fail> {
-    let chars = chars_of(rt.alloc(), &["testing"])?;
-    let collected = SmolStr::from_chars(rt.alloc(), with_hint(chars, 1024))?;
+    let collected = of_chars(rt.alloc(), &["testing"], 1024)?;
     same_value(&rt, &collected, "testing", Place::Inline, &"collected");
     let new = SmolStr::new(rt.alloc(), "testing")?;
     same_place(&rt, &new, Place::Inline, &"new");
     same(&rt, &new, &collected, &"both");
     Ok(())
+}
+
+fn of_chars(alloc: Global, pieces: &[&str], lower: usize) -> Result<SmolStr, AllocError> {
+    SmolStr::from_chars(alloc, with_hint(chars_of(alloc, pieces)?, lower))
 }
 
 // Hints reserve nothing: the largest would be refused.
@@ -421,7 +441,7 @@ fn made_refused(alloc: Global, call: Call, pieces: &[&str; 2], whole: &str) -> R
         name_of(call),
         || Ok(strings_of(alloc, pieces)?),
         |strings| made_of(alloc, call, strings, pieces, whole),
-        |answer| check_made(answer, whole),
+        |answer| check_made(answer, call, whole),
     )
 }
 
@@ -485,9 +505,9 @@ fn name_of(call: Call) -> &'static str {
 }
 
 /// A value that was made has the text of all pieces.
-fn check_made(answer: &Result<SmolStr, AllocError>, whole: &str) -> Result<(), Fail> {
+fn check_made(answer: &Result<SmolStr, AllocError>, call: Call, whole: &str) -> Result<(), Fail> {
     match answer {
-        Ok(value) => check(value.as_str() == whole, value.as_str()),
+        Ok(value) => check(value.as_str() == whole, call, value.as_str()),
         Err(_) => Ok(()),
     }
 }
@@ -500,10 +520,10 @@ fn check_extended(
     whole: &str,
 ) -> Result<(), Fail> {
     match answer {
-        Ok(value) => check(value.as_str() == whole, value.as_str()),
+        Ok(value) => check(value.as_str() == whole, call, value.as_str()),
         Err(builder) => {
             let text = builder.as_str();
-            check(text == whole || has_stopped(text, call, pieces), text)
+            check(text == whole || has_stopped(text, call, pieces), call, text)
         }
     }
 }
@@ -511,29 +531,34 @@ fn check_extended(
 /// Each character of the pieces is an item where characters are drawn.
 fn has_stopped(text: &str, call: Call, pieces: &[&str; 2]) -> bool {
     let [first, _] = *pieces;
-    text.is_empty() || text == first || call == Call::ExtendChars && first.starts_with(text)
+    let is_between_pieces = text.is_empty() || text.len() == first.len();
+    first.starts_with(text) && (is_between_pieces || call == Call::ExtendChars)
 }
 
-fn check(is_right: bool, text: &str) -> Result<(), Fail> {
+fn check(is_right: bool, call: Call, text: &str) -> Result<(), Fail> {
     if is_right {
         return Ok(());
     }
-    Err(Fail::new(format_args!("{text:?} is not the text of the items")))
+    Err(Fail::new(format_args!("{call:?}: {text:?} is not the text of the items")))
 }
 
 // Where two bytes are left, the third text is refused, and those before it stay.
 #[test]
 fn extending_refused(rt: HostRuntime) -> Result<(), Fail> {
     let start = repeated(rt.alloc(), "a", INLINE_CAP - 2)?;
-    let mut builder = builder_of(rt.alloc(), 0, start.as_str())?;
-    refuse_all(rt.alloc());
+    assert_stops(&rt, rt.alloc(), start.as_str())
+}
+
+fn assert_stops(rt: &impl Abort, alloc: Global, start: &str) -> Result<(), Fail> {
+    let mut builder = builder_of(alloc, 0, start)?;
+    refuse_all(alloc);
     let gave_up = builder
         .extend_strs(["b", "c", "de", "f"].into_iter())
         .is_err();
-    end_refusals(rt.alloc());
-    same(&rt, &gave_up, &can_refuse(rt.alloc()), &"extend_strs");
+    end_refusals(alloc);
+    same(rt, &gave_up, &can_refuse(alloc), &"extend_strs");
     if gave_up {
-        assert_stopped(&rt, &builder, start.as_str());
+        assert_stopped(rt, &builder, start);
     }
     Ok(())
 }
@@ -550,13 +575,21 @@ fn assert_stopped(rt: &impl Abort, builder: &SmolStrBuilder, start: &str) {
 
 #[test]
 fn builders_compared(rt: HostRuntime) -> Result<(), Fail> {
-    for (text, is_same) in [("ab", true), ("b", false)] {
-        let heap = builder_of(rt.alloc(), 100, "ab")?;
-        let inline = builder_of(rt.alloc(), 0, text)?;
-        same(&rt, &(heap == inline), &is_same, &text);
-        same(&rt, &(heap != inline), &!is_same, &text);
-    }
+    same(
+        &rt,
+        &compared(rt.alloc(), "ab", "ab")?,
+        &(true, false),
+        &"ab",
+    );
+    same(&rt, &compared(rt.alloc(), "ab", "b")?, &(false, true), &"b");
     Ok(())
+}
+
+/// Whether a builder on the heap equals one that is inline, and whether it differs.
+fn compared(alloc: Global, one: &str, other: &str) -> Result<(bool, bool), AllocError> {
+    let heap = builder_of(alloc, 100, one)?;
+    let inline = builder_of(alloc, 0, other)?;
+    Ok((heap == inline, heap != inline))
 }
 
 #[test]

@@ -6,7 +6,7 @@ use smol_str::{INLINE_CAP, Place, SmolStr};
 use std::alloc::{AllocError, Global};
 use std::process::Abort;
 use std::test::Fail;
-use test_support::streams::{Failure, STEPS, empty_drip, trickle_of};
+use test_support::streams::{Failure, STEPS, Trickle, empty_drip, trickle_of};
 use test_support::texts::repeated;
 
 /// A text and its wire form: a unit and how many times the text has it; the size's lowest byte, which
@@ -112,9 +112,8 @@ fn read_again(rt: HostRuntime) -> Result<(), Fail> {
 fn assert_read_again(rt: &impl Abort, alloc: Global, row: Row) -> Result<(), Fail> {
     let text = text_of(alloc, row)?;
     let mut bytes = form_of(alloc, row)?;
-    let size = bytes.len();
     bytes.extend_from_slice(b"a\xff")?;
-    assert_found(rt, alloc, bytes.as_slice(), size, text.as_str(), row.4)?;
+    assert_found(rt, alloc, bytes.as_slice(), text.as_str(), row.4)?;
     for step in STEPS {
         assert_read(
             rt,
@@ -129,18 +128,17 @@ fn assert_read_again(rt: &impl Abort, alloc: Global, row: Row) -> Result<(), Fai
     Ok(())
 }
 
-/// The bytes begin with a form of so many bytes, which gives the text.
+/// The bytes begin with a form of the text, which two bytes follow.
 fn assert_found(
     rt: &impl Abort,
     alloc: Global,
     bytes: &[u8],
-    size: usize,
     text: &str,
     place: Place,
 ) -> Result<(), Fail> {
     let (value, taken) = from_wire(alloc, bytes)?;
-    same_value(rt, &value, text, place, &size);
-    same(rt, &taken, &size, &value);
+    same_value(rt, &value, text, place, &taken);
+    same(rt, &taken.saturating_add(2), &bytes.len(), &value);
     Ok(())
 }
 
@@ -200,11 +198,20 @@ fn pinned(rt: HostRuntime) -> Result<(), Fail> {
 #[test]
 fn one_after_another(rt: HostRuntime) -> Result<(), Fail> {
     let mut reader = trickle_of(b"\x01\0\0\0a\0\0\0\0", 2, 0);
-    for text in ["a", ""] {
-        let value = SmolStr::deserialize_reader(rt.alloc(), &mut reader)?;
-        same_text(&rt, value.as_str(), text, &text);
-    }
+    assert_next(&rt, rt.alloc(), &mut reader, "a")?;
+    assert_next(&rt, rt.alloc(), &mut reader, "")?;
     holds(&rt, reader.rest.is_empty(), &"the rest");
+    Ok(())
+}
+
+fn assert_next(
+    rt: &impl Abort,
+    alloc: Global,
+    reader: &mut Trickle<'_>,
+    text: &str,
+) -> Result<(), Fail> {
+    let value = SmolStr::deserialize_reader(alloc, reader)?;
+    same_text(rt, value.as_str(), text, &text);
     Ok(())
 }
 

@@ -80,7 +80,7 @@ fn call_refused(alloc: Global, call: Call, form: &[u8], wanted: &[u8]) -> Result
         name_of(call),
         || Ok(()),
         |()| make(alloc, call, form),
-        |answer| check(answer, wanted),
+        |answer| check(answer, call, wanted),
     )
 }
 
@@ -94,7 +94,7 @@ fn name_of(call: Call) -> &'static str {
 }
 
 /// What was made has these bytes, and there is no other fault than want of memory.
-fn check(answer: &Result<Made, Kind>, wanted: &[u8]) -> Result<(), Fail> {
+fn check(answer: &Result<Made, Kind>, call: Call, wanted: &[u8]) -> Result<(), Fail> {
     let is_right = match answer {
         Ok(Made::Value(value)) => value.as_str().as_bytes() == wanted,
         Ok(Made::Bytes(all)) => all.as_slice() == wanted,
@@ -103,7 +103,8 @@ fn check(answer: &Result<Made, Kind>, wanted: &[u8]) -> Result<(), Fail> {
     if is_right {
         return Ok(());
     }
-    Err("other bytes, or another fault than want of memory".into())
+    let len = wanted.len();
+    Err(Fail::new(format_args!("{call:?} of {len} bytes: others, or another fault")))
 }
 
 #[test]
