@@ -10,6 +10,7 @@ use smol_tokens_core::fault::RunFault;
 use smol_tokens_core::mode::Mode;
 use smol_tokens_core::run::run;
 use std::alloc::{AllocError, Global};
+use std::process::Abort;
 use std::test::Fail;
 use test_support::texts::{full_text, long_blank, long_text, repeated};
 
@@ -56,18 +57,25 @@ fn reports(rt: HostRuntime) -> Result<(), Fail> {
 // Two lines whose text together no buffer has room for; of some neither is too long by itself.
 #[test]
 fn long_together(rt: HostRuntime) -> Result<(), Fail> {
-    let spaces = repeated(rt.alloc(), " ", INLINE_CAP)?;
-    let lines = [
-        (long_text(), "if", "heap"),
-        (full_text(), "a", "heap"),
-        (long_blank(), " ", "static"),
-        (" ", spaces.as_str(), "static"),
-    ];
-    for (first, second, place) in lines {
-        let out = joined_two(rt.alloc(), first, second)?;
-        let wanted = answer_to_two(rt.alloc(), place, first, second)?;
-        same_bytes(&rt, out.as_slice(), wanted.as_str().as_bytes(), &place);
-    }
+    let alloc = rt.alloc();
+    check_two(&rt, alloc, long_text(), "if", "heap")?;
+    check_two(&rt, alloc, full_text(), "a", "heap")?;
+    check_two(&rt, alloc, long_blank(), " ", "static")?;
+    let spaces = repeated(alloc, " ", INLINE_CAP)?;
+    check_two(&rt, alloc, " ", spaces.as_str(), "static")
+}
+
+/// The text of both lines is kept in the place.
+fn check_two(
+    rt: &impl Abort,
+    alloc: Global,
+    first: &str,
+    second: &str,
+    place: &str,
+) -> Result<(), Fail> {
+    let out = joined_two(alloc, first, second)?;
+    let wanted = answer_to_two(alloc, place, first, second)?;
+    same_bytes(rt, out.as_slice(), wanted.as_str().as_bytes(), &place);
     Ok(())
 }
 
@@ -76,7 +84,6 @@ fn joined_two(alloc: Global, first: &str, second: &str) -> Result<Vec<u8>, Fail>
     Ok(joined(alloc, input.as_str().as_bytes())?)
 }
 
-/// The text of both lines is kept in the place.
 fn answer_to_two(
     alloc: Global,
     place: &str,

@@ -1,5 +1,5 @@
 //! `run` in every mode, on short and on long inputs.
-use super::rows::{LETTERS, all_rows, long_line, report_by};
+use super::rows::{LETTERS, Words, all_rows, long_line, report_by};
 use super::same::same_bytes;
 use std::alloc::Global;
 use std::process::Abort;
@@ -19,8 +19,7 @@ fn long_lines(rt: HostRuntime) -> Result<(), Fail> {
     let alloc = rt.alloc();
     let input = long_line(alloc, "", 'a', 70_000)?;
     for (words, [front, _], letter) in LETTERS {
-        let out = report_by(alloc, words, input.as_str().as_bytes())?;
-        check_long(&rt, alloc, out.as_slice(), front, letter)?;
+        check_long(&rt, alloc, words, input.as_str(), (front, letter))?;
     }
     Ok(())
 }
@@ -29,11 +28,12 @@ fn long_lines(rt: HostRuntime) -> Result<(), Fail> {
 fn check_long(
     rt: &impl Abort,
     alloc: Global,
-    out: &[u8],
-    front: &str,
-    letter: char,
+    words: Words,
+    input: &str,
+    (front, letter): (&str, char),
 ) -> Result<(), Fail> {
+    let out = report_by(alloc, words, input.as_bytes())?;
     let wanted = long_line(alloc, front, letter, 70_000)?;
-    same_bytes(rt, out, wanted.as_str().as_bytes(), &(front, letter));
+    same_bytes(rt, out.as_slice(), wanted.as_str().as_bytes(), &words);
     Ok(())
 }

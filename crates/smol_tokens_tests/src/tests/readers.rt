@@ -192,12 +192,24 @@ fn check_answers(
 ) -> Result<(), Fail> {
     for step in STEPS {
         let mut reader = trickle_of(input, step, 0);
-        let mut writer = sound_drip(alloc);
-        let answer = read_by(rt, alloc, words, &mut reader, &mut writer)?;
-        same(rt, &answer, &wanted, &(words, step));
-        holds(rt, reader.rest.is_empty(), &(words, step));
-        let is_kept_back = wanted == Answer::Done || writer.taken.is_empty();
-        holds(rt, is_kept_back, &(words, step));
+        check_answer(rt, alloc, words, &mut reader, wanted)?;
     }
+    Ok(())
+}
+
+fn check_answer(
+    rt: &impl Abort,
+    alloc: Global,
+    words: Words,
+    reader: &mut Trickle<'_>,
+    wanted: Answer,
+) -> Result<(), Fail> {
+    let mut writer = sound_drip(alloc);
+    let answer = read_by(rt, alloc, words, reader, &mut writer)?;
+    let about = (words, reader.step);
+    same(rt, &answer, &wanted, &about);
+    holds(rt, reader.rest.is_empty(), &about);
+    let is_kept_back = wanted == Answer::Done || writer.taken.is_empty();
+    holds(rt, is_kept_back, &about);
     Ok(())
 }

@@ -70,16 +70,28 @@ fn check_mode(
     let ample = report_by(alloc, words, input)?;
     same(rt, &ample.len(), &len, &words);
     let name = format!(in alloc; "run {words:?} on {} bytes", input.len())?;
-    let asked = each_refused_by_value(
-        alloc,
-        name.as_str(),
-        || prepared(alloc, words, len),
-        |prepared| ended(alloc, input, prepared),
-        |ended| check_ended(rt, &ended, ample.as_slice(), name.as_str()),
-    )?;
-    let is_met = asked.requests > 0;
+    let requests = refuse_each(rt, alloc, name.as_str(), words, input, ample.as_slice())?;
+    let is_met = requests > 0;
     same(rt, &is_met, &(can_refuse(alloc) && len > 0), &name);
     Ok(())
+}
+
+fn refuse_each(
+    rt: &impl Abort,
+    alloc: Global,
+    name: &str,
+    words: Words,
+    input: &[u8],
+    wanted: &[u8],
+) -> Result<u32, Fail> {
+    let asked = each_refused_by_value(
+        alloc,
+        name,
+        || prepared(alloc, words, wanted.len()),
+        |prepared| ended(alloc, input, prepared),
+        |ended| check_ended(rt, &ended, wanted, name),
+    )?;
+    Ok(asked.requests)
 }
 
 /// The mode of these words, and a writer that has room for the report.

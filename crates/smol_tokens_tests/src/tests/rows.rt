@@ -87,17 +87,27 @@ pub struct Row {
 /// The reports of the table, those on texts about the limit, and those on a line of 9,000 letters.
 pub fn all_rows(alloc: Global) -> Result<Vec<Row>, AllocError> {
     let mut all = Vec::new(alloc);
-    for (words, input, report) in REPORTS {
-        push_row(&mut all, alloc, words, input, report)?;
-    }
+    push_reports(&mut all, alloc)?;
     push_full(&mut all, alloc)?;
     push_tokens(&mut all, alloc)?;
-    for (words, [_, front], letter) in LETTERS {
-        let input = long_line(alloc, "", 'a', 9000)?;
-        let report = long_line(alloc, front, letter, 9000)?;
-        push_texts(&mut all, alloc, words, input.as_str(), report.as_str())?;
-    }
+    push_letters(&mut all, alloc)?;
     Ok(all)
+}
+
+fn push_reports(all: &mut Vec<Row>, alloc: Global) -> Result<(), AllocError> {
+    for (words, input, report) in REPORTS {
+        push_row(all, alloc, words, input, report)?;
+    }
+    Ok(())
+}
+
+fn push_letters(all: &mut Vec<Row>, alloc: Global) -> Result<(), AllocError> {
+    let input = long_line(alloc, "", 'a', 9000)?;
+    for (words, [_, front], letter) in LETTERS {
+        let report = long_line(alloc, front, letter, 9000)?;
+        push_texts(all, alloc, words, input.as_str(), report.as_str())?;
+    }
+    Ok(())
 }
 
 /// A line that fills a buffer, and lines that are a byte too long.

@@ -163,18 +163,18 @@ fn token(alloc: Global, number: u64) -> Result<SmolStr, Fail> {
 #[test]
 fn many_different_tokens(rt: HostRuntime) -> Result<(), Fail> {
     let mut tally = Tally::new(rt.alloc());
-    check_many(&rt, rt.alloc(), &mut tally)?;
-    same(&rt, &tally.len(), &200_000, &"many");
-    let count = tally.count(&token(rt.alloc(), 199_999)?);
-    same(&rt, &count, &Some(199_999), &"the last");
-    Ok(())
+    check_many(&rt, rt.alloc(), &mut tally)
 }
 
 fn check_many(rt: &impl Abort, alloc: Global, tally: &mut Tally) -> Result<(), Fail> {
     for number in 0..MANY {
         check_add(rt, tally, token(alloc, number)?, number, number)?;
     }
-    check_at(rt, tally, 123_456, "token 123456", 123_456)
+    same(rt, &tally.len(), &200_000, &"many");
+    check_at(rt, tally, 123_456, "token 123456", 123_456)?;
+    let last = token(alloc, 199_999)?;
+    same(rt, &tally.count(&last), &Some(199_999), &"the last");
+    Ok(())
 }
 
 #[test]
@@ -201,19 +201,23 @@ fn check_token(rt: &impl Abort, alloc: Global, text: &str) -> Result<(), Fail> {
     let shared = RcStr::from_str(alloc, text)?;
     let mut sizes_met = 0u32;
     for there in 0..40u64 {
-        let asked = each_refused_by_value(
-            alloc,
-            "Tally::add",
-            || prepared(alloc, &shared, there),
-            |input| added(input),
-            |ended| check_added(rt, alloc, &shared, there, ended),
-        )?;
-        if asked.requests > 0 {
+        if refuse_each(rt, alloc, &shared, there)? > 0 {
             sizes_met = sizes_met.saturating_add(1);
         }
     }
     same(rt, &(sizes_met > 1), &can_refuse(alloc), &text);
     Ok(())
+}
+
+fn refuse_each(rt: &impl Abort, alloc: Global, shared: &RcStr, there: u64) -> Result<u32, Fail> {
+    let asked = each_refused_by_value(
+        alloc,
+        "Tally::add",
+        || prepared(alloc, shared, there),
+        |input| added(input),
+        |ended| check_added(rt, alloc, shared, there, ended),
+    )?;
+    Ok(asked.requests)
 }
 
 /// A tally of so many tokens, and a token that is not there.
@@ -226,10 +230,14 @@ fn prepared(alloc: Global, shared: &RcStr, there: u64) -> Result<(Tally, SmolStr
 fn tally_of(alloc: Global, there: u64) -> Result<Tally, Fail> {
     let mut tally = Tally::new(alloc);
     for number in 0..there {
-        let text = format!(in alloc; "{number}")?;
-        add(&mut tally, SmolStr::new(alloc, text.as_str())?, number)?;
+        add_number(alloc, &mut tally, number)?;
     }
     Ok(tally)
+}
+
+fn add_number(alloc: Global, tally: &mut Tally, number: u64) -> Result<u64, Fail> {
+    let text = format!(in alloc; "{number}")?;
+    add(tally, SmolStr::new(alloc, text.as_str())?, number)
 }
 
 /// How often the new token is added.
@@ -256,12 +264,21 @@ fn check_added(
             same(rt, &count, &TIMES, &there);
             check_last(rt, alloc, &tally, there, shared.as_str())
         }
-        Err((mut tally, fault)) => {
-            let back = refused_token(fault).ok_or("full")?;
-            check_back(rt, alloc, shared, &back)?;
-            check_again(rt, alloc, &mut tally, there, back)
-        }
+        Err((mut tally, fault)) => check_refused(rt, alloc, shared, there, &mut tally, fault),
     }
+}
+
+fn check_refused(
+    rt: &impl Abort,
+    alloc: Global,
+    shared: &RcStr,
+    there: u64,
+    tally: &mut Tally,
+    fault: AddFault,
+) -> Result<(), Fail> {
+    let back = refused_token(fault).ok_or("full")?;
+    check_back(rt, alloc, shared, &back)?;
+    check_again(rt, alloc, tally, there, back)
 }
 
 fn refused_token(fault: AddFault) -> Option<SmolStr> {
