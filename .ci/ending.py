@@ -4,7 +4,6 @@ import os
 import signal
 import subprocess
 import sys
-import tempfile
 import time
 
 
@@ -41,25 +40,3 @@ def run(words, **how):
             end_group(started)
             raise
     return subprocess.CompletedProcess(words, started.returncode, *said)
-
-
-def run_in_each(words, folders, at_once):
-    """What a command says in each of these folders, in their order, run in so many at once."""
-    waiting, running, said = [*folders], {}, {}
-    with contextlib.ExitStack() as logs:
-        try:
-            while waiting or running:
-                while waiting and len(running) < at_once:
-                    folder, log = waiting.pop(0), logs.enter_context(tempfile.TemporaryFile())
-                    how = {"cwd": folder, "stdin": subprocess.DEVNULL, "stdout": log, "stderr": subprocess.STDOUT}
-                    running[folder] = subprocess.Popen(words, start_new_session=True, **how), log
-                time.sleep(0.2)
-                for folder in [it for it in running if running[it][0].poll() is not None]:
-                    log = running.pop(folder)[1]
-                    log.seek(0)
-                    said[folder] = log.read().decode("utf-8", errors="replace")
-        except BaseException:
-            for started, _ in running.values():
-                end_group(started)
-            raise
-    return [said[folder] for folder in folders]
