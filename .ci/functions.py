@@ -1,5 +1,6 @@
 """Names the function that each line of a crate's sources belongs to, as the prover names it: `Functions` is what the
 scripts beside this one use. The sources are in the layout of `rt fmt`."""
+import itertools
 import pathlib
 import re
 
@@ -24,8 +25,10 @@ class Functions:
         return "::".join([self.crate.name, *(part for part in parts if parts not in (("lib",), ("main",)))])
 
     def named(self, path):
-        """The name of the function at each line of a file, None outside of functions."""
+        """The name of the function at each line of a file, None outside of functions and in proofs."""
         file = self.crate / path
+        if file.suffix != ".rt":
+            return itertools.repeat(None)
         lines, module = file.read_text(encoding="utf-8").split("\n"), self.module(file)
         names, owner, at = [None] * len(lines), module, 0
         while at < len(lines):
@@ -48,8 +51,11 @@ class Functions:
             return f"{module}::{declared[1]}"
         parameters, rest = _parameters(header.removeprefix("impl"))
         trait, _, of = re.sub(r"\s+where\b.*", "", rest).rpartition(" for ")
-        name, trait = _words(of, parameters), re.sub(r"^[\w:]*::", "", trait)
-        return f"{module}::{name}{_words(trait, parameters)}" if trait else f"{self.homes.get(name, module)}::{name}"
+        if trait:
+            trait = re.sub(r"^[\w:]*::", "", trait)
+            return f"{module}::{_words(of, parameters)}{_words(trait, parameters)}"
+        words = [word for word in re.findall(r"\w+", re.sub(r"'\w+", "", of)) if word not in parameters]
+        return f"{self.homes.get(words[0], module)}::{'+'.join(words)}"
 
 
 def _header(lines, at):
