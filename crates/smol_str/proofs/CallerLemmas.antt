@@ -8,45 +8,63 @@
 --     form_is_whole, form-..              bytes that are a wire form: both calls read its text
 --     form-cut-..                         bytes of which the end may be missing: what has not ended early is whole
 --     Holds-parts                         a form that is held, and what follows it
+--     count-apart, forms-..               lists of texts: their number, and their forms one after another
+--     AreRead, one_read, all_read, next_form    a loop that reads such a list
+--     replacing   a ruleset: one character in place of each of another
 --     key_of, same_key-other              a map with values as keys, at other texts than the one that changed
+--     text-set                            and at any text, where its values are values too
+--     stands_for-text                     and one that is asked by a `&str`
 --     IsCut-cut, IsCut-unique, IsCutAt-step, IsCutAt-unmatched     that pieces are the cut of a text
-use Rattle.std.proofs.Common.{◌≡◌, ℕ, ◌+◌, ◌<◌, ◌≤◌, String, Global, Bor, Option, Result, Ok, Err, IfOk, IsOk, OnOk, OnErr, subst, List, [], ◌++◌, length, take, drop, get_or, encode_utf8_all, refl, sym, ap, ◌∙◌, inl, inr, append-nil, false, IsTrue, arith}
-use Rattle.std.specs.List.{flat_map}
-use Rattle.std.specs.Int.{from_le_bytes, w32}
-use Rattle.std.specs.Str.{chars, all_scalars, bytes_eq, IsUtf8}
-use Rattle.std.proofs.lemmas.Bool.{false_from_ne_true}
-use Rattle.std.proofs.lemmas.Iterator.{YieldsList, YieldsList-from_chars, YieldsList-from_slice}
+--     joined_more                         pieces joined, a piece at a time
+use Rattle.smol_str.proofs.Common.{◌≡◌, ℕ, ◌+◌, ◌<◌, ◌≤◌, String, Global, Bor, Option, Result, Ok, Err, IfOk, IsOk, OnOk, OnErr, subst, List, [], ◌++◌, length, take, drop, get_or, encode_utf8_all, refl, sym, ap, ◌∙◌, inl, inr, append-nil, false, IsTrue, arith, flat_map, from_le_bytes, w32, chars, all_scalars, IsUtf8, false_from_ne_true, YieldsList, YieldsList-from_chars, YieldsList-from_slice, take-append-le, chars-encodes, chars_from_encodes, encodes-chars, INLINE_CAP, size, IsShort, IsResident, Meaning, IsValueOf, Draft, Kind, InBuffer, OnHeap, kind_with, appended, empty_draft, joined, char_text, str_text, string_text, string_ref_text, AppendedAll, Collected, Outgrown, HasWire, wire, Holds, HasEndedEarly, body, common_steps, rules}
 use Rattle.std.proofs.lemmas.Iterator.Adapters.{YieldsList-from_vec}
-use Rattle.std.proofs.lemmas.List.{take-append-le}
+use Rattle.std.proofs.Common.{map}
+use Rattle.std.proofs.lemmas.List.Folds.{flat_map-map}
 use Rattle.std.proofs.lemmas.Slice.Eq.{bytes_eq-Decides}
-use Rattle.std.proofs.lemmas.Str.{chars-encodes, chars_from_encodes, encodes-chars}
-use Rattle.smol_str.specs.declared.buffer.TheConstants.{INLINE_CAP}
 use Rattle.smol_str.specs.declared.value.place.Place.TheVariants.{Inline}
-use Rattle.smol_str.specs.Text.{size, IsShort, IsResident}
-use Rattle.smol_str.specs.Meaning.{Meaning, IsValueOf}
 use Rattle.smol_str.specs.Keys.{same_key}
-use Rattle.smol_str.specs.Draft.{Draft, Kind, InBuffer, OnHeap, kind_with, appended, empty_draft}
-use Rattle.smol_str.specs.Joined.{joined, char_text, str_text, string_text, string_ref_text}
-use Rattle.smol_str.specs.Collect.{AppendedAll, Collected, Outgrown}
-use Rattle.smol_str.proofs.ListLemmas.{flat_map-more, flat_map-parts}
-use Rattle.smol_str.proofs.TextLemmas.{IsShort-chars}
-use Rattle.smol_str.proofs.SplitLemmas.{chars-middle}
-use Rattle.smol_str.proofs.DraftLemmas.{kind_with-short}
-use Rattle.smol_str.proofs.CollectLemmas.{joined-chars, joined-drained, not_short-outgrown}
-use Rattle.smol_str.specs.Wire.{HasWire, wire, Holds, stated, HasEndedEarly, body}
-use Rattle.smol_str.proofs.WireLemmas.{length-wire, stated_size, wire-apart, Holds-one, Holds-whole, body-Holds, Holds-written, held, length-Holds}
+use Rattle.smol_str.proofs.TextLemmas.Lists.{flat_map-more, flat_map-parts}
+use Rattle.smol_str.proofs.TextLemmas.Places.{IsShort-chars}
+use Rattle.smol_str.proofs.TextLemmas.Split.{chars-middle}
+use Rattle.smol_str.proofs.BuilderLemmas.Draft.{kind_with-short}
+use Rattle.smol_str.proofs.BuilderLemmas.Collect.{joined-chars, joined-drained, not_short-outgrown}
+use Rattle.smol_str.specs.Wire.{stated}
+use Rattle.smol_str.proofs.WireLemmas.Wire.{length-wire, stated_size, wire-apart, Holds-one, Holds-whole, body-Holds, Holds-written, wire-held, length-Holds}
+use Rattle.std.proofs.Common.{◌^◌, ◌∷◌, All, append_assoc, nat_eq, if◌then◌else◌}
+use Rattle.std.specs.Bool.{one_answer}
+use Rattle.std.specs.Cmp.Lexicographic.{bytes_decides}
+use Rattle.std.specs.Int.{to_le_bytes}
+use Rattle.std.specs.Str.{bytes_eq}
+use Rattle.std.proofs.lemmas.List.{flat_map_more}
+use Rattle.std.proofs.lemmas.List.Elements.{All-head, All-tail}
+use Rattle.std.proofs.Common.{length-append, Bool, true, Some, option_map}
+use Rattle.std.proofs.lemmas.List.Elements.{All-push}
+use Rattle.std.proofs.lemmas.Nat.{from_le_bytes-to_le_bytes_4}
+use Rattle.std.proofs.lemmas.Str.{encodes_same, chars-IsAscii}
+use Rattle.std.proofs.lemmas.Str.Ascii.{IsAscii-cons, IsAscii-nil}
+use Rattle.smol_str.specs.Replace.{replaced_all, each_replaced}
+use Rattle.smol_str.specs.Keys.{stands_for}
+use Rattle.smol_str.proofs.CaseLemmas.Ascii.{size-mapped}
+use Rattle.smol_str.proofs.CutLemmas.Bytes.{each-moves, replaced_all-character}
+use Rattle.smol_str.specs.Replace.{cut, no_limit}
+use Rattle.smol_str.specs.Collect.{OutgrownAfter}
+use Rattle.smol_str.proofs.BuilderLemmas.Collect.{heap-outgrown}
+use Rattle.smol_str.proofs.PieceLemmas.{joined-nothing}
+-- what std's iterators give
+pub use Rattle.smol_str.proofs.IteratorLemmas.{YieldsList-from_array, gives-chars, gives-slice, gives-take, gives-chain, gives-map, gives-filter, gives-copied, gives-rev_slice, gives-rev_chars}
+pub use Rattle.smol_str.proofs.PieceLemmas.{gives-split}
 -- each front of a short text is short
-pub use Rattle.smol_str.proofs.TextLemmas.{IsShort-front}
+pub use Rattle.smol_str.proofs.TextLemmas.Places.{IsShort-front}
 -- the size of the text that bytes spell, and of two texts, one after the other
-pub use Rattle.smol_str.proofs.TextLemmas.{size-chars, size-append}
+pub use Rattle.smol_str.proofs.TextLemmas.Places.{size-chars, size-append}
 -- bytes of a text in two parts, at the size of the first: they may be cut there, and behind the cut stands the second
-pub use Rattle.smol_str.proofs.SplitLemmas.{boundary-parts, chars-drop}
+pub use Rattle.smol_str.proofs.TextLemmas.Split.{boundary-parts, chars-drop}
 -- appending twice is appending the joined text; a new builder leaves its buffer only for a text that is not short
-pub use Rattle.smol_str.proofs.DraftLemmas.{appended-twice, OnHeap-long}
+pub use Rattle.smol_str.proofs.BuilderLemmas.Draft.{appended-twice, OnHeap-long}
 -- whatever the result: for a clause on `Err` that holds anyway
-pub use Rattle.smol_str.proofs.TextLemmas.{OnErr-always}
--- cuts: the one there is, a first match in front of a cut, and a text without a match
-pub use Rattle.smol_str.proofs.CutLemmas.{IsCut-cut, IsCut-unique, step as IsCutAt-step, no_match as IsCutAt-unmatched}
+pub use Rattle.smol_str.proofs.TextLemmas.Places.{OnErr-always}
+-- cuts: the one there is, a first match in front of a cut, a text without a match, and what joins pieces
+pub use Rattle.smol_str.proofs.CutLemmas.Cut.{joined_more, IsCut-cut, IsCut-unique, IsCutAt-step, IsCutAt-unmatched}
 
 -- ---- texts
 
@@ -102,11 +120,7 @@ module _ {X : Type 0} (f : X →
   pub appended-more : (start old new : Draft) → old ≡ appended start (flat_map f (take i xs)) →
       new ≡ appended old (chars bs) →
       new ≡ appended start (flat_map f (take (i + 1) xs))
-  appended-more start old new so_far push =
-      let piece = chars-as_str (f x) bs scalars lent in
-      let joined = ap (λ t. flat_map f (take i xs) ++ t) piece ∙ sym (flat_map-more f xs i x here item) in
-      push ∙ ap (λ b. appended b (chars bs)) so_far ∙ appended-twice start (flat_map f (take i xs)) (chars bs)
-      ∙ ap (appended start) joined
+  appended-more start old new so_far push = grind (arith, common_steps, chars-as_str, flat_map-more, appended-twice)
 
   -- the refusal, of a builder that was new: the joined text of the whole list is not short
   pub appended-refused : (old : Draft) → old ≡ appended (empty_draft InBuffer) (flat_map f (take i xs)) →
@@ -116,6 +130,38 @@ module _ {X : Type 0} (f : X →
       let long = OnHeap-long (flat_map f (take (i + 1) xs)) (sym (ap (λ b. b.kind) now) ∙ heap) in
       long (IsShort-front _ (flat_map f (drop (i + 1) xs)) (rw (flat_map-parts f xs (i + 1)) at short))
 
+-- ---- one character of ASCII in place of each of another, as `text.replace_smolstr(alloc, "_", "-")`
+
+module _ (x y : ℕ) (low : x < 128) (small : y < 128) where
+  alone : (c : ℕ) → c < 128 → chars (c ∷ []) ≡ c ∷ []
+  alone c ascii = chars-IsAscii (c ∷ []) (IsAscii-cons c [] ascii IsAscii-nil)
+
+  replaced_each : (t : List ℕ) → replaced_all t (chars (x ∷ [])) (chars (y ∷ [])) ≡ each_replaced x y t
+  replaced_each t = (λ i. replaced_all t (alone x low i) (alone y small i)) ∙ replaced_all-character t x y
+
+-- the clauses `ok` and `refused` as a caller says them
+pub each_replaced-value : {E : Type 0} (r : Result Meaning E) (t : List ℕ) (x y : ℕ)
+    → IfOk r (λ v. IsValueOf (replaced_all t (chars (x ∷ [])) (chars (y ∷ []))) v) → x < 128 → y < 128
+    → IfOk r (λ v. IsValueOf (each_replaced x y t) v)
+each_replaced-value r t x y is low small = subst (λ t. IfOk r (λ v. IsValueOf t v)) (replaced_each x y low small t) is
+
+pub each_replaced-refused : {T E : Type 0} (r : Result T E) (t : List ℕ) (x y : ℕ)
+    → OnErr r (¬ (IsShort (replaced_all t (chars (x ∷ [])) (chars (y ∷ []))))) → x < 128 → y < 128
+    → OnErr r (¬ (IsShort (each_replaced x y t)))
+each_replaced-refused r t x y long low small = subst (λ t. OnErr r (¬ (IsShort t))) (replaced_each x y low small t) long
+
+-- and that no short text is refused, as long as the new one; at a goal of your own by `search (replacing, rules)`
+pub each_replaced-short : {T E : Type 0} (r : Result T E) (bs : List ℕ) (x y : ℕ)
+    → OnErr r (¬ (IsShort (replaced_all (chars bs) (chars (x ∷ [])) (chars (y ∷ []))))) → IsUtf8 bs → x < 128 → y < 128
+    → OnErr r (¬ (IsShort (chars bs)))
+each_replaced-short (Ok v) bs x y long u low small = tt
+each_replaced-short (Err e) bs x y long u low small = λ short.
+    let each = ap size (replaced_each x y low small (chars bs)) in
+    let sizes = size-mapped (λ c. if nat_eq c x then y else c) (each-moves x y low small) bs u in
+    long (omega (arith, each, sizes, size-chars bs u, short))
+
+pub ruleset replacing = (each_replaced-value, each_replaced-refused, each_replaced-short)
+
 -- ---- maps with values as keys
 
 -- any key of the text t, for what a map's clause says of every key
@@ -124,23 +170,47 @@ key_of t = record { text = t; place = Inline }
 
 -- a key of another text is another key: with it, `updates.2` of a change at `key` speaks of `value_at t`
 pub same_key-other : (key : Meaning) (t : List ℕ) → ¬ (t ≡ key.text) → same_key key (key_of t) ≡ false
-same_key-other key t other =
-    false_from_ne_true (bytes_eq key.text t) (λ yes. other (sym ((bytes_eq-Decides key.text t).0 yes)))
+same_key-other key t other = search (rules, false_from_ne_true, bytes_eq-Decides)
+
+-- what such a map has at a text, as a text, after a value was set
+pub text-set : (b : Bool) (v : Meaning) (old : Option Meaning)
+    → option_map (λ (w : Meaning). w.text) (if b then Some v else old)
+    ≡ (if b then Some v.text else option_map (λ (w : Meaning). w.text) old)
+text-set true v old = refl
+text-set false v old = refl
+
+-- a `&str` stands for the keys of its text
+pub stands_for-text : (bs : List ℕ) (key : Meaning) → IsUtf8 bs → stands_for bs key ≡ bytes_eq (chars bs) key.text
+stands_for-text bs key u =
+    let spelt = bytes_decides bs (encode_utf8_all key.text) in
+    let back = encodes-chars bs u in
+    one_answer (stands_for bs key) (bytes_eq (chars bs) key.text)
+    (λ h. encodes_same (chars bs) key.text (back ∙ spelt.0 h), λ e. spelt.1 (sym back ∙ ap encode_utf8_all e))
+    (bytes_decides (chars bs) key.text)
 
 -- ---- collecting
 
 -- from an iterator that gives a list, as the lemmas `YieldsList-from_..` of std say: a value of its texts, one after
 -- another; refused only where these are not short; a builder with these at its end
 module _ {S A B : Type 0} {steps : S → Option A → S → Type 0} {s : S} (h : B → List ℕ) {v : A → B} {all : List B} where
-  pub collected : {E : Type 0} (r : Result Meaning E)
-      → IfOk r (Collected (λ x. h (v x)) steps s) → YieldsList steps v s all → IfOk r (λ m. IsValueOf (joined h all) m)
-  collected (Ok m) (xs, d, is) gives = subst (λ t. IsValueOf t m) (joined-drained h v xs all d gives) is
-  collected (Err e) is gives = tt
+  pub collected : {E : Type 0} (m : Meaning → Meaning) (r : Result Meaning E)
+      → IfOk r (Collected (λ x. h (v x)) steps s m) → ((y : Meaning) → m y ≡ y) → YieldsList steps v s all
+      → IfOk r (λ y. IsValueOf (joined h all) y)
+  collected m (Ok y) (xs, d, is) same gives =
+      subst (IsValueOf (joined h all)) (same y) (subst (λ t. IsValueOf t (m y)) (joined-drained h v xs all d gives) is)
+  collected m (Err e) is same gives = tt
 
   pub refused : {T E : Type 0} (r : Result T E)
       → OnErr r (Outgrown (λ x. h (v x)) steps s) → YieldsList steps v s all → OnErr r (¬ (IsShort (joined h all)))
   refused (Ok x) out gives = tt
   refused (Err e) out gives = not_short-outgrown h v all out gives
+
+  -- an extension that was refused would have put the builder on the heap
+  pub extend_refused : {T E : Type 0} (r : Result T E) (old : Draft)
+      → OnErr r (OutgrownAfter (λ x. h (v x)) steps s old) → YieldsList steps v s all
+      → OnErr r ((appended old (joined h all)).kind ≡ OnHeap)
+  extend_refused (Ok x) old out gives = tt
+  extend_refused (Err e) old out gives = heap-outgrown h v old all out gives
 
   pub extended : {T E : Type 0} (r : Result T E) (old new : Draft)
       → OnOk r (AppendedAll (λ x. h (v x)) steps s old new) → YieldsList steps v s all
@@ -150,10 +220,11 @@ module _ {S A B : Type 0} {steps : S → Option A → S → Type 0} {s : S} (h :
 
 -- the same of each kind of item; a character is a text by itself
 module _ {S E : Type 0} {steps : S → Option ℕ → S → Type 0} {s : S} {all : List ℕ} where
-  pub chars_collected : (r : Result Meaning E)
-      → IfOk r (Collected char_text steps s) → YieldsList steps (λ c. c) s all → IfOk r (λ m. IsValueOf all m)
-  chars_collected r is gives =
-      subst (λ t. IfOk r (λ m. IsValueOf t m)) (joined-chars all) (collected char_text r is gives)
+  pub chars_collected : (m : Meaning → Meaning) (r : Result Meaning E)
+      → IfOk r (Collected char_text steps s m)
+      → ((y : Meaning) → m y ≡ y) → YieldsList steps (λ c. c) s all → IfOk r (λ y. IsValueOf all y)
+  chars_collected m r is same gives =
+      subst (λ t. IfOk r (λ y. IsValueOf t y)) (joined-chars all) (collected char_text m r is same gives)
 
   pub chars_refused : {T : Type 0} (r : Result T E)
       → OnErr r (Outgrown char_text steps s) → YieldsList steps (λ c. c) s all → OnErr r (¬ (IsShort all))
@@ -164,10 +235,16 @@ module _ {S E : Type 0} {steps : S → Option ℕ → S → Type 0} {s : S} {all
   chars_extended r old new is gives =
       subst (λ t. OnOk r (new ≡ appended old t)) (joined-chars all) (extended char_text r old new is gives)
 
+  pub chars_extend_refused : {T : Type 0} (r : Result T E) (old : Draft)
+      → OnErr r (OutgrownAfter char_text steps s old) → YieldsList steps (λ c. c) s all
+      → OnErr r ((appended old all).kind ≡ OnHeap)
+  chars_extend_refused r old out gives =
+      subst (λ t. OnErr r ((appended old t).kind ≡ OnHeap)) (joined-chars all) (extend_refused char_text r old out gives)
+
 module _ {S E : Type 0} {steps : S → Option (Bor (List ℕ)) → S → Type 0} {s : S} {all : List (List ℕ)} where
-  pub strs_collected : (r : Result Meaning E) → IfOk r (Collected str_text steps s)
-      → YieldsList steps (λ x. x.now) s all → IfOk r (λ m. IsValueOf (joined chars all) m)
-  strs_collected r is gives = collected chars r is gives
+  pub strs_collected : (m : Meaning → Meaning) (r : Result Meaning E) → IfOk r (Collected str_text steps s m)
+      → ((y : Meaning) → m y ≡ y) → YieldsList steps (λ x. x.now) s all → IfOk r (λ y. IsValueOf (joined chars all) y)
+  strs_collected m r is same gives = collected chars m r is same gives
 
   pub strs_refused : {T : Type 0} (r : Result T E) → OnErr r (Outgrown str_text steps s)
       → YieldsList steps (λ x. x.now) s all → OnErr r (¬ (IsShort (joined chars all)))
@@ -178,10 +255,15 @@ module _ {S E : Type 0} {steps : S → Option (Bor (List ℕ)) → S → Type 0}
       → YieldsList steps (λ x. x.now) s all → OnOk r (new ≡ appended old (joined chars all))
   strs_extended r old new is gives = extended chars r old new is gives
 
+  pub strs_extend_refused : {T : Type 0} (r : Result T E) (old : Draft)
+      → OnErr r (OutgrownAfter str_text steps s old) → YieldsList steps (λ x. x.now) s all
+      → OnErr r ((appended old (joined chars all)).kind ≡ OnHeap)
+  strs_extend_refused r old out gives = extend_refused chars r old out gives
+
 module _ {S E : Type 0} {steps : S → Option (String Global) → S → Type 0} {s : S} {all : List (String Global)} where
-  pub strings_collected : (r : Result Meaning E) → IfOk r (Collected string_text steps s)
-      → YieldsList steps (λ x. x) s all → IfOk r (λ m. IsValueOf (joined string_text all) m)
-  strings_collected r is gives = collected string_text r is gives
+  pub strings_collected : (m : Meaning → Meaning) (r : Result Meaning E) → IfOk r (Collected string_text steps s m)
+      → ((y : Meaning) → m y ≡ y) → YieldsList steps (λ x. x) s all → IfOk r (λ y. IsValueOf (joined string_text all) y)
+  strings_collected m r is same gives = collected string_text m r is same gives
 
   pub strings_refused : {T : Type 0} (r : Result T E) → OnErr r (Outgrown string_text steps s)
       → YieldsList steps (λ x. x) s all → OnErr r (¬ (IsShort (joined string_text all)))
@@ -189,9 +271,9 @@ module _ {S E : Type 0} {steps : S → Option (String Global) → S → Type 0} 
 
 module _ {S E : Type 0} {steps : S → Option (Bor (String Global)) → S → Type 0} {s : S}
     {all : List (String Global)} where
-  pub string_refs_collected : (r : Result Meaning E) → IfOk r (Collected string_ref_text steps s)
-      → YieldsList steps (λ x. x.now) s all → IfOk r (λ m. IsValueOf (joined string_text all) m)
-  string_refs_collected r is gives = collected string_text r is gives
+  pub string_refs_collected : (m : Meaning → Meaning) (r : Result Meaning E) → IfOk r (Collected string_ref_text steps s m)
+      → ((y : Meaning) → m y ≡ y) → YieldsList steps (λ x. x.now) s all → IfOk r (λ y. IsValueOf (joined string_text all) y)
+  string_refs_collected m r is same gives = collected string_text m r is same gives
 
   pub string_refs_refused : {T : Type 0} (r : Result T E) → OnErr r (Outgrown string_ref_text steps s)
       → YieldsList steps (λ x. x.now) s all → OnErr r (¬ (IsShort (joined string_text all)))
@@ -201,6 +283,57 @@ module _ {S E : Type 0} {steps : S → Option (Bor (String Global)) → S → Ty
       → OnOk r (AppendedAll string_ref_text steps s old new)
       → YieldsList steps (λ x. x.now) s all → OnOk r (new ≡ appended old (joined string_text all))
   string_refs_extended r old new is gives = extended string_text r old new is gives
+
+  pub string_refs_extend_refused : {T : Type 0} (r : Result T E) (old : Draft)
+      → OnErr r (OutgrownAfter string_ref_text steps s old) → YieldsList steps (λ x. x.now) s all
+      → OnErr r ((appended old (joined string_text all)).kind ≡ OnHeap)
+  string_refs_extend_refused r old out gives = extend_refused string_text r old out gives
+
+-- the texts of `&str`s that a closure or a copy gives, which are read off each item x of a list as h x
+module _ {S B E : Type 0} {steps : S → Option (Bor (List ℕ)) → S → Type 0} {s : S} (h : B → List ℕ) (xs : List B) where
+  pub mapped_collected : (m : Meaning → Meaning) (r : Result Meaning E) → IfOk r (Collected str_text steps s m)
+      → ((y : Meaning) → m y ≡ y) → YieldsList steps (λ x. chars x.now) s (map h xs) → IfOk r (λ y. IsValueOf (joined h xs) y)
+  mapped_collected m r is same gives =
+      subst (λ t. IfOk r (λ y. IsValueOf t y)) (flat_map-map (λ t. t) h xs) (collected (λ t. t) m r is same gives)
+
+  pub mapped_refused : {T : Type 0} (r : Result T E) → OnErr r (Outgrown str_text steps s)
+      → YieldsList steps (λ x. chars x.now) s (map h xs) → OnErr r (¬ (IsShort (joined h xs)))
+  mapped_refused r out gives =
+      subst (λ t. OnErr r (¬ (IsShort t))) (flat_map-map (λ t. t) h xs) (refused (λ t. t) r out gives)
+
+  pub mapped_extended : {T : Type 0} (r : Result T E) (old new : Draft) → OnOk r (AppendedAll str_text steps s old new)
+      → YieldsList steps (λ x. chars x.now) s (map h xs) → OnOk r (new ≡ appended old (joined h xs))
+  mapped_extended r old new is gives =
+      subst (λ t. OnOk r (new ≡ appended old t)) (flat_map-map (λ t. t) h xs) (extended (λ t. t) r old new is gives)
+
+  pub mapped_extend_refused : {T : Type 0} (r : Result T E) (old : Draft)
+      → OnErr r (OutgrownAfter str_text steps s old) → YieldsList steps (λ x. chars x.now) s (map h xs)
+      → OnErr r ((appended old (joined h xs)).kind ≡ OnHeap)
+  mapped_extend_refused r old out gives =
+      subst (λ t. OnErr r ((appended old t).kind ≡ OnHeap)) (flat_map-map (λ t. t) h xs)
+      (extend_refused (λ t. t) r old out gives)
+
+module _ {S E : Type 0} {steps : S → Option (Bor (List ℕ)) → S → Type 0} {s : S} {all : List (Bor (List ℕ))} where
+  pub items_collected : (m : Meaning → Meaning) (r : Result Meaning E) → IfOk r (Collected str_text steps s m)
+      → ((y : Meaning) → m y ≡ y) → YieldsList steps (λ x. x) s all → IfOk r (λ y. IsValueOf (joined str_text all) y)
+  items_collected m r is same gives = collected str_text m r is same gives
+
+  pub items_refused : {T : Type 0} (r : Result T E) → OnErr r (Outgrown str_text steps s)
+      → YieldsList steps (λ x. x) s all → OnErr r (¬ (IsShort (joined str_text all)))
+  items_refused r out gives = refused str_text r out gives
+
+-- the pieces of a text t that is split at p, which are what is left where p is replaced by nothing
+module _ {S E : Type 0} {steps : S → Option (Bor (List ℕ)) → S → Type 0} {s : S} (t p : List ℕ) where
+  pub split_collected : (m : Meaning → Meaning) (r : Result Meaning E) → IfOk r (Collected str_text steps s m)
+      → ((y : Meaning) → m y ≡ y) → YieldsList steps (λ x. chars x.now) s (cut t p (no_limit t))
+      → IfOk r (λ y. IsValueOf (replaced_all t p []) y)
+  split_collected m r is same gives =
+      subst (λ t. IfOk r (λ y. IsValueOf t y)) (joined-nothing (cut t p (no_limit t))) (collected (λ q. q) m r is same gives)
+
+  pub split_refused : {T : Type 0} (r : Result T E) → OnErr r (Outgrown str_text steps s)
+      → YieldsList steps (λ x. chars x.now) s (cut t p (no_limit t)) → OnErr r (¬ (IsShort (replaced_all t p [])))
+  split_refused r out gives =
+      subst (λ t. OnErr r (¬ (IsShort t))) (joined-nothing (cut t p (no_limit t))) (refused (λ q. q) r out gives)
 
 -- the characters of a text that is short by its bytes: never refused
 pub short_is_ok : {S T E : Type 0} {steps : S → Option ℕ → S → Type 0} {s : S} {bs : List ℕ} (r : Result T E)
@@ -215,25 +348,45 @@ pub ruleset collecting = (
   chars_collected,
   chars_refused,
   chars_extended,
+  chars_extend_refused,
   strs_collected,
   strs_refused,
   strs_extended,
+  strs_extend_refused,
   strings_collected,
   strings_refused,
   string_refs_collected,
   string_refs_refused,
   string_refs_extended,
+  string_refs_extend_refused,
+  mapped_collected,
+  mapped_refused,
+  mapped_extended,
+  mapped_extend_refused,
+  items_collected,
+  items_refused,
+  split_collected,
+  split_refused,
   short_is_ok,
-  YieldsList-from_chars,
-  YieldsList-from_slice,
+  gives-chars,
+  gives-slice,
   YieldsList-from_vec,
+  YieldsList-from_array,
+  gives-take,
+  gives-chain,
+  gives-map,
+  gives-filter,
+  gives-copied,
+  gives-rev_slice,
+  gives-rev_chars,
+  gives-split,
 )
 
 -- ---- wire forms
 
 -- what is held, and what follows it
 pub Holds-parts : (b t : List ℕ) (n : ℕ) → Holds b t n → (b ≡ wire t ++ drop n b) × (n ≡ length (wire t))
-Holds-parts b t n h = (held b t n h, length-Holds b t n h ∙ sym (length-wire t))
+Holds-parts b t n h = (wire-held b t n h, length-Holds b t n h ∙ sym (length-wire t))
 
 -- bytes that are the form of t, and what follows it
 module _ (b t x : List ℕ) (sized : HasWire t) (scalars : IsTrue (all_scalars t)) (is : b ≡ wire t ++ x) where
@@ -287,3 +440,93 @@ module _ (b more t x : List ℕ) (sized : HasWire t) (scalars : IsTrue (all_scal
 
   pub form-cut-text : chars (body b) ≡ t
   form-cut-text = form-text b t (drop (size t + 4) b) sized scalars form_is_there
+
+-- ---- wire forms one after another, and how many they are
+
+-- a count before them, as four bytes
+pub count-apart : (m n : ℕ) (x y : List ℕ) → m < 2 ^ 32 → n < 2 ^ 32
+    → to_le_bytes w32 m ++ x ≡ to_le_bytes w32 n ++ y → (m ≡ n) × (x ≡ y)
+count-apart m n x y h k e = (
+  sym (from_le_bytes-to_le_bytes_4 m h) ∙ ap (λ l. from_le_bytes w32 (take 4 l)) e ∙ from_le_bytes-to_le_bytes_4 n k,
+  ap (drop 4) e,
+)
+
+first-apart : (s t : List ℕ) (ss ts : List (List ℕ)) (x y : List ℕ) → HasWire s → HasWire t
+    → flat_map wire (s ∷ ss) ++ x ≡ flat_map wire (t ∷ ts) ++ y
+    → (s ≡ t) × (flat_map wire ss ++ x ≡ flat_map wire ts ++ y)
+first-apart s t ss ts x y h k e =
+    wire-apart s t (flat_map wire ss ++ x) (flat_map wire ts ++ y) h k
+    (sym (append_assoc (wire s) (flat_map wire ss) x) ∙ e ∙ append_assoc (wire t) (flat_map wire ts) y)
+
+-- as many forms: of the same texts
+pub forms-apart : (ss ts : List (List ℕ)) (x y : List ℕ) → All HasWire ss → All HasWire ts → length ss ≡ length ts
+    → flat_map wire ss ++ x ≡ flat_map wire ts ++ y → (ss ≡ ts) × (x ≡ y)
+forms-apart [] [] x y h k l e = (refl, e)
+forms-apart [] (t ∷ ts) x y h k l e = absurd (omega (arith, l))
+forms-apart (s ∷ ss) [] x y h k l e = absurd (omega (arith, l))
+forms-apart (s ∷ ss) (t ∷ ts) x y h k l e =
+    let first = first-apart s t ss ts x y (All-head HasWire s ss h) (All-head HasWire t ts k) e in
+    let others = forms-apart ss ts x y (All-tail HasWire s ss h) (All-tail HasWire t ts k) (omega (arith, l)) first.1 in
+    ((λ i. first.0 i ∷ others.0 i), others.1)
+
+-- more forms: behind the fewer stands the next
+pub forms-next : (ss ts : List (List ℕ)) (x y : List ℕ) → All HasWire ss → All HasWire ts
+    → All (λ t. IsTrue (all_scalars t)) ts → length ss < length ts → flat_map wire ss ++ x ≡ flat_map wire ts ++ y
+    → (t after : List ℕ) × HasWire t × IsTrue (all_scalars t) × (x ≡ wire t ++ after)
+forms-next ss [] x y h k scalars l e = absurd (omega (arith, l))
+forms-next [] (t ∷ ts) x y h k scalars l e = (
+  t,
+  flat_map wire ts ++ y,
+  All-head HasWire t ts k,
+  All-head (λ t. IsTrue (all_scalars t)) t ts scalars,
+  e ∙ append_assoc (wire t) (flat_map wire ts) y,
+)
+forms-next (s ∷ ss) (t ∷ ts) x y h k scalars l e =
+    forms-next ss ts x y (All-tail HasWire s ss h) (All-tail HasWire t ts k)
+    (All-tail (λ t. IsTrue (all_scalars t)) t ts scalars) (omega (arith, l))
+    (first-apart s t ss ts x y (All-head HasWire s ss h) (All-head HasWire t ts k) e).1
+
+-- one form more
+pub forms-more : (ts : List (List ℕ)) (t x : List ℕ)
+    → flat_map wire ts ++ (wire t ++ x) ≡ flat_map wire (ts ++ t ∷ []) ++ x
+forms-more ts t x =
+    sym (append_assoc (flat_map wire ts) (wire t) x) ∙ ap (λ l. l ++ x) (flat_map_more wire [] ts t)
+
+-- a loop that reads a list by `split_wire`, where its number was read first: the bytes are that number, the forms of the
+-- i texts so far, and the rest
+pub record AreRead (bytes : List ℕ) (count : ℕ) (ts : List (List ℕ)) (rest : List ℕ) (i : ℕ) : Type 0 where
+  pub number : length ts ≡ i
+  pub sized : All HasWire ts
+  pub form : bytes ≡ to_le_bytes w32 count ++ (flat_map wire ts ++ rest)
+
+module _ (bytes : List ℕ) (count : ℕ) (ts : List (List ℕ)) (rest : List ℕ) (i : ℕ)
+    (read : AreRead bytes count ts rest i) where
+  -- the step
+  pub one_read : (us : List (List ℕ)) (t after : List ℕ) → rest ≡ wire t ++ after → HasWire t → us ≡ ts ++ t ∷ []
+      → AreRead bytes count us after (i + 1)
+  one_read us t after is fits more =
+      let behind = ap (λ l. flat_map wire ts ++ l) is ∙ forms-more ts t after in
+      rw more (record {
+        number = length-append ts (t ∷ []) ∙ ap (λ n. n + 1) read.number;
+        sized = All-push HasWire ts t read.sized fits;
+        form = read.form ∙ ap (λ l. to_le_bytes w32 count ++ l) behind;
+      })
+
+  -- the end
+  pub all_read : count ≤ i → i ≤ count → bytes ≡ (to_le_bytes w32 (length ts) ++ flat_map wire ts) ++ rest
+  all_read up down =
+      let n : count ≡ length ts = omega (arith, read.number) in
+      read.form ∙ (λ j. to_le_bytes w32 (n j) ++ (flat_map wire ts ++ rest))
+
+  -- a list that the bytes begin with, or they and more, has one text more
+  pub next_form : count < 2 ^ 32 → i < count → (us : List (List ℕ)) (more x : List ℕ) → length us < 2 ^ 32
+      → All HasWire us → All (λ t. IsTrue (all_scalars t)) us
+      → bytes ++ more ≡ (to_le_bytes w32 (length us) ++ flat_map wire us) ++ x
+      → (t after : List ℕ) × HasWire t × IsTrue (all_scalars t) × (rest ++ more ≡ wire t ++ after)
+  next_form few below us more x can sized scalars e =
+      let so_far = flat_map wire ts in
+      let form : bytes ++ more ≡ to_le_bytes w32 count ++ (so_far ++ (rest ++ more)) =
+      ap (λ l. l ++ more) read.form ∙ ap (λ l. to_le_bytes w32 count ++ l) (append_assoc so_far rest more) in
+      let parts = count-apart count (length us) (so_far ++ (rest ++ more)) (flat_map wire us ++ x) few can
+      (sym form ∙ e) in
+      forms-next ts us (rest ++ more) x read.sized sized scalars (omega (arith, below, read.number, parts.0)) parts.1

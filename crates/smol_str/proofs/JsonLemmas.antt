@@ -1,13 +1,9 @@
 -- JSON strings, for module `json`.
-use Rattle.std.proofs.Common.{String, Global, string_bytes, rules, ◌≡◌, ℕ, List, Some, Result, Ok, Err, IfOk, sym, ap, ◌∙◌}
-use Rattle.std.specs.Str.{chars}
-use Rattle.std.proofs.lemmas.Str.{encodes-chars, encodes_same, IsUtf8-string_bytes}
+use Rattle.smol_str.proofs.Common.{String, Global, string_bytes, rules, ◌≡◌, ℕ, List, Some, Result, Ok, Err, IfOk, sym, ap, ◌∙◌, chars, encodes-chars, encodes_same, IsUtf8-string_bytes, place_of, Meaning, IsValueOf, common_steps, arith}
 use Rattle.serde_json.specs.Data as json
 use Rattle.serde_json.specs.Read.{read}
 use Rattle.serde_json.specs.View.{view}
 use Rattle.serde_json.specs.declared.value.Value as value
-use Rattle.smol_str.specs.Text.{place_of}
-use Rattle.smol_str.specs.Meaning.{Meaning, IsValueOf}
 use Rattle.smol_str.specs.Json.{json_value, IsJsonOf}
 
 view-String : (s : String Global) → view (value.String s) ≡ json.string (string_bytes s)
@@ -16,9 +12,7 @@ view-String s = search (rules, value.the_lemmas)
 -- a string value is the JSON value of its text
 pub view-chars : (v : value.Value) (s : String Global) → v ≡ value.String s →
     view v ≡ json_value (chars (string_bytes s))
-view-chars v s is =
-    let text = encodes-chars (string_bytes s) (IsUtf8-string_bytes s) in
-    ap view is ∙ view-String s ∙ ap json.string (sym text)
+view-chars v s is = grind (arith, common_steps, encodes-chars, IsUtf8-string_bytes, view-String)
 
 -- two texts with one JSON value are one
 pub json_value-same : (s t : List ℕ) → json_value s ≡ json_value t → s ≡ t

@@ -1,31 +1,11 @@
+pub mod Common
 pub mod CallerLemmas
-pub mod ListLemmas
-mod AsciiMapLemmas
-pub mod BlankLemmas
-pub mod TextLemmas
 pub mod BufferLemmas
-pub mod WordLemmas
-pub mod WordOrderLemmas
-pub mod OrderLemmas
-pub mod DraftLemmas
-pub mod CollectLemmas
-pub mod StepLemmas
+pub mod BuilderLemmas
 pub mod CaseLemmas
 pub mod CutLemmas
-pub mod ReplaceLemmas
+pub mod TextLemmas
 pub mod WireLemmas
+mod IteratorLemmas
+mod PieceLemmas
 mod JsonLemmas
-pub mod Utf8Lemmas
-pub mod SyncLemmas
-pub mod StreamLemmas
-pub mod BorshLemmas
-pub mod SplitLemmas
-pub mod MatchLemmas
-pub mod ReplacingLemmas
-pub mod LaneLemmas
-pub mod ConvertLemmas
-pub mod PushLemmas
-pub mod FormatLemmas
-pub mod ByteLemmas
-pub mod CasingLemmas
-pub mod FullCaseLemmas

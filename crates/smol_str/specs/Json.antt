@@ -1,5 +1,6 @@
 -- The JSON value of a text, and when each fault comes.
 --     json_value t      the JSON string of the text t
+--     IsJsonText b t    the bytes b are a JSON text, which reads as the string of the text t
 --     IsJsonOf d v      d is the JSON value of v's text, and v keeps it in its place
 --     IsOther d         d is another JSON value than a string
 -- JSON values, and which text reads as which, are those of `serde_json`.
@@ -14,6 +15,10 @@ use Rattle.smol_str.specs.Meaning.{Meaning}
 -- the string value with that text
 abbrev pub json_value : List ℕ → json.Data
 json_value t = json.string (encode_utf8_all t)
+
+-- a JSON text of t: its string, with white space around it at the most
+abbrev pub IsJsonText : List ℕ → List ℕ → Type 0
+IsJsonText b t = read b ≡ Some (json_value t)
 
 -- a value that was made of a JSON value
 pub record IsJsonOf (d : json.Data) (v : Meaning) : Type 0 where

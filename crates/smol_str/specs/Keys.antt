@@ -1,9 +1,17 @@
--- A map with values as keys, looked up by a text. Keys are equal where their texts are, so the place of a key
--- plays no part.
---     same_key x y      the keys are equal
---     value_at t m      what m has at the keys of the text t
-use Rattle.std.specs.Prelude.{ℕ, List, Option, Bool, bytes_eq}
+-- Values as keys and in lists, looked up by a text. They are equal where their texts are, and ordered as their texts, so
+-- the place of a value plays no part.
+--     same_key x y              the values are equal
+--     value_at t m              what a `HashMap` has at the keys of the text t
+--     ordered_value_at t m      what a `BTreeMap` has there
+--     has_text t values         whether a list has a value of the text t
+--     is_before s t             whether a value of the text s comes before one of t
+--     stands_for bytes key      whether a `&str` of these bytes has the text of the value
+use Rattle.std.specs.Prelude.{ℕ, List, Option, Bool, bytes_eq, encode_utf8_all}
+use Rattle.std.specs.List.{list_any}
+use Rattle.std.specs.Ordering.{nat_cmp, is_lt}
+use Rattle.std.specs.Cmp.Lexicographic.{slice_cmp}
 use Rattle.std.specs.HashMap.{HashMap, get_by}
+use Rattle.std.specs.BTreeMap.{BTreeMap, get_by as ordered_get_by}
 use Rattle.smol_str.specs.Meaning.{Meaning}
 
 -- `x == y`
@@ -13,3 +21,18 @@ same_key x y = bytes_eq x.text y.text
 -- `m.get(&key)`, for any key of the text
 abbrev pub value_at : {V S : Type 0} → List ℕ → HashMap Meaning V S → Option V
 value_at t m = get_by (λ key. bytes_eq t key.text) m
+
+abbrev pub ordered_value_at : {V : Type 0} → List ℕ → BTreeMap Meaning V → Option V
+ordered_value_at t m = ordered_get_by (λ key. slice_cmp nat_cmp t key.text) m
+
+-- `values.contains(&value)`, for any value of the text
+abbrev pub has_text : List ℕ → List Meaning → Bool
+has_text t values = list_any (λ value. bytes_eq value.text t) values
+
+-- `left < right`
+abbrev pub is_before : List ℕ → List ℕ → Bool
+is_before s t = is_lt (slice_cmp nat_cmp s t)
+
+-- in a look-up by a `&str`, for which no value is made
+abbrev pub stands_for : List ℕ → Meaning → Bool
+stands_for bytes key = bytes_eq bytes (encode_utf8_all key.text)

@@ -1,6 +1,7 @@
 pub mod Text
 pub mod Meaning
 pub mod Keys
+pub mod KeyLaws
 pub mod Buffer
 pub mod Words
 pub mod ValueArms

@@ -1,6 +1,7 @@
 -- What stands after the wire form was written or read, and after each fault.
 --     AfterEncodeFault      of a writer
 --     AfterReadFault        of a reader
+--     AfterLimitedFault     of a reader of values that have a greatest size
 --     AfterFromWireFault    of bytes
 -- A reader gives a size first, and then a body of this size.
 --     HasReadSize           the size came
@@ -9,7 +10,7 @@
 -- And the faults that other calls' faults become.
 --     of_read_fault         of a reader that was read by pieces
 --     of_utf8_fault         of bytes that were to be a value's text
-use Rattle.std.specs.Prelude.{◌≡◌, ℕ, ◌+◌, ◌<◌, ◌^◌, List, length, take, Option, IfSome, ⊤}
+use Rattle.std.specs.Prelude.{◌≡◌, ℕ, ◌+◌, ◌<◌, ◌≤◌, ◌^◌, List, length, take, Option, IfSome, ⊤}
 use Rattle.std.specs.Int.{to_le_bytes, w32}
 use Rattle.std.specs.Str.{chars, IsUtf8}
 use Rattle.std.specs.declared.str.Utf8Error.{Utf8Error}
@@ -18,6 +19,8 @@ use Rattle.smol_str.specs.declared.borsh.fault.EncodeFault.{EncodeFault}
 use Rattle.smol_str.specs.declared.borsh.fault.EncodeFault.TheVariants.{TooLong, Io as WriteFailed}
 use Rattle.smol_str.specs.declared.borsh.fault.DecodeFault.{DecodeFault}
 use Rattle.smol_str.specs.declared.borsh.fault.DecodeFault.TheVariants.{Ended, NotUtf8, OutOfMemory, Io as ReadFailed}
+use Rattle.smol_str.specs.declared.borsh.fault.LimitedFault.{LimitedFault}
+use Rattle.smol_str.specs.declared.borsh.fault.LimitedFault.TheVariants.{TooLong as AboveLimit, Decode}
 use Rattle.smol_str.specs.declared.stream.ReadFault.{ReadFault}
 use Rattle.smol_str.specs.declared.stream.ReadFault.TheVariants.{OutOfMemory as NoMemoryToRead, Io as ReaderFailed}
 use Rattle.smol_str.specs.declared.value.convert.FromUtf8Fault.{FromUtf8Fault}
@@ -44,8 +47,25 @@ abbrev pub AfterReadFault : Option (List ℕ) → Option (List ℕ) → DecodeFa
 AfterReadFault input left Ended = IfSome input HasEndedEarly × IsAtEnd left
 AfterReadFault input left (NotUtf8 e) =
     IfSome input (λ b. (¬ (HasEndedEarly b)) × IsRefusedBody (body b) e × Consumes input left (take (4 + stated b) b))
-AfterReadFault input left OutOfMemory = IfSome input (λ b. INLINE_CAP < stated b)
+AfterReadFault input left OutOfMemory = IfSome input (λ b. (4 ≤ length b) × (INLINE_CAP < stated b))
 AfterReadFault input left (ReadFailed e) = ⊤
+
+-- the size, where all four bytes of it are there, is within the limit
+abbrev pub StatesAtMost : ℕ → List ℕ → Type 0
+StatesAtMost limit b = 4 ≤ length b → stated b ≤ limit
+
+-- too long: the size that was stated is above the limit, and nothing behind it was consumed; else a fault of reading, of
+-- a size within the limit, or the reader failed
+abbrev pub AfterLimitedFault : ℕ → Option (List ℕ) → Option (List ℕ) → LimitedFault → Type 0
+AfterLimitedFault limit input left AboveLimit =
+    IfSome input (λ b. (4 ≤ length b) × (limit < stated b) × Consumes input left (take 4 b))
+AfterLimitedFault limit input left (Decode Ended) =
+    AfterReadFault input left Ended × IfSome input (StatesAtMost limit)
+AfterLimitedFault limit input left (Decode (NotUtf8 e)) =
+    AfterReadFault input left (NotUtf8 e) × IfSome input (StatesAtMost limit)
+AfterLimitedFault limit input left (Decode OutOfMemory) =
+    AfterReadFault input left OutOfMemory × IfSome input (StatesAtMost limit)
+AfterLimitedFault limit input left (Decode (ReadFailed e)) = AfterReadFault input left (ReadFailed e)
 
 -- ended: the bytes have; else the body is there, and is not UTF-8, or is that of a text that is not resident; no reader
 -- is asked, and so none fails

@@ -3,21 +3,21 @@
 //!
 //! Readers and writers are called as [`crate::stream`] calls them, by single `read`s and `write`s. A
 //! reader or writer that does not tell its bytes is claimed nothing of.
-ghost use Rattle.std.specs.Prelude.{◌≡◌, ◌<◌, ◌≤◌, ◌^◌, ℕ, List, Option, MatchOption, IfOk, OnOk, IfErr};
+ghost use Rattle.std.specs.Prelude.{◌≡◌, ◌<◌, ◌≤◌, ◌^◌, ◌++◌, ℕ, List, length, Option, MatchOption, IfOk, OnOk, IfErr};
 ghost use Rattle.std.specs.Int.{w32, to_le_bytes, from_le_bytes};
 ghost use Rattle.std.specs.Io.KnownBytes.{Appends, Consumes};
-ghost use Rattle.smol_str.specs.Text.{place_of};
+ghost use Rattle.smol_str.specs.Text.{size, place_of};
 ghost use Rattle.smol_str.specs.Stream.{EndsBelow};
-ghost use Rattle.smol_str.specs.Wire.{Holds, HasEndedEarly, body};
-ghost use Rattle.smol_str.specs.WireFaults.{AfterEncodeFault, AfterFromWireFault};
+ghost use Rattle.smol_str.specs.Wire.{HasWire, wire, Holds, HasEndedEarly, body};
+ghost use Rattle.smol_str.specs.WireFaults.{AfterEncodeFault, AfterFromWireFault, AfterLimitedFault};
 ghost use Rattle.smol_str.specs.WireFaults.{HasReadSize, HasReadBody, AfterBodyFault};
 
 mod fault;
 
-use crate::buffer::INLINE_CAP;
+use crate::buffer::{INLINE_CAP, InlineBuffer};
 use crate::stream::{fill, read_up_to, write_steps};
 use crate::value::SmolStr;
-pub use fault::{DecodeFault, EncodeFault};
+pub use fault::{DecodeFault, EncodeFault, LimitedFault};
 use std::alloc::Global;
 use std::io;
 use std::io::{Read, Write};
@@ -96,6 +96,48 @@ pub fn from_wire(alloc: Global, bytes: &[u8]) -> Result<(SmolStr, usize), Decode
     Ok((value, 4 + body.len()))
 }
 
+/// The value whose wire form `bytes` begin with, and the bytes behind that form: [`from_wire`] for a loop
+/// that reads one value after another.
+///
+/// ```
+/// let (value, rest) = split_wire(alloc, b"\x02\0\0\0abc")?;
+/// assert!(rt; value.as_str() == "ab" && rest == b"c");
+/// ```
+pub fn split_wire(alloc: Global, bytes: &[u8]) -> Result<(SmolStr, &[u8]), DecodeFault>
+    ensures form { IfOk result (λ r. bytes.now ≡ wire r.0.text ++ r.1.now) }
+    ensures sized { IfOk result (λ r. HasWire r.0.text) }
+    ensures place { IfOk result (λ r. r.0.place ≡ place_of r.0.text) }
+    ensures fault { IfErr result (AfterFromWireFault bytes.now) }
+{
+    let (value, taken) = from_wire(alloc, bytes)?;
+    Ok((value, &bytes[taken..]))
+}
+
+/// Reads a value of at most `limit` bytes, as [`BorshDeserialize::deserialize_reader`] does: for a peer that
+/// may state any size.
+///
+/// A length prefix above the limit is [`LimitedFault::TooLong`]: the four bytes are consumed, no memory was
+/// asked for, and nothing of the body was read.
+pub fn deserialize_limited<R: Read>(
+    alloc: Global,
+    reader: &mut R,
+    limit: usize,
+) -> Result<SmolStr, LimitedFault>
+    ensures ok { IfOk result (λ v. Consumes (R.remaining reader.old) (R.remaining reader.new) (wire v.text)) }
+    ensures value { IfOk result (λ v. HasWire v.text × (v.place ≡ place_of v.text)) }
+    ensures limited { IfOk result (λ v. size v.text ≤ limit) }
+    ensures fault { IfErr result
+        (AfterLimitedFault limit (R.remaining reader.old) (R.remaining reader.new)) }
+{
+    let Some(size) = read_size(reader)? else {
+        return Err(LimitedFault::Decode(DecodeFault::Ended));
+    };
+    if size > limit {
+        return Err(LimitedFault::TooLong);
+    }
+    Ok(read_body(alloc, reader, size)?)
+}
+
 /// The body that the bytes state, `None` exactly where they have ended early.
 fn whole_body(bytes: &[u8]) -> Option<&[u8]>
     ensures { MatchOption result (HasEndedEarly bytes.now)
@@ -142,7 +184,7 @@ fn read_short<R: Read>(reader: &mut R, size: usize) -> Result<SmolStr, DecodeFau
     ensures ok { IfOk result (HasReadBody (R.remaining reader.old) (R.remaining reader.new) size) }
     ensures fault { IfErr result (AfterBodyFault (R.remaining reader.old) (R.remaining reader.new) size) }
 {
-    let mut buffer = [0; INLINE_CAP];
+    let mut buffer = empty_buffer();
     let body = &mut buffer[..size];
     if fill(reader, body)? < size {
         return Err(DecodeFault::Ended);
@@ -151,6 +193,14 @@ fn read_short<R: Read>(reader: &mut R, size: usize) -> Result<SmolStr, DecodeFau
         Ok(text) => Ok(SmolStr::new_inline(text)),
         Err(fault) => Err(DecodeFault::NotUtf8(fault)),
     }
+}
+
+/// Room for a short body: a function, so that no goal of its caller shows the zeros.
+#[inline(always)]
+fn empty_buffer() -> InlineBuffer
+    ensures { length result ≡ INLINE_CAP }
+{
+    [0; INLINE_CAP]
 }
 
 /// Reads a longer body by pieces, and tests UTF-8 when all of it is there.

@@ -85,9 +85,13 @@ impl InlineText {
     /// Whether each character is ASCII.
     #[inline(always)]
     pub(crate) fn is_ascii(&self) -> bool
-        ensures { IsTrue result → IsAsciiText self.now }
+        ensures { IsTrue result ↔ IsAsciiText self.now }
     {
-        is_all_ascii(&self.packed)
+        // A length of 128 or more would be taken for a character past ASCII.
+        if INLINE_CAP < 128 {
+            return is_all_ascii(&self.packed);
+        }
+        self.as_str().is_ascii()
     }
 
     /// The text with its ASCII letters in a case.

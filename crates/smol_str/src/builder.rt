@@ -113,7 +113,8 @@ impl SmolStrBuilder {
 
     /// Whether the text has no bytes.
     pub fn is_empty(&self) -> bool
-        ensures { IsTrue result ↔ (size self.now.text ≡ 0) }
+        ensures size { IsTrue result ↔ (size self.now.text ≡ 0) }
+        ensures text { IsTrue result ↔ (self.now.text ≡ []) }
     {
         self.as_str().is_empty()
     }
@@ -122,6 +123,7 @@ impl SmolStrBuilder {
     /// then zeros up to its end.
     pub fn inline_buffer(&self) -> Option<&InlineBuffer>
         ensures kind { IsSome result ↔ (self.now.kind ≡ InBuffer) }
+        ensures short { IsSome result → IsShort self.now.text }
         ensures buffer { IfSome result (λ buffer. buffer.now ≡ padded (encode_utf8_all self.now.text)) }
     {
         match &self.repr {
@@ -223,9 +225,11 @@ impl SmolStrBuilder {
     }
 
     /// The same value, where the builder is not wanted back: it keeps the memory that the text is in,
-    /// with the room that is left there.
+    /// with the room that is left there. That no copy is made is only tested.
+    ///
+    /// It is refused with [`AllocError`] where the heap has no room for the value's own count.
     #[inline(always)]
-    pub(crate) fn into_value(self) -> Result<SmolStr, AllocError>
+    pub fn into_value(self) -> Result<SmolStr, AllocError>
         ensures ok { IfOk result (λ v. IsValueOf self.text v) }
         ensures refused { OnErr result (¬ (IsResident self.text)) }
     {

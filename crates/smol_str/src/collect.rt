@@ -2,13 +2,13 @@
 //!
 //! Collecting is extending an empty builder and finishing it. The items are drawn one at a time and
 //! nothing is gathered first, and size hints are not read: they reserve nothing and decide nothing.
-ghost use Rattle.std.specs.Prelude.{◌≡◌, ℕ, List, String, map, refl, IfOk, OnOk, OnErr};
-ghost use Rattle.std.specs.declared.alloc.Global.{Global};
-ghost use Rattle.std.specs.Str.{chars};
+ghost use Rattle.std.specs.Prelude.{◌≡◌, ℕ, List, IfOk, OnOk, OnErr};
 ghost use Rattle.std.specs.Iterator.{IsFinite};
-ghost use Rattle.smol_str.specs.Draft.{OnHeap, appended};
+ghost use Rattle.smol_str.specs.Text.{IsResident};
+ghost use Rattle.smol_str.specs.Meaning.{Meaning, IsValueOf};
+ghost use Rattle.smol_str.specs.Draft.{InBuffer, OnHeap, empty_draft, appended};
 ghost use Rattle.smol_str.specs.Joined.{joined, joined_strs, joined_string_refs, char_text, str_text, string_text, string_ref_text};
-ghost use Rattle.smol_str.specs.Collect.{AppendedAll, StoppedAt, Collected, Outgrown, IsValueOfRun, AppendsRun};
+ghost use Rattle.smol_str.specs.Collect.{AppendedAll, StoppedAt, Collected, Outgrown, OutgrownAfter, IsValueOfRun, AppendsRun};
 
 use crate::buffer::INLINE_CAP;
 use crate::builder::SmolStrBuilder;
@@ -58,30 +58,37 @@ impl<'a> Piece for &'a String {
     }
 }
 
-/// A [`Piece`] that is a `&str`, as a bound that names no lifetime.
-pub trait StrPiece: Piece {
-    ghost bytes: { Self → List ℕ };
+/// An allocator that collects values: `Global`.
+///
+/// The collecting calls answer its `Value`, which is [`SmolStr`]. One that named [`SmolStr`] could not
+/// be called, for the borrow checker, with an iterator whose type names several lifetimes.
+pub trait ValueAlloc {
+    type Value;
 
-    ghost reads: { (piece : Self) → Self.text piece ≡ chars (bytes piece) };
+    ghost meaning: { Self.Value → Meaning };
+
+    /// A builder without text.
+    fn builder(self) -> SmolStrBuilder
+        ensures { result ≡ empty_draft InBuffer };
+
+    /// The value of a builder's text.
+    fn value_of(builder: SmolStrBuilder) -> Result<Self::Value, AllocError>
+        ensures ok { IfOk result (λ v. IsValueOf builder.text (meaning v)) }
+        ensures refused { OnErr result (¬ (IsResident builder.text)) };
 }
 
-impl<'a> StrPiece for &'a str {
-    ghost bytes = { λ piece. piece.now };
+impl ValueAlloc for Global {
+    type Value = SmolStr;
 
-    ghost reads = { λ piece. refl };
-}
+    ghost meaning = { λ v. v };
 
-/// A [`Piece`] that is a `&String`, as a bound that names no lifetime.
-pub trait StringRefPiece: Piece {
-    ghost string: { Self → String Global };
+    fn builder(self) -> SmolStrBuilder {
+        SmolStrBuilder::new(self)
+    }
 
-    ghost reads: { (piece : Self) → Self.text piece ≡ string_text (string piece) };
-}
-
-impl<'a> StringRefPiece for &'a String {
-    ghost string = { λ piece. piece.now };
-
-    ghost reads = { λ piece. refl };
+    fn value_of(builder: SmolStrBuilder) -> Result<SmolStr, AllocError> {
+        Ok(builder.finish()?)
+    }
 }
 
 impl SmolStr {
@@ -94,14 +101,14 @@ impl SmolStr {
     /// let shout = SmolStr::from_chars(alloc, "abc".chars().rev())?;
     /// assert_eq!(rt; shout.as_str(), "cba");
     /// ```
-    pub fn from_chars<I: Iterator<Item = char>>(
-        alloc: Global,
+    pub fn from_chars<A: ValueAlloc, I: Iterator<Item = char>>(
+        alloc: A,
         iter: I,
-    ) -> Result<SmolStr, AllocError>
+    ) -> Result<A::Value, AllocError>
         requires can { I.can_next iter }
         requires ends { IsFinite (I.remaining iter) }
-        ensures ok { IfOk result (Collected char_text I.next_gives iter) }
-        ensures runs { IfOk result (IsValueOfRun I.next_gives iter (λ items. items)) }
+        ensures ok { IfOk result (Collected char_text I.next_gives iter A.meaning) }
+        ensures runs { IfOk result (IsValueOfRun I.next_gives iter (λ items. items) A.meaning) }
         ensures refused { OnErr result (Outgrown char_text I.next_gives iter) }
     {
         collect(alloc, iter)
@@ -113,45 +120,44 @@ impl SmolStr {
     /// let path = SmolStr::from_strs(alloc, "a/b/c".split('/'))?;
     /// assert_eq!(rt; path.as_str(), "abc");
     /// ```
-    pub fn from_strs<P: StrPiece, I: Iterator<Item = P>>(
-        alloc: Global,
+    pub fn from_strs<'a, A: ValueAlloc, I: Iterator<Item = &'a str>>(
+        alloc: A,
         iter: I,
-    ) -> Result<SmolStr, AllocError>
+    ) -> Result<A::Value, AllocError>
         requires can { I.can_next iter }
         requires ends { IsFinite (I.remaining iter) }
-        ensures ok { IfOk result (Collected P.text I.next_gives iter) }
-        ensures runs { IfOk result (IsValueOfRun I.next_gives iter (λ items. joined chars (map P.bytes items))) }
-        ensures refused { OnErr result (Outgrown P.text I.next_gives iter) }
+        ensures ok { IfOk result (Collected str_text I.next_gives iter A.meaning) }
+        ensures runs { IfOk result (IsValueOfRun I.next_gives iter joined_strs A.meaning) }
+        ensures refused { OnErr result (Outgrown str_text I.next_gives iter) }
     {
         collect(alloc, iter)
     }
 
     /// A value of the texts, one after another: [`SmolStr::from_chars`] of `String`s, which are
     /// dropped one by one.
-    pub fn from_strings<I: Iterator<Item = String>>(
-        alloc: Global,
+    pub fn from_strings<A: ValueAlloc, I: Iterator<Item = String>>(
+        alloc: A,
         iter: I,
-    ) -> Result<SmolStr, AllocError>
+    ) -> Result<A::Value, AllocError>
         requires can { I.can_next iter }
         requires ends { IsFinite (I.remaining iter) }
-        ensures ok { IfOk result (Collected string_text I.next_gives iter) }
-        ensures runs { IfOk result (IsValueOfRun I.next_gives iter (joined string_text)) }
+        ensures ok { IfOk result (Collected string_text I.next_gives iter A.meaning) }
+        ensures runs { IfOk result (IsValueOfRun I.next_gives iter (joined string_text) A.meaning) }
         ensures refused { OnErr result (Outgrown string_text I.next_gives iter) }
     {
         collect(alloc, iter)
     }
 
     /// A value of the texts, one after another: [`SmolStr::from_chars`] of borrowed `String`s.
-    pub fn from_string_refs<P: StringRefPiece, I: Iterator<Item = P>>(
-        alloc: Global,
+    pub fn from_string_refs<'a, A: ValueAlloc, I: Iterator<Item = &'a String>>(
+        alloc: A,
         iter: I,
-    ) -> Result<SmolStr, AllocError>
+    ) -> Result<A::Value, AllocError>
         requires can { I.can_next iter }
         requires ends { IsFinite (I.remaining iter) }
-        ensures ok { IfOk result (Collected P.text I.next_gives iter) }
-        ensures runs { IfOk result (IsValueOfRun I.next_gives iter
-            (λ items. joined string_text (map P.string items))) }
-        ensures refused { OnErr result (Outgrown P.text I.next_gives iter) }
+        ensures ok { IfOk result (Collected string_ref_text I.next_gives iter A.meaning) }
+        ensures runs { IfOk result (IsValueOfRun I.next_gives iter joined_string_refs A.meaning) }
+        ensures refused { OnErr result (Outgrown string_ref_text I.next_gives iter) }
     {
         collect(alloc, iter)
     }
@@ -168,6 +174,7 @@ impl SmolStrBuilder {
         ensures ok { OnOk result (AppendedAll char_text I.next_gives iter self.old self.new) }
         ensures runs { OnOk result (AppendsRun I.next_gives iter (λ items. items) self.old self.new) }
         ensures stopped { OnErr result (StoppedAt char_text I.next_gives iter self.old self.new) }
+        ensures refused { OnErr result (OutgrownAfter char_text I.next_gives iter self.old) }
     {
         append_all(self, iter)
     }
@@ -182,6 +189,7 @@ impl SmolStrBuilder {
         ensures ok { OnOk result (AppendedAll str_text I.next_gives iter self.old self.new) }
         ensures runs { OnOk result (AppendsRun I.next_gives iter joined_strs self.old self.new) }
         ensures stopped { OnErr result (StoppedAt str_text I.next_gives iter self.old self.new) }
+        ensures refused { OnErr result (OutgrownAfter str_text I.next_gives iter self.old) }
     {
         append_all(self, iter)
     }
@@ -196,6 +204,7 @@ impl SmolStrBuilder {
         ensures ok { OnOk result (AppendedAll string_ref_text I.next_gives iter self.old self.new) }
         ensures runs { OnOk result (AppendsRun I.next_gives iter joined_string_refs self.old self.new) }
         ensures stopped { OnErr result (StoppedAt string_ref_text I.next_gives iter self.old self.new) }
+        ensures refused { OnErr result (OutgrownAfter string_ref_text I.next_gives iter self.old) }
     {
         append_all(self, iter)
     }
@@ -210,6 +219,7 @@ pub(crate) fn append_all<P: Piece, I: Iterator<Item = P>>(
     requires ends { IsFinite (I.remaining iter) }
     ensures ok { OnOk result (AppendedAll P.text I.next_gives iter builder.old builder.new) }
     ensures stopped { OnErr result (StoppedAt P.text I.next_gives iter builder.old builder.new) }
+    ensures refused { OnErr result (OutgrownAfter P.text I.next_gives iter builder.old) }
 {
     // So no items at all leave it in its buffer.
     prove!(builder.inline_buffer().is_none() || builder.as_str().len() <= INLINE_CAP);
@@ -220,13 +230,16 @@ pub(crate) fn append_all<P: Piece, I: Iterator<Item = P>>(
 }
 
 /// The value of the texts of all items, one after another.
-fn collect<P: Piece, I: Iterator<Item = P>>(alloc: Global, iter: I) -> Result<SmolStr, AllocError>
+fn collect<A: ValueAlloc, P: Piece, I: Iterator<Item = P>>(
+    alloc: A,
+    iter: I,
+) -> Result<A::Value, AllocError>
     requires can { I.can_next iter }
     requires ends { IsFinite (I.remaining iter) }
-    ensures ok { IfOk result (Collected P.text I.next_gives iter) }
+    ensures ok { IfOk result (Collected P.text I.next_gives iter A.meaning) }
     ensures refused { OnErr result (Outgrown P.text I.next_gives iter) }
 {
-    let mut builder = SmolStrBuilder::new(alloc);
+    let mut builder = alloc.builder();
     append_all(&mut builder, iter)?;
-    Ok(builder.finish()?)
+    A::value_of(builder)
 }

@@ -2,18 +2,17 @@
 //!
 //! These calls stand in place of serde's traits on a value. What a JSON value is, and which text
 //! reads as which value, is `serde_json`'s own.
-ghost use Rattle.std.specs.Prelude.{◌≡◌, ℕ, List, Some, IfOk, IfErr};
+ghost use Rattle.std.specs.Prelude.{◌≡◌, ℕ, List, IfOk, IfErr};
 ghost use Rattle.std.specs.String.{string_bytes};
 ghost use Rattle.serde_json.specs.View.{view};
-ghost use Rattle.serde_json.specs.Read.{read};
 ghost use Rattle.serde_json.specs.Written.{compact_text};
 ghost use Rattle.smol_str.specs.Text.{place_of};
 ghost use Rattle.smol_str.specs.Meaning.{IsValueOf};
-ghost use Rattle.smol_str.specs.Json.{json_value, IsJsonOf, AfterValueFault, AfterJsonFault};
+ghost use Rattle.smol_str.specs.Json.{json_value, IsJsonText, IsJsonOf, AfterValueFault, AfterJsonFault};
 
 use crate::value::SmolStr;
 use serde_json::{Error, Value};
-use std::alloc::{AllocError, Global};
+use std::alloc::{AllocError, AllocFailed, Global};
 
 /// Why JSON made no value.
 #[derive(Debug, Drop)]
@@ -24,6 +23,29 @@ pub enum JsonFault {
     Json(Error),
     /// Memory was refused.
     OutOfMemory,
+}
+
+impl From<AllocError> for JsonFault {
+    ghost use Rattle.std.specs.Prelude.{◌≡◌};
+    ghost use Rattle.smol_str.specs.declared.json.JsonFault.TheVariants.{OutOfMemory};
+
+    ghost from_gives = { λ error fault. fault ≡ OutOfMemory };
+
+    fn from(_error: AllocError) -> JsonFault {
+        JsonFault::OutOfMemory
+    }
+}
+
+/// So that `?` may follow a refused `push`; what comes back of it is dropped.
+impl<T: Drop> From<AllocFailed<T>> for JsonFault {
+    ghost use Rattle.std.specs.Prelude.{◌≡◌};
+    ghost use Rattle.smol_str.specs.declared.json.JsonFault.TheVariants.{OutOfMemory};
+
+    ghost from_gives = { λ error fault. fault ≡ OutOfMemory };
+
+    fn from(_error: AllocFailed<T>) -> JsonFault {
+        JsonFault::OutOfMemory
+    }
 }
 
 /// The JSON value of a text: a string. It needs memory for a copy of the text, and is refused with
@@ -68,7 +90,7 @@ pub fn from_value(alloc: Global, value: &Value) -> Result<SmolStr, JsonFault>
 /// ```
 pub fn to_json(alloc: Global, value: &SmolStr) -> Result<String, AllocError>
     ensures compact { IfOk result (λ json. string_bytes json ≡ compact_text (json_value value.now.text)) }
-    ensures reads_back { IfOk result (λ json. read (string_bytes json) ≡ Some (json_value value.now.text)) }
+    ensures reads_back { IfOk result (λ json. IsJsonText (string_bytes json) value.now.text) }
 {
     to_value(alloc, value)?.to_string(alloc)
 }
@@ -85,9 +107,9 @@ pub fn to_json(alloc: Global, value: &SmolStr) -> Result<String, AllocError>
 /// assert_eq!(rt; name.as_str(), "if");
 /// ```
 pub fn from_json(alloc: Global, text: &str) -> Result<SmolStr, JsonFault>
-    ensures text { IfOk result (λ v. read text.now ≡ Some (json_value v.text)) }
+    ensures text { IfOk result (λ v. IsJsonText text.now v.text) }
     ensures place { IfOk result (λ v. v.place ≡ place_of v.text) }
-    ensures of_text { (t : List ℕ) → read text.now ≡ Some (json_value t) → IfOk result (λ v. IsValueOf t v) }
+    ensures of_text { (t : List ℕ) → IsJsonText text.now t → IfOk result (λ v. IsValueOf t v) }
     ensures fault { IfErr result (AfterJsonFault text.now) }
 {
     match Value::from_str(alloc, text) {

@@ -1,5 +1,5 @@
 //! The loops over the bytes of a text: ASCII case by sixteen lanes, and the search for a pattern.
-ghost use Rattle.std.specs.Prelude.{◌≡◌, ◌↔◌, ◌<◌, ◌≤◌, ◌+◌, ℕ, List, ◌++◌, Some, None, false, IsTrue, length, take, drop, slice_index, encode_utf8_all};
+ghost use Rattle.std.specs.Prelude.{◌≡◌, ◌↔◌, ◌<◌, ◌≤◌, ◌+◌, ℕ, List, ◌++◌, Some, None, false, IsTrue, IfSome, length, take, drop, slice_index, encode_utf8_all};
 ghost use Rattle.std.specs.Str.{IsAscii, IsCharBoundary, chars};
 ghost use Rattle.std.specs.Simd.Lanes.{Each1, put_chunk};
 ghost use Rattle.memchr.specs.Find.{FindsNeedle};
@@ -7,7 +7,7 @@ ghost use Rattle.smol_str.specs.Text.{size};
 ghost use Rattle.smol_str.specs.Buffer.{padded};
 ghost use Rattle.smol_str.specs.Case.{lower, upper, front};
 ghost use Rattle.smol_str.specs.Convert.{converted, IsAsciiFront};
-ghost use Rattle.smol_str.specs.Cut.{Occurs, IsNextMatch};
+ghost use Rattle.smol_str.specs.Cut.{Occurs, StandsAt, IsNextMatch};
 
 use crate::buffer::{INLINE_CAP, InlineBuffer, InlineText};
 use memchr::{memchr, memmem};
@@ -37,6 +37,7 @@ pub fn convert_while_ascii(text: &str, case: AsciiCase) -> (InlineBuffer, usize)
     requires { length text.now ≤ INLINE_CAP }
     ensures bytes { result.0 ≡ padded (encode_utf8_all (converted case (front (chars text.now)))) }
     ensures len { result.1 ≡ length (front (chars text.now)) }
+    ensures within { result.1 ≤ length text.now }
 {
     let len = front_len(text.as_bytes());
     let front = InlineText::from_short(&text[..len]).in_case(case);
@@ -45,19 +46,25 @@ pub fn convert_while_ascii(text: &str, case: AsciiCase) -> (InlineBuffer, usize)
 
 /// The byte place of the first match of a pattern at or after `from`, `None` where there is none.
 ///
-/// Both the answer and the place behind the match are character boundaries: the clauses speak of the
-/// characters before `from`, `a`, and those from there on, `b`.
+/// `from` is a byte index, and a char boundary; 0 always is. Both the index that is returned and the one
+/// behind the match are char boundaries, so the text may be cut at either. The clauses `found` and `none`
+/// speak of the characters before `from`, `a`, and those from there on, `b`.
 ///
 /// ```
 /// assert_eq!(rt; next_match("foo_bar_baz", 5, "ba"), Some(8));
 /// ```
 pub fn next_match(text: &str, from: usize, pattern: &str) -> Option<usize>
-    requires boundary { IsCharBoundary text.now from }
+    requires boundary { 0 < from → IsCharBoundary text.now from }
     requires not_empty { 0 < length pattern.now }
     ensures found { (a b : List ℕ) → chars text.now ≡ a ++ b → size a ≡ from →
         (i : ℕ) → (result ≡ Some i) ↔ IsNextMatch a b (chars pattern.now) i }
     ensures none { (a b : List ℕ) → chars text.now ≡ a ++ b → size a ≡ from →
         (result ≡ None) ↔ (¬ Occurs (chars pattern.now) b) }
+    ensures synchronised { (x y : List ℕ) → text.now ≡ x ++ (pattern.now ++ y) →
+        StandsAt (chars pattern.now) (chars text.now) (length x) }
+    ensures within { IfSome result (λ i. (from ≤ i) × (i + length pattern.now ≤ length text.now)) }
+    ensures boundaries { IfSome result (λ i.
+        IsCharBoundary text.now i × IsCharBoundary text.now (i + length pattern.now)) }
 {
     let found = find_bytes(bytes_from(text, from), pattern.as_bytes())?;
     Some(from + found)

@@ -14,7 +14,7 @@ ghost use Rattle.smol_str.specs.Text.{size, IsShort, IsBlankRun, IsResident, pla
 ghost use Rattle.smol_str.specs.Buffer.{padded};
 ghost use Rattle.smol_str.specs.Case.{lower, upper, front, IsAsciiText, BeginsPastAscii};
 ghost use Rattle.smol_str.specs.Cut.{Occurs, StandsAt, IsFirstAfter, IsNextMatch, IsCut, joined_by};
-ghost use Rattle.smol_str.specs.Replace.{cut, no_limit, match_count, replaced, replaced_all};
+ghost use Rattle.smol_str.specs.Replace.{cut, no_limit, match_count, replaced, replaced_all, each_replaced};
 ghost use Rattle.smol_str.specs.Wire.{HasWire, wire, Holds, HasEndedEarly, body};
 
 use crate::value::place::Place;
@@ -100,6 +100,9 @@ pub fn replacement()
     ensures pieces { (t p : List ℕ) (n : ℕ) (pieces : List (List ℕ)) →
         IsCut t p n pieces → length pieces ≡ min n (match_count t p) + 1 }
     ensures unlimited { (t p : List ℕ) → match_count t p ≤ no_limit t }
+
+    ensures characters { (t : List ℕ) (x y : ℕ) →
+        replaced_all t (x ∷ []) (y ∷ []) ≡ each_replaced x y t }
 {}
 
 /// Replacement from the left: one match at a time, until none is left or the limit is reached, and a

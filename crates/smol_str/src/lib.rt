@@ -3,6 +3,17 @@
 //! A [`SmolStr`] means a text and a place. A text of at most [`INLINE_CAP`] bytes lies in the value
 //! itself and needs no memory, and so does a blank run: at most [`BLANK_NEWLINES`] newlines and then
 //! at most [`BLANK_SPACES`] spaces. A [`SmolStrBuilder`] makes a text piece by piece.
+//!
+//! The modules lie in layers, and each uses those below it:
+//!
+//! ```text
+//!     json  borsh  str_ext  format  collect    by public items alone, as users do; `.ci/layers` looks
+//!     builder                                  a text that grows (its `steps` also use `collect`)
+//!     value                                    a text and its place; what makes, compares and prints it
+//!     buffer  kernel                           a short text in its own bytes; loops over bytes
+//!     stream                                   reading and writing by single calls
+//!     laws                                     what holds of the definitions, by functions that do nothing
+//! ```
 #![tactic(auto)]
 
 pub mod borsh;
@@ -20,7 +31,7 @@ mod value;
 pub use buffer::{INLINE_CAP, InlineBuffer};
 pub use builder::SmolStrBuilder;
 pub use builder::steps::{Step, build};
-pub use collect::{Piece, StrPiece, StringRefPiece};
+pub use collect::{Piece, ValueAlloc};
 pub use format::{FormatError, ToSmolStr, finished};
 pub use str_ext::StrExt;
 pub use value::SmolStr;

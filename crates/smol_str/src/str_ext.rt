@@ -21,9 +21,12 @@ use std::alloc::{AllocError, Global};
 
 /// Calls of a `str` whose answer is a new text, as a [`SmolStr`].
 ///
-/// Each answers the text that Rust's `str` does in its call of the same beginning, in the place of
-/// that text. The answer is built in a builder, so a short one takes no memory, however long the text
-/// is that the call reads; a call that is refused memory answers [`AllocError`] and makes nothing.
+/// Each returns the text that Rust's `str` does in its call of the same beginning, in the place of
+/// that text. A replacement and a text in ASCII case are built in a builder, so a short one takes no
+/// memory, however long the text is that the call reads. Full case takes none for a short ASCII text;
+/// a long text, or one with `Σ` in it, is mapped in memory of its own, also where the result is short.
+/// A call that is refused memory returns [`AllocError`] and makes nothing. Case follows the Unicode
+/// of the toolchain, 18.0.
 ///
 /// ```
 /// let line = "Let x = 1";
@@ -48,6 +51,8 @@ pub trait StrExt {
         ensures ok { IfOk result (λ v.
             IsValueOf (replaced (content self.now) (chars from.now) (chars to.now) count) v) }
         ensures cut { (pieces : List (List ℕ)) × IsCut (content self.now) (chars from.now) count pieces }
+        ensures one_cut { (xs ys : List (List ℕ)) → IsCut (content self.now) (chars from.now) count xs →
+            IsCut (content self.now) (chars from.now) count ys → xs ≡ ys }
         ensures text { (pieces : List (List ℕ)) →
             IsCut (content self.now) (chars from.now) count pieces →
             IfOk result (λ v. v.text ≡ joined_by (chars to.now) pieces) }

@@ -74,7 +74,7 @@ pub fn read_up_to<R: Read>(
     ensures end { IfOk result (λ all. length all.items < limit → IsAtEnd (R.remaining reader.new)) }
 {
     let mut all = Vec::new(alloc);
-    let mut piece = [0u8; PIECE];
+    let mut piece = empty_piece();
     while all.len() < limit {
         let room = PIECE.min(limit - all.len());
         let n = fill(reader, &mut piece[..room])?;
@@ -84,6 +84,14 @@ pub fn read_up_to<R: Read>(
         }
     }
     Ok(all)
+}
+
+/// Room for a piece: a function, so that no goal of its caller shows the zeros.
+#[inline(always)]
+fn empty_piece() -> [u8; PIECE]
+    ensures { length result ≡ PIECE }
+{
+    [0; PIECE]
 }
 
 /// Reads to the end, by pieces of at most [`PIECE`] bytes.

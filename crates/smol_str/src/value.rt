@@ -1,10 +1,12 @@
 //! The immutable text.
-ghost use Rattle.std.specs.Prelude.{◌≡◌, ◌≤◌, ◌↔◌, ◌⊎◌, length, MatchOption, IfOk, OnErr, IsSome, IfSome, IsTrue, encode_utf8_all};
+ghost use Rattle.std.specs.Prelude.{◌≡◌, ◌≤◌, ◌↔◌, ◌⊎◌, [], length, MatchOption, IfOk, OnErr, IsSome, IfSome, IsTrue, encode_utf8_all};
 ghost use Rattle.std.specs.Str.{chars, all_scalars};
 ghost use Rattle.std.specs.String.{string_bytes};
 ghost use Rattle.std.specs.Rc.{rc_str_bytes};
 ghost use Rattle.smol_str.specs.Text.{size, IsShort, IsResident, place_of};
 ghost use Rattle.smol_str.specs.Buffer.{padded};
+ghost use Rattle.smol_str.specs.Case.{IsAsciiText};
+ghost use Rattle.smol_str.specs.Convert.{converted};
 ghost use Rattle.smol_str.specs.Meaning.{IsValueOf};
 
 pub mod blank;
@@ -14,6 +16,7 @@ pub mod place;
 mod print;
 
 use crate::buffer::{INLINE_CAP, InlineBuffer, InlineText};
+use crate::kernel::AsciiCase;
 use blank::blank_slice;
 use place::Place;
 use std::alloc::{AllocError, Global};
@@ -109,6 +112,21 @@ impl SmolStr {
         SmolStr::from_inline(InlineText::from_short(text))
     }
 
+    /// A value of a text of at most [`INLINE_CAP`] bytes with its ASCII letters in a case, which needs
+    /// no memory.
+    ///
+    /// ```
+    /// let header = SmolStr::new_inline_in_case("Content-Type", AsciiCase::Lower);
+    /// assert_eq!(rt; header.as_str(), "content-type");
+    /// ```
+    #[inline(always)]
+    pub fn new_inline_in_case(text: &str, case: AsciiCase) -> SmolStr
+        requires { length text.now ≤ INLINE_CAP }
+        ensures { IsValueOf (converted case (chars text.now)) result }
+    {
+        SmolStr::from_inline(InlineText::from_short(text).in_case(case))
+    }
+
     /// A value that refers to `text` where it stands, in place Static whatever its length.
     #[inline(always)]
     pub fn new_static(text: &'static str) -> SmolStr
@@ -162,9 +180,21 @@ impl SmolStr {
     /// Whether the text has no bytes.
     #[inline(always)]
     pub fn is_empty(&self) -> bool
-        ensures { IsTrue result ↔ (size self.now.text ≡ 0) }
+        ensures size { IsTrue result ↔ (size self.now.text ≡ 0) }
+        ensures text { IsTrue result ↔ (self.now.text ≡ []) }
     {
         self.len() == 0
+    }
+
+    /// Whether each character is ASCII; of inline text the whole buffer is looked at, at once.
+    #[inline(always)]
+    pub fn is_ascii(&self) -> bool
+        ensures { IsTrue result ↔ IsAsciiText self.now.text }
+    {
+        match &self.repr {
+            Repr::Inline(text) => text.is_ascii(),
+            _ => self.as_str().is_ascii(),
+        }
     }
 
     /// Whether the text lies in memory that was asked for; resident text never does.
@@ -194,6 +224,7 @@ impl SmolStr {
     /// up to its end.
     pub fn inline_buffer(&self) -> Option<&InlineBuffer>
         ensures place { IsSome result ↔ (self.now.place ≡ Place.Inline) }
+        ensures short { IsSome result → IsShort self.now.text }
         ensures buffer { IfSome result (λ buffer. buffer.now ≡ padded (encode_utf8_all self.now.text)) }
     {
         match &self.repr {
@@ -216,10 +247,10 @@ impl SmolStr {
         })
     }
 
-    /// The value of a text in memory of its own, which the value keeps where the text is not
-    /// resident.
+    /// A value of the text of a `String`, where the argument is not wanted back: a value whose text is
+    /// not resident keeps the memory that it is in. That no copy is made is only tested.
     #[inline(never)]
-    pub(crate) fn from_owned(text: String) -> Result<SmolStr, AllocError>
+    pub fn from_owned(text: String) -> Result<SmolStr, AllocError>
         ensures ok { IfOk result (λ v. IsValueOf (chars (string_bytes text)) v) }
         ensures refused { OnErr result (¬ (IsResident (chars (string_bytes text)))) }
     {

@@ -2,10 +2,12 @@
 ghost use Rattle.std.specs.Prelude.{◌≡◌};
 ghost use Rattle.smol_str.specs.WireFaults.{of_read_fault, of_utf8_fault};
 ghost use Rattle.smol_str.specs.declared.borsh.fault.EncodeFault.TheVariants.{Io as WriteFailed};
-ghost use Rattle.smol_str.specs.declared.borsh.fault.DecodeFault.TheVariants.{Io as ReadFailed};
+ghost use Rattle.smol_str.specs.declared.borsh.fault.DecodeFault.TheVariants.{OutOfMemory as NoMemory, Io as ReadFailed};
+ghost use Rattle.smol_str.specs.declared.borsh.fault.LimitedFault.TheVariants.{Decode};
 
 use crate::stream::ReadFault;
 use crate::value::convert::FromUtf8Fault;
+use std::alloc::{AllocError, AllocFailed};
 use std::io;
 use std::str::Utf8Error;
 
@@ -29,6 +31,15 @@ pub enum DecodeFault {
     OutOfMemory,
     /// The reader failed.
     Io(io::Error),
+}
+
+/// Why no value of at most so many bytes was read.
+#[derive(Debug, Drop)]
+pub enum LimitedFault {
+    /// The length prefix states more bytes than the limit.
+    TooLong,
+    /// Any other fault.
+    Decode(DecodeFault),
 }
 
 impl From<io::Error> for EncodeFault {
@@ -66,5 +77,55 @@ impl From<FromUtf8Fault> for DecodeFault {
             FromUtf8Fault::NotUtf8(error) => DecodeFault::NotUtf8(error),
             FromUtf8Fault::OutOfMemory => DecodeFault::OutOfMemory,
         }
+    }
+}
+
+impl From<AllocError> for DecodeFault {
+    ghost from_gives = { λ error fault. fault ≡ NoMemory };
+
+    fn from(_error: AllocError) -> DecodeFault {
+        DecodeFault::OutOfMemory
+    }
+}
+
+/// So that `?` may follow a refused `push`; what comes back of it is dropped.
+impl<T: Drop> From<AllocFailed<T>> for DecodeFault {
+    ghost from_gives = { λ error fault. fault ≡ NoMemory };
+
+    fn from(_error: AllocFailed<T>) -> DecodeFault {
+        DecodeFault::OutOfMemory
+    }
+}
+
+impl From<DecodeFault> for LimitedFault {
+    ghost from_gives = { λ error fault. fault ≡ Decode error };
+
+    fn from(fault: DecodeFault) -> LimitedFault {
+        LimitedFault::Decode(fault)
+    }
+}
+
+impl From<io::Error> for LimitedFault {
+    ghost from_gives = { λ error fault. fault ≡ Decode (ReadFailed error) };
+
+    fn from(error: io::Error) -> LimitedFault {
+        LimitedFault::Decode(DecodeFault::Io(error))
+    }
+}
+
+impl From<AllocError> for LimitedFault {
+    ghost from_gives = { λ error fault. fault ≡ Decode NoMemory };
+
+    fn from(_error: AllocError) -> LimitedFault {
+        LimitedFault::Decode(DecodeFault::OutOfMemory)
+    }
+}
+
+/// So that `?` may follow a refused `push`; what comes back of it is dropped.
+impl<T: Drop> From<AllocFailed<T>> for LimitedFault {
+    ghost from_gives = { λ error fault. fault ≡ Decode NoMemory };
+
+    fn from(_error: AllocFailed<T>) -> LimitedFault {
+        LimitedFault::Decode(DecodeFault::OutOfMemory)
     }
 }

@@ -7,7 +7,7 @@ ghost use Rattle.smol_str.specs.Draft.{OnHeap, appended};
 ghost use Rattle.smol_str.specs.Case.{front};
 ghost use Rattle.smol_str.specs.Convert.{converted};
 
-use crate::buffer::{INLINE_CAP, InlineText};
+use crate::buffer::INLINE_CAP;
 use crate::builder::SmolStrBuilder;
 use crate::kernel::{AsciiCase, convert_while_ascii};
 use crate::value::SmolStr;
@@ -24,7 +24,7 @@ pub(super) fn to_ascii_case(
     ensures refused { OnErr result (¬ (IsShort (chars text.now))) }
 {
     if text.len() <= INLINE_CAP {
-        return Ok(SmolStr::from_inline(InlineText::from_short(text).in_case(case)));
+        return Ok(SmolStr::new_inline_in_case(text, case));
     }
     to_ascii_case_on_heap(alloc, text, case)
 }

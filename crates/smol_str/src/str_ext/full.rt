@@ -12,7 +12,7 @@ ghost use Rattle.smol_str.specs.Case.{IsAsciiText};
 ghost use Rattle.smol_str.specs.Convert.{full_case, mapped, IsMappedAlone};
 
 use super::case::{push_front, to_ascii_case_on_heap};
-use crate::buffer::{INLINE_CAP, InlineText};
+use crate::buffer::INLINE_CAP;
 use crate::builder::SmolStrBuilder;
 use crate::kernel::{AsciiCase, next_match};
 use crate::value::SmolStr;
@@ -32,9 +32,9 @@ pub(super) fn to_full_case(
     if text.len() > INLINE_CAP {
         return long_full_case(alloc, text, case);
     }
-    let short = InlineText::from_short(text);
+    let short = SmolStr::new_inline_in_case(text, case);
     if short.is_ascii() {
-        return Ok(SmolStr::from_inline(short.in_case(case)));
+        return Ok(short);
     }
     short_full_case(alloc, text, case)
 }

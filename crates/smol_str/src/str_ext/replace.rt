@@ -101,8 +101,9 @@ fn push_before(builder: &mut SmolStrBuilder, text: &str, character: char) -> Res
     ensures refused { OnErr result
         ((appended builder.old (chars text.now ++ (character ∷ []))).kind ≡ OnHeap) }
 {
-    builder.push_str(text)?;
-    builder.push(character)
+    let mut buf = [0; 4];
+    let last = character.encode_utf8(&mut buf);
+    push_two(builder, text, last)
 }
 
 /// Appends what stands before each of the first `count` matches, and the new text; answers where the

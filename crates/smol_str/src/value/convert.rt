@@ -12,7 +12,7 @@ ghost use Rattle.smol_str.specs.Faults.{AfterFromUtf8Fault};
 use super::place::Place;
 use super::{Repr, SmolStr};
 use crate::buffer::InlineText;
-use std::alloc::{AllocError, Global};
+use std::alloc::{AllocError, AllocFailed, Global};
 use std::borrow::CowStr;
 use std::boxed::BoxedStr;
 use std::rc::RcStr;
@@ -25,6 +25,27 @@ pub enum FromUtf8Fault {
     NotUtf8(Utf8Error),
     /// The bytes are UTF-8, and memory was refused.
     OutOfMemory,
+}
+
+impl From<AllocError> for FromUtf8Fault {
+    ghost use Rattle.smol_str.specs.declared.value.convert.FromUtf8Fault.TheVariants.{OutOfMemory};
+
+    ghost from_gives = { λ error fault. fault ≡ OutOfMemory };
+
+    fn from(_error: AllocError) -> FromUtf8Fault {
+        FromUtf8Fault::OutOfMemory
+    }
+}
+
+/// So that `?` may follow a refused `push`; what comes back of it is dropped.
+impl<T: Drop> From<AllocFailed<T>> for FromUtf8Fault {
+    ghost use Rattle.smol_str.specs.declared.value.convert.FromUtf8Fault.TheVariants.{OutOfMemory};
+
+    ghost from_gives = { λ error fault. fault ≡ OutOfMemory };
+
+    fn from(_error: AllocFailed<T>) -> FromUtf8Fault {
+        FromUtf8Fault::OutOfMemory
+    }
 }
 
 impl SmolStr {

@@ -1,9 +1,5 @@
-use Rattle.std.proofs.Common.{◌≡◌, ◌<◌, ◌^◌, IsTrue, length, arith, sym, ap, ◌∙◌, subst}
-use Rattle.std.specs.Str.{encode_utf8_all, all_scalars}
-use Rattle.std.proofs.lemmas.Str.{encodes-chars, scalars-chars}
-use Rattle.std.proofs.lemmas.List.Elements.{All-from_get_or}
-use Rattle.smol_str.specs.Wire.{Holds}
-use Rattle.smol_str.proofs.WireLemmas.{Holds-stated}
+use Rattle.smol_str.proofs.Common.{◌≡◌, ◌<◌, ◌^◌, IsTrue, length, arith, sym, ap, ◌∙◌, subst, encode_utf8_all, all_scalars, encodes-chars, scalars-chars, All-from_get_or, Holds}
+use Rattle.smol_str.proofs.WireLemmas.Wire.{Holds-stated}
 use Rattle.smol_str.proofs.borsh.from_wire.Goals as goal
 
 pub returns-clause-ok : goal.returns-clause-ok

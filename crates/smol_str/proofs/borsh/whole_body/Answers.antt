@@ -1,12 +1,9 @@
-use Rattle.std.proofs.Common.{inr, ⊎_elim, take, arith, sym}
-use Rattle.smol_str.proofs.BorshLemmas.{stated-of_prefix}
+use Rattle.smol_str.proofs.Common.{⊎_elim, take, arith, sym, rules}
+use Rattle.smol_str.proofs.WireLemmas.Borsh.{stated-of_prefix}
 use Rattle.smol_str.proofs.borsh.whole_body.Goals as goal
 
 pub returns-then-rest-size : goal.returns-then-rest-size
-returns-then-rest-size c =
-    let says = stated-of_prefix _ _ _ _ c.split_at.ensures.front c.copy_from_slice.ensures.after
-    c.size_in-size.ensures.read in
-    inr (omega (arith, says, c.if-rest-size.true, c.if-bytes-lt4.false, c.split_at.ensures.back_len))
+returns-then-rest-size c = search (rules, stated-of_prefix)
 
 pub returns : goal.returns
 returns c =

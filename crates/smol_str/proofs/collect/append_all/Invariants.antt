@@ -1,7 +1,5 @@
 -- The builder is the first one with the texts of the items so far.
-use Rattle.std.proofs.Common.{◌≡◌}
-use Rattle.smol_str.specs.Draft.{appended}
-use Rattle.smol_str.specs.Joined.{joined}
+use Rattle.smol_str.proofs.Common.{◌≡◌, appended, joined}
 use Rattle.smol_str.proofs.collect.append_all.Given as goal
 
 abbrev pub invariant-loop-piece : goal.invariant-loop-piece

@@ -1,4 +1,4 @@
-use Rattle.std.proofs.Common.{◌∙◌, sym}
+use Rattle.smol_str.proofs.Common.{◌∙◌, sym}
 use Rattle.smol_str.proofs.JsonLemmas.{view-chars, json_value-same, IsJsonOf-IsValueOf}
 use Rattle.smol_str.proofs.json.from_value.Goals as goal
 

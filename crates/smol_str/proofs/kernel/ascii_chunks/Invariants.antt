@@ -1,6 +1,5 @@
 -- The chunks so far are ASCII.
-use Rattle.std.proofs.Common.{◌-◌, length}
-use Rattle.smol_str.specs.Convert.{IsAsciiFront}
+use Rattle.smol_str.proofs.Common.{◌-◌, length, IsAsciiFront}
 use Rattle.smol_str.proofs.kernel.ascii_chunks.Given as goal
 
 abbrev pub invariant-loop-at : goal.invariant-loop-at

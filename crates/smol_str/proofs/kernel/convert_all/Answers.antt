@@ -1,5 +1,5 @@
-use Rattle.std.proofs.Common.{◌∙◌, sym, arith, refl}
-use Rattle.smol_str.proofs.AsciiMapLemmas.{IsMapping, letter, converted-map, mapping-start, mapping-more, mapping-rest}
+use Rattle.smol_str.proofs.Common.{◌∙◌, sym, arith, refl, rules}
+use Rattle.smol_str.proofs.CaseLemmas.Ascii.{IsMapping, letter, converted-map, mapping-start, mapping-more, mapping-rest}
 use Rattle.smol_str.proofs.kernel.convert_all.Goals.{then-bytes-at-ge8, else-bytes-at-ge8}
 use Rattle.smol_str.proofs.kernel.convert_all.Goals as goal
 
@@ -7,10 +7,7 @@ pub loop-bytes-init : goal.loop-bytes-init
 loop-bytes-init c = mapping-start (letter c.args.case) c.args.bytes.now
 
 pub loop-bytes-preserved : goal.loop-bytes-preserved
-loop-bytes-preserved c =
-    let h = c.loop-bytes.invariant in
-    mapping-more _ _ _ c.loop-bytes.at h 16 _ _ (omega (arith, h.inside, c.loop-bytes-test.true))
-    (converted-map c.args.case _) c.convert_part.ensures
+loop-bytes-preserved c = search (rules, mapping-more, converted-map)
 
 pub returns : goal.returns
 returns c =

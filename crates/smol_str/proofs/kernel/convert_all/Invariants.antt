@@ -1,6 +1,6 @@
 -- The bytes so far are mapped, and the others are as they were.
-use Rattle.std.proofs.Common.{◌-◌, length}
-use Rattle.smol_str.proofs.AsciiMapLemmas.{IsMapping, letter}
+use Rattle.smol_str.proofs.Common.{◌-◌, length}
+use Rattle.smol_str.proofs.CaseLemmas.Ascii.{IsMapping, letter}
 use Rattle.smol_str.proofs.kernel.convert_all.Given as goal
 
 abbrev pub invariant-loop-bytes : goal.invariant-loop-bytes

@@ -1,4 +1,4 @@
-use Rattle.smol_str.proofs.ConvertLemmas.{front-boundary_at, front-text, front-length}
+use Rattle.smol_str.proofs.CaseLemmas.Ascii.{front-boundary_at, front-text, front-length}
 use Rattle.smol_str.proofs.kernel.convert_while_ascii.Goals as goal
 
 pub range-requires-clause-end_boundary : goal.range-requires-clause-end_boundary

@@ -1,5 +1,5 @@
-use Rattle.std.proofs.Common.{Some, arith}
-use Rattle.smol_str.proofs.MatchLemmas.{one_byte, none_first}
+use Rattle.smol_str.proofs.Common.{Some, arith}
+use Rattle.smol_str.proofs.CutLemmas.Match.{one_byte, none_first}
 use Rattle.smol_str.proofs.kernel.find_bytes.Goals as goal
 
 pub returns-in_err-first : goal.returns-in_err-first

@@ -1,5 +1,5 @@
-use Rattle.smol_str.proofs.LaneLemmas.{low-lanes}
-use Rattle.smol_str.proofs.ConvertLemmas.{IsAscii-from_each, each-from_ascii}
+use Rattle.smol_str.proofs.CaseLemmas.Lanes.{low-lanes}
+use Rattle.smol_str.proofs.CaseLemmas.Ascii.{IsAscii-from_each, each-from_ascii}
 use Rattle.smol_str.proofs.kernel.has_high.Goals as goal
 
 pub returns : goal.returns

@@ -1,7 +1,5 @@
-use Rattle.std.proofs.Common.{arith, refl, take}
-use Rattle.std.specs.Str.{IsAscii}
-use Rattle.std.proofs.lemmas.Str.{IsAscii-take, IsAscii-drop}
-use Rattle.smol_str.proofs.ConvertLemmas.{ascii-more, ascii-all, high-lanes, not-ascii, ascii-told}
+use Rattle.smol_str.proofs.Common.{arith, refl, take, IsAscii, IsAscii-take, IsAscii-drop}
+use Rattle.smol_str.proofs.CaseLemmas.Ascii.{ascii-more, ascii-all, high-lanes, not-ascii, ascii-told}
 use Rattle.smol_str.proofs.kernel.is_all_ascii.Goals.{then-bytes-at-ge8+else-has_high, else-bytes-at-ge8}
 use Rattle.smol_str.proofs.kernel.is_all_ascii.Goals as goal
 

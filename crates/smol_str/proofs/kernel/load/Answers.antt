@@ -1,5 +1,4 @@
-use Rattle.std.proofs.Common.{w8}
-use Rattle.std.proofs.lemmas.Simd.{chunk-fits, below_from_Fits}
+use Rattle.smol_str.proofs.Common.{w8, chunk-fits, below_from_Fits}
 use Rattle.smol_str.proofs.kernel.load.Goals as goal
 use lib.Lanes.{chunk}
 

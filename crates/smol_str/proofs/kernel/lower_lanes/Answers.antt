@@ -1,4 +1,4 @@
-use Rattle.smol_str.proofs.LaneLemmas.{lower-lanes}
+use Rattle.smol_str.proofs.CaseLemmas.Lanes.{lower-lanes}
 use Rattle.smol_str.proofs.kernel.lower_lanes.Goals as goal
 
 pub returns : goal.returns

@@ -1,4 +1,5 @@
-use Rattle.smol_str.proofs.MatchLemmas.{some_exact, some_not_none, none_not_some, none_exact}
+use Rattle.std.proofs.Common.{rules}
+use Rattle.smol_str.proofs.CutLemmas.Match.{StandsAt-parts, found-boundaries, some_exact, some_not_none, none_not_some, none_exact}
 use Rattle.smol_str.proofs.kernel.next_match.Goals as goal
 
 pub returns-in_err-found-clause-found : goal.returns-in_err-found-clause-found
@@ -20,3 +21,14 @@ pub returns-clause-none : goal.returns-clause-none
 returns-clause-none c =
     let found = rw (c.bytes_from.ensures, c.as_bytes.ensures.value, c.in_ok-found.was) at c.find_bytes.ensures in
     some_not_none _ _ _ c.in_ok-found.found c.utf8.text c.utf8.pattern c.requires.not_empty found
+
+pub returns-clause-synchronised : goal.returns-clause-synchronised
+returns-clause-synchronised c = StandsAt-parts _ _ c.utf8.text c.utf8.pattern c.requires.not_empty
+
+pub returns-in_err-found-clause-synchronised : goal.returns-in_err-found-clause-synchronised
+returns-in_err-found-clause-synchronised c = StandsAt-parts _ _ c.utf8.text c.utf8.pattern c.requires.not_empty
+
+pub returns-clause-boundaries : goal.returns-clause-boundaries
+returns-clause-boundaries c =
+    let found = rw (c.bytes_from.ensures, c.as_bytes.ensures.value, c.in_ok-found.was) at c.find_bytes.ensures in
+    found-boundaries _ _ c.utf8.text c.utf8.pattern c.requires.not_empty _ _ (search rules) found

@@ -1,4 +1,4 @@
-use Rattle.smol_str.proofs.LaneLemmas.{upper-lanes}
+use Rattle.smol_str.proofs.CaseLemmas.Lanes.{upper-lanes}
 use Rattle.smol_str.proofs.kernel.upper_lanes.Goals as goal
 
 pub returns : goal.returns

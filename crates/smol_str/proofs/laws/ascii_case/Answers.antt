@@ -1,4 +1,6 @@
-use Rattle.smol_str.proofs.CaseLemmas.{lower-capital, upper-small, size-lower, size-upper, lower-lower, upper-upper, lower-upper, upper-lower, none-lower, none-upper, lower-unchanged, upper-unchanged}
+use Rattle.smol_str.proofs.Common.{to_ascii_lowercase, to_ascii_uppercase, IsAsciiUppercase, IsAsciiLowercase}
+use Rattle.std.proofs.lemmas.Str.Ascii.{lowercase-lowercase, uppercase-uppercase, lowercase-uppercase}
+use Rattle.smol_str.proofs.CaseLemmas.Ascii.{lower-capital, upper-small, size-lower, size-upper, uppercase-lowercase, lowercase_left, uppercase_left, lowercase_none, uppercase_none, map-map, map-unchanged, All-mapped}
 use Rattle.smol_str.proofs.laws.ascii_case.Goals as goal
 
 pub returns : goal.returns
@@ -7,12 +9,12 @@ returns c = record {
   upper_of_small = upper-small;
   lower_size = size-lower;
   upper_size = size-upper;
-  lower_twice = lower-lower;
-  upper_twice = upper-upper;
-  lower_of_upper = lower-upper;
-  upper_of_lower = upper-lower;
-  lower_has_no_capital = none-lower;
-  upper_has_no_small = none-upper;
-  lower_unchanged = lower-unchanged;
-  upper_unchanged = upper-unchanged;
+  lower_twice = map-map to_ascii_lowercase to_ascii_lowercase to_ascii_lowercase lowercase-lowercase;
+  upper_twice = map-map to_ascii_uppercase to_ascii_uppercase to_ascii_uppercase uppercase-uppercase;
+  lower_of_upper = map-map to_ascii_lowercase to_ascii_uppercase to_ascii_lowercase lowercase-uppercase;
+  upper_of_lower = map-map to_ascii_uppercase to_ascii_lowercase to_ascii_uppercase uppercase-lowercase;
+  lower_has_no_capital = All-mapped to_ascii_lowercase (λ c. ¬ IsAsciiUppercase c) lowercase_none;
+  upper_has_no_small = All-mapped to_ascii_uppercase (λ c. ¬ IsAsciiLowercase c) uppercase_none;
+  lower_unchanged = map-unchanged to_ascii_lowercase IsAsciiUppercase lowercase_left;
+  upper_unchanged = map-unchanged to_ascii_uppercase IsAsciiLowercase uppercase_left;
 }

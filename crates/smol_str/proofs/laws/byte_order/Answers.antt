@@ -1,4 +1,4 @@
-use Rattle.smol_str.proofs.OrderLemmas.{order-texts}
+use Rattle.smol_str.proofs.TextLemmas.Order.{order-texts}
 use Rattle.smol_str.proofs.laws.byte_order.Goals as goal
 
 pub returns : goal.returns

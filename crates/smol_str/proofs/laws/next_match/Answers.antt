@@ -1,4 +1,4 @@
-use Rattle.smol_str.proofs.MatchLemmas.{one_next, next-occurs}
+use Rattle.smol_str.proofs.CutLemmas.Match.{one_next, next-occurs}
 use Rattle.smol_str.proofs.laws.next_match.Goals as goal
 
 pub returns-clause-one : goal.returns-clause-one

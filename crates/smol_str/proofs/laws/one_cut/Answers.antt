@@ -1,5 +1,5 @@
-use Rattle.smol_str.specs.Replace.{cut}
-use Rattle.smol_str.proofs.CutLemmas.{IsCut-cut, IsCut-unique}
+use Rattle.smol_str.proofs.Common.{cut}
+use Rattle.smol_str.proofs.CutLemmas.Cut.{IsCut-cut, IsCut-unique}
 use Rattle.smol_str.proofs.laws.one_cut.Goals as goal
 
 pub returns : goal.returns

@@ -1,4 +1,4 @@
-use Rattle.smol_str.proofs.TextLemmas.{place_of-short, place_of-blank, place_of-heap, inline-short, static-blank, heap-not_resident}
+use Rattle.smol_str.proofs.TextLemmas.Places.{place_of-short, place_of-blank, place_of-heap, inline-short, static-blank, heap-not_resident}
 use Rattle.smol_str.proofs.laws.places.Goals as goal
 
 pub returns : goal.returns

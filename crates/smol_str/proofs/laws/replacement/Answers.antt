@@ -1,4 +1,5 @@
-use Rattle.smol_str.proofs.ReplaceLemmas.{replaced-cut, replaced-none, replaced-enough, replaced-itself, length-IsCut, match_count-limit}
+use Rattle.smol_str.proofs.CutLemmas.Replace.{replaced-cut, replaced-none, replaced-enough, replaced-itself, length-IsCut, match_count-limit}
+use Rattle.smol_str.proofs.CutLemmas.Bytes.{replaced_all-character}
 use Rattle.smol_str.proofs.laws.replacement.Goals as goal
 
 pub returns : goal.returns
@@ -9,4 +10,5 @@ returns c = record {
   by_itself = replaced-itself;
   pieces = length-IsCut;
   unlimited = match_count-limit;
+  characters = replaced_all-character;
 }

@@ -1,4 +1,4 @@
-use Rattle.smol_str.proofs.ReplaceLemmas.{replaced-matched, replaced-unmatched, replaced-passed, replaced-between, replaced-end}
+use Rattle.smol_str.proofs.CutLemmas.Replace.{replaced-matched, replaced-unmatched, replaced-passed, replaced-between, replaced-end}
 use Rattle.smol_str.proofs.laws.replacement_by_steps.Goals as goal
 
 pub returns : goal.returns

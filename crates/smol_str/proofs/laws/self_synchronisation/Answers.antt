@@ -1,4 +1,4 @@
-use Rattle.smol_str.proofs.SyncLemmas.{StandsAt-bytes, bytes-StandsAt}
+use Rattle.smol_str.proofs.CutLemmas.Sync.{StandsAt-bytes, bytes-StandsAt}
 use Rattle.smol_str.proofs.laws.self_synchronisation.Goals as goal
 
 pub returns : goal.returns

@@ -1,5 +1,5 @@
-use Rattle.std.proofs.lemmas.Str.{encodes_same, chars-encodes}
-use Rattle.smol_str.proofs.BufferLemmas.{padded-same}
+use Rattle.smol_str.proofs.Common.{encodes_same, chars-encodes}
+use Rattle.smol_str.proofs.BufferLemmas.Packed.{padded-same}
 use Rattle.smol_str.proofs.laws.texts.Goals as goal
 
 pub returns : goal.returns

@@ -1,4 +1,4 @@
-use Rattle.smol_str.proofs.WireLemmas.{wire-apart, length-wire, Holds-one, Holds-whole, body-Holds, Holds-written, Holds-stated}
+use Rattle.smol_str.proofs.WireLemmas.Wire.{wire-apart, length-wire, Holds-one, Holds-whole, body-Holds, Holds-written, Holds-stated}
 use Rattle.smol_str.proofs.laws.wire_forms.Goals as goal
 
 pub returns : goal.returns

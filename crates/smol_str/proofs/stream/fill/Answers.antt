@@ -1,9 +1,6 @@
-use Rattle.std.proofs.Common.{◌≡◌, ℕ, ◌+◌, ◌-◌, ◌≤◌, List, ◌++◌, rules, arith, length, take, slice_range, sym, ap, ◌∙◌, subst, le_refl, drop_at, length-take-le}
+use Rattle.smol_str.proofs.Common.{◌≡◌, ℕ, ◌+◌, ◌-◌, ◌≤◌, List, ◌++◌, rules, arith, length, take, slice_range, sym, ap, ◌∙◌, subst, le_refl, drop_at, length-take-le, Consumes, Consumes-trans, take-add, take-append-le}
 use Rattle.std.proofs.lemmas.Slice.{take-put_mid_below}
-use Rattle.std.specs.Io.KnownBytes.{Consumes}
-use Rattle.std.proofs.KnownBytes.{Consumes-trans}
 use borrow.Rule.Slice.PartMut.{put_mid, post_of}
-use Rattle.std.proofs.Math.Seq.{take-add, take-append-le}
 use Rattle.smol_str.proofs.stream.fill.Goals as goal
 
 take_split : (a b : ℕ) (old new : List ℕ) → a ≤ b → take a new ≡ take a old

@@ -1,6 +1,5 @@
 -- What is filled is what the reader lost.
-use Rattle.std.proofs.Common.{◌-◌, ◌≤◌, length, take}
-use Rattle.std.specs.Io.KnownBytes.{Consumes}
+use Rattle.smol_str.proofs.Common.{◌-◌, ◌≤◌, length, take, Consumes}
 use Rattle.smol_str.proofs.stream.fill.Given as goal
 
 abbrev pub invariant-loop-filled : goal.invariant-loop-filled

@@ -1,6 +1,5 @@
 -- What is gathered is what the reader lost.
-use Rattle.std.proofs.Common.{◌-◌, ◌≤◌, length}
-use Rattle.std.specs.Io.KnownBytes.{Consumes}
+use Rattle.smol_str.proofs.Common.{◌-◌, ◌≤◌, length, Consumes}
 use Rattle.smol_str.proofs.stream.read_up_to.Given as goal
 
 abbrev pub invariant-loop-piece : goal.invariant-loop-piece

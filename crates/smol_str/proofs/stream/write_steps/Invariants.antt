@@ -1,6 +1,5 @@
 -- What is gone from what is left was appended.
-use Rattle.std.proofs.Common.{◌≡◌, ℕ, List, ◌++◌, length}
-use Rattle.std.specs.Io.KnownBytes.{Appends}
+use Rattle.smol_str.proofs.Common.{◌≡◌, ℕ, List, ◌++◌, length, Appends}
 use Rattle.smol_str.proofs.stream.write_steps.Given as goal
 
 abbrev pub invariant-loop-rest : goal.invariant-loop-rest

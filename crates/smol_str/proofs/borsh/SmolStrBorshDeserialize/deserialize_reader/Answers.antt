@@ -1,6 +1,6 @@
-use Rattle.std.proofs.lemmas.Result.{IfOk-weaker, IfErr-weaker}
+use Rattle.smol_str.proofs.Common.{IfOk-weaker, IfErr-weaker}
 use Rattle.smol_str.specs.WireFaults.{AfterReadFault, AfterBodyFault}
-use Rattle.smol_str.proofs.BorshLemmas.{is_read-of_body, Consumes-of_body, AfterReadFault-of_body}
+use Rattle.smol_str.proofs.WireLemmas.Borsh.{is_read-of_body, Consumes-of_body, AfterReadFault-of_body}
 use Rattle.smol_str.proofs.borsh.SmolStrBorshDeserialize.deserialize_reader.Goals as goal
 
 pub returns-clause-ok : goal.returns-clause-ok

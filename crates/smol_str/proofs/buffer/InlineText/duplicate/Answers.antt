@@ -1,4 +1,4 @@
-use Rattle.smol_str.proofs.BufferLemmas.{IsShort-packed}
+use Rattle.smol_str.proofs.BufferLemmas.Packed.{IsShort-packed}
 use Rattle.smol_str.proofs.buffer.InlineText.duplicate.Goals as goal
 
 pub returns-clause-short : goal.returns-clause-short

@@ -1,6 +1,5 @@
-use Rattle.std.proofs.Common.{ap}
-use Rattle.std.specs.Str.{chars}
-use Rattle.smol_str.proofs.BufferLemmas.{unpacked-packed}
+use Rattle.smol_str.proofs.Common.{ap, chars}
+use Rattle.smol_str.proofs.BufferLemmas.Packed.{unpacked-packed}
 use Rattle.smol_str.proofs.buffer.InlineText.from_short.Goals as goal
 
 pub returns : goal.returns

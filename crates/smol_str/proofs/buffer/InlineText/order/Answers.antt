@@ -1,5 +1,5 @@
-use Rattle.std.proofs.Common.{◌∙◌}
-use Rattle.smol_str.proofs.WordOrderLemmas.{order-packed}
+use Rattle.smol_str.proofs.Common.{◌∙◌}
+use Rattle.smol_str.proofs.BufferLemmas.WordOrder.{order-packed}
 use Rattle.smol_str.proofs.buffer.InlineText.order.Goals as goal
 
 pub returns : goal.returns

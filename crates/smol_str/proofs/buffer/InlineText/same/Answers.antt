@@ -1,4 +1,4 @@
-use Rattle.smol_str.proofs.BufferLemmas.{same-texts}
+use Rattle.smol_str.proofs.BufferLemmas.Packed.{same-texts}
 use Rattle.smol_str.proofs.buffer.InlineText.same.Goals as goal
 
 pub returns : goal.returns

@@ -1,10 +1,5 @@
-use Rattle.std.proofs.Common.{◌≡◌, ◌*◌, ◌+◌, ◌∙◌, sym, arith, drop}
-use Rattle.std.specs.Ordering.{nat_cmp}
-use Rattle.std.specs.Cmp.Lexicographic.{slice_cmp}
-use Rattle.std.proofs.lemmas.List.{drop_all}
-use Rattle.smol_str.specs.declared.buffer.TheConstants.{PACKED_LEN}
-use Rattle.smol_str.specs.declared.buffer.words.TheConstants.{WORDS}
-use Rattle.smol_str.proofs.WordOrderLemmas.{order-differ, order-same}
+use Rattle.smol_str.proofs.Common.{◌≡◌, ◌*◌, ◌+◌, ◌∙◌, sym, arith, drop, nat_cmp, slice_cmp, drop_all, PACKED_LEN, WORDS}
+use Rattle.smol_str.proofs.BufferLemmas.WordOrder.{order-differ, order-same}
 use Rattle.smol_str.proofs.buffer.words.order_words.Goals as goal
 
 pub returns-then-a-b : goal.returns-then-a-b

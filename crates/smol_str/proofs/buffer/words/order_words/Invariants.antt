@@ -1,7 +1,5 @@
 -- The words so far are equal, so the order is that of what is left.
-use Rattle.std.proofs.Common.{◌≡◌, ◌*◌, drop}
-use Rattle.std.specs.Ordering.{nat_cmp}
-use Rattle.std.specs.Cmp.Lexicographic.{slice_cmp}
+use Rattle.smol_str.proofs.Common.{◌≡◌, ◌*◌, drop, nat_cmp, slice_cmp}
 use Rattle.smol_str.proofs.buffer.words.order_words.Given as goal
 
 abbrev pub invariant-loop-i : goal.invariant-loop-i

@@ -1,5 +1,5 @@
-use Rattle.std.proofs.Common.{◌∙◌, arith}
-use Rattle.smol_str.proofs.WordLemmas.{one-word, pack-end}
+use Rattle.smol_str.proofs.Common.{◌∙◌, arith}
+use Rattle.smol_str.proofs.BufferLemmas.Words.{one-word, pack-end}
 use Rattle.smol_str.proofs.buffer.words.pack.Goals.{then-bytes-lt8, else-bytes-lt8}
 use Rattle.smol_str.proofs.buffer.words.pack.Goals as goal
 

@@ -1,8 +1,6 @@
-use Rattle.std.proofs.Common.{◌≡◌, ◌≤◌, ◌-◌, ◌∙◌, sym, ap, arith, take, length, encode_utf8}
-use Rattle.std.proofs.lemmas.Str.{length-encode, len_utf8_bounds}
-use Rattle.smol_str.specs.declared.buffer.TheConstants.{PACKED_LEN}
-use Rattle.smol_str.proofs.TextLemmas.{short_encode}
-use Rattle.smol_str.proofs.WordLemmas.{AreBytes, bytes-encode, word-none, one-word, pack-step, all-zeroed, pack-end}
+use Rattle.smol_str.proofs.Common.{◌≡◌, ◌≤◌, ◌-◌, ◌∙◌, sym, ap, arith, take, length, encode_utf8, length-encode, len_utf8_bounds, PACKED_LEN}
+use Rattle.smol_str.proofs.TextLemmas.Places.{short_encode}
+use Rattle.smol_str.proofs.BufferLemmas.Words.{AreBytes, bytes-encode, word-none, one-word, pack-step, all-zeroed, pack-end}
 use Rattle.smol_str.proofs.buffer.words.pack_char.Goals as goal
 
 pub returns : goal.returns

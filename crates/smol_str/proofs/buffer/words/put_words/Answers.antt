@@ -1,8 +1,5 @@
-use Rattle.std.proofs.Common.{◌≡◌, ◌*◌, ◌+◌, arith, take}
-use Rattle.smol_str.specs.declared.buffer.TheConstants.{PACKED_LEN}
-use Rattle.smol_str.specs.declared.buffer.words.TheConstants.{WORDS}
-use Rattle.smol_str.specs.Words.{zeroed}
-use Rattle.smol_str.proofs.WordLemmas.{pack-step, all-zeroed}
+use Rattle.smol_str.proofs.Common.{◌≡◌, ◌*◌, ◌+◌, arith, take, PACKED_LEN, WORDS, zeroed}
+use Rattle.smol_str.proofs.BufferLemmas.Words.{pack-step, all-zeroed}
 use Rattle.smol_str.proofs.buffer.words.put_words.Goals as goal
 
 pub loop-i-preserved : goal.loop-i-preserved

@@ -1,7 +1,5 @@
 -- The words so far are those of the text and zeros behind it.
-use Rattle.std.proofs.Common.{◌≡◌, ◌*◌, length, take}
-use Rattle.smol_str.specs.declared.buffer.TheConstants.{PACKED_LEN}
-use Rattle.smol_str.specs.Words.{zeroed}
+use Rattle.smol_str.proofs.Common.{◌≡◌, ◌*◌, length, take, PACKED_LEN, zeroed}
 use Rattle.smol_str.proofs.buffer.words.put_words.Given as goal
 
 abbrev pub invariant-loop-i : goal.invariant-loop-i

@@ -1,9 +1,5 @@
-use Rattle.std.proofs.Common.{◌≡◌, ◌*◌, ◌+◌, ◌∙◌, arith, take, nat_eq}
-use Rattle.std.specs.Cmp.Lexicographic.{pointwise}
-use Rattle.std.proofs.lemmas.List.{take_all}
-use Rattle.smol_str.specs.declared.buffer.TheConstants.{PACKED_LEN}
-use Rattle.smol_str.specs.declared.buffer.words.TheConstants.{WORDS}
-use Rattle.smol_str.proofs.WordLemmas.{same-step}
+use Rattle.smol_str.proofs.Common.{◌≡◌, ◌*◌, ◌+◌, ◌∙◌, arith, take, nat_eq, pointwise, take_all, PACKED_LEN, WORDS}
+use Rattle.smol_str.proofs.BufferLemmas.Words.{same-step}
 use Rattle.smol_str.proofs.buffer.words.same_words.Goals as goal
 
 pub loop-i-preserved : goal.loop-i-preserved

@@ -1,6 +1,5 @@
 -- The flag says whether the words so far are equal.
-use Rattle.std.proofs.Common.{◌≡◌, ◌*◌, take, nat_eq}
-use Rattle.std.specs.Cmp.Lexicographic.{pointwise}
+use Rattle.smol_str.proofs.Common.{◌≡◌, ◌*◌, take, nat_eq, pointwise}
 use Rattle.smol_str.proofs.buffer.words.same_words.Given as goal
 
 abbrev pub invariant-loop-i : goal.invariant-loop-i

@@ -1,5 +1,5 @@
 use Rattle.smol_str.specs.Joined.{char_text}
-use Rattle.smol_str.proofs.CollectLemmas.{joined-chars, runs-appended}
+use Rattle.smol_str.proofs.BuilderLemmas.Collect.{joined-chars, runs-appended}
 use Rattle.smol_str.proofs.builder.SmolStrBuilder.extend_chars.Goals as goal
 
 pub returns-clause-runs : goal.returns-clause-runs

@@ -1,6 +1,6 @@
 use Rattle.std.proofs.Common.{refl}
 use Rattle.smol_str.specs.Joined.{joined_string_refs, string_ref_text, string_text}
-use Rattle.smol_str.proofs.CollectLemmas.{joined-map, runs-appended}
+use Rattle.smol_str.proofs.BuilderLemmas.Collect.{joined-map, runs-appended}
 use Rattle.smol_str.proofs.builder.SmolStrBuilder.extend_strings.Goals as goal
 
 pub returns-clause-runs : goal.returns-clause-runs

@@ -1,7 +1,7 @@
 use Rattle.std.proofs.Common.{refl}
 use Rattle.std.specs.Str.{chars}
 use Rattle.smol_str.specs.Joined.{joined_strs, str_text}
-use Rattle.smol_str.proofs.CollectLemmas.{joined-map, runs-appended}
+use Rattle.smol_str.proofs.BuilderLemmas.Collect.{joined-map, runs-appended}
 use Rattle.smol_str.proofs.builder.SmolStrBuilder.extend_strs.Goals as goal
 
 pub returns-clause-runs : goal.returns-clause-runs

@@ -1,8 +1,5 @@
-use Rattle.std.proofs.Common.{◌≡◌, ◌++◌}
-use Rattle.std.specs.Str.{IsUtf8}
-use Rattle.std.specs.String.{string_bytes}
-use Rattle.std.proofs.lemmas.Str.{chars-append, IsUtf8-string_bytes}
-use Rattle.smol_str.proofs.TextLemmas.{OnErr-always, OnOk-if, chars-of}
+use Rattle.smol_str.proofs.Common.{◌≡◌, ◌++◌, IsUtf8, string_bytes, chars-append, IsUtf8-string_bytes}
+use Rattle.smol_str.proofs.TextLemmas.Places.{OnErr-always, OnOk-if, chars-of}
 use Rattle.smol_str.proofs.builder.SmolStrBuilder.push_on_heap.Goals as goal
 
 pub returns-in-Heap-clause-ok : goal.returns-in-Heap-clause-ok

@@ -1,5 +1,5 @@
-use Rattle.std.proofs.Common.{refl}
-use Rattle.smol_str.proofs.DraftLemmas.{IsShort-append, too_long-append, kind_with-short, kind_with-long}
+use Rattle.smol_str.proofs.Common.{refl}
+use Rattle.smol_str.proofs.BuilderLemmas.Draft.{IsShort-append, too_long-append, kind_with-short, kind_with-long}
 use Rattle.smol_str.proofs.builder.SmolStrBuilder.push_str.Goals.{in-Inline+else-text-len, in_default}
 use Rattle.smol_str.proofs.builder.SmolStrBuilder.push_str.Goals as goal
 

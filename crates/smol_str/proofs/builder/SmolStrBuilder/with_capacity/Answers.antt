@@ -1,6 +1,5 @@
-use Rattle.std.proofs.Common.{[]}
-use Rattle.std.proofs.lemmas.Str.{chars-nil}
-use Rattle.smol_str.proofs.DraftLemmas.{kind_for-large}
+use Rattle.smol_str.proofs.Common.{[], chars-nil}
+use Rattle.smol_str.proofs.BuilderLemmas.Draft.{kind_for-large}
 use Rattle.smol_str.proofs.builder.SmolStrBuilder.with_capacity.Goals as goal
 
 pub returns-clause-ok : goal.returns-clause-ok

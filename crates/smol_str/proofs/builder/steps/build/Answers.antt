@@ -1,8 +1,7 @@
-use Rattle.std.proofs.Common.{inl, inr}
-use Rattle.std.proofs.lemmas.Iterator.{YieldsList-from_slice}
+use Rattle.smol_str.proofs.Common.{inl, inr, YieldsList-from_slice}
 use Rattle.smol_str.specs.Steps.{step_text}
-use Rattle.smol_str.proofs.TextLemmas.{OnErr-always}
-use Rattle.smol_str.proofs.StepLemmas.{why_stopped, text-appended}
+use Rattle.smol_str.proofs.TextLemmas.Places.{OnErr-always}
+use Rattle.smol_str.proofs.BuilderLemmas.Steps.{why_stopped, text-appended}
 use Rattle.smol_str.proofs.builder.steps.build.Goals as goal
 
 pub returns-in_err-append_all-clause-refused : goal.returns-in_err-append_all-clause-refused

@@ -1,8 +1,6 @@
-use Rattle.std.proofs.Common.{arith}
-use Rattle.std.specs.Str.{chars}
-use Rattle.smol_str.specs.Replace.{cut, no_limit}
-use Rattle.smol_str.proofs.CutLemmas.{IsCut-cut}
-use Rattle.smol_str.proofs.ReplacingLemmas.{joined-text, replaced-unlimited}
+use Rattle.smol_str.proofs.Common.{arith, chars, cut, no_limit}
+use Rattle.smol_str.proofs.CutLemmas.Cut.{IsCut-cut}
+use Rattle.smol_str.proofs.CutLemmas.Replacing.{joined-text, replaced-unlimited}
 use Rattle.smol_str.proofs.str_ext.RefStrStrExt.replace_smolstr.Goals as goal
 
 pub returns-clause-ok : goal.returns-clause-ok

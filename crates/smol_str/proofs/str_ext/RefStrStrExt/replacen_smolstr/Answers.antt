@@ -1,7 +1,6 @@
-use Rattle.std.specs.Str.{chars}
-use Rattle.smol_str.specs.Replace.{cut}
-use Rattle.smol_str.proofs.CutLemmas.{IsCut-cut}
-use Rattle.smol_str.proofs.ReplacingLemmas.{joined-text}
+use Rattle.smol_str.proofs.Common.{chars, cut}
+use Rattle.smol_str.proofs.CutLemmas.Cut.{IsCut-cut, IsCut-unique}
+use Rattle.smol_str.proofs.CutLemmas.Replacing.{joined-text}
 use Rattle.smol_str.proofs.str_ext.RefStrStrExt.replacen_smolstr.Goals as goal
 
 pub returns-clause-cut : goal.returns-clause-cut
@@ -14,3 +13,6 @@ pub returns-clause-text : goal.returns-clause-text
 returns-clause-text c = λ pieces h.
     let t = chars c.args.self.now.now in
     joined-text c.replace.result t (chars c.args.from.now) _ c.args.count pieces h c.replace.ensures.ok
+
+pub returns-clause-one_cut : goal.returns-clause-one_cut
+returns-clause-one_cut c = IsCut-unique (chars c.args.self.now.now) (chars c.args.from.now) c.args.count

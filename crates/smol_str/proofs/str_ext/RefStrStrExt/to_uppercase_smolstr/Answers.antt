@@ -1,6 +1,5 @@
-use Rattle.std.specs.Str.{chars}
-use Rattle.smol_str.specs.declared.kernel.AsciiCase.TheVariants.{Upper}
-use Rattle.smol_str.proofs.FullCaseLemmas.{ok-ascii, ok-front, ok-place}
+use Rattle.smol_str.proofs.Common.{chars, Upper}
+use Rattle.smol_str.proofs.CaseLemmas.Full.{ok-ascii, ok-front, ok-place}
 use Rattle.smol_str.proofs.str_ext.RefStrStrExt.to_uppercase_smolstr.Goals as goal
 
 pub returns-clause-ascii : goal.returns-clause-ascii

@@ -1,6 +1,6 @@
-use Rattle.std.proofs.Common.{◌≡◌, ◌∙◌, ◌<◌, arith, length, get_or, nat_eq, if◌then◌else◌}
-use Rattle.smol_str.proofs.AsciiMapLemmas.{mapping-start, mapping-byte, mapping-end}
-use Rattle.smol_str.proofs.ByteLemmas.{each-taken, each-kept}
+use Rattle.smol_str.proofs.Common.{◌≡◌, ◌∙◌, ◌<◌, arith, length, get_or, nat_eq, if◌then◌else◌}
+use Rattle.smol_str.proofs.CaseLemmas.Ascii.{mapping-start, mapping-byte, mapping-end}
+use Rattle.smol_str.proofs.CutLemmas.Bytes.{each-taken, each-kept}
 use Rattle.smol_str.proofs.str_ext.bytes.replace_each.Goals.{then-byte-from, else-byte-from}
 use Rattle.smol_str.proofs.str_ext.bytes.replace_each.Goals as goal
 

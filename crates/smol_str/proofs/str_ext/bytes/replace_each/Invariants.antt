@@ -1,6 +1,6 @@
 -- The bytes so far are replaced, and the others are as they were.
-use Rattle.std.proofs.Common.{nat_eq, if◌then◌else◌}
-use Rattle.smol_str.proofs.AsciiMapLemmas.{IsMapping}
+use Rattle.smol_str.proofs.Common.{nat_eq, if◌then◌else◌}
+use Rattle.smol_str.proofs.CaseLemmas.Ascii.{IsMapping}
 use Rattle.smol_str.proofs.str_ext.bytes.replace_each.Given as goal
 
 abbrev pub invariant-loop-at : goal.invariant-loop-at

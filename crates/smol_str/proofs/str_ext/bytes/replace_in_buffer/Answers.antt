@@ -1,4 +1,4 @@
-use Rattle.smol_str.proofs.ByteLemmas.{IsUtf8-each, chars-each}
+use Rattle.smol_str.proofs.CutLemmas.Bytes.{IsUtf8-each, chars-each}
 use Rattle.smol_str.proofs.str_ext.bytes.replace_in_buffer.Goals as goal
 
 pub from_utf8_unchecked-requires : goal.from_utf8_unchecked-requires

@@ -1,8 +1,5 @@
-use Rattle.std.proofs.Common.{◌≡◌, ◌∙◌, ap, length, drop, rules}
-use Rattle.std.specs.Str.{chars}
-use Rattle.std.specs.String.{string_bytes}
-use Rattle.smol_str.specs.Replace.{each_replaced}
-use Rattle.smol_str.proofs.ByteLemmas.{IsUtf8-each, chars-each, whole-each}
+use Rattle.smol_str.proofs.Common.{◌≡◌, ◌∙◌, ap, length, drop, rules, chars, string_bytes, each_replaced}
+use Rattle.smol_str.proofs.CutLemmas.Bytes.{IsUtf8-each, chars-each, whole-each}
 use Rattle.smol_str.proofs.str_ext.bytes.replace_on_heap.Goals as goal
 
 pub from_utf8_unchecked-requires : goal.from_utf8_unchecked-requires

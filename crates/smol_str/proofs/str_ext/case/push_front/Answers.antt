@@ -1,7 +1,6 @@
-use Rattle.std.proofs.Common.{◌∙◌, ap}
-use Rattle.std.specs.Str.{chars}
-use Rattle.smol_str.proofs.TextLemmas.{OnErr-always}
-use Rattle.smol_str.proofs.CasingLemmas.{front-inside, front-taken, IsUtf8-front, chars-front, front-boundary, front-rest}
+use Rattle.smol_str.proofs.Common.{◌∙◌, ap, chars, rules}
+use Rattle.smol_str.proofs.TextLemmas.Places.{OnErr-always}
+use Rattle.smol_str.proofs.CaseLemmas.Full.{front-inside, front-taken, IsUtf8-front, chars-front, front-boundary, front-rest}
 use Rattle.smol_str.proofs.str_ext.case.push_front.Goals as goal
 
 pub slice_bounds-buffer-end : goal.slice_bounds-buffer-end
@@ -29,12 +28,12 @@ returns-in_err-push_str-clause-refused c =
     OnErr-always c.from_residual.result _
     (rw (ap chars c.from_utf8_unchecked-front.ensures ∙ pushed) at c.in_err-push_str.ensures.refused)
 
-pub returns-clause-ok : goal.returns-clause-ok
-returns-clause-ok c =
+pub returns : goal.returns
+returns c =
     let made = c.convert_while_ascii-len.ensures in
     let pushed = chars-front c.args.case (chars c.args.text.now) _ _ made.bytes made.len in
-    rw (ap chars c.from_utf8_unchecked-front.ensures ∙ pushed) at c.in_ok-push_str.ensures.ok
-
-pub returns-clause-rest : goal.returns-clause-rest
-returns-clause-rest c =
-    rw c.range_from.ensures.value (front-rest c.args.text.now _ c.utf8.text c.convert_while_ascii-len.ensures.len)
+    record {
+      ok = rw (ap chars c.from_utf8_unchecked-front.ensures ∙ pushed) at c.in_ok-push_str.ensures.ok;
+      rest = rw c.range_from.ensures.value (front-rest c.args.text.now _ c.utf8.text made.len);
+      refused = search rules;
+    }

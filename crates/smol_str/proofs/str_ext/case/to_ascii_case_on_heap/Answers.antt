@@ -1,9 +1,5 @@
-use Rattle.std.proofs.Common.{◌≡◌, ◌∙◌, ap, map}
-use Rattle.std.specs.Str.{chars}
-use Rattle.std.specs.String.{string_bytes}
-use Rattle.std.specs.Char.{to_ascii_lowercase, to_ascii_uppercase}
-use Rattle.smol_str.specs.Convert.{converted}
-use Rattle.smol_str.proofs.AsciiMapLemmas.{chars-converted}
+use Rattle.smol_str.proofs.Common.{◌≡◌, ◌∙◌, ap, map, chars, string_bytes, to_ascii_lowercase, to_ascii_uppercase, converted}
+use Rattle.smol_str.proofs.CaseLemmas.Ascii.{chars-converted}
 use Rattle.smol_str.proofs.str_ext.case.to_ascii_case_on_heap.Goals.{in-Lower, in-Upper}
 use Rattle.smol_str.proofs.str_ext.case.to_ascii_case_on_heap.Goals as goal
 

@@ -1,8 +1,7 @@
-use Rattle.smol_str.specs.Convert.{mapped}
-use Rattle.smol_str.proofs.TextLemmas.{OnErr-always}
-use Rattle.smol_str.proofs.FullCaseLemmas.{mapped-append, mapped-nil}
-use Rattle.smol_str.proofs.PushLemmas.{grown-appended, mapped-start, mapped-more, mapped-refused, mapped-all}
-use Rattle.std.proofs.lemmas.Iterator.{YieldsList-from_chars}
+use Rattle.smol_str.proofs.Common.{mapped, YieldsList-from_chars, rules}
+use Rattle.smol_str.proofs.TextLemmas.Places.{OnErr-always}
+use Rattle.smol_str.proofs.CaseLemmas.Full.{mapped-append, mapped-nil}
+use Rattle.smol_str.proofs.BuilderLemmas.Push.{grown-appended, mapped-start, mapped-more, mapped-refused, mapped-all}
 use Rattle.std.proofs.lemmas.Iterator.Consumers.{YieldsList-so_far, YieldsList-turn, YieldsList-end}
 use Rattle.smol_str.proofs.str_ext.full.push_mapped.Goals as goal
 
@@ -14,9 +13,7 @@ pub push_letters-requires : goal.push_letters-requires
 push_letters-requires c = grown-appended _ _ _ c.requires c.loop-character.invariant
 
 pub loop-character-preserved : goal.loop-character-preserved
-loop-character-preserved c =
-    mapped-more (mapped c.args.case) (mapped-append c.args.case) _ _ _ _ _ _
-    c.loop-character.invariant c.letters_of.ensures c.in_ok-push_letters.ensures.ok
+loop-character-preserved c = search (rules, mapped-more, mapped-append)
 
 pub returns-in_err-push_letters-clause-refused : goal.returns-in_err-push_letters-clause-refused
 returns-in_err-push_letters-clause-refused c =

@@ -1,7 +1,5 @@
 -- The builder is the first one with what the characters so far are mapped to.
-use Rattle.std.proofs.Common.{◌≡◌}
-use Rattle.smol_str.specs.Draft.{appended}
-use Rattle.smol_str.specs.Convert.{mapped}
+use Rattle.smol_str.proofs.Common.{◌≡◌, appended, mapped}
 use Rattle.smol_str.proofs.str_ext.full.push_mapped.Given as goal
 
 abbrev pub invariant-loop-character : goal.invariant-loop-character

@@ -1,6 +1,7 @@
-use Rattle.std.specs.Str.{chars}
-use Rattle.smol_str.proofs.TextLemmas.{OnErr-always}
-use Rattle.smol_str.proofs.FullCaseLemmas.{full-ascii, long-refused}
+use Rattle.smol_str.proofs.Common.{chars}
+use Rattle.smol_str.proofs.TextLemmas.Places.{OnErr-always}
+use Rattle.smol_str.proofs.CaseLemmas.Ascii.{ascii-converted}
+use Rattle.smol_str.proofs.CaseLemmas.Full.{full-ascii, long-refused}
 use Rattle.smol_str.proofs.str_ext.full.to_full_case.Goals as goal
 
 pub returns-then-text-gt-INLINE_CAP-clause-refused :
@@ -11,6 +12,6 @@ returns-then-text-gt-INLINE_CAP-clause-refused c =
 pub returns-then-is_ascii-clause-ok : goal.returns-then-is_ascii-clause-ok
 returns-then-is_ascii-clause-ok c =
     let t = chars c.args.text.now in
-    let ascii = rw c.from_short-short.ensures at (c.is_ascii.ensures c.if-is_ascii.true) in
-    rw (full-ascii c.args.case t ascii)
-    (rw (c.in_case.ensures.text, c.from_short-short.ensures) at c.from_inline.ensures)
+    let made = c.new_inline_in_case-short.ensures in
+    let ascii = ascii-converted c.args.case t (rw made.text at (c.is_ascii.ensures.0 c.if-is_ascii.true)) in
+    rw (full-ascii c.args.case t ascii) made

@@ -1,8 +1,10 @@
-use Rattle.smol_str.proofs.FullCaseLemmas.{lower-whole, upper-whole}
+use Rattle.smol_str.proofs.Common.{IfOk-weaker, IsUtf8-string_bytes, rules}
+use Rattle.smol_str.proofs.TextLemmas.Places.{chars-of}
+use Rattle.smol_str.proofs.CaseLemmas.Full.{lower_is, upper_is}
 use Rattle.smol_str.proofs.str_ext.full.whole_text.Goals as goal
 
 pub returns-in-Lower : goal.returns-in-Lower
-returns-in-Lower c = rw c.in-Lower.is (lower-whole c.args.text.now c.to_lowercase.result c.to_lowercase.ensures.value)
+returns-in-Lower c = search (rules, IfOk-weaker, chars-of, IsUtf8-string_bytes, lower_is)
 
 pub returns-in-Upper : goal.returns-in-Upper
-returns-in-Upper c = rw c.in-Upper.is (upper-whole c.args.text.now c.to_uppercase.result c.to_uppercase.ensures.value)
+returns-in-Upper c = search (rules, IfOk-weaker, chars-of, IsUtf8-string_bytes, upper_is)

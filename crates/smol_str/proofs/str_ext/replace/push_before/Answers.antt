@@ -1,27 +1,6 @@
-use Rattle.std.proofs.Common.{[], ◌∷◌}
-use Rattle.std.specs.Str.{chars}
-use Rattle.smol_str.proofs.TextLemmas.{OnErr-always}
-use Rattle.smol_str.proofs.CallerLemmas.{appended-twice}
-use Rattle.smol_str.proofs.PushLemmas.{appended-twice-kind, appended-heap}
+use Rattle.smol_str.proofs.Common.{rules}
+use Rattle.smol_str.proofs.TextLemmas.Places.{chars-one}
 use Rattle.smol_str.proofs.str_ext.replace.push_before.Goals as goal
 
-pub returns-in_err-push_str-clause-refused : goal.returns-in_err-push_str-clause-refused
-returns-in_err-push_str-clause-refused c =
-    OnErr-always c.from_residual.result _
-    (appended-heap c.args.builder.now (chars c.args.text.now)
-    (c.args.character ∷ []) c.in_err-push_str.ensures.refused)
-
-pub returns-clause-ok : goal.returns-clause-ok
-returns-clause-ok c =
-    rw (
-      c.in_ok-push_str.ensures.ok,
-      appended-twice c.args.builder.now (chars c.args.text.now) (c.args.character ∷ []),
-    ) at c.push.ensures.ok
-
-pub returns-clause-refused : goal.returns-clause-refused
-returns-clause-refused c =
-    rw (
-      c.in_ok-push_str.ensures.ok,
-      appended-twice-kind c.args.builder.now (chars c.args.text.now) (c.args.character ∷ []),
-    ) at
-    c.push.ensures.refused
+pub returns : goal.returns
+returns c = search (rules, chars-one)

@@ -1,6 +1,6 @@
-use Rattle.std.proofs.Common.{◌+◌, ◌-◌, arith}
-use Rattle.smol_str.proofs.TextLemmas.{OnErr-always}
-use Rattle.smol_str.proofs.ReplacingLemmas.{replacing-boundary, taken-inside, taken-step, taken-refused, taken-end, end-refused}
+use Rattle.smol_str.proofs.Common.{◌+◌, ◌-◌, arith}
+use Rattle.smol_str.proofs.TextLemmas.Places.{OnErr-always}
+use Rattle.smol_str.proofs.CutLemmas.Replacing.{replacing-boundary, taken-inside, taken-step, taken-refused, taken-end, end-refused}
 use Rattle.smol_str.proofs.str_ext.replace.push_between.Goals as goal
 
 pub char_at-requires : goal.char_at-requires

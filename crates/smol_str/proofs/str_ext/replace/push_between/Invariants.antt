@@ -1,7 +1,5 @@
 -- The builder has the text up to the place, with the new text before each character.
-use Rattle.std.proofs.Common.{◌-◌, []}
-use Rattle.std.specs.Str.{chars}
-use Rattle.smol_str.specs.Replacing.{IsReplacing}
+use Rattle.smol_str.proofs.Common.{◌-◌, [], chars, IsReplacing}
 use Rattle.smol_str.proofs.str_ext.replace.push_between.Given as goal
 
 abbrev pub invariant-loop-passed : goal.invariant-loop-passed

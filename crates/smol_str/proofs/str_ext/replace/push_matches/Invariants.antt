@@ -1,7 +1,5 @@
 -- The builder has the text up to the place, with its matches replaced.
-use Rattle.std.proofs.Common.{◌-◌}
-use Rattle.std.specs.Str.{chars}
-use Rattle.smol_str.specs.Replacing.{IsReplacing}
+use Rattle.smol_str.proofs.Common.{◌-◌, chars, IsReplacing}
 use Rattle.smol_str.proofs.str_ext.replace.push_matches.Given as goal
 
 abbrev pub invariant-loop-taken : goal.invariant-loop-taken

@@ -1,7 +1,7 @@
-use Rattle.std.specs.Str.{chars}
-use Rattle.smol_str.proofs.TextLemmas.{OnErr-always}
-use Rattle.smol_str.proofs.CallerLemmas.{appended-twice}
-use Rattle.smol_str.proofs.PushLemmas.{appended-twice-kind, appended-heap}
+use Rattle.smol_str.proofs.Common.{chars, Draft, appended, on_ok_weaker, on_err_weaker, sym, ap, ◌∙◌}
+use Rattle.smol_str.proofs.TextLemmas.Places.{OnErr-always}
+use Rattle.smol_str.proofs.BuilderLemmas.Draft.{appended-twice}
+use Rattle.smol_str.proofs.BuilderLemmas.Push.{appended-heap}
 use Rattle.smol_str.proofs.str_ext.replace.push_two.Goals as goal
 
 pub returns-in_err-push_str-clause-refused : goal.returns-in_err-push_str-clause-refused
@@ -10,17 +10,13 @@ returns-in_err-push_str-clause-refused c =
     (appended-heap c.args.builder.now (chars c.args.first.now)
     (chars c.args.second.now) c.in_err-push_str.ensures.refused)
 
-pub returns-clause-ok : goal.returns-clause-ok
-returns-clause-ok c =
-    rw (
-      c.in_ok-push_str.ensures.ok,
-      appended-twice c.args.builder.now (chars c.args.first.now) (chars c.args.second.now),
-    ) at c.push_str-2.ensures.ok
-
-pub returns-clause-refused : goal.returns-clause-refused
-returns-clause-refused c =
-    rw (
-      c.in_ok-push_str.ensures.ok,
-      appended-twice-kind c.args.builder.now (chars c.args.first.now) (chars c.args.second.now),
-    ) at
-    c.push_str-2.ensures.refused
+pub returns : goal.returns
+returns c =
+    let both = ap (λ (d : Draft). appended d (chars c.args.second.now)) c.in_ok-push_str.ensures.ok
+    ∙ appended-twice c.args.builder.now (chars c.args.first.now) (chars c.args.second.now) in
+    record {
+      ok = on_ok_weaker c.push_str-2.result (λ e. e ∙ both) c.push_str-2.ensures.ok;
+      refused =
+          on_err_weaker c.push_str-2.result (λ heap. ap (λ (d : Draft). d.kind) (sym both) ∙ heap)
+          c.push_str-2.ensures.refused;
+    }

@@ -1,19 +1,8 @@
-use Rattle.std.proofs.Common.{sym}
-use Rattle.std.specs.Str.{IsUtf8}
-use Rattle.std.proofs.lemmas.Str.{encodes-chars, scalars-chars}
+use Rattle.smol_str.proofs.Common.{encodes-chars, scalars-chars, rules}
 use Rattle.smol_str.proofs.value.SmolStr.as_str.Goals as goal
 
 pub returns-in-Static : goal.returns-in-Static
-returns-in-Static c =
-    let text : IsUtf8 c.in-Static.text.now = rw c.in-Static.is at c.self.invariant in
-    let view = rw c.in-Static.is at c.self.view_is in
-    record { bytes = rw (← view) (sym (encodes-chars _ text)); scalars = rw (← view) (scalars-chars _ text) }
+returns-in-Static c = search (rules, encodes-chars, scalars-chars)
 
 pub returns-in-Heap : goal.returns-in-Heap
-returns-in-Heap c =
-    let view = rw c.in-Heap.is at c.self.view_is in
-    let text : IsUtf8 c.as_str-in-Heap.result.now = c.as_str-in-Heap.utf8 in
-    record {
-      bytes = rw (← view, ← c.as_str-in-Heap.ensures.value) (sym (encodes-chars _ text));
-      scalars = rw (← view, ← c.as_str-in-Heap.ensures.value) (scalars-chars _ text);
-    }
+returns-in-Heap c = search (rules, encodes-chars, scalars-chars)

@@ -1,4 +1,4 @@
-use Rattle.smol_str.proofs.TextLemmas.{IsShort-chars}
+use Rattle.smol_str.proofs.TextLemmas.Places.{IsShort-chars}
 use Rattle.smol_str.proofs.value.SmolStr.new.Goals as goal
 
 pub from_inline-requires : goal.from_inline-requires

@@ -1,23 +1,18 @@
-use Rattle.std.proofs.Common.{◌≡◌, ◌+◌, ◌-◌, arith}
-use Rattle.std.proofs.lemmas.Str.{IsCharBoundary-from_ascii}
-use Rattle.smol_str.proofs.BlankLemmas.{IsAscii-blank_run, length-blank_run, slice-blank_run}
+use Rattle.smol_str.proofs.Common.{◌≡◌, ◌+◌, ◌-◌, arith, IsCharBoundary-from_ascii, blank_run, ◌≤◌, ℕ, IsCharBoundary}
+use Rattle.smol_str.proofs.TextLemmas.Blank.{IsAscii-blank_run, length-blank_run, slice-blank_run}
 use Rattle.smol_str.proofs.value.blank.slice_of_blank.Goals as goal
-use Rattle.smol_str.specs.Text.{blank_run}
 use Rattle.smol_str.specs.declared.value.blank.TheConstants.{BLANK_NEWLINES, BLANK_SPACES}
 
+boundary : (n : ℕ) → n ≤ BLANK_NEWLINES + BLANK_SPACES → IsCharBoundary (blank_run BLANK_NEWLINES BLANK_SPACES) n
+boundary n h =
+    IsCharBoundary-from_ascii (blank_run BLANK_NEWLINES BLANK_SPACES) n (IsAscii-blank_run BLANK_NEWLINES BLANK_SPACES)
+    (rw (length-blank_run BLANK_NEWLINES BLANK_SPACES) h)
+
 pub range-requires-clause-start_boundary : goal.range-requires-clause-start_boundary
-range-requires-clause-start_boundary c =
-    rw c.blank_constant.ensures
-    (λ _. IsCharBoundary-from_ascii (blank_run BLANK_NEWLINES BLANK_SPACES) _
-    (IsAscii-blank_run BLANK_NEWLINES BLANK_SPACES)
-    (rw (length-blank_run BLANK_NEWLINES BLANK_SPACES) (omega arith)))
+range-requires-clause-start_boundary c = rw c.blank_constant.ensures (λ _. boundary _ (omega arith))
 
 pub range-requires-clause-end_boundary : goal.range-requires-clause-end_boundary
-range-requires-clause-end_boundary c =
-    rw c.blank_constant.ensures
-    (IsCharBoundary-from_ascii (blank_run BLANK_NEWLINES BLANK_SPACES) _
-    (IsAscii-blank_run BLANK_NEWLINES BLANK_SPACES)
-    (rw (length-blank_run BLANK_NEWLINES BLANK_SPACES) (omega arith)))
+range-requires-clause-end_boundary c = rw c.blank_constant.ensures (boundary _ (omega arith))
 
 pub returns : goal.returns
 returns c =

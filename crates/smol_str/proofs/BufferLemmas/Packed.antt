@@ -1,0 +1,113 @@
+-- For `InlineText` and equality: a short text in its buffer, with its length behind it.
+use Rattle.smol_str.proofs.Common.{◌≡◌, ℕ, ◌+◌, ◌-◌, ◌≤◌, List, [], ◌∷◌, ◌++◌, length, take, drop, set, get_or, replicate, sym, ◌∙◌, ap, arith, encode_utf8_all, append_assoc, length-append, refl, nat_eq, ◌↔◌, Bool, IsTrue, chars, IsUtf8, pointwise, bytes_decides, encodes-chars, encodes_same, chars-append, IsUtf8-append, drop-drop, drop-replicate, take_at, drop_at, get_or_at, set_at, length-replicate, drop-append-le, INLINE_CAP, size, IsShort, IsPacked, HaveOneBuffer, padded, packed, unpacked, put_at, common_steps}
+
+pub length-padded : (bytes : List ℕ) → length bytes ≤ INLINE_CAP → length (padded bytes) ≡ INLINE_CAP
+length-padded bytes h = omega (arith, length-append {A = ℕ}, length-replicate {A = ℕ} (INLINE_CAP - length bytes) 0)
+
+-- what is packed can be read back
+pub last-packed : (bytes : List ℕ) → length bytes ≤ INLINE_CAP → get_or (packed bytes) INLINE_CAP 0 ≡ length bytes
+last-packed bytes h = get_or_at (padded bytes) (length bytes) [] 0 INLINE_CAP (length-padded bytes h)
+
+behind : List ℕ → List ℕ
+behind bytes = replicate (INLINE_CAP - length bytes) 0 ++ (length bytes ∷ [])
+
+packed-behind : (bytes : List ℕ) → packed bytes ≡ bytes ++ behind bytes
+unfolding behind
+packed-behind bytes = append_assoc bytes (replicate (INLINE_CAP - length bytes) 0) (length bytes ∷ [])
+
+front-packed : (bytes : List ℕ) → take (length bytes) (packed bytes) ≡ bytes
+front-packed bytes = ap (take (length bytes)) (packed-behind bytes) ∙ take_at bytes (behind bytes) (length bytes) refl
+
+pub unpacked-packed : (all bytes : List ℕ) → length bytes ≤ INLINE_CAP → all ≡ packed bytes → unpacked all ≡ bytes
+unpacked-packed all bytes h e = ap unpacked e ∙ ap (λ n. take n (packed bytes)) (last-packed bytes h)
+    ∙ front-packed bytes
+
+pub IsPacked-packed : (all bytes : List ℕ) → IsUtf8 bytes → length bytes ≤ INLINE_CAP → all ≡ packed bytes →
+    IsPacked all
+IsPacked-packed all bytes u h e =
+    let b = unpacked-packed all bytes h e in
+    record { utf8 = rw b u; within = rw b h; reads = rw b e }
+
+-- the length is the size of the text
+pub len-bytes : (all : List ℕ) → IsPacked all → get_or all INLINE_CAP 0 ≡ length (unpacked all)
+len-bytes all h = ap (λ r. get_or r INLINE_CAP 0) h.reads ∙ last-packed (unpacked all) h.within
+
+pub len-size : (all t : List ℕ) → IsPacked all → chars (unpacked all) ≡ t → get_or all INLINE_CAP 0 ≡ size t
+len-size all t h e = rw (← e, encodes-chars (unpacked all) h.utf8) (len-bytes all h)
+
+pub IsShort-packed : (all : List ℕ) → IsPacked all → IsShort (chars (unpacked all))
+IsShort-packed all h = rw (encodes-chars (unpacked all) h.utf8) h.within
+
+-- what stands behind an appended text: fewer zeros, and the old length
+drop-packed : (old : List ℕ) (m : ℕ) → length old + m ≤ INLINE_CAP →
+    drop (length old + m) (packed old) ≡ replicate (INLINE_CAP - (length old + m)) 0 ++ (length old ∷ [])
+unfolding behind
+drop-packed old m h =
+    let left : (INLINE_CAP - length old) - m ≡ INLINE_CAP - (length old + m) = omega arith in
+    sym (drop-drop m (length old) (packed old))
+    ∙ ap (drop m) (ap (drop (length old)) (packed-behind old) ∙ drop_at old (behind old) (length old) refl)
+    ∙ drop-append-le m _ (length old ∷ []) (omega (arith, length-replicate {A = ℕ} (INLINE_CAP - length old) 0))
+    ∙ ap (λ t. t ++ (length old ∷ [])) (drop-replicate m (INLINE_CAP - length old) 0 ∙ ap (λ n. replicate n 0) left)
+
+put-packed : (old bytes : List ℕ) → length old + length bytes ≤ INLINE_CAP →
+    set (put_at (packed old) (length old) bytes) INLINE_CAP (length old + length bytes) ≡ packed (old ++ bytes)
+put-packed old bytes h = grind (arith, common_steps, length-append, length-padded, append_assoc, front-packed, drop-packed, set_at)
+
+-- after a text was appended: its bytes behind the others, and then the length
+append-packed : (n : ℕ) (old mid bytes : List ℕ) → IsPacked old → n ≡ get_or old INLINE_CAP 0 →
+    n + length bytes ≤ INLINE_CAP → mid ≡ put_at old n bytes →
+    (length (unpacked old ++ bytes) ≤ INLINE_CAP) ×
+    (set mid INLINE_CAP (n + length bytes) ≡ packed (unpacked old ++ bytes))
+append-packed n old mid bytes h e room put = grind (arith, common_steps, len-bytes, length-append, put-packed)
+
+pub IsPacked-append : (old mid bytes : List ℕ) → IsPacked old → IsUtf8 bytes →
+    get_or old INLINE_CAP 0 + length bytes ≤ INLINE_CAP →
+    mid ≡ put_at old (get_or old INLINE_CAP 0) bytes →
+    IsPacked (set mid INLINE_CAP (get_or old INLINE_CAP 0 + length bytes))
+IsPacked-append old mid bytes h u room put =
+    let all = append-packed (get_or old INLINE_CAP 0) old mid bytes h refl room put in
+    IsPacked-packed _ (unpacked old ++ bytes) (IsUtf8-append (unpacked old) bytes h.utf8 u) all.0 all.1
+
+pub view-append : (old mid bytes : List ℕ) → IsPacked old → IsUtf8 bytes →
+    get_or old INLINE_CAP 0 + length bytes ≤ INLINE_CAP →
+    mid ≡ put_at old (get_or old INLINE_CAP 0) bytes →
+    chars (unpacked (set mid INLINE_CAP (get_or old INLINE_CAP 0 + length bytes))) ≡ chars
+    (unpacked old) ++ chars bytes
+view-append old mid bytes h u room put =
+    let all = append-packed (get_or old INLINE_CAP 0) old mid bytes h refl room put in
+    ap chars (unpacked-packed _ (unpacked old ++ bytes) all.0 all.1) ∙ chars-append (unpacked old) bytes h.utf8
+
+-- the whole buffer
+pub buffer-padded : (all : List ℕ) → IsPacked all →
+    take INLINE_CAP all ≡ padded (encode_utf8_all (chars (unpacked all)))
+buffer-padded all h =
+    ap (take INLINE_CAP) h.reads
+    ∙ take_at (padded (unpacked all)) (length (unpacked all) ∷ []) INLINE_CAP (length-padded (unpacked all) h.within)
+    ∙ ap padded (sym (encodes-chars (unpacked all) h.utf8))
+
+-- two short texts are equal exactly where all that is packed is
+pub same-texts : (xs ys : List ℕ) → IsPacked xs → IsPacked ys →
+    IsTrue (pointwise nat_eq xs ys) ↔ (chars (unpacked xs) ≡ chars (unpacked ys))
+same-texts xs ys h k =
+    let bytes = λ (e : chars (unpacked xs) ≡ chars (unpacked ys)).
+    sym (encodes-chars (unpacked xs) h.utf8) ∙ ap encode_utf8_all e ∙ encodes-chars (unpacked ys) k.utf8 in (
+      (λ b. let s : xs ≡ ys = (bytes_decides xs ys).0 b in rw s),
+      (λ e. (bytes_decides xs ys).1 (h.reads ∙ ap packed (bytes e) ∙ sym k.reads)),
+    )
+
+-- texts are equal exactly where their sizes and padded buffers are
+pub padded-same : (s t : List ℕ) → size s ≡ size t → padded (encode_utf8_all s) ≡ padded (encode_utf8_all t) → s ≡ t
+padded-same s t e h =
+    let left = take_at (encode_utf8_all s) (replicate (INLINE_CAP - size s) 0) (size s) refl in
+    let right = take_at (encode_utf8_all t) (replicate (INLINE_CAP - size t) 0) (size s) (sym e) in
+    encodes_same s t (sym left ∙ ap (take (size s)) h ∙ right)
+
+pub HaveOneBuffer-same : (s t : List ℕ) → (s ≡ t) ↔ HaveOneBuffer s t
+HaveOneBuffer-same s t = (
+  (λ e. record { size = ap size e; bytes = ap (λ u. padded (encode_utf8_all u)) e }),
+  (λ h. padded-same s t h.size h.bytes),
+)
+
+-- a test for equal texts tests the buffers
+pub test-HaveOneBuffer : (b : Bool) (s t : List ℕ) → IsTrue b ↔ (s ≡ t) → IsTrue b ↔ HaveOneBuffer s t
+test-HaveOneBuffer b s t h = ((λ y. (HaveOneBuffer-same s t).0 (h.0 y)), (λ o. h.1 ((HaveOneBuffer-same s t).1 o)))

@@ -1,0 +1,147 @@
+-- For `order_words` and `InlineText::order`: the order of packed texts is that of their words.
+use Rattle.smol_str.proofs.Common.{◌≡◌, ℕ, zero, suc, ◌+◌, ◌-◌, ◌*◌, ◌^◌, ◌<◌, ◌≤◌, List, [], ◌∷◌, ◌++◌, length, take, drop, get_or, replicate, sym, ◌∙◌, ap, arith, refl, inl, inr, length-drop, w64, from_be_bytes, chars, nat_cmp, ordering_then, ordering_reverse, slice_cmp, nat_list_cmp_total, cases_lt, cases_order, drop_more, drop_all, drop-drop, take-append-drop, encodes-chars, INLINE_CAP, IsPacked, packed, unpacked, tied_itself, common_steps, rules}
+use Rattle.std.specs.declared.cmp.Ordering.TheVariants.{Less, Equal, Greater}
+use Rattle.std.specs.declared.cmp.Ordering.{Ordering}
+use Rattle.std.proofs.Math.Nat.{mul-le-mul_right, pow-succ'}
+use Rattle.smol_str.proofs.BufferLemmas.Words.{AreBytes, bytes-part, length-part}
+use Rattle.smol_str.proofs.TextLemmas.Order.{order-texts, nat_cmp-less, nat_cmp-same, nat_cmp-greater, slice_cmp-front, less_head, same_head}
+
+-- the number of these bytes, the first the highest
+big : List ℕ → ℕ
+big [] = 0
+big (b ∷ bytes) = b * 256 ^ length bytes + big bytes
+
+big-drop : (xs : List ℕ) (n i : ℕ) → length xs ≡ n → i < n →
+    big (drop i xs) ≡ get_or xs i 0 * 256 ^ (n - (i + 1)) + big (drop (i + 1) xs)
+unfolding big
+big-drop xs n i e h = search (rules, length-drop, drop_more)
+
+big-eight : (xs : List ℕ) → length xs ≡ 8 → from_be_bytes w64 xs ≡ big xs
+unfolding big
+big-eight xs e = grind (arith, common_steps, drop_all, big-drop)
+
+-- a greater digit before lesser numbers
+digit-less : (x y p b c : ℕ) → x < y → b < p → x * p + b < y * p + c
+digit-less x y p b c h l = grind (arith, common_steps, mul-le-mul_right)
+
+big-below : (xs : List ℕ) → AreBytes xs → big xs < 256 ^ length xs
+unfolding big
+big-below [] h = omega arith
+big-below (x ∷ xs) h =
+    let more = digit-less x 256 (256 ^ length xs) (big xs) 0 (h 0) (big-below xs (λ i. h (suc i))) in
+    omega (arith, more, pow-succ' 256 (length xs))
+
+-- the first digit decides, or else the rest
+nat_cmp-add : (a b c : ℕ) → nat_cmp (a + b) (a + c) ≡ nat_cmp b c
+nat_cmp-add a b c = grind (arith, common_steps, cases_order, nat_cmp-same, nat_cmp-less, nat_cmp-greater)
+
+digits : (x y p b c : ℕ) → b < p → c < p → ordering_then (nat_cmp x y) (nat_cmp b c) ≡ nat_cmp (x * p + b) (y * p + c)
+digits x y p b c h k =
+    elim (cases_order x y) [
+      | inl e ↦ rw (e, nat_cmp-same y) (sym (nat_cmp-add (y * p) b c))
+      | inr o ↦ elim o [
+        | inl l ↦ rw (nat_cmp-less x y l) (sym (nat_cmp-less (x * p + b) (y * p + c) (digit-less x y p b c l h)))
+        | inr g ↦ rw (nat_cmp-greater x y g)
+            (sym (nat_cmp-greater (x * p + b) (y * p + c) (digit-less y x p c b g k)))
+      ]
+    ]
+
+then-assoc : (a b c : Ordering) → ordering_then a (ordering_then b c) ≡ ordering_then (ordering_then a b) c
+then-assoc Less b c = refl
+then-assoc Equal b c = refl
+then-assoc Greater b c = refl
+
+big-order : (xs ys s t : List ℕ) → length xs ≡ length ys → AreBytes xs → AreBytes ys →
+    slice_cmp nat_cmp (xs ++ s) (ys ++ t) ≡ ordering_then (nat_cmp (big xs) (big ys)) (slice_cmp nat_cmp s t)
+unfolding big
+big-order [] [] s t e h k = refl
+big-order [] (y ∷ ys) s t e h k = absurd (omega arith)
+big-order (x ∷ xs) [] s t e h k = absurd (omega arith)
+big-order (x ∷ xs) (y ∷ ys) s t e h k =
+    let long : length xs ≡ length ys = omega arith in
+    let bx : AreBytes xs = λ i. h (suc i) in
+    let by : AreBytes ys = λ i. k (suc i) in
+    let power : 256 ^ length xs ≡ 256 ^ length ys = ap (λ n. 256 ^ n) long in
+    let last : Ordering = slice_cmp nat_cmp s t in
+    let first = digits x y (256 ^ length ys) (big xs) (big ys) (rw (← power) (big-below xs bx)) (big-below ys by) in
+    rw (big-order xs ys s t long bx by, then-assoc (nat_cmp x y) (nat_cmp (big xs) (big ys)) last, power)
+    (ap (λ o. ordering_then o last) first)
+
+-- the step of a loop over words
+order-step : (xs ys x y : List ℕ) (at : ℕ) → x ≡ take 8 (drop at xs) → y ≡ take 8 (drop at ys) → AreBytes xs →
+    AreBytes ys → at + 8 ≤ length xs → at + 8 ≤ length ys →
+    slice_cmp nat_cmp (drop at xs) (drop at ys) ≡
+    ordering_then (nat_cmp (from_be_bytes w64 x) (from_be_bytes w64 y))
+    (slice_cmp nat_cmp (drop (at + 8) xs) (drop (at + 8) ys))
+order-step xs ys x y at e f h k l m =
+    let parts : slice_cmp nat_cmp (take 8 (drop at xs) ++ drop 8 (drop at xs))
+    (take 8 (drop at ys) ++ drop 8 (drop at ys)) ≡ slice_cmp nat_cmp (drop at xs) (drop at ys) =
+    rw (take-append-drop 8 (drop at xs), take-append-drop 8 (drop at ys)) in
+    let long : length (take 8 (drop at xs)) ≡ 8 = length-part 8 xs at l in
+    let wide : length (take 8 (drop at ys)) ≡ 8 = length-part 8 ys at m in
+    sym parts
+    ∙ big-order (take 8 (drop at xs)) (take 8 (drop at ys)) (drop 8 (drop at xs)) (drop 8 (drop at ys))
+    (long ∙ sym wide) (bytes-part 8 xs at h) (bytes-part 8 ys at k)
+    ∙ rw (
+      e,
+      f,
+      big-eight (take 8 (drop at xs)) long,
+      big-eight (take 8 (drop at ys)) wide,
+      drop-drop 8 at xs,
+      drop-drop 8 at ys,
+    )
+
+then-differ : (a b : ℕ) (o : Ordering) → ¬ (a ≡ b) → ordering_then (nat_cmp a b) o ≡ nat_cmp a b
+then-differ a b o other = grind (arith, common_steps, cases_order, nat_cmp-less, nat_cmp-greater)
+
+pub order-differ : (xs ys : List ℕ) (at a b : ℕ) → AreBytes xs → AreBytes ys → at + 8 ≤ length xs →
+    at + 8 ≤ length ys →
+    a ≡ from_be_bytes w64 (take 8 (drop at xs)) → b ≡ from_be_bytes w64 (take 8 (drop at ys)) → ¬ (a ≡ b) →
+    slice_cmp nat_cmp (drop at xs) (drop at ys) ≡ nat_cmp a b
+order-differ xs ys at a b h k l m e f other =
+    order-step xs ys _ _ at refl refl h k l m
+    ∙ rw (← e, ← f) (then-differ a b (slice_cmp nat_cmp (drop (at + 8) xs) (drop (at + 8) ys)) other)
+
+pub order-same : (xs ys : List ℕ) (at a b : ℕ) → AreBytes xs → AreBytes ys → at + 8 ≤ length xs → at + 8 ≤ length ys →
+    a ≡ from_be_bytes w64 (take 8 (drop at xs)) → b ≡ from_be_bytes w64 (take 8 (drop at ys)) → a ≡ b →
+    slice_cmp nat_cmp (drop at xs) (drop at ys) ≡ slice_cmp nat_cmp (drop (at + 8) xs) (drop (at + 8) ys)
+order-same xs ys at a b h k l m e f same =
+    order-step xs ys _ _ at refl refl h k l m ∙ rw (← e, ← f, same, nat_cmp-same b)
+
+-- the length behind a text decides where the texts are equal up to zeros
+behind : (ys : List ℕ) (m n k l : ℕ) → m ≡ length ys + n → k < l →
+    slice_cmp nat_cmp (replicate m 0 ++ (k ∷ [])) ((ys ++ replicate n 0) ++ (l ∷ [])) ≡ Less
+behind [] m n k l e h = search (rules, slice_cmp-front, less_head)
+behind (y ∷ ys) zero n k l e h = absurd (omega arith)
+behind (y ∷ ys) (suc m) n k l e h =
+    let xs : List ℕ = replicate m 0 ++ (k ∷ []) in
+    let zs : List ℕ = (ys ++ replicate n 0) ++ (l ∷ []) in
+    elim (cases_lt 0 y) [
+      | inl above ↦ less_head 0 y xs zs above
+      | inr none ↦ same_head 0 y xs zs (omega (arith, none)) (behind ys m n k l (omega (arith, e)) h)
+    ]
+
+order-behind : (xs ys : List ℕ) (m n k l : ℕ) → length xs + m ≡ length ys + n → k + length ys ≡ l + length xs →
+    slice_cmp nat_cmp ((xs ++ replicate m 0) ++ (k ∷ []))
+    ((ys ++ replicate n 0) ++ (l ∷ [])) ≡ slice_cmp nat_cmp xs ys
+order-behind [] [] m n k l e f =
+    let a : m ≡ n = omega (arith, e) in
+    let b : k ≡ l = omega (arith, f) in
+    rw (a, b) (tied_itself nat_list_cmp_total (replicate n 0 ++ (l ∷ [])))
+order-behind [] (y ∷ ys) m n k l e f = behind (y ∷ ys) m n k l (omega arith) (omega arith)
+order-behind (x ∷ xs) [] m n k l e f =
+    nat_list_cmp_total.antisymm (((x ∷ xs) ++ replicate m 0) ++ (k ∷ [])) (replicate n 0 ++ (l ∷ []))
+    ∙ ap ordering_reverse (behind (x ∷ xs) n m l k (omega arith) (omega arith))
+order-behind (x ∷ xs) (y ∷ ys) m n k l e f = search (rules, order-behind xs ys m n k l (omega arith) (omega arith))
+
+pub order-packed : (xs ys : List ℕ) → IsPacked xs → IsPacked ys →
+    slice_cmp nat_cmp xs ys ≡ slice_cmp nat_cmp (chars (unpacked xs)) (chars (unpacked ys))
+order-packed xs ys h k =
+    let s : List ℕ = unpacked xs in
+    let t : List ℕ = unpacked ys in
+    let m : ℕ = INLINE_CAP - length s in
+    let n : ℕ = INLINE_CAP - length t in
+    let bytes : slice_cmp nat_cmp (packed s) (packed t) ≡ slice_cmp nat_cmp s t =
+    order-behind s t m n (length s) (length t) (omega (arith, h.within, k.within)) (omega arith) in
+    let texts = rw (encodes-chars s h.utf8, encodes-chars t k.utf8) at (order-texts (chars s) (chars t)) in
+    ap (λ r. slice_cmp nat_cmp r ys) h.reads ∙ ap (slice_cmp nat_cmp (packed s)) k.reads ∙ bytes ∙ texts

@@ -1,0 +1,235 @@
+-- For the functions of `buffer::words` that read, pack and overwrite bytes: bytes as words.
+use Rattle.smol_str.proofs.Common.{◌≡◌, ℕ, zero, suc, ◌+◌, ◌-◌, ◌*◌, ◌^◌, ◌/◌, ◌<◌, ◌≤◌, List, [], ◌∷◌, ◌++◌, length, take, drop, get_or, replicate, sym, ◌∙◌, ap, arith, refl, length-take, length-drop, nat_eq, ◌&&◌, set, length-append, w64, w32, to_le_bytes, from_le_bytes, pointwise, bytes_decides, take-add, take-append-add, drop-append-add, le_bytes_8, pow-add, cases_lt, Decides-and, Decides-like, Decides-eqb, same_from_decides, take_at, drop_at, take_all, take-take, drop-take, drop-drop, take-append-le, take-append-drop, append_assoc, length-take-le, get_or-drop, get_or-take, get_or_past, set_at, length-replicate, drop-replicate, INLINE_CAP, packed, padded, put_at, zeroed, encode, replicate_more, common_steps, rules}
+use Rattle.std.proofs.Math.Nat.{div-div-eq-div-mul, pow-succ', mul-le-mul_left}
+use Rattle.smol_str.specs.Words.{word}
+use Rattle.smol_str.proofs.BufferLemmas.Packed.{length-padded}
+use Rattle.smol_str.proofs.TextLemmas.Utf8.{Form, one, two, three, four, form}
+
+abbrev pub AreBytes : List ℕ → Type 0
+AreBytes xs = (i : ℕ) → get_or xs i 0 < 256
+
+-- the first byte is the lowest
+word-first : (k : ℕ) (xs : List ℕ) (at : ℕ) → word (suc k) xs at ≡ get_or xs at 0 + 256 * word k xs (at + 1)
+unfolding word
+word-first zero xs at = let e : at + 0 ≡ at = omega arith in rw e (omega arith)
+word-first (suc k) xs at =
+    let e : at + suc k ≡ (at + 1) + k = omega arith in
+    let rest = word-first k xs at in
+    rw (e, pow-succ' 256 k) (omega (arith, rest))
+
+-- past the end
+word-past : (k : ℕ) (xs : List ℕ) (at : ℕ) → length xs ≤ at + k → word (suc k) xs at ≡ word k xs at
+unfolding word
+word-past k xs at h = rw (get_or_past xs (at + k) 0 h) (omega arith)
+
+pub word-none : (k : ℕ) (xs : List ℕ) (at : ℕ) → length xs ≤ at → word k xs at ≡ 0
+unfolding word
+word-none zero xs at h = refl
+word-none (suc k) xs at h = word-past k xs at (omega (arith, h)) ∙ word-none k xs at h
+
+pub word-few : (m k : ℕ) (xs : List ℕ) → length xs ≤ k → word (m + k) xs 0 ≡ word k xs 0
+unfolding word
+word-few zero k xs h = let e : 0 + k ≡ k = omega arith in ap (λ n. word n xs 0) e
+word-few (suc m) k xs h = let e : suc m + k ≡ suc (m + k) = omega arith in ap (λ n. word n xs 0) e
+    ∙ word-past (m + k) xs 0 (omega (arith, h)) ∙ word-few m k xs h
+
+-- without its lowest bytes
+shift_once : (x m p : ℕ) → x < 256 → (x + 256 * m) / (256 * p) ≡ m / p
+shift_once x m p h = grind (arith, common_steps, div-div-eq-div-mul)
+
+power_more : (j : ℕ) → 2 ^ (8 * suc j) ≡ 256 * 2 ^ (8 * j)
+power_more j = let e : 8 * suc j ≡ 8 + 8 * j = omega arith in rw e (pow-add 2 8 (8 * j))
+
+pub word-shift : (j k : ℕ) (xs : List ℕ) (at to : ℕ) → AreBytes xs → length xs ≤ at + k → at + j ≡ to →
+    word k xs at / 2 ^ (8 * j) ≡ word k xs to
+word-shift zero k xs at to b h e = let f : to ≡ at = omega arith in rw f (omega arith)
+word-shift (suc j) k xs at to b h e =
+    let first : word k xs at ≡ get_or xs at 0 + 256 * word k xs (at + 1) = sym (word-past k xs at h)
+    ∙ word-first k xs at in
+    rw (first, power_more j) (shift_once (get_or xs at 0) (word k xs (at + 1)) (2 ^ (8 * j)) (b at))
+    ∙ word-shift j k xs (at + 1) to b (omega (arith, h)) (omega (arith, e))
+
+pub word-below : (k : ℕ) (xs : List ℕ) (at : ℕ) → AreBytes xs → word k xs at < 256 ^ k
+unfolding word
+word-below zero xs at b = omega arith
+word-below (suc k) xs at b =
+    let most : get_or xs (at + k) 0 ≤ 255 = omega (arith, b (at + k)) in
+    let more : 256 ^ k * get_or xs (at + k) 0 ≤ 256 ^ k * 255 = mul-le-mul_left (256 ^ k) most in
+    omega (arith, more, word-below k xs at b, pow-succ' 256 k)
+
+-- fewer than eight bytes, by two halves
+pub word-halves : (xs : List ℕ) → AreBytes xs → 4 ≤ length xs → length xs < 8 →
+    word 8 xs 0 ≡ word 4 xs 0 + 4294967296 * (word 4 xs (length xs - 4) / 2 ^ (8 * (8 - length xs)))
+unfolding word
+word-halves xs b h small = rw (word-shift (8 - length xs) 4 xs (length xs - 4) 4 b (omega arith) (omega arith))
+    (omega arith)
+
+-- the numbers that std reads, and the bytes that it writes
+part : (n : ℕ) (xs : List ℕ) (at i : ℕ) → i < n → get_or (take n (drop at xs)) i 0 ≡ get_or xs (at + i) 0
+part n xs at i h = get_or-take n (drop at xs) i 0 h ∙ get_or-drop at xs i 0
+
+pub read-four : (xs : List ℕ) (at : ℕ) → from_le_bytes w32 (take 4 (drop at xs)) ≡ word 4 xs at
+unfolding word
+read-four xs at = search (rules, part)
+
+pub read-eight : (xs : List ℕ) (at : ℕ) → from_le_bytes w64 (take 8 (drop at xs)) ≡ word 8 xs at
+unfolding word
+read-eight xs at = search (rules, part)
+
+pub bytes-part : (n : ℕ) (xs : List ℕ) (at : ℕ) → AreBytes xs → AreBytes (take n (drop at xs))
+bytes-part n xs at b i = grind (arith, common_steps, cases_lt, part, get_or_past, length-take)
+
+pub length-part : (n : ℕ) (xs : List ℕ) (at : ℕ) → at + n ≤ length xs → length (take n (drop at xs)) ≡ n
+length-part n xs at h = omega (arith, h, length-take n (drop at xs), length-drop at xs)
+
+pub write-eight : (xs : List ℕ) (at : ℕ) → AreBytes xs → at + 8 ≤ length xs →
+    to_le_bytes w64 (word 8 xs at) ≡ take 8 (drop at xs)
+write-eight xs at b h = search (rules, le_bytes_8, length-part, bytes-part, read-eight)
+
+-- bytes with zeros behind them
+get_or-zeros : (xs : List ℕ) (m k : ℕ) → get_or (xs ++ replicate m 0) k 0 ≡ get_or xs k 0
+get_or-zeros [] zero k = refl
+get_or-zeros [] (suc m) zero = refl
+get_or-zeros [] (suc m) (suc k) = get_or-zeros [] m k
+get_or-zeros (x ∷ xs) m zero = refl
+get_or-zeros (x ∷ xs) m (suc k) = get_or-zeros xs m k
+
+length-zeroed : (bytes : List ℕ) → length bytes ≤ INLINE_CAP → length (zeroed bytes) ≡ INLINE_CAP + 1
+length-zeroed bytes h = omega (arith, length-append {A = ℕ}, length-replicate {A = ℕ} (INLINE_CAP + 1 - length bytes) 0)
+
+word-same : (k : ℕ) (xs ys : List ℕ) (at : ℕ) → ((j : ℕ) → get_or xs j 0 ≡ get_or ys j 0) → word k xs at ≡ word k ys at
+unfolding word
+word-same zero xs ys at h = refl
+word-same (suc k) xs ys at h = rw (h (at + k), word-same k xs ys at h)
+
+-- the step of a loop that packs
+take-end : (xs ys zs : List ℕ) (n m : ℕ) → length xs ≡ n → length ys ≡ m → take (n + m) (xs ++ (ys ++ zs)) ≡ xs ++ ys
+take-end xs ys zs n m e f = rw (← e) (take-append-add xs (ys ++ zs) m ∙ ap (λ t. xs ++ t) (take_at ys zs m f))
+
+word-zeroed : (bytes : List ℕ) (at n : ℕ) → AreBytes bytes → length bytes ≤ INLINE_CAP →
+    at + 8 ≤ INLINE_CAP + 1 → n ≡ word 8 bytes at → to_le_bytes w64 n ≡ take 8 (drop at (zeroed bytes))
+word-zeroed bytes at n b h within e =
+    let zeros = λ (i : ℕ). get_or-zeros bytes (INLINE_CAP + 1 - length bytes) i in
+    let number : n ≡ word 8 (zeroed bytes) at = e ∙ sym (word-same 8 (zeroed bytes) bytes at zeros) in
+    let are : AreBytes (zeroed bytes) = λ i. rw (zeros i) (b i) in
+    ap (to_le_bytes w64) number
+    ∙ write-eight (zeroed bytes) at are (omega (arith, within, length-zeroed bytes h))
+
+pub pack-step : (new old bytes : List ℕ) (at n : ℕ) → AreBytes bytes → length bytes ≤ INLINE_CAP →
+    at + 8 ≤ INLINE_CAP + 1 → at + 8 ≤ length old → take at old ≡ take at (zeroed bytes) → n ≡ word 8 bytes at →
+    new ≡ put_at old at (to_le_bytes w64 n) → take (at + 8) new ≡ take (at + 8) (zeroed bytes)
+pack-step new old bytes at n b h within long front e put = grind (arith, common_steps, word-zeroed, take-end, length-take-le, take-add)
+
+-- its end: all words are written, and then the length
+pub all-zeroed : (buf bytes : List ℕ) → length buf ≡ INLINE_CAP + 1 → length bytes ≤ INLINE_CAP →
+    take (INLINE_CAP + 1) buf ≡ take (INLINE_CAP + 1) (zeroed bytes) → buf ≡ zeroed bytes
+all-zeroed buf bytes long h e =
+    sym (take_all (INLINE_CAP + 1) buf (omega (arith, long))) ∙ e
+    ∙ take_all (INLINE_CAP + 1) (zeroed bytes) (omega (arith, length-zeroed bytes h))
+
+pub pack-end : (buf bytes : List ℕ) → length bytes ≤ INLINE_CAP → buf ≡ zeroed bytes →
+    set buf INLINE_CAP (length bytes) ≡ packed bytes
+pack-end buf bytes h all =
+    let n : ℕ = INLINE_CAP - length bytes in
+    let more : INLINE_CAP + 1 - length bytes ≡ n + 1 = omega (arith, h) in
+    let last : zeroed bytes ≡ padded bytes ++ (0 ∷ []) =
+    ap (λ m. bytes ++ replicate m 0) more ∙ ap (λ t. bytes ++ t) (sym (replicate_more n 0))
+    ∙ sym (append_assoc bytes (replicate n 0) (0 ∷ [])) in
+    rw (all, last) (set_at (padded bytes) 0 [] (length bytes) INLINE_CAP (length-padded bytes h))
+
+-- at most eight bytes, by one word over zeros
+pub one-word : (buf bytes : List ℕ) (n : ℕ) → AreBytes bytes → length bytes ≤ 8 → n ≡ word 8 bytes 0 →
+    buf ≡ put_at (replicate (INLINE_CAP + 1) 0) 0 (to_le_bytes w64 n) → buf ≡ zeroed bytes
+one-word buf bytes n b h e put =
+    let m : ℕ = INLINE_CAP + 1 - length bytes in
+    let zeros : List ℕ = replicate (INLINE_CAP + 1) 0 in
+    let eight : to_le_bytes w64 n ≡ take 8 (zeroed bytes) = word-zeroed bytes 0 n b (omega arith) (omega arith) e in
+    let split : length bytes + (8 - length bytes) ≡ 8 = omega (arith, h) in
+    let left : m - (8 - length bytes) ≡ INLINE_CAP + 1 - 8 = omega (arith, h) in
+    let rest : drop 8 (zeroed bytes) ≡ drop 8 zeros =
+    ap (λ k. drop k (zeroed bytes)) (sym split) ∙ drop-append-add bytes (replicate m 0) (8 - length bytes)
+    ∙ drop-replicate (8 - length bytes) m 0 ∙ ap (λ k. replicate k 0) left
+    ∙ sym (drop-replicate 8 (INLINE_CAP + 1) 0) in
+    put ∙ ap (λ t. t ++ drop 8 zeros) eight ∙ ap (λ t. take 8 (zeroed bytes) ++ t) (sym rest)
+    ∙ take-append-drop 8 (zeroed bytes)
+
+-- one word of two lists
+same-word : (xs ys : List ℕ) (at : ℕ) → take (at + 8) xs ≡ take (at + 8) ys →
+    (take at xs ≡ take at ys) × (word 8 xs at ≡ word 8 ys at)
+same-word xs ys at e =
+    let here : take 8 (drop at xs) ≡ take 8 (drop at ys) =
+    sym (drop-take at 8 xs) ∙ ap (drop at) e ∙ drop-take at 8 ys in (
+      (sym (take-take at (at + 8) xs (omega arith)) ∙ ap (take at) e ∙ take-take at (at + 8) ys (omega arith)),
+      (sym (read-eight xs at) ∙ ap (from_le_bytes w64) here ∙ read-eight ys at),
+    )
+
+more-same : (xs ys : List ℕ) (at : ℕ) → AreBytes xs → AreBytes ys → at + 8 ≤ length xs → at + 8 ≤ length ys →
+    take at xs ≡ take at ys → word 8 xs at ≡ word 8 ys at → take (at + 8) xs ≡ take (at + 8) ys
+more-same xs ys at b c h k front same =
+    let here : take 8 (drop at xs) ≡ take 8 (drop at ys) = sym (write-eight xs at b h) ∙ ap (to_le_bytes w64) same
+    ∙ write-eight ys at c k in
+    take-add at 8 xs ∙ rw (front, here) (sym (take-add at 8 ys))
+
+-- the step of a loop that compares
+pub same-step : (xs ys : List ℕ) (at : ℕ) → AreBytes xs → AreBytes ys → at + 8 ≤ length xs → at + 8 ≤ length ys →
+    (pointwise nat_eq (take at xs) (take at ys) && nat_eq (word 8 xs at) (word 8 ys at)) ≡ pointwise nat_eq
+    (take (at + 8) xs) (take (at + 8) ys)
+same-step xs ys at b c h k = grind (arith, common_steps, Decides-and, bytes_decides, Decides-eqb, same_from_decides, Decides-like, more-same, same-word)
+
+-- a character's bytes
+bytes-form : (c : ℕ) → c < 1114112 → Form c → AreBytes (encode c)
+bytes-form c h (one a e) zero = rw e (omega arith)
+bytes-form c h (one a e) (suc i) = rw e (omega arith)
+bytes-form c h (two a b e) zero = rw e (omega arith)
+bytes-form c h (two a b e) (suc zero) = rw e (omega arith)
+bytes-form c h (two a b e) (suc (suc i)) = rw e (omega arith)
+bytes-form c h (three a b e) zero = rw e (omega arith)
+bytes-form c h (three a b e) (suc zero) = rw e (omega arith)
+bytes-form c h (three a b e) (suc (suc zero)) = rw e (omega arith)
+bytes-form c h (three a b e) (suc (suc (suc i))) = rw e (omega arith)
+bytes-form c h (four a e) zero = rw e (omega arith)
+bytes-form c h (four a e) (suc zero) = rw e (omega arith)
+bytes-form c h (four a e) (suc (suc zero)) = rw e (omega arith)
+bytes-form c h (four a e) (suc (suc (suc zero))) = rw e (omega arith)
+bytes-form c h (four a e) (suc (suc (suc (suc i)))) = rw e (omega arith)
+
+pub bytes-encode : (c : ℕ) → c < 1114112 → AreBytes (encode c)
+bytes-encode c h i = bytes-form c h (form c) i
+
+-- the first k bytes and the last, which may overlap, are all
+drop-end : (xs ys zs : List ℕ) (n m : ℕ) → length xs ≡ n → length ys ≡ m → drop (n + m) (xs ++ (ys ++ zs)) ≡ zs
+drop-end xs ys zs n m e f = sym (drop-drop m n (xs ++ (ys ++ zs))) ∙ ap (drop m) (drop_at xs (ys ++ zs) n e)
+    ∙ drop_at ys zs m f
+
+front-end : (r bytes : List ℕ) (s k m : ℕ) → length bytes ≡ m + k → m ≤ k → s ≤ length r →
+    take (s + m) (take s r ++ (take k bytes ++ drop k (drop s r))) ≡ take s r ++ take m bytes
+front-end r bytes s k m e h l = grind (arith, common_steps, length-take-le, part, take-append-add, take-append-le, take-take)
+
+back-end : (r bytes : List ℕ) (s k m : ℕ) → length bytes ≡ m + k → s ≤ length r →
+    drop k (drop (s + m) (take s r ++ (take k bytes ++ drop k (drop s r)))) ≡ drop (s + length bytes) r
+back-end r bytes s k m e l =
+    let w : List ℕ = take s r ++ (take k bytes ++ drop k (drop s r)) in
+    let part : length (take k bytes) ≡ k = length-take-le k bytes (omega (arith, e)) in
+    let turn : (s + m) + k ≡ (s + k) + m = omega arith in
+    let all : s + (k + m) ≡ s + length bytes = omega (arith, e) in
+    drop-drop k (s + m) w ∙ ap (λ n. drop n w) turn ∙ sym (drop-drop m (s + k) w)
+    ∙ ap (drop m) (drop-end (take s r) (take k bytes) (drop k (drop s r)) s k (length-take-le s r l) part)
+    ∙ drop-drop m k (drop s r) ∙ drop-drop (k + m) s r ∙ ap (λ n. drop n r) all
+
+pub two-ends : (r bytes y z : List ℕ) (s k m a b : ℕ) → length bytes ≡ m + k → m ≤ k → s ≤ length r →
+    y ≡ take k bytes → z ≡ drop m bytes → a ≡ k → b ≡ k →
+    take (s + m) (take s r ++ (y ++ drop a (drop s r))) ++
+    (z ++ drop b (drop (s + m) (take s r ++ (y ++ drop a (drop s r))))) ≡ put_at r s bytes
+two-ends r bytes y z s k m a b e h l f g p q =
+    let after : List ℕ = drop (s + length bytes) r in
+    rw (
+      f,
+      g,
+      p,
+      q,
+      front-end r bytes s k m e h l,
+      back-end r bytes s k m e l,
+      append_assoc (take s r) (take m bytes) (drop m bytes ++ after),
+      ← append_assoc (take m bytes) (drop m bytes) after,
+      take-append-drop m bytes,
+    )

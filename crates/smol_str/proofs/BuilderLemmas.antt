@@ -1,0 +1,5 @@
+pub mod Draft
+pub mod Push
+pub mod Collect
+pub mod Steps
+pub mod Format

@@ -1,0 +1,64 @@
+-- For the builder: its text and kind, before and after an append.
+use Rattle.smol_str.proofs.Common.{◌≡◌, ℕ, ◌-◌, ◌<◌, ◌≤◌, List, ◌++◌, length, Bool, true, false, ◌&&◌, nat_le, cond, refl, ap, ◌∙◌, append_assoc, arith, ◌⊎◌, inl, inr, chars, IsUtf8, nat_tests, INLINE_CAP, size, is_short, IsShort, Draft, Kind, InBuffer, OnHeap, kind_with, kind_for, appended, empty_draft, common_steps, rules}
+use Rattle.smol_str.proofs.TextLemmas.Places.{size-append, size-chars, is_short-true, is_short-false, IsShort-front}
+
+-- the bytes fit in the room that is left, or they do not
+pub IsShort-append : (t bs : List ℕ) → IsUtf8 bs → IsShort t → length bs ≤ INLINE_CAP - size t → IsShort (t ++ chars bs)
+IsShort-append t bs u short room = omega (arith, size-append t (chars bs), size-chars bs u)
+
+pub too_long-append : (t bs : List ℕ) → IsUtf8 bs → INLINE_CAP - size t < length bs → ¬ (IsShort (t ++ chars bs))
+too_long-append t bs u room = λ short. omega (arith, short, size-append t (chars bs), size-chars bs u)
+
+-- a builder in its buffer, whose text stays short, or does not
+pub kind_with-short : (t : List ℕ) → IsShort t → kind_with InBuffer t ≡ InBuffer
+kind_with-short t h = rw (is_short-true t h)
+
+pub kind_with-long : (t : List ℕ) → ¬ (IsShort t) → kind_with InBuffer t ≡ OnHeap
+kind_with-long t h = rw (is_short-false t h)
+
+-- a capacity that the buffer has not
+pub kind_for-large : (n : ℕ) (t : List ℕ) → INLINE_CAP < n → kind_for n t ≡ OnHeap
+kind_for-large n t h = let e : nat_le n INLINE_CAP ≡ false = grind (arith, nat_tests) in rw e
+
+append_case : (fits was is : Bool) (t : List ℕ) → (is ≡ true → was ≡ true) → is_short t ≡ is →
+    kind_with (cond (fits && was) InBuffer OnHeap) t ≡ cond (fits && is) InBuffer OnHeap
+append_case true true is t h e = rw e
+append_case true false true t h e = let k = h refl in cc
+append_case true false false t h e = refl
+append_case false was is t h e = refl
+
+short_front : (t u : List ℕ) → is_short (t ++ u) ≡ true → is_short t ≡ true
+short_front t u h = grind (arith, common_steps, is_short-true, size-append)
+
+-- the kind after an append is that of the whole text
+pub kind_for-append : (n : ℕ) (t u : List ℕ) → kind_with (kind_for n t) (t ++ u) ≡ kind_for n (t ++ u)
+kind_for-append n t u = search (rules, append_case, nat_le, short_front)
+
+heap_case : (fits is : Bool) → cond (fits && is) InBuffer OnHeap ≡ OnHeap → (fits ≡ false) ⊎ (is ≡ false)
+heap_case true true h = cc
+heap_case true false h = inr refl
+heap_case false is h = inl refl
+
+-- a builder is on the heap for its capacity or for its text
+pub why_heap : (n : ℕ) (t : List ℕ) → kind_for n t ≡ OnHeap → (INLINE_CAP < n) ⊎ (¬ (IsShort t))
+why_heap n t h = grind (arith, common_steps, heap_case, nat_le, is_short-true)
+
+kind_by_test : (s t : List ℕ) (b : Bool) → is_short s ≡ b →
+    kind_with (cond b InBuffer OnHeap) (s ++ t) ≡ kind_with InBuffer (s ++ t)
+kind_by_test s t true e = refl
+kind_by_test s t false e = search (rules, kind_with-long, is_short-true, IsShort-front)
+
+kind_with-twice : (k : Kind) (s t : List ℕ) → kind_with (kind_with k s) (s ++ t) ≡ kind_with k (s ++ t)
+kind_with-twice OnHeap s t = refl
+kind_with-twice InBuffer s t = kind_by_test s t (is_short s) refl
+
+-- appending twice is appending the joined text
+pub appended-twice : (b : Draft) (t u : List ℕ) → appended (appended b t) u ≡ appended b (t ++ u)
+appended-twice b t u =
+    let whole = append_assoc b.text t u in
+    let kinds = kind_with-twice b.kind (b.text ++ t) u ∙ ap (kind_with b.kind) whole in
+    (λ i. record { text = whole i; kind = kinds i })
+
+-- a new builder leaves its buffer only for a text that is not short
+pub OnHeap-long : (t : List ℕ) → (appended (empty_draft InBuffer) t).kind ≡ OnHeap → ¬ (IsShort t)
+OnHeap-long t heap = λ short. let stays = kind_with-short t short in cc

@@ -1,0 +1,225 @@
+-- For `str_ext::case` and `str_ext::full`: the ASCII front of a text and the rest of it, in a case.
+use Rattle.smol_str.proofs.Common.{◌≡◌, ℕ, ◌≤◌, List, [], ◌++◌, length, take, drop, sym, ap, ◌∙◌, arith, length-take-le, length-append, IsUtf8, IsAscii, IsCharBoundary, chars, encode_utf8_all, take_at, IsUtf8-from_ascii, chars-IsAscii, encodes-IsAscii, IsAscii-from_all, AsciiCase, Lower, Upper, size, IsShort, padded, front, converted, Draft, OnHeap, grown, appended, common_steps, rules, suc, ◌<◌, ◌∷◌, Bool, false, Option, None, Some, Result, IfOk, flat_map, refl, subst, append-nil, ne_eqb, to_ascii_lowercase, to_ascii_uppercase, chars-encodes, encodes_same, IsAscii-cons, IsAscii-nil, INLINE_CAP, Meaning, IsValueOf, place_of, Occurs, lower, upper, lowercased, uppercased, IsAsciiText, HasSigma, full_case, mapped, IsMappedAlone, IfOk-weaker}
+use Rattle.smol_str.proofs.CaseLemmas.Ascii.{front-parts, size-lower, size-upper, front-append, converted-append, length-converted, IsAscii-converted}
+use Rattle.smol_str.proofs.BuilderLemmas.Push.{grown-heap, appended-heap}
+use Rattle.smol_str.proofs.TextLemmas.Split.{boundary-parts, chars-drop}
+use Rattle.std.specs.Option.{option_to_list, is_some}
+use Rattle.std.specs.declared.char.ToLowercase.{CaseChanged}
+use Rattle.std.specs.Char.Iter.{case_mapping_first, case_mapping_second, case_mapping_third, case_mapping_chars}
+use Rattle.std.specs.Char.Unicode.ToUppercase.{to_uppercase}
+use Rattle.std.specs.Char.Unicode.ToLowercase.{to_lowercase}
+use Rattle.std.specs.StrCase.Upper.{str_to_uppercase}
+use Rattle.std.specs.StrCase.Lower.{lowercase_chars, is_in_word_after, str_to_lowercase}
+use Rattle.std.proofs.StrCases.{str_to_uppercase-IsAscii, str_to_lowercase-IsAscii}
+use Rattle.std.proofs.lemmas.Grind.{flat_map-append}
+use Rattle.smol_str.proofs.TextLemmas.Places.{size-chars}
+use Rattle.smol_str.proofs.BuilderLemmas.Draft.{appended-twice}
+use Rattle.smol_str.proofs.CutLemmas.Cut.{not_later}
+
+pub size-converted : (case : AsciiCase) (t : List ℕ) → size (converted case t) ≡ size t
+size-converted Lower t = size-lower t
+size-converted Upper t = size-upper t
+
+pub IsAscii-front : (t : List ℕ) → IsAscii (front t)
+IsAscii-front t = IsAscii-from_all (front t) (front-parts t).2
+
+pub size-front : (t : List ℕ) → size (front t) ≡ length (front t)
+size-front t = ap length (encodes-IsAscii (front t) (IsAscii-front t))
+
+-- the bytes of the front, taken from the buffer
+module _ (case : AsciiCase) (t buffer : List ℕ) (len : ℕ) (is : buffer
+    ≡ padded (encode_utf8_all (converted case (front t)))) (long : len ≡ length (front t)) where
+  pub take-front : take len buffer ≡ converted case (front t)
+  take-front = grind (arith, common_steps, encodes-IsAscii, IsAscii-converted, IsAscii-front, length-converted, take_at)
+
+  pub front-inside : len ≤ length buffer
+  front-inside = grind (arith, common_steps, length-append, encodes-IsAscii, IsAscii-converted, IsAscii-front, length-converted)
+
+  pub front-taken : len ≡ length (take len buffer)
+  front-taken = sym (length-take-le len buffer front-inside)
+
+  pub IsUtf8-front : IsUtf8 (take len buffer)
+  IsUtf8-front = search (rules, take-front, IsUtf8-from_ascii, IsAscii-converted, IsAscii-front)
+
+  pub chars-front : chars (take len buffer) ≡ converted case (front t)
+  chars-front = search (rules, take-front, chars-IsAscii, IsAscii-converted, IsAscii-front)
+
+-- where the rest of a text begins
+module _ (bs : List ℕ) (place : ℕ) (u : IsUtf8 bs) (e : place ≡ length (front (chars bs))) where
+  pub front-boundary : IsCharBoundary bs place
+  front-boundary = let h = front-parts (chars bs) in
+      boundary-parts bs (front (chars bs)) h.0 place u h.1 (size-front (chars bs) ∙ sym e)
+
+  pub front-rest : front (chars bs) ++ chars (drop place bs) ≡ chars bs
+  front-rest =
+      let h = front-parts (chars bs) in
+      ap (λ r. front (chars bs) ++ r)
+      (chars-drop bs (front (chars bs)) h.0 place u h.1 (size-front (chars bs) ∙ sym e)) ∙ sym h.1
+
+-- the front and the rest of a text, in a case
+pub converted-parts : (case : AsciiCase) (t r : List ℕ) → front t ++ r ≡ t
+    → converted case (front t) ++ converted case r ≡ converted case t
+converted-parts case t r e = sym (converted-append case (front t) r) ∙ ap (converted case) e
+
+-- a builder that the front outgrows is outgrown by the text
+pub front-heap : (case : AsciiCase) (t : List ℕ) (b : Draft) → (appended b (converted case (front t))).kind ≡ OnHeap
+    → (appended b (converted case t)).kind ≡ OnHeap
+front-heap case t b heap =
+    let p = front-parts t in
+    ap (λ x. (appended b x).kind) (sym (converted-parts case t p.0 (sym p.1)))
+    ∙ appended-heap b (converted case (front t)) (converted case p.0) heap
+
+-- a text that outgrows the buffer in a case is not short itself
+pub converted-heap : (case : AsciiCase) (t : List ℕ) → (appended (grown []) (converted case t)).kind ≡ OnHeap
+    → ¬ (IsShort t)
+converted-heap case t heap short = search (rules, grown-heap, size-converted)
+
+pub lower_is : (bs : List ℕ) → str_to_lowercase bs ≡ encode_utf8_all (lowercased (chars bs))
+unfolding str_to_lowercase
+lower_is bs = refl
+
+pub upper_is : (bs : List ℕ) → str_to_uppercase bs ≡ encode_utf8_all (uppercased (chars bs))
+unfolding str_to_uppercase
+upper_is bs = refl
+
+-- of ASCII text std's mapping is that of ASCII
+ascii_same : (case : AsciiCase) (t : List ℕ) → IsAscii t → full_case case t ≡ converted case t
+ascii_same Lower t low =
+    encodes_same (lowercased t) (lower t)
+    (ap (λ x. encode_utf8_all (lowercased x)) (sym (chars-IsAscii t low)) ∙ sym (lower_is t)
+    ∙ str_to_lowercase-IsAscii t low ∙ sym (encodes-IsAscii (lower t) (IsAscii-converted Lower t low)))
+ascii_same Upper t low =
+    encodes_same (uppercased t) (upper t)
+    (ap (λ x. encode_utf8_all (uppercased x)) (sym (chars-IsAscii t low)) ∙ sym (upper_is t)
+    ∙ str_to_uppercase-IsAscii t low ∙ sym (encodes-IsAscii (upper t) (IsAscii-converted Upper t low)))
+
+to_lowercase_ascii : (c : ℕ) → c < 128 → to_lowercase c ≡ to_ascii_lowercase c ∷ []
+to_lowercase_ascii c low =
+    let alone : lowercased (c ∷ []) ≡ to_lowercase c ++ [] = rw (ne_eqb c 0x3A3 (omega arith)) refl in
+    sym (append-nil (to_lowercase c)) ∙ sym alone ∙ ascii_same Lower (c ∷ []) (IsAscii-cons c [] low IsAscii-nil)
+
+to_uppercase_ascii : (c : ℕ) → c < 128 → to_uppercase c ≡ to_ascii_uppercase c ∷ []
+to_uppercase_ascii c low =
+    sym (append-nil (to_uppercase c)) ∙ ascii_same Upper (c ∷ []) (IsAscii-cons c [] low IsAscii-nil)
+
+-- std's mappings of a whole text begin with its ASCII front in the case
+lowercase_front : (w : Bool) (a r : List ℕ) → IsAscii a
+    → (v : Bool) × (lowercase_chars w (a ++ r) ≡ lower a ++ lowercase_chars v r)
+lowercase_front w [] r h = (w, refl)
+lowercase_front w (c ∷ a) r h =
+    let low : c < 128 = h 0 in
+    let k = lowercase_front (is_in_word_after w c) a r (λ i. h (suc i)) in
+    (k.0, rw (ne_eqb c 0x3A3 (omega arith), to_lowercase_ascii c low) (ap (λ s. to_ascii_lowercase c ∷ s) k.1))
+
+uppercase_front : (a r : List ℕ) → IsAscii a → uppercased (a ++ r) ≡ upper a ++ uppercased r
+uppercase_front [] r h = refl
+uppercase_front (c ∷ a) r h = λ i. to_uppercase_ascii c (h 0) i ++ uppercase_front a r (λ k. h (suc k)) i
+
+-- without a capital sigma, lower case maps each character by itself
+pub lowercase-alone : (w : Bool) (t : List ℕ) → ¬ HasSigma t → lowercase_chars w t ≡ flat_map to_lowercase t
+lowercase-alone w [] none = refl
+lowercase-alone w (c ∷ t) none =
+    let rest = lowercase-alone (is_in_word_after w c) t (not_later (0x3A3 ∷ []) c t none) in
+    rw (ne_eqb c 0x3A3 (λ e. none ([], t, ap (λ x. x ∷ t) e))) (ap (λ s. to_lowercase c ++ s) rest)
+
+-- the front in the case of ASCII, and then the rest
+pub full-parts : (case : AsciiCase) (t r : List ℕ) → front t ++ r ≡ t → IsMappedAlone case r
+    → converted case (front t) ++ mapped case r ≡ full_case case t
+full-parts Lower t r e alone =
+    let k = lowercase_front false (front t) r (IsAscii-front t) in
+    ap (λ s. lower (front t) ++ s) (sym (lowercase-alone k.0 r alone)) ∙ sym k.1 ∙ ap lowercased e
+full-parts Upper t r e alone = sym (uppercase_front (front t) r (IsAscii-front t)) ∙ ap uppercased e
+
+pub full-front : (case : AsciiCase) (t : List ℕ) → (r : List ℕ) × (full_case case t ≡ converted case (front t) ++ r)
+full-front Lower t =
+    let p = front-parts t in
+    let k = lowercase_front false (front t) p.0 (IsAscii-front t) in
+    (lowercase_chars k.0 p.0, ap lowercased p.1 ∙ k.1)
+full-front Upper t =
+    let p = front-parts t in
+    (uppercased p.0, ap uppercased p.1 ∙ uppercase_front (front t) p.0 (IsAscii-front t))
+
+-- an ASCII text is its own front
+pub front-whole : (t : List ℕ) → IsAsciiText t → front t ≡ t
+front-whole t h = ap front (sym (append-nil t)) ∙ front-append t [] h tt
+
+pub full-ascii : (case : AsciiCase) (t : List ℕ) → IsAsciiText t → full_case case t ≡ converted case t
+full-ascii case t h = ascii_same case t (IsAscii-from_all t h)
+
+-- the rest of an ASCII text is empty
+pub rest-none : (t r : List ℕ) → front t ++ r ≡ t → IsAsciiText t → r ≡ []
+rest-none t [] e h = refl
+rest-none t (c ∷ r) e h =
+    absurd (omega (arith, ap length e, ap length (front-whole t h), length-append (front t) (c ∷ r)))
+
+-- an ASCII text whose full case outgrows the buffer is not short
+pub full-long : (case : AsciiCase) (t : List ℕ) → ¬ (IsShort (full_case case t)) → ¬ (IsAsciiText t × IsShort t)
+full-long case t long h = search (rules, full-ascii, size-converted)
+
+pub long-refused : (bs : List ℕ) → IsUtf8 bs → INLINE_CAP < length bs → ¬ (IsAsciiText (chars bs) × IsShort (chars bs))
+long-refused bs u l h = omega (arith, h.1, size-chars bs u)
+
+-- the letters that one character is mapped to
+pub letters-listed : (s : CaseChanged) (a b c : Option ℕ)
+    → case_mapping_first s ≡ a → case_mapping_second s ≡ b → case_mapping_third s ≡ c
+    → case_mapping_chars s ≡ option_to_list a ++ (option_to_list b ++ option_to_list c)
+letters-listed s a b c p q r =
+    rw (← p, ← q, ← r) (listed s)
+  where
+    listed : (m : CaseChanged) → case_mapping_chars m
+        ≡ option_to_list (case_mapping_first m) ++
+        (option_to_list (case_mapping_second m) ++ option_to_list (case_mapping_third m))
+    listed m = grind arith
+
+pub mapped-append : (case : AsciiCase) (a b : List ℕ) → mapped case (a ++ b) ≡ mapped case a ++ mapped case b
+mapped-append Lower a b = flat_map-append to_lowercase a b
+mapped-append Upper a b = flat_map-append to_uppercase a b
+
+pub mapped-nil : (case : AsciiCase) → mapped case [] ≡ []
+mapped-nil Lower = refl
+mapped-nil Upper = refl
+
+-- no text without characters has a character that is mapped by what stands around it
+pub alone-nil : (case : AsciiCase) → IsMappedAlone case []
+alone-nil Lower = λ o. omega (arith, ap length o.2, length-append o.0 (0x3A3 ∷ o.1))
+alone-nil Upper = tt
+
+sigma : chars (0xCE ∷ 0xA3 ∷ []) ≡ 0x3A3 ∷ []
+unfolding lib.Utf8.encode
+sigma = chars-encodes (0x3A3 ∷ []) refl
+
+pub alone-lower : (case : AsciiCase) (t : List ℕ) → case ≡ Lower → ¬ Occurs (chars (0xCE ∷ 0xA3 ∷ [])) t
+    → IsMappedAlone case t
+alone-lower case t is none =
+    rw is (subst (λ (p : List ℕ). ¬ Occurs p t) sigma none)
+
+pub none-found : (r : Option ℕ) (b : Bool) → b ≡ is_some r → b ≡ false → r ≡ None
+none-found None b e f = refl
+none-found (Some x) b e f = absurd (cc)
+
+-- the short way: the front in a new builder, and then the rest, mapped character by character
+module _ (case : AsciiCase) (t r : List ℕ) (e : front t ++ r ≡ t) (alone : IsMappedAlone case r) (b d : Draft)
+    (begins : b ≡ grown []) (first : d ≡ appended b (converted case (front t))) where
+  appended-full_case : appended d (mapped case r) ≡ appended (grown []) (full_case case t)
+  appended-full_case = grind (arith, common_steps, appended-twice, full-parts)
+
+  pub short-text : (f : Draft) → f ≡ appended d (mapped case r) → f.text ≡ full_case case t
+  short-text f put = ap (λ x. x.text) (put ∙ appended-full_case)
+
+  pub short-refused : (appended d (mapped case r)).kind ≡ OnHeap → ¬ (IsAsciiText t × IsShort t)
+  short-refused heap = search (rules, full-long, grown-heap, appended-full_case)
+
+-- what a caller sees
+module _ {E : Type 0} (r : Result Meaning E) (case : AsciiCase) (t : List ℕ) where
+  pub ok-ascii : IfOk r (λ v. IsValueOf (full_case case t) v) → IsAsciiText t
+      → IfOk r (λ v. IsValueOf (converted case t) v)
+  ok-ascii h ascii = subst (λ (x : List ℕ). IfOk r (λ v. IsValueOf x v)) (full-ascii case t ascii) h
+
+  pub ok-front : IfOk r (λ v. IsValueOf (full_case case t) v)
+      → IfOk r (λ v. (m : List ℕ) × (v.text ≡ converted case (front t) ++ m))
+  ok-front h = IfOk-weaker r _ _ (λ v g. let k = full-front case t in (k.0, g.text ∙ k.1)) h
+
+-- a value of a text has the place of its own text
+pub ok-place : {E : Type 0} (r : Result Meaning E) (t : List ℕ) → IfOk r (λ v. IsValueOf t v)
+    → IfOk r (λ v. v.place ≡ place_of v.text)
+ok-place r t h = IfOk-weaker r _ _ (λ v g. g.place ∙ ap place_of (sym g.text)) h

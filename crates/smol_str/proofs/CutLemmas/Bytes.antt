@@ -1,0 +1,100 @@
+-- For `str_ext::bytes`: each of one ASCII character replaced by another, byte for byte.
+use Rattle.smol_str.proofs.Common.{◌≡◌, ℕ, zero, suc, ◌<◌, ◌≤◌, List, [], ◌∷◌, ◌++◌, Bool, true, false, nat_eq, length, get_or, take, refl, sym, ap, ◌∙◌, arith, append-nil, length-append, ne_eqb, if◌then◌else◌, IsUtf8, chars, encode_utf8_all, encode, Decides-eqb, length-map, take_at, encodes-chars, length-le-encodes, INLINE_CAP, IsShort, no_limit, replaced, replaced_all, each_replaced, not_from_Decides, rules}
+use Rattle.smol_str.proofs.CaseLemmas.Ascii.{MovesAscii, IsUtf8-map, chars-map, size-mapped}
+use Rattle.smol_str.proofs.TextLemmas.Places.{size-chars}
+use Rattle.smol_str.proofs.TextLemmas.Utf8.{Form, one, two, three, four, form}
+use Rattle.smol_str.proofs.CutLemmas.Replace.{replaced-unmatched, replaced-matched, replaced-passed}
+use Rattle.smol_str.proofs.TextLemmas.Lists.{head_same}
+
+-- ---- one character: what stays and what is replaced
+
+pub each-taken : (x y b : ℕ) → b ≡ x → y ≡ (if nat_eq b x then y else b)
+each-taken x y b e = rw ((Decides-eqb b x).1 e) refl
+
+pub each-kept : (x y b : ℕ) → ¬ (b ≡ x) → b ≡ (if nat_eq b x then y else b)
+each-kept x y b differs = rw (ne_eqb b x differs) refl
+
+either_low : (b : Bool) (y c : ℕ) → y < 128 → c < 128 → (if b then y else c) < 128
+either_low true y c h k = h
+either_low false y c h k = k
+
+-- ASCII goes to ASCII
+pub each-moves : (x y : ℕ) → x < 128 → y < 128 → MovesAscii (λ c. if nat_eq c x then y else c)
+each-moves x y low small = record {
+  low = λ c h. either_low (nat_eq c x) y c small h;
+  others = λ c h. sym (each-kept x y c (λ e. omega arith));
+}
+
+module _ (x y : ℕ) (low : x < 128) (small : y < 128) (bs : List ℕ) (u : IsUtf8 bs) where
+  pub IsUtf8-each : IsUtf8 (each_replaced x y bs)
+  IsUtf8-each = IsUtf8-map (λ c. if nat_eq c x then y else c) (each-moves x y low small) bs u
+
+  pub chars-each : chars (each_replaced x y bs) ≡ each_replaced x y (chars bs)
+  chars-each = chars-map (λ c. if nat_eq c x then y else c) (each-moves x y low small) bs u
+
+  -- no byte more, and none less
+  pub long-each : INLINE_CAP < length bs → ¬ (IsShort (each_replaced x y (chars bs)))
+  long-each long short = search (rules, size-mapped, each-moves, low)
+
+-- what is read of a vector with these bytes, and room behind them
+pub whole-each : (x y : ℕ) (text new rest : List ℕ) (len : ℕ) → new ≡ each_replaced x y text → len ≡ length text
+    → take len (new ++ rest) ≡ each_replaced x y text
+whole-each x y text new rest len made long = search (rules, take_at, length-map)
+
+-- ---- the same by matches, where the limit is no less than the text is long
+
+-- y in place of the first n of the characters x
+abbrev swapped : ℕ → ℕ → List ℕ → ℕ → List ℕ
+swapped x y t n = replaced t (x ∷ []) (y ∷ []) n
+
+swapped-nil : (x y n : ℕ) → swapped x y [] n ≡ []
+swapped-nil x y n = search (rules, replaced-unmatched, length-append)
+
+swapped-kept : (x y c : ℕ) (t : List ℕ) (n : ℕ) → ¬ (c ≡ x) → swapped x y (c ∷ t) n ≡ c ∷ swapped x y t n
+swapped-kept x y c t n differs = search (rules, replaced-passed, head_same)
+
+swapped-taken : (x y c : ℕ) (t : List ℕ) (n : ℕ) → c ≡ x → swapped x y (c ∷ t) (suc n) ≡ y ∷ swapped x y t n
+swapped-taken x y c t n same = search (rules, length-append, replaced-matched)
+
+each-swapped : (x y : ℕ) (t : List ℕ) (n : ℕ) → length t ≤ n → each_replaced x y t ≡ swapped x y t n
+each-swapped x y [] n h = sym (swapped-nil x y n)
+each-swapped x y (c ∷ t) zero h = absurd (omega arith)
+each-swapped x y (c ∷ t) (suc n) h =
+    first (nat_eq c x) refl (each-swapped x y t n (omega (arith, h))) (each-swapped x y t (suc n) (omega (arith, h)))
+  where
+    first : (b : Bool) → nat_eq c x ≡ b → each_replaced x y t ≡ swapped x y t n
+        → each_replaced x y t ≡ swapped x y t (suc n) → each_replaced x y (c ∷ t) ≡ swapped x y (c ∷ t) (suc n)
+    first true e less all = rw e (ap (λ s. y ∷ s) less ∙ sym (swapped-taken x y c t n ((Decides-eqb c x).0 e)))
+    first false e less all = rw e (ap (λ s. c ∷ s) all ∙ sym (swapped-kept x y c t (suc n) (not_from_Decides _ (Decides-eqb c x) e)))
+
+-- one character for one is a map
+pub replaced_all-character : (t : List ℕ) (x y : ℕ) → replaced_all t (x ∷ []) (y ∷ []) ≡ each_replaced x y t
+replaced_all-character t x y = sym (each-swapped x y t (no_limit t) (omega arith))
+
+pub each-replaced : (x y : ℕ) (bs : List ℕ) (n : ℕ) → IsUtf8 bs → length bs ≤ n
+    → each_replaced x y (chars bs) ≡ replaced (chars bs) (x ∷ []) (y ∷ []) n
+each-replaced x y bs n u h = search (rules, each-swapped, length-le-encodes, size-chars)
+
+-- a text of one byte is one ASCII character
+pub record IsOneByte (bs : List ℕ) : Type 0 where
+  pub low : get_or bs 0 0 < 128
+  pub text : chars bs ≡ get_or bs 0 0 ∷ []
+
+pub one-byte : (bs : List ℕ) → IsUtf8 bs → length bs ≡ 1 → IsOneByte bs
+one-byte bs u long = alone (chars bs) refl (encodes-chars bs u)
+  where
+    alone : (cs : List ℕ) → chars bs ≡ cs → encode_utf8_all cs ≡ bs → IsOneByte bs
+    alone [] e f = absurd (omega (arith, ap length f))
+    alone (c ∷ d ∷ cs) e f = absurd (omega (arith, ap length f, length-le-encodes (c ∷ d ∷ cs)))
+    alone (c ∷ []) e f = by_form (form c)
+      where
+        by_form : Form c → IsOneByte bs
+        by_form (one h k) =
+            let is : bs ≡ c ∷ [] = sym f ∙ append-nil (encode c) ∙ k in
+            record {
+              low = rw is h;
+              text = e ∙ ap (λ xs. get_or xs 0 0 ∷ []) (sym is);
+            }
+        by_form (two l h k) = absurd (omega (arith, ap length f, ap length (append-nil (encode c) ∙ k)))
+        by_form (three l h k) = absurd (omega (arith, ap length f, ap length (append-nil (encode c) ∙ k)))
+        by_form (four l k) = absurd (omega (arith, ap length f, ap length (append-nil (encode c) ∙ k)))

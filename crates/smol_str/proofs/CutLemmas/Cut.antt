@@ -1,0 +1,303 @@
+-- For the laws of cuts and first matches: each text has one cut at a pattern, and `cut` is it.
+use Rattle.smol_str.proofs.Common.{◌≡◌, ◌↔◌, ℕ, ◌+◌, ◌-◌, ◌<◌, ◌≤◌, zero, suc, min, List, [], ◌∷◌, ◌++◌, Bool, true, false, cond, Option, Some, None, ◌⊎◌, inl, inr, ⊎_elim, length, take, drop, option_map, unwrap_or, MatchOption, refl, sym, ap, ◌∙◌, subst, arith, length-append, append_assoc, append-nil, take-append-drop, nat_eq, concat, starts_with, flat_map, false≢true, false_from_ne_true, Decides-eqb, take_at, take-append-le, append_cancel_left, All, All-nil, All-cons, All-head, All-tail, Occurs, but_last, IsFirstAfter, joined_by, IsCutAt, IsSpelled, IsCutBetween, IsCut, first_match, cut_at, spell, cut_between, cut, rules}
+use Rattle.std.proofs.lemmas.Slice.Eq.{starts_is}
+pub use Rattle.smol_str.proofs.TextLemmas.Lists.{head_same, tail_same}
+
+-- pieces joined, a piece at a time
+pub joined_one : (p q : List ℕ) → joined_by p (q ∷ []) ≡ q
+joined_one p q = append-nil q
+
+pub joined_more : (p q r : List ℕ) (rs : List (List ℕ)) → joined_by p (q ∷ r ∷ rs) ≡ q ++ (p ++ joined_by p (r ∷ rs))
+joined_more p q r rs = ap (λ xs. q ++ xs) (append_assoc p r (flat_map (λ y. p ++ y) rs))
+
+-- what stands nowhere in a text stands nowhere in its tail
+pub not_later : (p : List ℕ) (c : ℕ) (t : List ℕ) → ¬ Occurs p (c ∷ t) → ¬ Occurs p t
+not_later p c t none o = none (c ∷ o.0, o.1, ap (λ xs. c ∷ xs) o.2)
+
+-- the last item, as a list
+abbrev pub last_part : List ℕ → List ℕ
+last_part [] = []
+last_part (x ∷ []) = x ∷ []
+last_part (x ∷ y ∷ rest) = last_part (y ∷ rest)
+
+two_parts : (p : List ℕ) → but_last p ++ last_part p ≡ p
+two_parts [] = refl
+two_parts (x ∷ []) = refl
+two_parts (x ∷ y ∷ rest) = ap (λ s. x ∷ s) (two_parts (y ∷ rest))
+
+-- q followed by p is q and p without its last character, and then that character
+pub append-last_part : (p q x : List ℕ) → q ++ (p ++ x) ≡ (q ++ but_last p) ++ (last_part p ++ x)
+append-last_part p q x =
+    ap (λ s. q ++ (s ++ x)) (sym (two_parts p)) ∙ ap (λ s. q ++ s) (append_assoc (but_last p) (last_part p) x)
+    ∙ sym (append_assoc q (but_last p) (last_part p ++ x))
+
+pub length_but_last : {X : Type 0} (p : List X) → length (but_last p) ≡ length p - 1
+length_but_last [] = refl
+length_but_last (x ∷ []) = omega arith
+length_but_last (x ∷ y ∷ rest) = omega (arith, length_but_last (y ∷ rest))
+
+-- a piece of one character
+abbrev One : List ℕ → Type 0
+One r = length r ≡ 1
+
+-- a text that begins with p, and goes on to a later match
+occurs_before : (p q x y : List ℕ) → 0 < length p → 0 < length q → p ++ x ≡ q ++ (p ++ y) → Occurs p (q ++ but_last p)
+occurs_before p q x y some more e =
+    let long : length p ≤ length (q ++ but_last p) = omega (arith, length-append q (but_last p), length_but_last p) in
+    let reads : take (length p) (q ++ but_last p) ≡ p =
+    sym (take-append-le (length p) (q ++ but_last p) (last_part p ++ y) long)
+    ∙ ap (take (length p)) (sym (e ∙ append-last_part p q y)) ∙ take_at p x (length p) refl in (
+      [],
+      drop (length p) (q ++ but_last p),
+      sym (take-append-drop (length p) (q ++ but_last p))
+          ∙ ap (λ s. s ++ drop (length p) (q ++ but_last p)) reads,
+    )
+
+-- there is one first match
+pub one_first : (p q q' x y : List ℕ) → 0 < length p → q ++ (p ++ x) ≡ q' ++ (p ++ y) → IsFirstAfter p q →
+    IsFirstAfter p q' → q ≡ q'
+one_first p [] [] x y some e f g = refl
+one_first p [] (d ∷ q') x y some e f g = absurd (g (occurs_before p (d ∷ q') x y some (omega arith) e))
+one_first p (c ∷ q) [] x y some e f g = absurd (f (occurs_before p (c ∷ q) y x some (omega arith) (sym e)))
+one_first p (c ∷ q) (d ∷ q') x y some e f g =
+    let same : q ≡ q' =
+    one_first p q q' x y some (tail_same c d (q ++ (p ++ x)) (q' ++ (p ++ y)) e)
+    (not_later p c (q ++ but_last p) f) (not_later p d (q' ++ but_last p) g) in
+    ap (λ k. k ∷ q) (head_same c d (q ++ (p ++ x)) (q' ++ (p ++ y)) e) ∙ ap (λ s. d ∷ s) same
+
+-- the first match is the one after the shortest text
+shortest : (p q a r s : List ℕ) → 0 < length p → q ++ (p ++ r) ≡ a ++ (p ++ s) → IsFirstAfter p q → length q ≤ length a
+shortest p [] a r s some e f = omega arith
+shortest p (c ∷ q) [] r s some e f = absurd (f (occurs_before p (c ∷ q) s r some (omega arith) (sym e)))
+shortest p (c ∷ q) (d ∷ a) r s some e f =
+    let rest = tail_same c d (q ++ (p ++ r)) (a ++ (p ++ s)) e in
+    omega (arith, shortest p q a r s some rest (not_later p c (q ++ but_last p) f))
+
+pub first-shortest : (p q r : List ℕ) → 0 < length p →
+    IsFirstAfter p q ↔ ((a s : List ℕ) → q ++ (p ++ r) ≡ a ++ (p ++ s) → length q ≤ length a)
+first-shortest p q r some = (
+  (λ f a s e. shortest p q a r s some e f),
+  (λ least o.
+      let later = append-last_part p q r ∙ ap (λ x. x ++ (last_part p ++ r)) o.2 ∙ append_assoc o.0 (p ++ o.1) (last_part p ++ r)
+      ∙ ap (λ x. o.0 ++ x) (append_assoc p o.1 (last_part p ++ r)) in
+      let sizes = ap length o.2 in
+      omega (
+        arith,
+        least o.0 (o.1 ++ (last_part p ++ r)) later,
+        sizes,
+        length-append q (but_last p),
+        length-append o.0 (p ++ o.1),
+        length-append p o.1,
+        length_but_last p,
+      )),
+)
+
+-- without its first piece a cut is a cut of what is left
+rest_cut : (t p : List ℕ) (n : ℕ) (q r : List ℕ) (rs : List (List ℕ)) → IsCutAt t p n (q ∷ r ∷ rs) →
+    IsCutAt (joined_by p (r ∷ rs)) p (n - 1) (r ∷ rs)
+rest_cut t p n q r rs h = record {
+  some = omega arith;
+  limited = omega (arith, h.limited);
+  joined = refl;
+  first = All-tail (IsFirstAfter p) q (but_last (r ∷ rs)) h.first;
+  complete = λ l. h.complete (omega (arith, h.limited));
+}
+
+pub IsCutAt-unique : (xs ys : List (List ℕ)) (t p : List ℕ) (n : ℕ) → 0 < length p → IsCutAt t p n xs →
+    IsCutAt t p n ys → xs ≡ ys
+IsCutAt-unique [] ys t p n some h k = absurd (omega (arith, h.some))
+IsCutAt-unique (q ∷ []) [] t p n some h k = absurd (omega (arith, k.some))
+IsCutAt-unique (q ∷ []) (q' ∷ []) t p n some h k = search (rules, joined_one)
+IsCutAt-unique (q ∷ []) (q' ∷ r' ∷ rs') t p n some h k =
+    absurd (h.complete (omega (arith, k.limited)) (
+      q',
+      joined_by p (r' ∷ rs'),
+      sym (joined_one p q) ∙ h.joined
+          ∙ sym k.joined ∙ joined_more p q' r' rs',
+    ))
+IsCutAt-unique (q ∷ r ∷ rs) [] t p n some h k = absurd (omega (arith, k.some))
+IsCutAt-unique (q ∷ r ∷ rs) (q' ∷ []) t p n some h k =
+    absurd (k.complete (omega (arith, h.limited)) (
+      q,
+      joined_by p (r ∷ rs),
+      sym (joined_one p q') ∙ k.joined
+          ∙ sym h.joined ∙ joined_more p q r rs,
+    ))
+IsCutAt-unique (q ∷ r ∷ rs) (q' ∷ r' ∷ rs') t p n some h k =
+    let whole : q ++ (p ++ joined_by p (r ∷ rs)) ≡ q' ++ (p ++ joined_by p (r' ∷ rs')) =
+    sym (joined_more p q r rs) ∙ h.joined ∙ sym k.joined ∙ joined_more p q' r' rs' in
+    let same : q ≡ q' =
+    one_first p q q' (joined_by p (r ∷ rs)) (joined_by p (r' ∷ rs')) some whole
+    (All-head (IsFirstAfter p) q (but_last (r ∷ rs)) h.first)
+    (All-head (IsFirstAfter p) q' (but_last (r' ∷ rs')) k.first) in
+    let left : joined_by p (r' ∷ rs') ≡ joined_by p (r ∷ rs) =
+    append_cancel_left p (joined_by p (r' ∷ rs')) (joined_by p (r ∷ rs))
+    (append_cancel_left q (p ++ joined_by p (r' ∷ rs')) (p ++ joined_by p (r ∷ rs))
+    (ap (λ s. s ++ (p ++ joined_by p (r' ∷ rs'))) same ∙ sym whole)) in
+    let more : r ∷ rs ≡ r' ∷ rs' =
+    IsCutAt-unique (r ∷ rs) (r' ∷ rs') (joined_by p (r ∷ rs)) p (n - 1) some (rest_cut t p n q r rs h)
+    (subst (λ (s : List ℕ). IsCutAt s p (n - 1) (r' ∷ rs')) left (rest_cut t p n q' r' rs' k)) in
+    ap (λ s. s ∷ r ∷ rs) same ∙ ap (λ s. q' ∷ s) more
+
+-- a first match in front of a cut
+pub IsCutAt-step : (t p q r : List ℕ) (n : ℕ) (pieces : List (List ℕ)) → t ≡ q ++ (p ++ r) → IsFirstAfter p q →
+    IsCutAt r p n pieces → IsCutAt t p (n + 1) (q ∷ pieces)
+IsCutAt-step t p q r n [] e none h = absurd (omega (arith, h.some))
+IsCutAt-step t p q r n (s ∷ ss) e none h = record {
+  some = omega arith;
+  limited = omega (arith, h.limited);
+  joined = joined_more p q s ss ∙ ap (λ x. q ++ (p ++ x)) h.joined ∙ sym e;
+  first = All-cons (IsFirstAfter p) q (but_last (s ∷ ss)) none h.first;
+  complete = λ l. h.complete (omega arith);
+}
+
+pub IsCutAt-limit_zero : (t p : List ℕ) → IsCutAt t p 0 (t ∷ [])
+IsCutAt-limit_zero t p = record {
+  some = omega arith;
+  limited = omega arith;
+  joined = joined_one p t;
+  first = All-nil (IsFirstAfter p);
+  complete = λ l. absurd (omega arith);
+}
+
+pub IsCutAt-unmatched : (t p : List ℕ) (n : ℕ) → ¬ Occurs p t → IsCutAt t p n (t ∷ [])
+IsCutAt-unmatched t p n none = record {
+  some = omega arith;
+  limited = omega arith;
+  joined = joined_one p t;
+  first = All-nil (IsFirstAfter p);
+  complete = λ l. none;
+}
+
+-- an occurrence begins here or later
+pub occurs_cases : (p : List ℕ) (c : ℕ) (t a r : List ℕ) → c ∷ t ≡ a ++ (p ++ r) →
+    ((y : List ℕ) × (c ∷ t ≡ p ++ y)) ⊎ Occurs p t
+occurs_cases p c t [] r e = inl (r, e)
+occurs_cases p c t (d ∷ a) r e = inr (a, r, tail_same c d t (a ++ (p ++ r)) e)
+
+starts_with-true : (p s : List ℕ) → starts_with nat_eq s p ≡ true → s ≡ p ++ drop (length p) s
+starts_with-true p s e = (starts_is Decides-eqb s p (starts_with nat_eq s p) refl).0 e
+
+starts_with-false : (p s x : List ℕ) → starts_with nat_eq s p ≡ false → ¬ (s ≡ p ++ x)
+starts_with-false p s x e h = false≢true (sym e ∙ (starts_is Decides-eqb s p (starts_with nat_eq s p) refl).1 x h)
+
+pub starts_with-nowhere : (p s : List ℕ) → ((r : List ℕ) → ¬ (s ≡ p ++ r)) → starts_with nat_eq s p ≡ false
+starts_with-nowhere p s none = false_from_ne_true (starts_with nat_eq s p) (λ yes. none (drop (length p) s) (starts_with-true p s yes))
+
+too_long : (p : List ℕ) → 0 < length p → ¬ Occurs p (but_last p)
+too_long p some o = omega (arith, length_but_last p, ap length o.2, length-append o.0 (p ++ o.1), length-append p o.1)
+
+-- p and what may stand before it
+abbrev First : List ℕ → List ℕ → List ℕ × List ℕ → Type 0
+First p t m = (t ≡ m.0 ++ (p ++ m.1)) × (IsFirstAfter p m.0)
+
+abbrev found_here : List ℕ → ℕ → List ℕ → Bool → Option (List ℕ × List ℕ) → Option (List ℕ × List ℕ)
+found_here p c t b o = cond b (Some ([], drop (length p) (c ∷ t))) (option_map (λ m. (c ∷ m.0, m.1)) o)
+
+first_step : (p : List ℕ) (c : ℕ) (t : List ℕ) → 0 < length p → (b : Bool) → starts_with nat_eq (c ∷ t) p ≡ b →
+    (o : Option (List ℕ × List ℕ))
+    → MatchOption o (¬ Occurs p t) (First p t) →
+    MatchOption (found_here p c t b o) (¬ Occurs p (c ∷ t)) (First p (c ∷ t))
+first_step p c t some true e o h = (starts_with-true p (c ∷ t) e, too_long p some)
+first_step p c t some false e None h =
+    λ o. ⊎_elim (λ x. starts_with-false p (c ∷ t) x.0 e x.1) h (occurs_cases p c t o.0 o.1 o.2)
+first_step p c t some false e (Some m) h = (
+  ap (λ s. c ∷ s) h.0,
+  λ o. ⊎_elim
+      (λ x. starts_with-false p (c ∷ t) (x.0 ++ (last_part p ++ m.1)) e
+      (ap (λ s. c ∷ s) (h.0 ∙ append-last_part p m.0 m.1) ∙ ap (λ s. s ++ (last_part p ++ m.1)) x.1
+      ∙ append_assoc p x.0 (last_part p ++ m.1)))
+      h.1
+      (occurs_cases p c (m.0 ++ but_last p) o.0 o.1 o.2),
+)
+
+pub first_found : (p t : List ℕ) → 0 < length p → MatchOption (first_match p t) (¬ Occurs p t) (First p t)
+first_found p [] some = λ o. omega (arith, ap length o.2, length-append o.0 (p ++ o.1), length-append p o.1)
+first_found p (c ∷ t) some = search (rules, first_step, first_found p t some)
+
+cut_step : (n : ℕ) (p t : List ℕ) (rec : (s : List ℕ) → IsCutAt s p n (cut_at n p s)) →
+    (o : Option (List ℕ × List ℕ)) → MatchOption o (¬ Occurs p t) (First p t)
+    → IsCutAt t p (n + 1) (unwrap_or (option_map (λ m. m.0 ∷ cut_at n p m.1) o) (t ∷ []))
+cut_step n p t rec None h = IsCutAt-unmatched t p (n + 1) h
+cut_step n p t rec (Some m) h = IsCutAt-step t p m.0 m.1 n (cut_at n p m.1) h.0 h.1 (rec m.1)
+
+pub IsCutAt-cut : (n : ℕ) (p t : List ℕ) → 0 < length p → IsCutAt t p n (cut_at n p t)
+IsCutAt-cut zero p t some = IsCutAt-limit_zero t p
+IsCutAt-cut (suc n) p t some =
+    let next : suc n ≡ n + 1 = omega arith in
+    subst (λ (k : ℕ). IsCutAt t p k (cut_at (suc n) p t)) (sym next)
+    (cut_step n p t (λ s. IsCutAt-cut n p s some) (first_match p t) (first_found p t some))
+
+-- at the empty pattern
+one_spelling : (xs ys : List (List ℕ)) → length xs ≡ length ys → All One (but_last xs) → All One (but_last ys) →
+    concat xs ≡ concat ys → xs ≡ ys
+one_spelling [] [] l h k e = refl
+one_spelling [] (y ∷ ys) l h k e = absurd (omega arith)
+one_spelling (x ∷ xs) [] l h k e = absurd (omega arith)
+one_spelling (x ∷ []) (y ∷ []) l h k e = ap (λ s. s ∷ []) (sym (append-nil x) ∙ e ∙ append-nil y)
+one_spelling (x ∷ []) (y ∷ z ∷ ys) l h k e = absurd (omega arith)
+one_spelling (x ∷ w ∷ xs) (y ∷ []) l h k e = absurd (omega arith)
+one_spelling (x ∷ w ∷ xs) (y ∷ z ∷ ys) l h k e =
+    let n : length x ≡ length y = All-head One x (but_last (w ∷ xs)) h ∙ sym (All-head One y (but_last (z ∷ ys)) k) in
+    let same : x ≡ y =
+    sym (take_at x (concat (w ∷ xs)) (length x) refl) ∙ ap (take (length x)) e
+    ∙ take_at y (concat (z ∷ ys)) (length x) (sym n) in
+    let left : concat (w ∷ xs) ≡ concat (z ∷ ys) =
+    append_cancel_left x (concat (w ∷ xs)) (concat (z ∷ ys)) (e ∙ ap (λ s. s ++ concat (z ∷ ys)) (sym same)) in
+    ap (λ s. s ∷ w ∷ xs) same
+    ∙ ap (λ s. y ∷ s)
+    (one_spelling (w ∷ xs) (z ∷ ys) (omega arith) (All-tail One x (but_last (w ∷ xs)) h)
+    (All-tail One y (but_last (z ∷ ys)) k) left)
+
+one_between_at : (m : ℕ) (xs ys : List (List ℕ)) (t : List ℕ) → length xs ≡ m + 1 → length ys ≡ m + 1 →
+    concat xs ≡ t → concat ys ≡ t → (0 < m → IsSpelled xs) → (0 < m → IsSpelled ys) → xs ≡ ys
+one_between_at m [] ys t l k e f g h = absurd (omega arith)
+one_between_at m (x ∷ xs) [] t l k e f g h = absurd (omega arith)
+one_between_at zero (x ∷ []) (y ∷ []) t l k e f g h = ap (λ s. s ∷ []) (sym (append-nil x) ∙ e ∙ sym f ∙ append-nil y)
+one_between_at zero (x ∷ []) (y ∷ z ∷ ys) t l k e f g h = absurd (omega arith)
+one_between_at zero (x ∷ w ∷ xs) (y ∷ ys) t l k e f g h = absurd (omega arith)
+one_between_at (suc m) (x ∷ xs) (y ∷ ys) t l k e f g h =
+    let a = g (omega arith) in
+    let b = h (omega arith) in
+    let same : concat xs ≡ concat ys = ap (λ s. s ++ concat xs) (sym a.0) ∙ e ∙ sym f ∙ ap (λ s. s ++ concat ys) b.0 in
+    ap (λ s. s ∷ xs) (a.0 ∙ sym b.0) ∙ ap (λ s. y ∷ s) (one_spelling xs ys (omega arith) a.1 b.1 same)
+
+pub IsCut-unique : (t p : List ℕ) (n : ℕ) (xs ys : List (List ℕ)) → IsCut t p n xs → IsCut t p n ys → xs ≡ ys
+IsCut-unique t [] n xs ys h k = search (rules, one_between_at)
+IsCut-unique t (c ∷ p) n xs ys h k = IsCutAt-unique xs ys t (c ∷ p) n (omega arith) h k
+
+pub length_spell : (n : ℕ) (t : List ℕ) → length (spell n t) ≡ min n (length t) + 1
+length_spell zero t = omega arith
+length_spell (suc n) [] = omega arith
+length_spell (suc n) (c ∷ t) = omega (arith, length_spell n t)
+
+concat_spell : (n : ℕ) (t : List ℕ) → concat (spell n t) ≡ t
+concat_spell zero t = append-nil t
+concat_spell (suc n) [] = refl
+concat_spell (suc n) (c ∷ t) = ap (λ s. c ∷ s) (concat_spell n t)
+
+-- one more piece of one character in front
+spelled_more : (c : ℕ) (xs : List (List ℕ)) → All One (but_last xs) → All One (but_last ((c ∷ []) ∷ xs))
+spelled_more c [] h = All-nil One
+spelled_more c (x ∷ xs) h = All-cons One (c ∷ []) (but_last (x ∷ xs)) refl h
+
+spelled_spell : (n : ℕ) (t : List ℕ) → All One (but_last (spell n t))
+spelled_spell zero t = All-nil One
+spelled_spell (suc n) [] = All-nil One
+spelled_spell (suc n) (c ∷ t) = spelled_more c (spell n t) (spelled_spell n t)
+
+pub IsCutBetween-cut : (n : ℕ) (t : List ℕ) → IsCutBetween t n (cut_between n t)
+IsCutBetween-cut zero t = record {
+  count = omega arith;
+  joined = append-nil t;
+  spelled = λ l. absurd (omega arith);
+}
+IsCutBetween-cut (suc n) t = record {
+  count = omega (arith, length_spell n t);
+  joined = concat_spell n t;
+  spelled = λ l. (refl, spelled_spell n t);
+}
+
+pub IsCut-cut : (t p : List ℕ) (n : ℕ) → IsCut t p n (cut t p n)
+IsCut-cut t [] n = IsCutBetween-cut n t
+IsCut-cut t (c ∷ p) n = IsCutAt-cut n (c ∷ p) t (omega arith)

@@ -1,0 +1,181 @@
+-- For `kernel::next_match`: the first place of a pattern's bytes is the first match of its characters.
+use Rattle.smol_str.proofs.Common.{◌≡◌, ◌↔◌, get_or, ℕ, ◌+◌, ◌<◌, List, ◌++◌, Option, None, Some, length, take, drop, refl, sym, ap, ◌∙◌, subst, arith, length-append, append_assoc, take-append-drop, length-take-le, IsUtf8, chars, encode_utf8_all, encodes-append, encodes-chars, length-le-encodes, take_at, drop_at, length-drop, take-append-le, Decides-eqb, size, Occurs, StandsAt, IsCharBoundary, but_last, IsNextMatch, same_Some, nil_from_length, ⊎_elim, cases_lt, ◌≤◌, common_steps, rules}
+use Rattle.memchr.specs.Find.{OccursAt, FindsNeedle, is_byte, IsFirstByte}
+use Rattle.memchr.proofs.lemmas.FindLemmas.{OccursAt-byte, byte-OccursAt}
+use Rattle.memchr.proofs.lemmas.MatchLemmas.{OccursAt-split, OccursAt-from_part}
+use Rattle.smol_str.proofs.TextLemmas.Places.{size-append, size-chars}
+use Rattle.smol_str.proofs.CutLemmas.Cut.{append-last_part, last_part, length_but_last, one_first}
+use Rattle.smol_str.proofs.CutLemmas.Sync.{StandsBetween-bytes, StandsAt-bytes}
+use Rattle.smol_str.proofs.TextLemmas.Split.{boundary-parts, drop-parts}
+
+-- one byte is found as a needle of one byte
+pub one_byte : (hay nd : List ℕ) → length nd ≡ 1 → (r : Option ℕ) → IsFirstByte (is_byte (get_or nd 0 0)) hay r
+    → FindsNeedle hay nd 0 r
+one_byte hay nd one None f = λ k low high o. f k low (omega (arith, o.fits)) (byte-OccursAt hay nd one k o)
+one_byte hay nd one (Some at) f = (
+  record {
+    low = omega arith;
+    high = omega (arith, f.0.high);
+    before = λ k low high o. f.0.before k low high (byte-OccursAt hay nd one k o);
+  },
+  OccursAt-byte hay nd one at f.0.high f.1,
+)
+
+-- no needle is found whose first byte is not
+pub none_first : (hay nd : List ℕ) → 0 < length nd → (r : Option ℕ) → r ≡ None
+    → (f : Option ℕ) → f ≡ None → IsFirstByte (is_byte (get_or nd 0 0)) hay f → FindsNeedle hay nd 0 r
+none_first hay nd some r none f e first =
+    let same = λ (k : ℕ) (o : OccursAt hay nd k).
+    ap (λ m. get_or hay m 0) (sym (k_zero k)) ∙ o.reads 0 some in
+    let nowhere = rw e at first in
+    rw none (λ k low high o. nowhere k low (omega (arith, o.fits, some)) ((Decides-eqb _ _).1 (same k o)))
+  where
+    k_zero : (k : ℕ) → k + 0 ≡ k
+    k_zero k = omega arith
+
+-- characters that stand have bytes that stand
+chars_stand : (b p a r : List ℕ) → b ≡ a ++ (p ++ r) → OccursAt (encode_utf8_all b) (encode_utf8_all p) (size a)
+chars_stand b p a r e = grind (arith, common_steps, encodes-append, OccursAt-from_part, length-append, drop_at, take_at)
+
+-- a pattern that stands in q and all of p but its last character stands in b before q's end
+pub earlier : (b p q r : List ℕ) → b ≡ q ++ (p ++ r) → 0 < length p → (o : Occurs p (q ++ but_last p))
+    → (x : Occurs p b) × (size x.0 < size q)
+earlier b p q r e some o =
+    let u = o.0 in
+    let v = o.1 in
+    let short : length u < length q =
+    omega (
+      arith,
+      ap length o.2,
+      length-append q (but_last p),
+      length-append u (p ++ v),
+      length-append p v,
+      length_but_last p,
+    ) in
+    let whole : b ≡ u ++ (p ++ (v ++ (last_part p ++ r))) =
+    e ∙ append-last_part p q r ∙ ap (λ w. w ++ (last_part p ++ r)) o.2 ∙ append_assoc u (p ++ v) (last_part p ++ r)
+    ∙ ap (λ w. u ++ w) (append_assoc p v (last_part p ++ r)) in
+    let begins : take (length u) q ≡ u =
+    sym (take-append-le (length u) q (but_last p) (omega arith)) ∙ ap (take (length u)) o.2
+    ∙ take_at u (p ++ v) (length u) refl in
+    let two : q ≡ u ++ drop (length u) q = sym (take-append-drop (length u) q)
+    ∙ ap (λ w. w ++ drop (length u) q) begins in (
+      (u, v ++ (last_part p ++ r), whole),
+      omega (
+        arith,
+        ap size two,
+        size-append u (drop (length u) q),
+        length-le-encodes (drop (length u) q),
+        length-drop (length u) q,
+      ),
+    )
+
+-- the answer of a search in the bytes of b, with i bytes before them
+module _ (a b p : List ℕ) (i : ℕ) where
+  found_none : FindsNeedle (encode_utf8_all b) (encode_utf8_all p) 0 None → ¬ Occurs p b
+  found_none f = λ o.
+      let at = chars_stand b p o.0 o.1 o.2 in
+      f (size o.0) (omega arith) (omega (arith, at.fits)) at
+
+  found_some : (k : ℕ) → 0 < length p → size a ≡ i → FindsNeedle (encode_utf8_all b) (encode_utf8_all p) 0 (Some k)
+      → IsNextMatch a b p (i + k)
+  found_some k some n f =
+      let bs = encode_utf8_all b in
+      let nd = encode_utf8_all p in
+      let y = drop (k + length nd) bs in
+      let reads : bs ≡ take k bs ++ (nd ++ y) = sym (take-append-drop k bs)
+      ∙ ap (λ xs. take k bs ++ xs) (OccursAt-split bs nd k f.1) in
+      let h = StandsBetween-bytes b p (take k bs) y some reads in
+      let long : size h.0 ≡ k = ap length h.3 ∙ length-take-le k bs (omega (arith, f.1.fits)) in
+      record {
+        before = h.0;
+        after = h.1;
+        reads = h.2;
+        place = omega (arith, size-append a h.0);
+        first = λ o.
+            let x = earlier b p h.0 h.1 h.2 some o in
+            f.0.before (size x.0.0) (omega arith) (omega (arith, x.1)) (chars_stand b p x.0.0 x.0.1 x.0.2);
+      }
+
+-- a pattern that is not empty has a character
+pub some_char : (nd : List ℕ) → IsUtf8 nd → 0 < length nd → 0 < length (chars nd)
+some_char nd u some =
+    let empty = λ (none : length (chars nd) ≤ 0).
+    sym (encodes-chars nd u) ∙ ap encode_utf8_all (nil_from_length (chars nd) (omega arith)) in
+    ⊎_elim (λ l. l) (λ none. absurd (omega (arith, some, ap length (empty none)))) (cases_lt 0 (length (chars nd)))
+
+-- at most one place is that of the next match
+pub one_next : (a b p : List ℕ) (i j : ℕ) → 0 < length p → IsNextMatch a b p i → IsNextMatch a b p j → i ≡ j
+one_next a b p i j some h k = grind (arith, common_steps, one_first)
+
+pub next-occurs : (a b p : List ℕ) (i : ℕ) → IsNextMatch a b p i → Occurs p b
+next-occurs a b p i h = (h.before, h.after, h.reads)
+
+-- what follows the first i bytes of a text, searched
+module _ (bs nd : List ℕ) (i : ℕ) where
+  pub IsNextMatch-found : (k : ℕ) → IsUtf8 bs → IsUtf8 nd → 0 < length nd → FindsNeedle (drop i bs) nd 0 (Some k)
+      → (a b : List ℕ) → chars bs ≡ a ++ b → size a ≡ i → IsNextMatch a b (chars nd) (i + k)
+  IsNextMatch-found k u v some f a b e n = search (rules, found_some, some_char, drop-parts, encodes-chars)
+
+  pub Occurs-none : IsUtf8 bs → IsUtf8 nd → FindsNeedle (drop i bs) nd 0 None
+      → (a b : List ℕ) → chars bs ≡ a ++ b → size a ≡ i → ¬ Occurs (chars nd) b
+  Occurs-none u v f a b e n = found_none a b (chars nd) i (rw (← drop-parts bs a b i u e n, encodes-chars nd v) f)
+
+  pub some_exact : (k : ℕ) → IsUtf8 bs → IsUtf8 nd → 0 < length nd → FindsNeedle (drop i bs) nd 0 (Some k)
+      → (a b : List ℕ) → chars bs ≡ a ++ b → size a ≡ i → (j : ℕ)
+      → (Some (i + k) ≡ Some j) ↔ IsNextMatch a b (chars nd) j
+  some_exact k u v some f a b e n j =
+      let h = IsNextMatch-found k u v some f a b e n in (
+        λ s. subst (IsNextMatch a b (chars nd)) (same_Some (i + k) j s) h,
+        λ m. ap Some (one_next a b (chars nd) (i + k) j (some_char nd v some) h m),
+      )
+
+  pub some_not_none : (k : ℕ) → IsUtf8 bs → IsUtf8 nd → 0 < length nd → FindsNeedle (drop i bs) nd 0 (Some k)
+      → (a b : List ℕ) → chars bs ≡ a ++ b → size a ≡ i → (Some (i + k) ≡ None) ↔ (¬ Occurs (chars nd) b)
+  some_not_none k u v some f a b e n =
+      (λ s. cc, λ none. absurd (none (next-occurs a b (chars nd) (i + k) (IsNextMatch-found k u v some f a b e n))))
+
+  pub none_not_some : (r : Option ℕ) → r ≡ None → IsUtf8 bs → IsUtf8 nd → FindsNeedle (drop i bs) nd 0 None
+      → (a b : List ℕ) → chars bs ≡ a ++ b → size a ≡ i → (j : ℕ) → (r ≡ Some j) ↔ IsNextMatch a b (chars nd) j
+  none_not_some r is u v f a b e n j = search (rules, Occurs-none, next-occurs)
+
+  pub none_exact : (r : Option ℕ) → r ≡ None → IsUtf8 bs → IsUtf8 nd → FindsNeedle (drop i bs) nd 0 None
+      → (a b : List ℕ) → chars bs ≡ a ++ b → size a ≡ i → (r ≡ None) ↔ (¬ Occurs (chars nd) b)
+  none_exact r is u v f a b e n = (λ _. Occurs-none u v f a b e n, λ _. is)
+
+-- a pattern that stands in the bytes of a text stands at characters
+module _ (bs nd : List ℕ) (u : IsUtf8 bs) (v : IsUtf8 nd) (some : 0 < length nd) where
+  pub StandsAt-parts : (x y : List ℕ) → bs ≡ x ++ (nd ++ y) → StandsAt (chars nd) (chars bs) (length x)
+  StandsAt-parts x y e =
+      StandsAt-bytes (chars bs) (chars nd) x y (some_char nd v some)
+      (encodes-chars bs u ∙ e ∙ sym (ap (λ q. x ++ (q ++ y)) (encodes-chars nd v)))
+
+  -- where it stands, a character begins, and one behind it
+  boundaries : (x y : List ℕ) → bs ≡ x ++ (nd ++ y) → (i : ℕ) → length x ≡ i
+      → IsCharBoundary bs i × IsCharBoundary bs (i + length nd)
+  boundaries x y e i long =
+      let h = StandsAt-parts x y e in
+      let behind : chars bs ≡ (h.0 ++ chars nd) ++ h.1 = h.2 ∙ sym (append_assoc h.0 (chars nd) h.1) in (
+        boundary-parts bs h.0 (chars nd ++ h.1) i u h.2 (h.3 ∙ long),
+        boundary-parts bs (h.0 ++ chars nd) h.1 (i + length nd) u behind
+            (omega (arith, h.3, long, size-append h.0 (chars nd), size-chars nd v)),
+      )
+
+  pub found-boundaries : (i k : ℕ) → i ≤ length bs → FindsNeedle (drop i bs) nd 0 (Some k)
+      → IsCharBoundary bs (i + k) × IsCharBoundary bs (i + k + length nd)
+  found-boundaries i k inside f =
+      let rest = drop i bs in
+      let y = drop (k + length nd) rest in
+      let found : rest ≡ take k rest ++ (nd ++ y) = sym (take-append-drop k rest)
+      ∙ ap (λ xs. take k rest ++ xs) (OccursAt-split rest nd k f.1) in
+      let reads : bs ≡ (take i bs ++ take k rest) ++ (nd ++ y) = sym (take-append-drop i bs)
+      ∙ ap (λ xs. take i bs ++ xs) found ∙ sym (append_assoc (take i bs) (take k rest) (nd ++ y)) in
+      let fits = f.1.fits in
+      boundaries (take i bs ++ take k rest) y reads (i + k)
+      (omega (
+        arith,
+        fits,
+        length-append (take i bs) (take k rest),
+        length-take-le i bs inside,
+        length-take-le k rest (omega (arith, fits)),
+      ))

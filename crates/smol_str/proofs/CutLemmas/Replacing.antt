@@ -1,0 +1,179 @@
+-- For `str_ext::replace`: replacing match by match.
+use Rattle.smol_str.proofs.Common.{◌≡◌, ℕ, ◌+◌, ◌-◌, ◌<◌, ◌≤◌, List, [], ◌∷◌, ◌++◌, length, take, drop, refl, sym, ap, ◌∙◌, subst, arith, append_assoc, append-nil, length-append, Option, MatchOption, Result, IfOk, IsUtf8, IsCharBoundary, chars, encode_utf8_all, len_utf8, slice_get, encode, length-encode, length-le-encodes, chars-nil, size, IsShort, Occurs, IsNextMatch, IsCut, joined_by, Meaning, IsValueOf, replaced, replaced_all, IsReplacing, Draft, OnHeap, grown, appended, nil_from_length, IfOk-weaker, common_steps, rules}
+use Rattle.smol_str.proofs.TextLemmas.Places.{size-append, size-chars, IsShort-front}
+use Rattle.smol_str.proofs.BuilderLemmas.Push.{appended-grown, grown-heap}
+use Rattle.smol_str.proofs.CutLemmas.Replace.{replaced-none, replaced-matched, replaced-unmatched, replaced-between, replaced-end, replaced-enough, replaced-cut, match_count-limit}
+use Rattle.smol_str.proofs.TextLemmas.Split.{boundary-parts, chars-drop, chars-middle}
+
+pub replacing-boundary : (bs p w : List ℕ) (n m : ℕ) (b : Draft) (i : ℕ) → IsReplacing (chars bs) p w n m b i
+    → IsUtf8 bs → IsCharBoundary bs i
+replacing-boundary bs p w n m b i h u = boundary-parts bs h.done h.rest i u h.parts h.at
+
+pub size-one : (c : ℕ) → size (c ∷ []) ≡ len_utf8 c
+size-one c = omega (arith, length-append (encode c) [], length-encode c)
+
+-- q of the rest is passed, and x is appended for it
+module _ (t p w : List ℕ) (n m l : ℕ) (b : Draft) (i : ℕ) (h : IsReplacing t p w n m b i) (q r x : List ℕ)
+    (reads : h.rest ≡ q ++ r) (made : replaced h.rest p w m ≡ x ++ replaced r p w l) where
+  more-text : (b.text ++ x) ++ replaced r p w l ≡ replaced t p w n
+  more-text = append_assoc b.text x (replaced r p w l) ∙ ap (λ y. b.text ++ y) (sym made) ∙ h.text
+
+  more-grown : (d : Draft) → d ≡ appended b x → d ≡ grown (b.text ++ x)
+  more-grown d e = e ∙ ap (λ y. appended y x) h.draft ∙ appended-grown b.text x
+
+  replacing-more : (d : Draft) → d ≡ appended b x → IsReplacing t p w n l d (i + size q)
+  replacing-more d e =
+      let now : d.text ≡ b.text ++ x = ap (λ y. y.text) (more-grown d e) in
+      record {
+        done = h.done ++ q;
+        rest = r;
+        parts = h.parts ∙ ap (λ y. h.done ++ y) reads ∙ sym (append_assoc h.done q r);
+        at = omega (arith, size-append h.done q, h.at);
+        draft = more-grown d e ∙ ap grown (sym now);
+        text = ap (λ y. y ++ replaced r p w l) now ∙ more-text;
+      }
+
+  replacing-refused : (appended b x).kind ≡ OnHeap → ¬ (IsShort (replaced t p w n))
+  replacing-refused e = grind (arith, common_steps, grown-heap, IsShort-front, more-text)
+
+-- in the text bs, the next match of the pattern nd is at j
+module _ (bs nd w : List ℕ) (n m : ℕ) (b : Draft) (i j : ℕ) (h : IsReplacing (chars bs) (chars nd) w n m b i)
+    (k : IsNextMatch h.done h.rest (chars nd) j) where
+  match-parts : chars bs ≡ (h.done ++ k.before) ++ (chars nd ++ k.after)
+  match-parts = h.parts ∙ ap (λ x. h.done ++ x) k.reads ∙ sym (append_assoc h.done k.before (chars nd ++ k.after))
+
+  pub match-boundary : IsUtf8 bs → IsCharBoundary bs j
+  match-boundary u = boundary-parts bs (h.done ++ k.before) (chars nd ++ k.after) j u match-parts k.place
+
+  pub match-after : i ≤ j
+  match-after = omega (arith, h.at, k.place, size-append h.done k.before)
+
+  pub match-end : IsUtf8 bs → IsUtf8 nd → j + length nd ≤ length bs
+  match-end u v =
+      omega (
+        arith,
+        size-chars bs u,
+        size-chars nd v,
+        ap size match-parts,
+        size-append (h.done ++ k.before) (chars nd ++ k.after),
+        size-append (chars nd) k.after,
+        k.place,
+      )
+
+  pub match-piece : IsUtf8 bs → chars (take (j - i) (drop i bs)) ≡ k.before
+  match-piece u = search (rules, chars-middle)
+
+  module _ (l : ℕ) (next : m ≡ l + 1) where
+    match-passed : h.rest ≡ (k.before ++ chars nd) ++ k.after
+    match-passed = k.reads ∙ sym (append_assoc k.before (chars nd) k.after)
+
+    match-made : replaced h.rest (chars nd) w m ≡ (k.before ++ w) ++ replaced k.after (chars nd) w l
+    match-made = grind (arith, common_steps, replaced-matched, append_assoc)
+
+    pub match-step : IsUtf8 nd → (d : Draft) → d ≡ appended b (k.before ++ w)
+        → IsReplacing (chars bs) (chars nd) w n l d (j + length nd)
+    match-step v d e =
+        let at : i + size (k.before ++ chars nd) ≡ j + length nd =
+        omega (arith, size-append k.before (chars nd), size-append h.done k.before, k.place, h.at, size-chars nd v) in
+        subst (IsReplacing (chars bs) (chars nd) w n l d) at
+        (replacing-more (chars bs) (chars nd) w n m l b i h (k.before ++ chars nd) k.after (k.before ++ w) match-passed
+        match-made d e)
+
+    pub match-refused : (appended b (k.before ++ w)).kind ≡ OnHeap → ¬ (IsShort (replaced (chars bs) (chars nd) w n))
+    match-refused =
+        replacing-refused (chars bs) (chars nd) w n m l b i h (k.before ++ chars nd) k.after (k.before ++ w)
+        match-passed match-made
+
+-- no match is left, or none is wanted
+pub replacing-unmatched : (t p w : List ℕ) (n m : ℕ) (b : Draft) (i : ℕ) (h : IsReplacing t p w n m b i)
+    → ¬ Occurs p h.rest → IsReplacing t p w n 0 b i
+replacing-unmatched t p w n m b i h none = record {
+  done = h.done;
+  rest = h.rest;
+  parts = h.parts;
+  at = h.at;
+  draft = h.draft;
+  text = ap (λ x. b.text ++ x) (replaced-none h.rest p w ∙ sym (replaced-unmatched h.rest p w m none)) ∙ h.text;
+}
+
+-- in the text t, at the empty pattern, the next character is c
+module _ (t w : List ℕ) (n m l : ℕ) (b : Draft) (i : ℕ) (h : IsReplacing t [] w n m b i) (next : m ≡ l + 1) where
+  module _ (c : ℕ) (r : List ℕ) (reads : h.rest ≡ c ∷ r) where
+    taken-made : replaced h.rest [] w m ≡ (w ++ (c ∷ [])) ++ replaced r [] w l
+    taken-made = grind (arith, common_steps, replaced-between, append_assoc)
+
+    pub taken-step : (d : Draft) → d ≡ appended b (w ++ (c ∷ [])) → IsReplacing t [] w n l d (i + len_utf8 c)
+    taken-step d e =
+        subst (λ (k : ℕ). IsReplacing t [] w n l d (i + k)) (size-one c)
+        (replacing-more t [] w n m l b i h (c ∷ []) r (w ++ (c ∷ [])) reads taken-made d e)
+
+    pub taken-refused : (appended b (w ++ (c ∷ []))).kind ≡ OnHeap → ¬ (IsShort (replaced t [] w n))
+    taken-refused = replacing-refused t [] w n m l b i h (c ∷ []) r (w ++ (c ∷ [])) reads taken-made
+
+  -- or there is none
+  module _ (reads : h.rest ≡ []) where
+    end-made : replaced h.rest [] w m ≡ w ++ replaced [] [] w 0
+    end-made = grind (arith, common_steps, replaced-end, replaced-none, append-nil)
+
+    pub taken-end : (d : Draft) → d ≡ appended b w → IsReplacing t [] w n 0 d i
+    taken-end d e =
+        let at : i + 0 ≡ i = omega arith in
+        subst (IsReplacing t [] w n 0 d) at (replacing-more t [] w n m 0 b i h [] [] w reads end-made d e)
+
+    pub end-refused : (appended b w).kind ≡ OnHeap → ¬ (IsShort (replaced t [] w n))
+    end-refused = replacing-refused t [] w n m 0 b i h [] [] w reads end-made
+
+-- the first character of a list
+first_case : (b : List ℕ) → MatchOption (slice_get b 0) (b ≡ []) (λ c. (s : List ℕ) × (b ≡ c ∷ s))
+first_case [] = refl
+first_case (c ∷ s) = (s, refl)
+
+pub first_char : (b : List ℕ) (r : Option ℕ) → r ≡ slice_get b 0
+    → MatchOption r (b ≡ []) (λ c. (s : List ℕ) × (b ≡ c ∷ s))
+first_char b r e = subst (λ (o : Option ℕ). MatchOption o (b ≡ []) (λ c. (s : List ℕ) × (b ≡ c ∷ s))) (sym e)
+    (first_case b)
+
+pub taken-inside : (bs p w : List ℕ) (n m : ℕ) (b : Draft) (i : ℕ) (h : IsReplacing (chars bs) p w n m b i) (c : ℕ)
+    (r : List ℕ) → h.rest ≡ c ∷ r → IsUtf8 bs → i + len_utf8 c ≤ length bs
+taken-inside bs p w n m b i h c r reads u =
+    omega (
+      arith,
+      size-chars bs u,
+      ap size h.parts,
+      size-append h.done h.rest,
+      ap size reads,
+      length-append (encode c) (encode_utf8_all r),
+      length-encode c,
+      h.at,
+    )
+
+pub chars-empty : (bs : List ℕ) → length bs ≡ 0 → chars bs ≡ []
+chars-empty bs e = ap chars (nil_from_length bs e) ∙ chars-nil
+
+-- the rest appended
+module _ (bs p w : List ℕ) (n : ℕ) (b : Draft) (i : ℕ) (h : IsReplacing (chars bs) p w n 0 b i) (u : IsUtf8 bs) where
+  rest-made : replaced h.rest p w 0 ≡ chars (drop i bs) ++ replaced [] p w 0
+  rest-made = grind (arith, common_steps, replaced-none, chars-drop, append-nil)
+
+  pub rest-whole : (d : Draft) → d ≡ appended b (chars (drop i bs)) → d ≡ grown (replaced (chars bs) p w n)
+  rest-whole d e =
+      let x = chars (drop i bs) in
+      let reads = sym (append-nil h.rest) in
+      more-grown (chars bs) p w n 0 0 b i h h.rest [] x reads rest-made d e
+      ∙ ap grown (sym (ap (λ y. (b.text ++ x) ++ y) (replaced-none [] p w) ∙ append-nil (b.text ++ x))
+      ∙ more-text (chars bs) p w n 0 0 b i h h.rest [] x reads rest-made)
+
+  pub rest-refused : (appended b (chars (drop i bs))).kind ≡ OnHeap → ¬ (IsShort (replaced (chars bs) p w n))
+  rest-refused =
+      replacing-refused (chars bs) p w n 0 0 b i h h.rest [] (chars (drop i bs)) (sym (append-nil h.rest)) rest-made
+
+-- a limit above the text's length leaves no match out
+pub replaced-unlimited : (bs p w : List ℕ) → IsUtf8 bs → (n : ℕ) → length bs < n
+    → replaced (chars bs) p w n ≡ replaced_all (chars bs) p w
+replaced-unlimited bs p w u n l = grind (arith, common_steps, replaced-enough, match_count-limit, length-le-encodes, size-chars)
+
+-- the text of a replacement, by any cut
+pub joined-text : {E : Type 0} (r : Result Meaning E) (t p w : List ℕ) (n : ℕ) (pieces : List (List ℕ))
+    → IsCut t p n pieces
+    → IfOk r (λ v. IsValueOf (replaced t p w n) v) → IfOk r (λ v. v.text ≡ joined_by w pieces)
+joined-text r t p w n pieces h e = IfOk-weaker r _ _ (λ v g. g.text ∙ replaced-cut t p w n pieces h) e

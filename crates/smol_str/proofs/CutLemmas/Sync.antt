@@ -1,0 +1,109 @@
+-- For the law of self-synchronisation: where the bytes of a text that is not empty stand in the bytes of a text,
+-- its characters stand. It holds of every two lists of numbers.
+use Rattle.smol_str.proofs.Common.{◌≡◌, ℕ, ◌+◌, ◌≤◌, ◌<◌, ◌/◌, List, [], ◌∷◌, ◌++◌, ◌⊎◌, inl, inr, ⊎_elim, length, refl, sym, ap, ◌∙◌, arith, append_assoc, encode, encodes, next, cons_from_encodes, encodes-append, StandsAt}
+use Rattle.smol_str.proofs.TextLemmas.Lists.{head_same, tail_same}
+use Rattle.smol_str.proofs.TextLemmas.Utf8.{Form, one, two, three, four, form}
+
+-- the bytes begin with those of p: then the text begins with p
+pub starts_with-encodes : (z p y : List ℕ) → encodes z ≡ encodes p ++ y → (r : List ℕ) × (z ≡ p ++ r) × (encodes r ≡ y)
+starts_with-encodes z [] y e = (z, refl, e)
+starts_with-encodes z (c ∷ cs) y e =
+    let h = cons_from_encodes z (encodes cs ++ y) c (e ∙ append_assoc (encode c) (encodes cs) y) in
+    let q = starts_with-encodes h.0 cs y h.2 in
+    (q.0, h.1 ∙ ap (λ xs. c ∷ xs) q.1, q.2)
+
+-- bytes that begin no character
+abbrev Follows : List ℕ → Type 0
+Follows [] = Unit {0}
+Follows (b ∷ bs) = ((128 ≤ b) × (b < 192)) × Follows bs
+
+-- a byte that begins a character
+abbrev Leads : ℕ → Type 0
+Leads b = (b < 128) ⊎ (192 ≤ b)
+
+-- a character's bytes: one that leads, and those that follow
+record LeadAndRest (c : ℕ) : Type 0 where
+  lead : ℕ
+  rest : List ℕ
+  reads : encode c ≡ lead ∷ rest
+  leads : Leads lead
+  follows : Follows rest
+
+lead_and_rest-form : (c : ℕ) → Form c → LeadAndRest c
+lead_and_rest-form c (one a e) = record { lead = c; rest = []; reads = e; leads = inl a; follows = tt }
+lead_and_rest-form c (two a b e) =
+    record {
+      lead = 192 + c / 64;
+      rest = next c ∷ [];
+      reads = e;
+      leads = inr (omega arith);
+      follows =
+          ((omega arith, omega arith), tt);
+    }
+lead_and_rest-form c (three a b e) = record {
+  lead = 224 + c / 64 / 64;
+  rest = next (c / 64) ∷ next c ∷ [];
+  reads = e;
+  leads = inr (omega arith);
+  follows = ((omega arith, omega arith), ((omega arith, omega arith), tt));
+}
+lead_and_rest-form c (four a e) = record {
+  lead = 240 + c / 64 / 64 / 64;
+  rest = next (c / 64 / 64) ∷ next (c / 64) ∷ next c ∷ [];
+  reads = e;
+  leads = inr (omega arith);
+  follows = ((omega arith, omega arith), ((omega arith, omega arith), ((omega arith, omega arith), tt)));
+}
+
+lead_and_rest : (c : ℕ) → LeadAndRest c
+lead_and_rest c = lead_and_rest-form c (form c)
+
+-- a byte that leads stands behind those that follow
+follows-apart : (s rest u : List ℕ) (b : ℕ) (v : List ℕ) → Follows s → Leads b → s ++ rest ≡ u ++ (b ∷ v) →
+    (w : List ℕ) × (u ≡ s ++ w) × (rest ≡ w ++ (b ∷ v))
+follows-apart [] rest u b v f l e = (u, refl, e)
+follows-apart (x ∷ s) rest [] b v f l e =
+    let same : x ≡ b = head_same x b (s ++ rest) v e in
+    absurd (⊎_elim (λ k. omega (arith, f.0.0)) (λ k. omega (arith, f.0.1)) l)
+follows-apart (x ∷ s) rest (d ∷ u) b v f l e =
+    let h = follows-apart s rest u b v f.1 l (tail_same x d (s ++ rest) (u ++ (b ∷ v)) e) in
+    (h.0, ap (λ k. k ∷ u) (sym (head_same x d (s ++ rest) (u ++ (b ∷ v)) e)) ∙ ap (λ z. x ∷ z) h.1, h.2)
+
+-- p stands in t between x and y, as characters and as bytes
+abbrev pub StandsBetween : List ℕ → List ℕ → List ℕ → List ℕ → Type 0
+StandsBetween t p x y = (a : List ℕ) × (r : List ℕ) × (t ≡ a ++ (p ++ r)) × (encodes a ≡ x) × (encodes r ≡ y)
+
+pub StandsBetween-bytes : (t p x y : List ℕ) → 0 < length p → encodes t ≡ x ++ (encodes p ++ y) → StandsBetween t p x y
+StandsBetween-bytes t [] x y some e = absurd (omega arith)
+StandsBetween-bytes [] (k ∷ ks) [] y some e = let h = starts_with-encodes [] (k ∷ ks) y e in ([], h.0, h.1, refl, h.2)
+StandsBetween-bytes [] (k ∷ ks) (d ∷ x) y some e = absurd (cc)
+StandsBetween-bytes (c ∷ cs) (k ∷ ks) [] y some e = let h = starts_with-encodes (c ∷ cs) (k ∷ ks) y e in ([], h.0, h.1, refl, h.2)
+StandsBetween-bytes (c ∷ cs) (k ∷ ks) (d ∷ x) y some e =
+    let f = lead_and_rest c in
+    let g = lead_and_rest k in
+    let v = g.rest ++ (encodes ks ++ y) in
+    let needle : encodes (k ∷ ks) ++ y ≡ g.lead ∷ (g.rest ++ (encodes ks ++ y)) =
+    append_assoc (encode k) (encodes ks) y ∙ ap (λ z. z ++ (encodes ks ++ y)) g.reads in
+    let whole : f.lead ∷ (f.rest ++ encodes cs) ≡ d ∷ (x ++ (g.lead ∷ (g.rest ++ (encodes ks ++ y)))) =
+    ap (λ z. z ++ encodes cs) (sym f.reads) ∙ e ∙ ap (λ z. d ∷ (x ++ z)) needle in
+    let h = follows-apart f.rest (encodes cs) x g.lead (g.rest ++ (encodes ks ++ y)) f.follows g.leads
+    (tail_same f.lead d (f.rest ++ encodes cs) (x ++ (g.lead ∷ (g.rest ++ (encodes ks ++ y)))) whole) in
+    let r = StandsBetween-bytes cs (k ∷ ks) h.0 y some (h.2 ∙ ap (λ z. h.0 ++ z) (sym needle)) in (
+      c ∷ r.0,
+      r.1,
+      ap (λ z. c ∷ z) r.2,
+      ap (λ z. z ++ encodes r.0) f.reads ∙ ap (λ z. f.lead ∷ (f.rest ++ z)) r.3 ∙ ap (λ z. f.lead ∷ z) (sym h.1)
+          ∙ ap (λ z. z ∷ x)
+          (head_same f.lead d (f.rest ++ encodes cs) (x ++ (g.lead ∷ (g.rest ++ (encodes ks ++ y)))) whole),
+      r.4,
+    )
+
+pub StandsAt-bytes : (t p x y : List ℕ) → 0 < length p → encodes t ≡ x ++ (encodes p ++ y) → StandsAt p t (length x)
+StandsAt-bytes t p x y some e = let h = StandsBetween-bytes t p x y some e in (h.0, h.1, h.2, ap length h.3)
+
+-- and the other way round
+pub bytes-StandsAt : (t p : List ℕ) (i : ℕ) → StandsAt p t i →
+    (x y : List ℕ) × (encodes t ≡ x ++ (encodes p ++ y)) × (length x ≡ i)
+bytes-StandsAt t p i h =
+    let spelt = ap encodes h.2 ∙ encodes-append h.0 (p ++ h.1) ∙ ap (λ s. encodes h.0 ++ s) (encodes-append p h.1) in
+    (encodes h.0, encodes h.1, spelt, h.3)

@@ -1,0 +1,155 @@
+-- For makers, conversions and comparisons: texts, their bytes and their places.
+use Rattle.smol_str.proofs.Common.{◌≡◌, ◌↔◌, ℕ, ◌+◌, ◌<◌, ◌≤◌, inl, inr, List, [], ◌∷◌, ◌++◌, length, encode_utf8, encode_utf8_all, length-append, length-le-encodes, Bool, true, false, nat_le, nat_eq, Result, Ok, Err, OnOk, OnErr, is_ok, refl, sym, ◌∙◌, ap, arith, chars, IsUtf8, pointwise, bytes_decides, encodes-chars, chars-IsAscii, encodes-IsAscii, encodes_same, encodes-append, chars_from_encodes, length-encode, len_utf8_bounds, IsUtf8-string_bytes, append-nil, nat_tests, Decides-and, Decides-like, same_from_decides, INLINE_CAP, size, is_short, IsShort, IsBlankRun, IsResident, blank_run, ◌⊎◌, common_steps, rules}
+use Rattle.std.specs.Bool.{Decides}
+use Rattle.std.specs.Rc.{rc_str_bytes}
+use Rattle.std.specs.declared.rc.RcStr.{RcStr}
+use Rattle.smol_str.specs.declared.value.place.Place.TheVariants.{Inline, Static, Heap}
+use Rattle.smol_str.specs.Text.{is_blank_run, place_of}
+use Rattle.smol_str.proofs.TextLemmas.Blank.{IsAscii-blank_run, Passes-from_IsBlankRun, IsBlankRun-from_tests}
+
+-- a text's size is its number of bytes
+pub size-chars : (bs : List ℕ) → IsUtf8 bs → size (chars bs) ≡ length bs
+size-chars bs u = ap length (encodes-chars bs u)
+
+-- a text of no bytes is the empty one
+pub no-bytes : {P : Type 0} (t : List ℕ) → (P ↔ (size t ≡ 0)) → (P ↔ (t ≡ []))
+no-bytes [] h = (λ _. refl, λ _. h.1 refl)
+no-bytes (c ∷ t) h =
+    (λ p. absurd (omega (arith, h.0 p, length-le-encodes (c ∷ t))), λ e. absurd (omega (arith, ap length e)))
+
+pub IsShort-chars : (bs : List ℕ) → IsUtf8 bs → length bs ≤ INLINE_CAP → IsShort (chars bs)
+IsShort-chars bs u h = rw (encodes-chars bs u) h
+
+run_at : (bs : List ℕ) (a b : ℕ) → bs ≡ blank_run a b → chars bs ≡ bs
+run_at bs a b e = rw e (chars-IsAscii (blank_run a b) (IsAscii-blank_run a b))
+
+-- the bytes are a blank run exactly where the characters are
+pub IsBlankRun-chars : (bs : List ℕ) → IsBlankRun bs → IsBlankRun (chars bs)
+IsBlankRun-chars bs r = rw (run_at bs r.newlines r.spaces r.reads) r
+
+pub IsBlankRun-bytes : (bs : List ℕ) → IsUtf8 bs → IsBlankRun (chars bs) → IsBlankRun bs
+IsBlankRun-bytes bs u r =
+    let plain = encodes-IsAscii (blank_run r.newlines r.spaces) (IsAscii-blank_run r.newlines r.spaces) in
+    let e : bs ≡ blank_run r.newlines r.spaces = sym (encodes-chars bs u) ∙ ap encode_utf8_all r.reads ∙ plain in
+    record {
+      newlines = r.newlines;
+      spaces = r.spaces;
+      few_newlines = r.few_newlines;
+      few_spaces =
+          r.few_spaces;
+      reads = e;
+    }
+
+-- no text is resident that is longer than the buffer, and whose bytes are no blank run
+pub not_resident : (bs : List ℕ) → IsUtf8 bs → INLINE_CAP < length bs → ¬ (IsBlankRun bs) → ¬ (IsResident (chars bs))
+not_resident bs u long other (inl short) = let s = size-chars bs u in omega (arith, s, short)
+not_resident bs u long other (inr run) = other (IsBlankRun-bytes bs u run)
+
+-- the test for a blank run
+le_test : (a b : ℕ) → Decides (nat_le a b) (a ≤ b)
+le_test a b = ((λ h. grind (arith, nat_tests)), (λ h. grind (arith, nat_tests)))
+
+pub is_blank_run-Decides : (t : List ℕ) → Decides (is_blank_run t) (IsBlankRun t)
+unfolding is_blank_run
+is_blank_run-Decides t = search (rules, Decides-like, IsBlankRun-from_tests, Passes-from_IsBlankRun, Decides-and, le_test)
+
+-- the test for a short text
+pub is_short-true : (t : List ℕ) → IsShort t → is_short t ≡ true
+is_short-true t h = (le_test (size t) INLINE_CAP).1 h
+
+pub is_short-false : (t : List ℕ) → ¬ (IsShort t) → is_short t ≡ false
+is_short-false t h = grind (arith, nat_tests)
+
+-- the three places
+pub place_of-short : (t : List ℕ) → IsShort t → place_of t ≡ Inline
+unfolding place_of
+place_of-short t h = rw (is_short-true t h)
+
+no_test : (t : List ℕ) → ¬ (IsBlankRun t) → (b : Bool) → is_blank_run t ≡ b → b ≡ false
+no_test t h true e = absurd (h ((is_blank_run-Decides t).0 e))
+no_test t h false e = refl
+
+pub place_of-blank : (t : List ℕ) → ¬ (IsShort t) → IsBlankRun t → place_of t ≡ Static
+unfolding place_of
+place_of-blank t long run = rw (is_short-false t long, (is_blank_run-Decides t).1 run)
+
+pub place_of-heap : (t : List ℕ) → ¬ (IsResident t) → place_of t ≡ Heap
+unfolding place_of
+place_of-heap t away =
+    rw (is_short-false t (λ short. away (inl short)), no_test t (λ run. away (inr run)) (is_blank_run t) refl)
+
+-- each text has one of the three places, for its own reason
+abbrev PlaceCases : List ℕ → Type 0
+PlaceCases t = (IsShort t × (place_of t ≡ Inline)) ⊎ (((¬ (IsShort t)) × IsBlankRun t × (place_of t ≡ Static))
+    ⊎ ((¬ (IsResident t)) × (place_of t ≡ Heap)))
+
+cases_by_tests : (t : List ℕ) (a b : Bool) → is_short t ≡ a → is_blank_run t ≡ b → PlaceCases t
+cases_by_tests t true b e f = let short : IsShort t = grind (arith, nat_tests) in inl (short, place_of-short t short)
+cases_by_tests t false true e f = search (rules, is_blank_run-Decides, is_short-true, place_of-blank)
+cases_by_tests t false false e f = grind (arith, common_steps, is_short-true, is_blank_run-Decides, place_of-heap)
+
+place-cases : (t : List ℕ) → PlaceCases t
+place-cases t = cases_by_tests t (is_short t) (is_blank_run t) refl refl
+
+-- so each place is that of such texts alone
+pub inline-short : (t : List ℕ) → place_of t ≡ Inline → IsShort t
+inline-short t inline = grind (arith, common_steps, place-cases)
+
+pub static-blank : (t : List ℕ) → place_of t ≡ Static → (¬ (IsShort t)) × IsBlankRun t
+static-blank t static =
+    elim (place-cases t) [
+      | inl h ↦ (let e = h.1 in absurd (cc))
+      | inr g ↦ elim g [ inl h ↦ (h.0, h.1) | inr h ↦ (let e = h.1 in absurd (cc)) ]
+    ]
+
+pub heap-not_resident : (t : List ℕ) → place_of t ≡ Heap → ¬ (IsResident t)
+heap-not_resident t heap =
+    elim (place-cases t) [
+      | inl h ↦ (let e = h.1 in absurd (cc))
+      | inr g ↦ elim g [ inl h ↦ (let e = h.2 in absurd (cc)) | inr h ↦ h.0 ]
+    ]
+
+-- two texts are equal exactly where their bytes are
+pub bytes_eq-texts : (s t : List ℕ) → pointwise nat_eq (encode_utf8_all s) (encode_utf8_all t) ≡ pointwise nat_eq s t
+bytes_eq-texts s t = grind (arith, common_steps, same_from_decides, Decides-like, encodes_same, bytes_decides)
+
+-- the size of two texts, one after the other
+pub size-append : (s t : List ℕ) → size (s ++ t) ≡ size s + size t
+size-append s t = rw (encodes-append s t) (length-append (encode_utf8_all s) (encode_utf8_all t))
+
+-- the characters of the bytes of a text
+pub chars-of : (t bs : List ℕ) → IsUtf8 bs → bs ≡ encode_utf8_all t → chars bs ≡ t
+chars-of t bs u e = sym (chars_from_encodes t bs u (sym e))
+
+pub IsUtf8-rc_str_bytes : {Z : Type 0} (s : RcStr Z) → IsUtf8 (rc_str_bytes s)
+IsUtf8-rc_str_bytes s = IsUtf8-string_bytes s.text.value
+
+-- a text equals the text of some bytes exactly where its bytes equal them
+pub bytes_eq-chars : (t bs : List ℕ) → IsUtf8 bs →
+    pointwise nat_eq (encode_utf8_all t) bs ≡ pointwise nat_eq t (chars bs)
+bytes_eq-chars t bs u = ap (pointwise nat_eq (encode_utf8_all t)) (sym (encodes-chars bs u))
+    ∙ bytes_eq-texts t (chars bs)
+
+pub chars-one : (c : ℕ) (bs : List ℕ) → IsUtf8 bs → bs ≡ encode_utf8 c → chars bs ≡ c ∷ []
+chars-one c bs u e = chars-of (c ∷ []) bs u (e ∙ sym (append-nil (encode_utf8 c)))
+
+-- what holds anyway holds of an `Err`
+pub OnErr-always : {T E : Type 0} (r : Result T E) (P : Type 0) → P → OnErr r P
+OnErr-always (Ok x) P h = tt
+OnErr-always (Err e) P h = h
+
+-- a fact for `Ok`, from the test
+pub OnOk-if : {T E : Type 0} (r : Result T E) (P : Type 0) → (is_ok r ≡ true → P) → OnOk r P
+OnOk-if (Ok x) P h = h refl
+OnOk-if (Err e) P h = tt
+
+-- the bytes of a character
+pub short_encode : (c : ℕ) → length (encode_utf8 c) ≤ INLINE_CAP
+short_encode c = let few = len_utf8_bounds c in omega (arith, length-encode c, few.1)
+
+pub IsShort-one : (c : ℕ) → IsShort (c ∷ [])
+IsShort-one c = rw (append-nil (encode_utf8 c)) (short_encode c)
+
+-- each front of a short text is short
+pub IsShort-front : (s t : List ℕ) → IsShort (s ++ t) → IsShort s
+IsShort-front s t short = omega (arith, short, size-append s t)

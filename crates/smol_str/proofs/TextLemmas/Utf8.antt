@@ -1,0 +1,48 @@
+-- For byte order and self-synchronisation: the four forms of a character's bytes.
+use Rattle.smol_str.proofs.Common.{◌≡◌, ℕ, ◌+◌, ◌/◌, ◌<◌, ◌≤◌, List, [], ◌∷◌, arith, true, false, next, ltb, nat_tests, cases_lt, common_steps, rules}
+use lib.Utf8.{encode}
+
+div4096 : (c : ℕ) → c / 4096 ≡ c / 64 / 64
+div4096 c = omega arith
+
+div262144 : (c : ℕ) → c / 262144 ≡ c / 64 / 64 / 64
+div262144 c = omega arith
+
+-- one to four bytes, with six bits in each but the first
+abbrev pub form1 : ℕ → List ℕ
+form1 c = c ∷ []
+
+abbrev pub form2 : ℕ → List ℕ
+form2 c = (192 + c / 64) ∷ next c ∷ []
+
+abbrev pub form3 : ℕ → List ℕ
+form3 c = (224 + c / 64 / 64) ∷ next (c / 64) ∷ next c ∷ []
+
+abbrev pub form4 : ℕ → List ℕ
+form4 c = (240 + c / 64 / 64 / 64) ∷ next (c / 64 / 64) ∷ next (c / 64) ∷ next c ∷ []
+
+pub data Form (c : ℕ) : Type 0 where
+  one : c < 128 → encode c ≡ form1 c → Form c
+  two : 128 ≤ c → c < 2048 → encode c ≡ form2 c → Form c
+  three : 2048 ≤ c → c < 65536 → encode c ≡ form3 c → Form c
+  four : 65536 ≤ c → encode c ≡ form4 c → Form c
+
+pub is_one : (c : ℕ) → c < 128 → encode c ≡ form1 c
+unfolding encode
+is_one c h = let t : ltb c 128 ≡ true = grind (arith, nat_tests) in rw t
+
+pub is_two : (c : ℕ) → 128 ≤ c → c < 2048 → encode c ≡ form2 c
+unfolding encode
+is_two c l h = let t : ltb c 128 ≡ false = grind (arith, nat_tests) in
+    let u : ltb c 2048 ≡ true = grind (arith, nat_tests) in rw (t, u)
+
+pub is_three : (c : ℕ) → 2048 ≤ c → c < 65536 → encode c ≡ form3 c
+unfolding encode
+is_three c l h = search (rules, div4096)
+
+pub is_four : (c : ℕ) → 65536 ≤ c → encode c ≡ form4 c
+unfolding encode
+is_four c l = search (rules, div4096, div262144)
+
+pub form : (c : ℕ) → Form c
+form c = grind (arith, common_steps, cases_lt, is_one, is_two, is_three, is_four)

@@ -1,0 +1,153 @@
+-- A wire form in two parts, its size and its text, for the calls that write and read one part after the other.
+use Rattle.smol_str.proofs.Common.{◌≡◌, ℕ, ◌+◌, ◌<◌, ◌≤◌, ◌^◌, Err, List, ◌++◌, Option, None, Some, IfSome, length, take, refl, sym, ap, ◌∙◌, subst, arith, append_assoc, append-nil, to_le_bytes, from_le_bytes, w32, encode_utf8_all, from_le_bytes-to_le_bytes_4, encodes-chars, take_at, drop_at, length-append, Appends, Consumes, IsAtEnd, Appends-trans, Consumes-trans, Result, err_from_is_err_and, INLINE_CAP, size, place_of, Meaning, HasWire, HasEndedEarly, body, common_steps, rules}
+use Rattle.std.specs.declared.str.Utf8Error.{Utf8Error}
+use Rattle.std.specs.declared.io.Error.{Error}
+use Rattle.std.specs.Result.{IsErrAnd, IfErr}
+use Rattle.smol_str.specs.declared.borsh.fault.EncodeFault.{EncodeFault}
+use Rattle.smol_str.specs.declared.borsh.fault.EncodeFault.TheVariants.{Io as WriteFailed}
+use Rattle.smol_str.specs.declared.borsh.fault.DecodeFault.{DecodeFault}
+use Rattle.smol_str.specs.declared.borsh.fault.DecodeFault.TheVariants.{Ended, NotUtf8, OutOfMemory, Io}
+use Rattle.smol_str.specs.declared.borsh.fault.LimitedFault.{LimitedFault}
+use Rattle.smol_str.specs.declared.borsh.fault.LimitedFault.TheVariants.{TooLong, Decode}
+use Rattle.smol_str.specs.Wire.{wire, stated}
+use Rattle.smol_str.specs.Stream.{AppendsBeginning, EndsBelow}
+use Rattle.smol_str.specs.WireFaults.{AfterEncodeFault, IsRefusedBody, AfterReadFault, HasReadBody, AfterBodyFault, StatesAtMost, AfterLimitedFault}
+use Rattle.smol_str.proofs.WireLemmas.Stream.{beginning-of_first, beginning-of_second}
+
+-- ---- writing: the size of a text as it is found, and the text's bytes
+
+module _ (t prefix bytes : List ℕ) (is : bytes ≡ encode_utf8_all t)
+    (said : (length bytes < 2 ^ 32) × (prefix ≡ to_le_bytes w32 (length bytes))) where
+  wire-parts : prefix ++ bytes ≡ wire t
+  unfolding wire
+  wire-parts = λ i. (said.1 ∙ ap (λ bs. to_le_bytes w32 (length bs)) is) i ++ is i
+
+  pub Appends-parts : (a b c : Option (List ℕ)) → Appends a b prefix → Appends b c bytes → Appends a c (wire t)
+  Appends-parts a b c p q = subst (Appends a c) wire-parts (Appends-trans a b c prefix bytes p q)
+
+  -- a writer that failed after a beginning of the form
+  module _ (a c : Option (List ℕ)) (r : Result (Unit {0}) EncodeFault) (e : Error)
+      (failed : IsErrAnd r (λ fault. fault ≡ WriteFailed e)) where
+    AfterEncodeFault-failed : AppendsBeginning a c (prefix ++ bytes)
+        → IfErr r (AfterEncodeFault (wire t) (HasWire t) a c)
+    AfterEncodeFault-failed p = grind (arith, common_steps, err_from_is_err_and, wire-parts)
+
+    pub failed-in_prefix : AppendsBeginning a c prefix → IfErr r (AfterEncodeFault (wire t) (HasWire t) a c)
+    failed-in_prefix p = AfterEncodeFault-failed (beginning-of_first prefix bytes a c p)
+
+    pub failed-in_bytes : (b : Option (List ℕ)) → Appends a b prefix → AppendsBeginning b c bytes
+        → IfErr r (AfterEncodeFault (wire t) (HasWire t) a c)
+    failed-in_bytes b p q = AfterEncodeFault-failed (beginning-of_second prefix bytes a b c p q)
+
+-- ---- bytes
+
+-- the size that four bytes at the front of b are read as
+pub stated-of_prefix : (b front prefix : List ℕ) (n : ℕ) → front ≡ take 4 b → prefix ≡ front
+    → n ≡ from_le_bytes w32 prefix → stated b ≡ n
+unfolding stated
+stated-of_prefix b front prefix n e f is = sym (is ∙ ap (from_le_bytes w32) (f ∙ e))
+
+-- ---- reading: a reader that gave the size n, below 2 ^ 32
+
+module _ (n : ℕ) (fits : n < 2 ^ 32) where
+  -- bytes that begin with the size n
+  pub stated_front : (r : List ℕ) → stated (to_le_bytes w32 n ++ r) ≡ n
+  unfolding stated
+  stated_front r = ap (from_le_bytes w32) (take_at (to_le_bytes w32 n) r 4 refl) ∙ from_le_bytes-to_le_bytes_4 n fits
+
+  length_front : (r : List ℕ) → length (to_le_bytes w32 n ++ r) ≡ 4 + length r
+  length_front r = length-append (to_le_bytes w32 n) r
+
+  -- and go on with n bytes
+  module _ (bs r : List ℕ) (l : length bs ≡ n) where
+    whole_front : ¬ HasEndedEarly (to_le_bytes w32 n ++ (bs ++ r))
+    whole_front early = grind (arith, common_steps, stated_front, length_front, length-append)
+
+    body_front : body (to_le_bytes w32 n ++ (bs ++ r)) ≡ bs
+    body_front = search (rules, stated_front, drop_at, take_at)
+
+    taken_front : take (4 + stated (to_le_bytes w32 n ++ (bs ++ r))) (to_le_bytes w32 n ++ (bs ++ r))
+        ≡ to_le_bytes w32 n ++ bs
+    taken_front = grind (arith, common_steps, length_front, stated_front, append_assoc, take_at)
+
+  -- and then the text of a value
+  module _ (b c : Option (List ℕ)) (v : Meaning) (h : HasReadBody b c n v) where
+    same_bytes : h.body ≡ encode_utf8_all v.text
+    same_bytes = sym (encodes-chars h.body h.utf8) ∙ ap encode_utf8_all (sym h.value.text)
+
+    pub size-of_body : n ≡ size v.text
+    size-of_body = sym h.whole ∙ ap length same_bytes
+
+    pub is_read-of_body : HasWire v.text × (v.place ≡ place_of v.text)
+    is_read-of_body = let same = size-of_body in (omega arith, h.value.place ∙ ap place_of (sym h.value.text))
+
+    pub Consumes-of_body : (a : Option (List ℕ)) → Consumes a b (to_le_bytes w32 n) → Consumes a c (wire v.text)
+    unfolding wire
+    Consumes-of_body a p = search (rules, size-of_body, same_bytes, Consumes-trans)
+
+  -- and then fewer bytes
+  ended-of_body : (a b c : Option (List ℕ)) → Consumes a b (to_le_bytes w32 n) → EndsBelow b c n
+      → IfSome a HasEndedEarly × IsAtEnd c
+  ended-of_body None b c p q = (tt, q.3)
+  ended-of_body (Some x) None c p q = absurd p
+  ended-of_body (Some x) (Some y) None p q = absurd q.2
+  ended-of_body (Some x) (Some y) (Some z) p q = search (rules, append-nil, stated_front, length_front)
+
+  -- and then n bytes that are no text
+  refused_at : (x y bs z : List ℕ) (e : Utf8Error) → x ≡ to_le_bytes w32 n ++ y → y ≡ bs ++ z → length bs ≡ n
+      → IsRefusedBody bs e
+      → (¬ (HasEndedEarly x)) × IsRefusedBody (body x) e × (x ≡ take (4 + stated x) x ++ z)
+  refused_at x y bs z e p q l other = grind (arith, common_steps, whole_front, body_front, append_assoc, taken_front)
+
+  long-of_body : (a b : Option (List ℕ)) → Consumes a b (to_le_bytes w32 n) → INLINE_CAP < n
+      → IfSome a (λ b. (4 ≤ length b) × (INLINE_CAP < stated b))
+  long-of_body None b p h = tt
+  long-of_body (Some x) None p h = absurd p
+  long-of_body (Some x) (Some y) p h =
+      let says : stated x ≡ n = ap stated p ∙ stated_front y in
+      let long : length x ≡ 4 + length y = ap length p ∙ length_front y in
+      (omega arith, omega arith)
+
+  pub AfterReadFault-of_body : (a b c : Option (List ℕ)) (fault : DecodeFault) → Consumes a b (to_le_bytes w32 n)
+      → AfterBodyFault b c n fault → AfterReadFault a c fault
+  AfterReadFault-of_body a b c Ended p h = ended-of_body a b c p h
+  AfterReadFault-of_body None b c (NotUtf8 e) p h = tt
+  AfterReadFault-of_body (Some x) None c (NotUtf8 e) p h = absurd p
+  AfterReadFault-of_body (Some x) (Some y) None (NotUtf8 e) p h = absurd h.bytes
+  AfterReadFault-of_body (Some x) (Some y) (Some z) (NotUtf8 e) p h =
+      refused_at x y h.body z e p h.bytes h.whole h.refused
+  AfterReadFault-of_body a b c OutOfMemory p h = long-of_body a b p h
+  AfterReadFault-of_body a b c (Io e) p h = tt
+
+  -- with a limit below the size
+  pub AfterLimitedFault-above : (a b : Option (List ℕ)) (limit : ℕ) → Consumes a b (to_le_bytes w32 n) → limit < n
+      → AfterLimitedFault limit a b TooLong
+  AfterLimitedFault-above None b limit p h = tt
+  AfterLimitedFault-above (Some x) None limit p h = absurd p
+  AfterLimitedFault-above (Some x) (Some y) limit p h =
+      let says : stated x ≡ n = ap stated p ∙ stated_front y in
+      let long : length x ≡ 4 + length y = ap length p ∙ length_front y in
+      let front : take 4 x ≡ to_le_bytes w32 n = ap (take 4) p ∙ take_at (to_le_bytes w32 n) y 4 refl in
+      (omega arith, omega arith, p ∙ ap (λ l. l ++ y) (sym front))
+
+  -- and with one that is not
+  states_within : (a b : Option (List ℕ)) (limit : ℕ) → Consumes a b (to_le_bytes w32 n) → n ≤ limit
+      → IfSome a (StatesAtMost limit)
+  states_within None b limit p h = tt
+  states_within (Some x) None limit p h = absurd p
+  states_within (Some x) (Some y) limit p h = let says : stated x ≡ n = ap stated p ∙ stated_front y in λ _. omega arith
+
+  AfterLimitedFault-of_fault : (a b c : Option (List ℕ)) (limit : ℕ) (fault : DecodeFault)
+      → Consumes a b (to_le_bytes w32 n) → n ≤ limit → AfterReadFault a c fault → AfterLimitedFault limit a c (Decode fault)
+  AfterLimitedFault-of_fault a b c limit Ended p l h = (h, states_within a b limit p l)
+  AfterLimitedFault-of_fault a b c limit (NotUtf8 e) p l h = (h, states_within a b limit p l)
+  AfterLimitedFault-of_fault a b c limit OutOfMemory p l h = (h, states_within a b limit p l)
+  AfterLimitedFault-of_fault a b c limit (Io e) p l h = h
+
+  pub AfterLimitedFault-of_body : {T : Type 0} (r : Result T LimitedFault) (a b c : Option (List ℕ)) (limit : ℕ)
+      (fault : DecodeFault) → IsErrAnd r (λ f. f ≡ Decode fault) → Consumes a b (to_le_bytes w32 n) → n ≤ limit
+      → AfterBodyFault b c n fault → IfErr r (AfterLimitedFault limit a c)
+  AfterLimitedFault-of_body r a b c limit fault failed p l h =
+      let (f, is_err, is) = err_from_is_err_and r failed in
+      subst (λ r. IfErr r (AfterLimitedFault limit a c)) (sym (is_err ∙ ap Err is))
+      (AfterLimitedFault-of_fault a b c limit fault p l (AfterReadFault-of_body a b c fault p h))
