@@ -7,6 +7,7 @@
 use smol_tokens_core::fault::{RunFault, fault_line};
 use smol_tokens_core::mode::mode_of;
 use smol_tokens_core::run::run;
+use std::hash::RandomState;
 use std::process::ExitCode;
 use std::{env, io};
 
@@ -35,7 +36,12 @@ fn main(rt: HostRuntime) -> ExitCode {
         let _ = rt.eprintln("usage");
         return ExitCode::from(2);
     };
-    match run(rt.alloc(), mode, &mut rt.stdin(), &mut rt.stdout()) {
+    // A seed of the system: whoever writes the input cannot pick lines that all have one hash.
+    let state = match RandomState::new(&rt) {
+        Ok(state) => state,
+        Err(error) => return failed(&rt, &RunFault::Io(error)),
+    };
+    match run(rt.alloc(), state, mode, &mut rt.stdin(), &mut rt.stdout()) {
         Ok(()) => ExitCode::SUCCESS,
         Err(fault) => failed(&rt, &fault),
     }

@@ -2,11 +2,12 @@
 use Rattle.std.proofs.Common.{◌≡◌, ◌≢◌, ℕ, ◌<◌, ◌==◌, List, [], ◌∷◌, ◌++◌, Bool, true, false, cond, ◌⊎◌, inl, inr}
 use Rattle.std.proofs.Common.{⊎_elim, length, refl, sym, ap, ◌∙◌, subst, arith, append_assoc, append-nil}
 use Rattle.std.specs.Prelude.{All}
-use Rattle.std.specs.List.{onto_first, slice_split, flat_map}
+use Rattle.std.specs.List.{onto_first, slice_split}
 use Rattle.std.proofs.lemmas.Bool.{eqb-false, ne_eqb}
 use Rattle.std.proofs.lemmas.List.Elements.{All-nil, All-cons, All-weaker, All-head, All-tail}
 use Rattle.std.proofs.lemmas.List.Splits.{slice_split_at, slice_split_none, length-slice_split}
 use Rattle.smol_str.specs.Cut.{joined_by}
+use Rattle.smol_str.proofs.CallerLemmas.{joined_more}
 use Rattle.smol_tokens_core.specs.Lines.{is_newline, newline, lines, without_empty_last, HasNoNewline, ended}
 use Rattle.smol_tokens_core.proofs.PieceLemmas.{lines-pieces, joined-pieces, lines-nil, lines-cons}
 
@@ -57,9 +58,6 @@ HasNoNewline-lines (c ∷ t) = rw (lines-cons c t) (no_newline_step c (lines t) 
 -- an empty last piece that is left out costs one pattern
 abbrev GivesBack : List ℕ → List (List ℕ) → List ℕ → Type 0
 GivesBack p qs t = (joined_by p qs ≡ t) ⊎ (joined_by p qs ++ p ≡ t)
-
-joined_more : (p q r : List ℕ) (rs : List (List ℕ)) → joined_by p (q ∷ r ∷ rs) ≡ q ++ (p ++ joined_by p (r ∷ rs))
-joined_more p q r rs = ap (λ xs. q ++ xs) (append_assoc p r (flat_map (λ y. p ++ y) rs))
 
 joined_step : (p q r : List ℕ) (rs ss : List (List ℕ)) → GivesBack p (r ∷ ss) (joined_by p (r ∷ rs))
     → GivesBack p (q ∷ r ∷ ss) (joined_by p (q ∷ r ∷ rs))

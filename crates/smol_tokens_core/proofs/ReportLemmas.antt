@@ -13,9 +13,7 @@ use Rattle.smol_str.specs.declared.value.place.Place.{Place}
 use Rattle.smol_str.specs.declared.value.place.Place.TheVariants.{Inline, Static, Heap}
 use Rattle.smol_str.specs.Text.{size}
 use Rattle.smol_str.specs.Meaning.{Meaning, IsValueOf}
-use Rattle.smol_tokens_core.specs.declared.mode.Mode.{Mode}
-use Rattle.smol_tokens_core.specs.declared.mode.Mode.TheVariants.{Show, Join, Lower, Upper, Replace, Tokens}
-use Rattle.smol_tokens_core.specs.Report.{place_word, answer_line, answer, count_line, report, lines_report}
+use Rattle.smol_tokens_core.specs.Report.{place_word, answer_line, answer, count_line}
 
 encodes-place_word : (place : Place) → encode_utf8_all (place_word place) ≡ place_word place
 unfolding lib.Utf8.encode
@@ -62,13 +60,3 @@ report-next f items i x out new at so_far is =
     ∙ ap (λ xs. encode_utf8_all (flat_map f xs))
     (sym (take_more items i x (slice_get_within items i x at)
     ∙ ap (λ y. take i items ++ y ∷ []) (get_or_from_slice_get items i x x at)))
-
--- every mode but join and tokens answers line by line
-pub report-lines : (mode : Mode) (t : List ℕ) → ¬ (mode ≡ Join) → ¬ (mode ≡ Tokens)
-    → lines_report mode t ≡ report mode t
-report-lines Show t not_join not_tokens = refl
-report-lines Join t not_join not_tokens = absurd (not_join refl)
-report-lines Lower t not_join not_tokens = refl
-report-lines Upper t not_join not_tokens = refl
-report-lines (Replace from to) t not_join not_tokens = refl
-report-lines Tokens t not_join not_tokens = absurd (not_tokens refl)

@@ -1,6 +1,5 @@
 //! What the program is asked to do.
 ghost use Rattle.std.specs.Prelude.{◌≡◌};
-ghost use Rattle.std.specs.String.{string_bytes};
 ghost use Rattle.smol_tokens_core.specs.Words.{asked_mode, mode_of_word};
 
 /// What the program writes of its input.

@@ -13,17 +13,24 @@ use crate::mode::Mode;
 use crate::tokens::count_lines;
 use smol_str::{FormatError, Place, SmolStr, StrExt, format_smolstr};
 use std::alloc::{AllocError, Global};
+use std::hash::BuildHasher;
 
 /// The whole report on a text.
 ///
-/// It is [`RunFault::Full`] only in mode tokens, where a line stands more than `u64::MAX` times.
-pub fn make_report(alloc: Global, mode: Mode, text: &str) -> Result<String, RunFault>
+/// Mode tokens hashes the lines by `state`, on which no report depends. It is [`RunFault::Full`] only in mode tokens,
+/// where a line stands more than `u64::MAX` times.
+pub fn make_report<S: BuildHasher + Drop>(
+    alloc: Global,
+    state: S,
+    mode: Mode,
+    text: &str,
+) -> Result<String, RunFault>
     ensures ok { IfOk result (λ out. string_bytes out ≡ encode_utf8_all (report mode (chars text.now))) }
     ensures fault { IfErr result (HasNoReport mode (chars text.now)) }
 {
     let report = match &mode {
         Mode::Join => join(alloc, text)?,
-        Mode::Tokens => count_lines(alloc, text)?,
+        Mode::Tokens => count_lines(alloc, state, text)?,
         _ => answer_lines(alloc, &mode, text)?,
     };
     Ok(report)

@@ -7,6 +7,7 @@ use crate::mode::Mode;
 use crate::report::make_report;
 use smol_str::stream::{read_all, write_steps};
 use std::alloc::Global;
+use std::hash::BuildHasher;
 use std::io::{Read, Write};
 
 /// Reads to the end, tests UTF-8, puts the report together, and writes it.
@@ -15,9 +16,11 @@ use std::io::{Read, Write};
 /// of some text, and exactly the report on that text was written. Nothing is written before the
 /// whole report is there, so after [`RunFault::NotUtf8`], [`RunFault::OutOfMemory`] and
 /// [`RunFault::Full`] nothing was written; after [`RunFault::Io`] nothing, or a beginning of the
-/// report. A reader or writer that does not tell its bytes is claimed nothing of.
-pub fn run<R: Read, W: Write>(
+/// report. All this holds for every `state`, by which mode tokens hashes the lines. A reader or writer that does not
+/// tell its bytes is claimed nothing of.
+pub fn run<S: BuildHasher + Drop, R: Read, W: Write>(
     alloc: Global,
+    state: S,
     mode: Mode,
     reader: &mut R,
     writer: &mut W,
@@ -33,7 +36,7 @@ pub fn run<R: Read, W: Write>(
     let Ok(text) = str::from_utf8(input.as_slice()) else {
         return Err(RunFault::NotUtf8);
     };
-    let report = make_report(alloc, mode, text)?;
+    let report = make_report(alloc, state, mode, text)?;
     write_steps(writer, report.as_bytes())?;
     Ok(())
 }

@@ -1,5 +1,5 @@
 //! How often each token was seen.
-ghost use Rattle.std.specs.Prelude.{◌≡◌, ◌<◌, ◌+◌, ◌^◌, [], ◌∷◌, ◌++◌, Some, SomeIff, IfOk, IfErr, OnOk, OnErr, length, slice_get, option_map};
+ghost use Rattle.std.specs.Prelude.{◌≡◌, ◌<◌, ◌+◌, ◌^◌, [], ◌∷◌, ◌++◌, Some, IfOk, IfErr, OnOk, OnErr, length, slice_get, option_map};
 ghost use Rattle.std.specs.Map.{lookup};
 ghost use Rattle.smol_tokens_core.specs.Tally.{is_same, times_of, tally, HasEachOnce};
 ghost use Rattle.smol_tokens_core.specs.TallyFaults.{AfterAddFault, given_back};
@@ -7,6 +7,7 @@ ghost use Rattle.smol_tokens_core.specs.TallyFaults.{AfterAddFault, given_back};
 use indexmap::IndexMap;
 use smol_str::SmolStr;
 use std::alloc::Global;
+use std::hash::{BuildHasher, BuildHasherDefault, FoldHasher};
 use std::marker::Model;
 
 /// Why a token was not counted; it is given back, and the tally is as before.
@@ -30,11 +31,11 @@ pub enum AddFault {
 /// assert_eq!(rt; seen.count(&SmolStr::new_inline("if")), Some(1));
 /// ```
 #[derive(Drop)]
-pub struct Tally {
-    counts: IndexMap<SmolStr, u64>,
+pub struct Tally<S: BuildHasher = BuildHasherDefault<FoldHasher>> {
+    counts: IndexMap<SmolStr, u64, S>,
 }
 
-impl Model for Tally {
+impl<S: BuildHasher> Model for Tally<S> {
     ghost use Rattle.std.specs.Prelude.{ℕ, List};
     ghost use Rattle.smol_tokens_core.specs.Tally.{by_text, HasEachOnce};
 
@@ -45,13 +46,25 @@ impl Model for Tally {
     ghost invariant = { λ s. HasEachOnce (by_text s.counts.entries) };
 }
 
-impl Tally {
+impl Tally<BuildHasherDefault<FoldHasher>> {
     /// An empty tally, which takes no memory.
-    pub fn new(alloc: Global) -> Tally
+    ///
+    /// The seed of its hasher is fixed, so whoever picks the tokens can pick such as take a time that grows with the
+    /// square of their number: for tokens of a stranger give [`Tally::with_hasher`] a `RandomState`.
+    pub fn new(alloc: Global) -> Self
+        ensures { result ≡ [] }
+    {
+        Tally::with_hasher(alloc, BuildHasherDefault::new())
+    }
+}
+
+impl<S: BuildHasher> Tally<S> {
+    /// An empty tally that hashes by `state`, and takes no memory. What it counts does not depend on the state.
+    pub fn with_hasher(alloc: Global, state: S) -> Tally<S>
         ensures { result ≡ [] }
     {
         Tally {
-            counts: IndexMap::new(alloc),
+            counts: IndexMap::with_hasher(alloc, state),
         }
     }
 

@@ -14,22 +14,33 @@ use crate::lines::Lines;
 use crate::tally::Tally;
 use smol_str::SmolStr;
 use std::alloc::{AllocError, Global};
+use std::hash::BuildHasher;
 
 /// The count of each different line of a text, and the line, in order of first sight.
-pub fn count_lines(alloc: Global, text: &str) -> Result<String, RunFault>
+///
+/// The lines are hashed by `state`, on which the report does not depend.
+pub fn count_lines<S: BuildHasher + Drop>(
+    alloc: Global,
+    state: S,
+    text: &str,
+) -> Result<String, RunFault>
     ensures ok { IfOk result (λ out. string_bytes out ≡ encode_utf8_all (tokens_report (chars text.now))) }
     ensures fault { IfErr result (HasNoReport Tokens (chars text.now)) }
 {
-    let tally = tally_lines(alloc, text)?;
+    let tally = tally_lines(alloc, state, text)?;
     Ok(write_counts(alloc, &tally)?)
 }
 
 /// The lines of a text as tokens, each counted once where it stands.
-fn tally_lines(alloc: Global, text: &str) -> Result<Tally, RunFault>
+fn tally_lines<S: BuildHasher + Drop>(
+    alloc: Global,
+    state: S,
+    text: &str,
+) -> Result<Tally<S>, RunFault>
     ensures ok { IfOk result (λ counts. counts ≡ tally (seen_once (lines (chars text.now)))) }
     ensures fault { IfErr result (HasNoReport Tokens (chars text.now)) }
 {
-    let mut tally = Tally::new(alloc);
+    let mut tally = Tally::with_hasher(alloc, state);
     for line in Lines::of(text) {
         tally.add(SmolStr::new(alloc, line)?, 1)?;
     }
@@ -37,7 +48,7 @@ fn tally_lines(alloc: Global, text: &str) -> Result<Tally, RunFault>
 }
 
 /// The count line of each token.
-fn write_counts(alloc: Global, tally: &Tally) -> Result<String, AllocError>
+fn write_counts<S: BuildHasher>(alloc: Global, tally: &Tally<S>) -> Result<String, AllocError>
     ensures { IfOk result (λ out. string_bytes out ≡ encode_utf8_all (flat_map count_line tally.now)) }
 {
     let mut out = String::new(alloc);

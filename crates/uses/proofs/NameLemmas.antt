@@ -1,11 +1,10 @@
 -- For the symbol table and for names in order: one name more, ids that stay, and texts of sorted values.
-use Rattle.std.proofs.Common.{◌≡◌, ℕ, ◌+◌, ◌<◌, List, [], ◌∷◌, ◌++◌, length, get_or, Bool, true, false, not, cond, is_some, Option, Some, None, refl, sym, ap, ◌∙◌, arith, length-append}
-use Rattle.std.specs.Str.{bytes_eq}
-use Rattle.std.specs.List.{position, slice_get}
+use Rattle.std.proofs.Common.{◌≡◌, ℕ, ◌+◌, ◌<◌, ◌≤◌, List, [], ◌∷◌, ◌++◌, length, map, get_or, nat_lt, Bool, true, false, not, cond, if◌then◌else◌, is_some, Option, Some, None, refl, sym, ap, ◌∙◌, arith, length-append}
+use Rattle.std.specs.Str.{bytes_eq, chars, IsUtf8}
+use Rattle.std.specs.List.{position, position_or_len, prefix_len, list_any, slice_get}
 use Rattle.std.specs.Ordering.{nat_cmp}
-use Rattle.std.specs.Cmp.Lexicographic.{slice_cmp, nat_list_eq_equiv}
+use Rattle.std.specs.Cmp.Lexicographic.{slice_cmp}
 use Rattle.std.specs.List.Sorted.{IsSorted, IsSortedByKey}
-use Rattle.std.specs.HashMap.{HashMap, Updates}
 use Rattle.std.proofs.lemmas.Bool.Decides.{nat_tests}
 use Rattle.std.proofs.lemmas.List.{get_or-map, length-map, map-append}
 use Rattle.std.proofs.lemmas.List.Folds.{prefix_len-append}
@@ -15,9 +14,10 @@ use Rattle.std.specs.Option.{option_map}
 use Rattle.std.proofs.lemmas.Option.{slice_get-map, slice_get-get_or}
 use Rattle.std.proofs.lemmas.Slice.Eq.{bytes_eq-Decides}
 use Rattle.smol_str.specs.Meaning.{Meaning}
-use Rattle.smol_str.specs.Keys.{same_key, value_at}
-use Rattle.smol_str.proofs.CallerLemmas.{key_of}
-use Rattle.uses.specs.Names.{texts, id_of, interned, Finds}
+use Rattle.indexmap.specs.IndexSet.{insert_key}
+use Rattle.smol_str.specs.Keys.{same_key, stands_for}
+use Rattle.smol_str.proofs.CallerLemmas.{key_of, stands_for-text}
+use Rattle.uses.specs.Names.{texts, id_of, interned}
 
 -- the first place at which a test passes, with one more element at the end
 position-more : {X : Type 0} (p : X → Bool) (xs : List X) (x : X) (b : Bool) → p x ≡ b →
@@ -38,27 +38,6 @@ pub id_of-new : (t : List ℕ) (names : List (List ℕ)) → id_of t names ≡ N
 id_of-new t names none =
     rw none at (position-more {X = List ℕ} (λ name. bytes_eq t name) names t true ((bytes_eq-Decides t t).1 refl))
 
-after_case : (text t : List ℕ) (names : List (List ℕ)) (b : Bool) → bytes_eq t text ≡ b → id_of t names ≡ None →
-    cond b (Some (length names)) (id_of text names) ≡ id_of text (names ++ t ∷ [])
-after_case text t names true e none =
-    let same : t ≡ text = (bytes_eq-Decides t text).0 e in
-    rw (← same) (sym (id_of-new t names none))
-after_case text t names false e none =
-    let apart : bytes_eq text t ≡ false = nat_list_eq_equiv.symm text t ∙ e in
-    sym (position-more (λ name. bytes_eq text name) names t false apart ∙ or_none (id_of text names))
-
--- the map and the names after one more
-pub Finds-more : {S : Type 0} (m n : HashMap Meaning ℕ S) (names : List Meaning) (key : Meaning) →
-    Finds m (texts names) → id_of key.text (texts names) ≡ None →
-    Updates same_key m n key (Some (length names)) → Finds n (texts (names ++ key ∷ []))
-Finds-more m n names key finds none updates = λ text.
-    let now : value_at text n ≡ cond (bytes_eq key.text text) (Some (length names)) (value_at text m)
-    = updates.0 (key_of text) in
-    let long : length (texts names) ≡ length names = length-map names (λ (v : Meaning). v.text) in
-    let more : texts (names ++ key ∷ []) ≡ texts names ++ key.text ∷ []
-    = map-append (λ (v : Meaning). v.text) names (key ∷ []) in
-    now ∙ rw (finds text, ← long, more) (after_case text key.text (texts names) (bytes_eq key.text text) refl none)
-
 stays_case : (t other : List ℕ) (names : List (List ℕ)) (id : ℕ) (b : Bool) → id_of t names ≡ Some id →
     id_of t (cond b names (names ++ other ∷ [])) ≡ Some id
 stays_case t other names id true there = there
@@ -76,22 +55,60 @@ id_of-back t names id there =
     let at = position-Some (λ name. bytes_eq t name) names id [] there in
     slice_get-get_or names id [] at.0 ∙ ap Some (sym ((bytes_eq-Decides t (get_or names id [])).0 at.1))
 
--- the id of a name that was added
-pub id_of-added : (t : List ℕ) (names : List Meaning) (key : Meaning) → key.text ≡ t →
-    id_of key.text (texts names) ≡ None → id_of t (texts (names ++ key ∷ [])) ≡ Some (length names)
-id_of-added t names key is none =
-    let more : texts (names ++ key ∷ []) ≡ texts names ++ key.text ∷ []
-    = map-append (λ (v : Meaning). v.text) names (key ∷ []) in
-    let long : length (texts names) ≡ length names = length-map names (λ (v : Meaning). v.text) in
-    rw (more, ← is) (id_of-new key.text (texts names) none ∙ ap Some long)
+-- ---- names that are values in a list without repeats
 
--- the name at a place below their number, as a text
-pub text_at : (names : List Meaning) (id : ℕ) (name : Meaning) → id < length (texts names) →
-    name ≡ get_or names id name → slice_get (texts names) id ≡ Some name.text
-text_at names id name within found =
-    let low : id < length names = omega (arith, within, length-map names (λ (v : Meaning). v.text)) in
-    slice_get-map (λ (v : Meaning). v.text) names id
-    ∙ ap (option_map (λ (v : Meaning). v.text)) (slice_get-get_or names id name low ∙ ap Some (sym found))
+prefix_len-map : {X Y : Type 0} (p : Y → Bool) (f : X → Y) (xs : List X) →
+    prefix_len p (map f xs) ≡ prefix_len (λ x. p (f x)) xs
+prefix_len-map p f [] = refl
+prefix_len-map p f (x ∷ xs) = ap (λ n. cond (p (f x)) (1 + n) 0) (prefix_len-map p f xs)
+
+-- the first name that has the text
+id_of-keys : (t : List ℕ) (keys : List Meaning) → position (λ key. bytes_eq t key.text) keys ≡ id_of t (texts keys)
+id_of-keys t keys =
+    let place = prefix_len-map (λ name. not (bytes_eq t name)) (λ (key : Meaning). key.text) keys in
+    let long = length-map keys (λ (key : Meaning). key.text) in
+    sym (λ i. cond (nat_lt (place i) (long i)) (Some (place i)) None)
+
+-- and the first that a `&str` stands for
+pub id_of-stands_for : (bs : List ℕ) (keys : List Meaning) → IsUtf8 bs →
+    position (stands_for bs) keys ≡ id_of (chars bs) (texts keys)
+id_of-stands_for bs keys u = (λ i. position (λ key. stands_for-text bs key u i) keys) ∙ id_of-keys (chars bs) keys
+
+none_passes : {X : Type 0} (p : X → Bool) (xs : List X) → length xs ≤ position_or_len p xs → list_any p xs ≡ false
+none_passes p [] few = refl
+none_passes p (x ∷ xs) few = by (p x) refl (none_passes p xs)
+  where
+    by : (b : Bool) → p x ≡ b → (length xs ≤ position_or_len p xs → list_any p xs ≡ false) →
+        list_any p (x ∷ xs) ≡ false
+    by true e rest = absurd (omega (arith, rw e at few))
+    by false e rest = rw e (rest (omega (arith, rw e at few)))
+
+-- a new name goes last, and its place is its id
+module _ (t : List ℕ) (keys : List Meaning) (key : Meaning) (is : key.text ≡ t) (none : id_of t (texts keys) ≡ None) where
+  last : position_or_len (same_key key) keys ≡ length keys
+  last =
+      let unfound = id_of-keys key.text keys ∙ ap (λ t. id_of t (texts keys)) is ∙ none in
+      grind (arith, nat_tests, unfound, prefix_len-le-length (λ y. not (same_key key y)) keys)
+
+  added : texts (insert_key same_key keys key) ≡ texts keys ++ t ∷ []
+  added =
+      let new = none_passes (same_key key) keys (omega (arith, last)) in
+      ap (λ b. texts (if b then keys else keys ++ key ∷ [])) new
+      ∙ map-append (λ (key : Meaning). key.text) keys (key ∷ []) ∙ ap (λ u. texts keys ++ u ∷ []) is
+
+  pub names-added : texts (insert_key same_key keys key) ≡ interned t (texts keys)
+  names-added = added ∙ sym (ap (λ id. if is_some id then texts keys else texts keys ++ t ∷ []) none)
+
+  pub id_of-added : id_of t (texts (insert_key same_key keys key)) ≡ Some (position_or_len (same_key key) keys)
+  id_of-added =
+      ap (id_of t) added ∙ id_of-new t (texts keys) none
+      ∙ ap Some (length-map keys (λ (key : Meaning). key.text) ∙ sym last)
+
+-- the name at a place, as a text
+pub text_at : (keys : List Meaning) (id : ℕ) (name : Meaning) → slice_get keys id ≡ Some name →
+    slice_get (texts keys) id ≡ Some name.text
+text_at keys id name found =
+    slice_get-map (λ (key : Meaning). key.text) keys id ∙ ap (option_map (λ (key : Meaning). key.text)) found
 
 -- sorted values are those whose texts are sorted
 pub IsSorted-texts : (names : List Meaning) → IsSortedByKey (λ (v : Meaning). v.text) (slice_cmp nat_cmp) names →

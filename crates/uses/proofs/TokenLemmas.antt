@@ -45,19 +45,19 @@ module _ (text rest after : List ℕ) (c : ℕ) (u : IsUtf8 text) (v : IsUtf8 af
   whole : chars text ≡ characters ++ chars after
   whole = first ∙ ap (λ l. c ∷ l) left.0.1
 
-  seam : size characters ≡ length text - length after
-  seam =
+  size-characters : size characters ≡ length text - length after
+  size-characters =
       let sizes = ap size whole ∙ size-append characters (chars after) in
       omega (arith, sizes, size-chars text u, size-chars after v)
 
   pub boundary : IsCharBoundary text (length text - length after)
-  boundary = boundary-parts text characters (chars after) (length text - length after) u whole seam
+  boundary = boundary-parts text characters (chars after) (length text - length after) u whole size-characters
 
   pub first-token : (token back : List ℕ) → token ≡ take (length text - length after) text
       → back ≡ drop (length text - length after) text → IsFirstToken (chars text) (chars token) (chars back)
   first-token token back e f =
-      let front = ap chars e ∙ chars-take text characters (chars after) (length text - length after) u whole seam in
-      let behind = ap chars f ∙ chars-drop text characters (chars after) (length text - length after) u whole seam in
+      let front = ap chars e ∙ chars-take text characters (chars after) (length text - length after) u whole size-characters in
+      let behind = ap chars f ∙ chars-drop text characters (chars after) (length text - length after) u whole size-characters in
       record {
         whole = rw (front, behind) whole;
         kind = rw front left.0.2;

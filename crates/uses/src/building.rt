@@ -1,10 +1,11 @@
-//! A builder in a loop.
-ghost use Rattle.std.specs.Prelude.{IfOk, OnErr};
+//! A builder in a loop, and two appends that fit.
+ghost use Rattle.std.specs.Prelude.{◌≡◌, ◌+◌, ◌≤◌, ◌++◌, length, IfOk, IsOk, OnErr};
 ghost use Rattle.std.specs.List.{flat_map};
+ghost use Rattle.std.specs.Str.{chars};
 ghost use Rattle.smol_str.specs.Text.{IsShort};
 ghost use Rattle.smol_str.specs.Meaning.{IsValueOf};
 
-use smol_str::{SmolStr, SmolStrBuilder};
+use smol_str::{INLINE_CAP, SmolStr, SmolStrBuilder};
 use std::alloc::{AllocError, Global};
 
 /// The texts of values, one after another.
@@ -18,4 +19,17 @@ pub fn joined(alloc: Global, parts: &[SmolStr]) -> Result<SmolStr, AllocError>
         builder.push_str(part.as_str())?;
     }
     Ok(builder.finish()?)
+}
+
+/// Two texts that fit a builder together: neither append is refused.
+#[tactic(auto, using(smol_str::proofs::CallerLemmas::builders))]
+pub fn both(alloc: Global, first: &str, second: &str) -> Result<SmolStrBuilder, AllocError>
+    requires { length first.now + length second.now ≤ INLINE_CAP }
+    ensures ok { IsOk result }
+    ensures text { IfOk result (λ b. b.text ≡ chars first.now ++ chars second.now) }
+{
+    let mut builder = SmolStrBuilder::new(alloc);
+    builder.push_str(first)?;
+    builder.push_str(second)?;
+    Ok(builder)
 }

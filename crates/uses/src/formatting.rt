@@ -5,8 +5,9 @@ ghost use Rattle.std.specs.Fmt.{decimal};
 ghost use Rattle.smol_str.specs.declared.value.place.Place.TheVariants.{Static};
 ghost use Rattle.uses.specs.Widths.{right_aligned};
 ghost use Rattle.smol_str.specs.Meaning.{IsValueOf};
+ghost use Rattle.smol_str.specs.Text.{place_of};
 
-use smol_str::{FormatError, Place, SmolStr, SmolStrBuilder, ToSmolStr, finished, format_smolstr};
+use smol_str::{FormatError, SmolStr, SmolStrBuilder, ToSmolStr, finished, format_smolstr};
 use std::alloc::Global;
 use std::fmt;
 
@@ -19,8 +20,9 @@ pub fn words(alloc: Global) -> Result<SmolStr, FormatError>
 
 /// A word, a number and a value.
 pub fn line(alloc: Global, word: &str, number: u64, value: &SmolStr) -> Result<SmolStr, FormatError>
-    ensures { IfOk result (λ v. encode_utf8_all v.text ≡ word.now ++ (codes " " ++ (decimal number
+    ensures text { IfOk result (λ v. encode_utf8_all v.text ≡ word.now ++ (codes " " ++ (decimal number
         ++ (codes " " ++ (encode_utf8_all value.now.text ++ codes "\n"))))) }
+    ensures place { IfOk result (λ v. v.place ≡ place_of v.text) }
 {
     format_smolstr!(alloc; "{word} {number} {value}\n")
 }
@@ -60,7 +62,8 @@ pub fn signed(alloc: Global, number: u64) -> Result<SmolStr, FormatError>
 
 /// A number, with spaces before it where it is narrow.
 pub fn wide_number(alloc: Global, number: u64) -> Result<SmolStr, FormatError>
-    ensures { IfOk result (λ v. encode_utf8_all v.text ≡ right_aligned 6 number) }
+    ensures text { IfOk result (λ v. encode_utf8_all v.text ≡ right_aligned 6 number) }
+    ensures place { IfOk result (λ v. v.place ≡ place_of v.text) }
 {
     format_smolstr!(alloc; "{number:>6}")
 }

@@ -3,9 +3,11 @@
 //!
 //! Each way ensures `value`, that the value is of exactly the text that is meant and lies in the place of that text; and
 //! `refused`, that memory can be wanting only for text that is not resident, or not short where it comes in parts.
-ghost use Rattle.std.specs.Prelude.{◌≡◌, ◌≤◌, ◌++◌, [], ◌∷◌, length, IfOk, OnErr, IsTrue};
+ghost use Rattle.std.specs.Prelude.{◌≡◌, ◌≢◌, ◌≤◌, ◌++◌, [], ◌∷◌, length, IfOk, OnErr, IsTrue};
 ghost use Rattle.std.specs.Str.{chars, IsUtf8};
 ghost use Rattle.std.specs.String.{string_bytes};
+ghost use Rattle.std.specs.Ordering.{nat_cmp};
+ghost use Rattle.std.specs.Cmp.Lexicographic.{slice_cmp};
 ghost use Rattle.std.specs.Box.{boxed_str_bytes};
 ghost use Rattle.std.specs.Cow.{cow_str_bytes};
 ghost use Rattle.std.specs.Rc.{rc_str_bytes};
@@ -14,13 +16,16 @@ ghost use Rattle.smol_str.specs.Meaning.{IsValueOf};
 ghost use Rattle.smol_str.specs.Joined.{joined, string_text};
 ghost use Rattle.smol_str.specs.Steps.{step_text};
 ghost use Rattle.smol_str.specs.Case.{lower, upper, lowercased, uppercased, IsAsciiText};
+ghost use Rattle.smol_str.specs.Convert.{converted};
 ghost use Rattle.smol_str.specs.Replace.{replaced, replaced_all};
 
 use crate::collecting::{all_of_slice, copied};
-use smol_str::{INLINE_CAP, SmolStr, SmolStrBuilder, Step, StrExt, build};
+use smol_str::kernel::AsciiCase;
+use smol_str::{INLINE_CAP, Place, SmolStr, SmolStrBuilder, Step, StrExt, build};
 use std::alloc::{AllocError, Global};
 use std::borrow::CowStr;
 use std::boxed::BoxedStr;
+use std::cmp::Ordering;
 use std::hash::{Hash, Hasher};
 use std::rc::RcStr;
 
@@ -48,11 +53,27 @@ pub fn of_short_text(text: &str) -> SmolStr
     SmolStr::new_inline(text)
 }
 
+/// A short text in a case of ASCII, which is never refused.
+pub fn of_short_text_in_case(text: &str, case: AsciiCase) -> SmolStr
+    requires { length text.now ≤ INLINE_CAP }
+    ensures value { IsValueOf (converted case (chars text.now)) result }
+{
+    SmolStr::new_inline_in_case(text, case)
+}
+
 /// No text, which is never refused.
 pub fn of_nothing() -> SmolStr
     ensures value { IsValueOf [] result }
 {
     SmolStr::default()
+}
+
+/// A text that lives as long as the program, pinned to place Static; it is never refused.
+pub fn of_constant(text: &'static str) -> SmolStr
+    ensures text { result.text ≡ chars text.now }
+    ensures place { result.place ≡ Place.Static }
+{
+    SmolStr::new_static(text)
 }
 
 /// A whole text in bytes.
@@ -87,6 +108,14 @@ pub fn of_string(alloc: Global, text: String) -> Result<SmolStr, AllocError>
     ensures refused { OnErr result (¬ (IsResident (chars (string_bytes text)))) }
 {
     SmolStr::from_string(alloc, text).map_err(|_| AllocError)
+}
+
+/// The same where the `String` is not wanted back, and the value keeps its memory.
+pub fn of_owned(text: String) -> Result<SmolStr, AllocError>
+    ensures value { IfOk result (λ v. IsValueOf (chars (string_bytes text)) v) }
+    ensures refused { OnErr result (¬ (IsResident (chars (string_bytes text)))) }
+{
+    SmolStr::from_owned(text)
 }
 
 /// A boxed `str`.
@@ -158,6 +187,14 @@ pub fn of_builder(builder: SmolStrBuilder) -> Result<SmolStr, AllocError>
     Ok(SmolStr::from_builder(builder)?)
 }
 
+/// The same where the builder is not wanted back, and the value keeps its memory.
+pub fn of_own_builder(builder: SmolStrBuilder) -> Result<SmolStr, AllocError>
+    ensures value { IfOk result (λ v. IsValueOf builder.text v) }
+    ensures refused { OnErr result (¬ (IsResident builder.text)) }
+{
+    builder.into_value()
+}
+
 /// Any list of a builder's calls.
 pub fn of_steps(alloc: Global, steps: &[Step]) -> Result<SmolStr, AllocError>
     ensures value { IfOk result (λ v. IsValueOf (joined step_text steps.now) v) }
@@ -223,8 +260,7 @@ pub fn with_some_replaced(
     text.replacen_smolstr(alloc, from, to, count)
 }
 
-/// Two values of one text, neither of them pinned: they are equal, lie in one place, stand in one order to any third,
-/// and feed a hasher the same.
+/// Two values of one text, pinned or not: they are equal, stand in one order to any third, and feed a hasher the same.
 pub fn are_alike<H: Hasher>(
     left: &SmolStr,
     right: &SmolStr,
@@ -233,13 +269,41 @@ pub fn are_alike<H: Hasher>(
     right_state: &mut H,
 ) -> bool
     requires one_text { left.now.text ≡ right.now.text }
-    requires left_by_text { left.now.place ≡ place_of left.now.text }
-    requires right_by_text { right.now.place ≡ place_of right.now.text }
     requires one_state { left_state.now ≡ right_state.now }
     ensures alike { IsTrue result }
     ensures hashed { left_state.new ≡ right_state.new }
 {
     left.hash(left_state);
     right.hash(right_state);
-    left == right && left.place() == right.place() && left.cmp(third) == right.cmp(third)
+    left == right && left.cmp(third) == right.cmp(third)
+}
+
+/// Two values of one text, neither of them pinned, lie in one place.
+pub fn lie_alike(left: &SmolStr, right: &SmolStr) -> bool
+    requires one_text { left.now.text ≡ right.now.text }
+    requires left_by_text { left.now.place ≡ place_of left.now.text }
+    requires right_by_text { right.now.place ≡ place_of right.now.text }
+    ensures { IsTrue result }
+{
+    left.place() == right.place()
+}
+
+/// Two values of different texts, pinned or not: they are unequal, and ordered as their texts are.
+pub fn are_unlike(left: &SmolStr, right: &SmolStr) -> (bool, Ordering)
+    requires { left.now.text ≢ right.now.text }
+    ensures unequal { IsTrue result.0 }
+    ensures order { result.1 ≡ slice_cmp nat_cmp left.now.text right.now.text }
+{
+    (left != right, left.cmp(right))
+}
+
+/// A value feeds a hasher what its text feeds it as a `str`.
+#[tactic(auto, using(smol_str::proofs::CallerLemmas::texts))]
+pub fn hashes_as_text<H: Hasher>(value: &SmolStr, text: &str, state: &mut H, text_state: &mut H)
+    requires one_text { value.now.text ≡ chars text.now }
+    requires one_state { state.now ≡ text_state.now }
+    ensures { state.new ≡ text_state.new }
+{
+    value.hash(state);
+    text.hash(text_state);
 }

@@ -1,5 +1,7 @@
 //! A value there and back through JSON.
-ghost use Rattle.std.specs.Prelude.{IfOk};
+ghost use Rattle.std.specs.Prelude.{◌≡◌, IfOk, IfErr};
+ghost use Rattle.std.specs.Str.{chars};
+ghost use Rattle.smol_str.specs.Json.{IsJsonText};
 ghost use Rattle.smol_str.specs.Meaning.{IsValueOf};
 
 use smol_str::SmolStr;
@@ -8,12 +10,20 @@ use std::alloc::{AllocError, Global};
 
 /// What `to_json` writes, `from_json` reads as the same text.
 pub fn there_and_back(alloc: Global, value: &SmolStr) -> Result<SmolStr, JsonFault>
-    ensures { IfOk result (λ back. IsValueOf value.now.text back) }
+    ensures value { IfOk result (λ back. IsValueOf value.now.text back) }
+    ensures refused { IfErr result (λ fault. fault ≡ JsonFault.OutOfMemory) }
 {
-    match to_json(alloc, value) {
-        Ok(json) => from_json(alloc, json.as_str()),
-        Err(AllocError) => Err(JsonFault::OutOfMemory),
-    }
+    let json = to_json(alloc, value)?;
+    from_json(alloc, json.as_str())
+}
+
+/// The value of a JSON text that is known to be one of `name`.
+pub fn known(alloc: Global, json: &str, name: &str) -> Result<SmolStr, JsonFault>
+    requires { IsJsonText json.now (chars name.now) }
+    ensures value { IfOk result (λ v. IsValueOf (chars name.now) v) }
+    ensures refused { IfErr result (λ fault. fault ≡ JsonFault.OutOfMemory) }
+{
+    from_json(alloc, json)
 }
 
 /// A value there and back as a JSON value: only want of memory can go wrong.

@@ -1,7 +1,9 @@
 //! Callers of the library, each proved by the library's contracts alone.
 #![tactic(auto)]
 
+pub mod adapters;
 pub mod building;
+pub mod by_text;
 pub mod collecting;
 pub mod cut_records;
 pub mod formatting;
@@ -9,8 +11,11 @@ pub mod headers;
 pub mod headline;
 pub mod json;
 pub mod lexer;
+pub mod lists;
 pub mod ordered;
 pub mod records;
+pub mod replacing;
+pub mod slicing;
 pub mod symbols;
 pub mod values;
 pub mod wire;

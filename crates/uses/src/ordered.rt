@@ -1,12 +1,14 @@
-//! Values in order: sorted, and two sorted lists as one.
-ghost use Rattle.std.specs.Prelude.{◌≡◌, ◌++◌, OnOk, OnErr, IfOk};
+//! Values in order: sorted, two sorted lists as one, and looked up.
+ghost use Rattle.std.specs.Prelude.{◌≡◌, ◌++◌, OnOk, OnErr, IfOk, option_copied};
 ghost use Rattle.std.specs.Ordering.{nat_cmp};
 ghost use Rattle.std.specs.Cmp.Lexicographic.{slice_cmp};
 ghost use Rattle.std.specs.List.Sorted.{IsSorted, IsPermutation};
+ghost use Rattle.smol_str.specs.Keys.{ordered_value_at, has_text, is_before};
 ghost use Rattle.uses.specs.Names.{texts};
 
 use smol_str::SmolStr;
 use std::alloc::AllocError;
+use std::collections::BTreeMap;
 
 /// Puts values in the order of their texts.
 pub fn sort_names(names: &mut Vec<SmolStr>) -> Result<(), AllocError>
@@ -28,4 +30,25 @@ pub fn sorted_union(
     left.append(&mut right)?;
     sort_names(&mut left)?;
     Ok(left)
+}
+
+/// What an ordered map has at a value's text.
+pub fn find<'a>(ids: &'a BTreeMap<SmolStr, usize>, name: &SmolStr) -> Option<&'a usize>
+    ensures { option_copied result ≡ ordered_value_at name.now.text ids.now }
+{
+    ids.get(name)
+}
+
+/// Whether a list of keywords has a name.
+pub fn is_keyword(keywords: &[SmolStr], name: &SmolStr) -> bool
+    ensures { result ≡ has_text name.now.text keywords.now }
+{
+    keywords.contains(name)
+}
+
+/// Whether a name comes before another.
+pub fn comes_before(left: &SmolStr, right: &SmolStr) -> bool
+    ensures { result ≡ is_before left.now.text right.now.text }
+{
+    left < right
 }

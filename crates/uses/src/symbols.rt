@@ -3,17 +3,17 @@ ghost use Rattle.std.specs.Prelude.{◌≡◌, ◌<◌, [], length, IfOk, OnOk, 
 ghost use Rattle.std.specs.Str.{chars};
 ghost use Rattle.uses.specs.Names.{id_of, interned};
 
+use crate::by_text::ByText;
+use indexmap::IndexSet;
 use smol_str::SmolStr;
 use std::alloc::{AllocError, Global};
-use std::collections::HashMap;
 use std::marker::Model;
 
 /// Names in the order in which they were first seen. A table means the list of its names' texts.
 #[derive(Drop)]
 pub struct Symbols {
     alloc: Global,
-    names: Vec<SmolStr>,
-    ids: HashMap<SmolStr, usize>,
+    names: IndexSet<SmolStr>,
 }
 
 impl Model for Symbols {
@@ -21,11 +21,9 @@ impl Model for Symbols {
 
     ghost Value = { List (List ℕ) };
 
-    ghost use Rattle.uses.specs.Names.{texts, Finds};
+    ghost use Rattle.uses.specs.Names.{texts};
 
-    ghost view = { λ s. texts s.names.items };
-
-    ghost invariant = { λ s. Finds s.ids (texts s.names.items) };
+    ghost view = { λ s. texts s.names.keys };
 }
 
 impl Symbols {
@@ -35,8 +33,7 @@ impl Symbols {
     {
         Symbols {
             alloc,
-            names: Vec::new(alloc),
-            ids: HashMap::new(alloc),
+            names: IndexSet::new(alloc),
         }
     }
 
@@ -46,17 +43,19 @@ impl Symbols {
         ensures names { OnOk result (self.new ≡ interned (chars text.now) self.old) }
         ensures unchanged { OnErr result (self.new ≡ self.old) }
     {
-        let key = SmolStr::new(self.alloc, text)?;
-        if let Some(id) = self.ids.get(&key) {
-            return Ok(*id);
+        if let Some(id) = self.find(text) {
+            return Ok(id);
         }
-        let id = self.names.len();
-        self.names.push(key.clone()?)?;
-        let Ok(_) = self.ids.insert(key, id) else {
-            let _ = self.names.pop();
-            return Err(AllocError);
-        };
+        let key = SmolStr::new(self.alloc, text)?;
+        let (id, _is_new) = self.names.insert_full(key)?;
         Ok(id)
+    }
+
+    /// The id of a text, if it has one. No value is made of it, so no memory is asked for.
+    pub fn find(&self, text: &str) -> Option<usize>
+        ensures { result ≡ id_of (chars text.now) self.now }
+    {
+        self.names.get_index_of(ByText(text))
     }
 
     /// The text of an id.

@@ -1,13 +1,18 @@
 //! A value there and back: its wire form written, and read again by both calls.
-ghost use Rattle.std.specs.Prelude.{◌≡◌, ◌+◌, ◌++◌, IfOk, IfSome, OnErr};
+ghost use Rattle.std.specs.Prelude.{◌≡◌, ◌+◌, ◌≤◌, ◌++◌, ℕ, List, Some, IfOk, IfErr, IfSome, OnErr};
+ghost use Rattle.std.specs.Io.KnownBytes.{Consumes};
 ghost use Rattle.std.specs.Str.{chars};
-ghost use Rattle.smol_str.specs.Text.{size, IsResident};
+ghost use Rattle.smol_str.specs.Text.{size, IsResident, place_of};
 ghost use Rattle.smol_str.specs.Meaning.{IsValueOf};
-ghost use Rattle.smol_str.specs.Wire.{HasWire, wire};
+ghost use Rattle.smol_str.specs.Wire.{HasWire, wire, stated};
 
-use smol_str::SmolStr;
-use smol_str::borsh::{BorshDeserialize, BorshSerialize, DecodeFault, EncodeFault, from_wire};
+use smol_str::borsh::{
+    BorshDeserialize, BorshSerialize, DecodeFault, EncodeFault, LimitedFault, deserialize_limited,
+    from_wire, split_wire,
+};
+use smol_str::{INLINE_CAP, SmolStr};
 use std::alloc::{AllocError, Global};
+use std::io::Read;
 
 /// The wire form of a value.
 pub fn written(alloc: Global, value: &SmolStr) -> Result<Vec<u8>, EncodeFault>
@@ -74,4 +79,43 @@ pub fn there_and_back(alloc: Global, text: &str, rest: &[u8]) -> Option<(SmolStr
     let (one, _) = read_from_bytes(alloc, bytes.as_slice(), text, rest).ok()?;
     let (other, _) = read_from_reader(alloc, bytes.as_slice(), text, rest)?;
     Some((one, other))
+}
+
+/// A value of a reader whose bytes state a short text: memory is never wanting, and what can fail is the reader, or the
+/// bytes themselves.
+pub fn read_short<R: Read>(
+    alloc: Global,
+    reader: &mut R,
+    bytes: &[u8],
+) -> Result<SmolStr, DecodeFault>
+    requires known { R.remaining reader.old ≡ Some bytes.now }
+    requires short { stated bytes.now ≤ INLINE_CAP }
+    ensures value { IfOk result (λ v. Consumes (R.remaining reader.old) (R.remaining reader.new) (wire v.text)) }
+    ensures place { IfOk result (λ v. v.place ≡ place_of v.text) }
+    ensures refused { IfErr result (λ fault. ¬ (fault ≡ DecodeFault.OutOfMemory)) }
+{
+    match SmolStr::deserialize_reader(alloc, reader) {
+        Err(DecodeFault::OutOfMemory) => unreachable!(),
+        read => read,
+    }
+}
+
+/// The values that bytes begin with, one after another, and what follows them.
+pub fn read_two(alloc: Global, bytes: &[u8]) -> Result<(SmolStr, SmolStr), DecodeFault>
+    ensures { IfOk result (λ two. (rest : List ℕ) ×
+        (bytes.now ≡ wire two.0.text ++ (wire two.1.text ++ rest))) }
+{
+    let (first, rest) = split_wire(alloc, bytes)?;
+    let (second, _) = split_wire(alloc, rest)?;
+    Ok((first, second))
+}
+
+/// A value from a peer that may state any size: nothing is asked for where it states more than `limit`.
+pub fn read_from_peer<R: Read>(alloc: Global, reader: &mut R, limit: usize) -> Option<SmolStr>
+    ensures { IfSome result (λ v. size v.text ≤ limit) }
+{
+    match deserialize_limited(alloc, reader, limit) {
+        Ok(value) => Some(value),
+        Err(LimitedFault::TooLong | LimitedFault::Decode(_)) => None,
+    }
 }

@@ -4,7 +4,7 @@ use Rattle.smol_tokens_core.proofs.TokenLemmas.{tally-seen, lines-seen, no_repor
 use Rattle.smol_tokens_core.proofs.tokens.tally_lines.Goals as goal
 
 pub loop-line-preserved : goal.loop-line-preserved
-loop-line-preserved c = (
+loop-line-preserved g c = (
   tally-seen (λ line. chars line.now) c.loop-line.yielded c.in-Some.line _ _ _ c.loop-line.invariant.0
       c.in_ok-new.ensures.ok.text c.in_ok-add.ensures.ok,
   lines-seen (λ line. chars line.now) c.loop-line.yielded c.in-Some.line _ _ _ c.loop-line.invariant.1
@@ -12,7 +12,7 @@ loop-line-preserved c = (
 )
 
 pub returns-in_err-add-clause-fault : goal.returns-in_err-add-clause-fault
-returns-in_err-add-clause-fault c =
+returns-in_err-add-clause-fault g c =
     let line = c.in-Some.line.now in
     let fault = c.in_err-add.field-0.0 in
     let after = rw c.in_ok-new.ensures.ok.text at c.in_err-add.ensures.fault in

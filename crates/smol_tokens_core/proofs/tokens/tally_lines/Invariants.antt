@@ -6,6 +6,6 @@ use Rattle.smol_tokens_core.specs.Tally.{tally, seen_once}
 use Rattle.smol_tokens_core.proofs.tokens.tally_lines.Given as goal
 
 abbrev pub invariant-loop-line : goal.invariant-loop-line
-invariant-loop-line l =
+invariant-loop-line g l =
     let seen = map (λ line. chars line.now) l.yielded in
     (l.tally ≡ tally (seen_once seen)) × (lines (chars l.text) ≡ seen ++ lines (chars l.line-iterator.rest.now))

@@ -6,7 +6,7 @@ use Rattle.smol_tokens_core.proofs.tokens.write_counts.Goals as goal
 use Rattle.smol_tokens_core.proofs.tokens.write_counts.Goals.{in-Some+in_ok-push_count, in_default}
 
 pub loop-index-preserved : goal.loop-index-preserved
-loop-index-preserved c = elim c.match-at.branch [
+loop-index-preserved g c = elim c.match-at.branch [
   | in-Some+in_ok-push_count w ↦
       rw w.out-is
       (report-next count_line c.args.tally.now c.loop-index.index (w.in-Some.token.now.text, w.in-Some.count) _ _

@@ -6,4 +6,4 @@ use Rattle.smol_tokens_core.specs.Report.{count_line}
 use Rattle.smol_tokens_core.proofs.tokens.write_counts.Given as goal
 
 abbrev pub invariant-loop-index : goal.invariant-loop-index
-invariant-loop-index l = string_bytes l.out ≡ encode_utf8_all (flat_map count_line (take l.index l.tally))
+invariant-loop-index g l = string_bytes l.out ≡ encode_utf8_all (flat_map count_line (take l.index l.tally))

@@ -5,7 +5,7 @@ use Rattle.smol_tokens_core.proofs.TallyTableLemmas.{lookup-by_text}
 use Rattle.smol_tokens_core.proofs.tally.Tally.count.Goals as goal
 
 pub returns : goal.returns
-returns c =
+returns g c =
     let t = c.args.token.now.text in
     c.copied.ensures ∙ c.get.ensures.value ∙ lookup-by_text t c.self.inside.counts.entries
     ∙ ap (lookup (is_same t)) c.self.view_is

@@ -1,23 +1,19 @@
-use Rattle.std.proofs.Common.{rules, ◌≡◌, ◌∷◌, ◌++◌, [], length, None}
+use Rattle.std.proofs.Common.{rules, ◌≡◌, None, Some, ◌∙◌, ap, sym}
 use Rattle.std.specs.Str.{chars}
-use Rattle.uses.specs.Names.{id_of, texts}
-use Rattle.uses.proofs.NameLemmas.{id_of-added, Finds-more}
+use Rattle.uses.specs.Names.{id_of, interned, texts}
+use Rattle.uses.proofs.NameLemmas.{names-added, id_of-added}
 use Rattle.uses.proofs.symbols.Symbols.intern.Goals as goal
-
-pub invariant_of-self-in-Ok : goal.invariant_of-self-in-Ok
-invariant_of-self-in-Ok c =
-    let names = c.self.inside.names.items in
-    let key = c.in_ok-key.key in
-    let pushed : c.push.new.self.items ≡ names ++ key ∷ [] = search rules in
-    let none : id_of key.text (texts names) ≡ None = search rules in
-    let id : c.len-id.result ≡ length names = search rules in
-    rw pushed (Finds-more c.self.inside.ids c.insert.new.self names key c.self.invariant none (rw id at c.in-Ok.ensures.updates))
 
 pub returns-clause-id : goal.returns-clause-id
 returns-clause-id c =
-    let names = c.self.inside.names.items in
-    let key = c.in_ok-key.key in
-    let pushed : c.push.new.self.items ≡ names ++ key ∷ [] = search rules in
-    let none : id_of key.text (texts names) ≡ None = search rules in
-    let id : c.len-id.result ≡ length names = search rules in
-    rw (pushed, id) (id_of-added (chars c.args.text.now) names key c.in_ok-key.ensures.ok.text none)
+    let t = chars c.args.text.now in
+    let none : id_of t (texts c.self.inside.names.keys) ≡ None = search rules in
+    let added = id_of-added t c.self.inside.names.keys c.in_ok-key.key c.in_ok-key.ensures.ok.text none in
+    ap (λ keys. id_of t (texts keys)) c.in_ok-id.ensures.keys ∙ added ∙ sym (ap Some c.in_ok-id.ensures.index)
+
+pub returns-clause-names : goal.returns-clause-names
+returns-clause-names c =
+    let t = chars c.args.text.now in
+    let none : id_of t (texts c.self.inside.names.keys) ≡ None = search rules in
+    let added = names-added t c.self.inside.names.keys c.in_ok-key.key c.in_ok-key.ensures.ok.text none in
+    ap texts c.in_ok-id.ensures.keys ∙ added ∙ ap (interned t) c.self.view_is

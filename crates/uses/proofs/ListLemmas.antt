@@ -1,0 +1,89 @@
+-- For lists on the wire: a form is that of one list, and what was written and read so far.
+use Rattle.std.proofs.Common.{◌≡◌, ℕ, ◌+◌, ◌<◌, ◌^◌, List, [], ◌∷◌, ◌++◌, length, take, get_or, All, IsTrue, Result, Ok, Err, IfErr, IsErrAnd, sym, ap, subst, ◌∙◌, arith, append_assoc, append-nil, length-append}
+use Rattle.std.specs.Str.{all_scalars}
+use Rattle.std.specs.Prelude.{Option}
+use Rattle.std.proofs.lemmas.List.{map-append, length-map, take_more, flat_map_more, get_or-map}
+use Rattle.std.proofs.lemmas.List.Elements.{All-push, All-get_or}
+use Rattle.smol_str.specs.declared.borsh.fault.EncodeFault.{EncodeFault}
+use Rattle.smol_str.specs.declared.borsh.fault.EncodeFault.TheVariants.{TooLong, Io as WriteFailed}
+use Rattle.smol_str.specs.declared.borsh.fault.DecodeFault.{DecodeFault}
+use Rattle.smol_str.specs.declared.borsh.fault.DecodeFault.TheVariants.{Ended, NotUtf8, OutOfMemory, Io as ReadFailed}
+use Rattle.smol_str.specs.Meaning.{Meaning}
+use Rattle.smol_str.specs.Wire.{HasWire, wire}
+use Rattle.smol_str.specs.WireFaults.{AfterEncodeFault, AfterFromWireFault}
+use Rattle.smol_str.proofs.CallerLemmas.{form_is_whole, form-cut-utf8, count-apart, forms-apart, AreRead, next_form}
+use Rattle.uses.specs.Lists.{CanBeListed, forms, list_form, BeginsWithList, AfterListFault, AfterUnlisted}
+use Rattle.uses.specs.Names.{texts}
+
+-- lists whose forms are one, and what follows them
+pub lists-apart : (ss ts : List (List ℕ)) (x y : List ℕ) → CanBeListed ss → CanBeListed ts
+    → list_form ss ++ x ≡ list_form ts ++ y → (ss ≡ ts) × (x ≡ y)
+lists-apart ss ts x y h k e =
+    let parts = count-apart (length ss) (length ts) (forms ss ++ x) (forms ts ++ y) h.few k.few e in
+    forms-apart ss ts x y h.sized k.sized parts.0 parts.1
+
+-- bytes that want more to be a list begin with none
+pub not_whole : (bytes missing left : List ℕ) (ss ts : List (List ℕ)) → CanBeListed ss → CanBeListed ts
+    → bytes ++ missing ≡ list_form ts → 0 < length missing → ¬ (bytes ≡ list_form ss ++ left)
+not_whole bytes missing left ss ts h k cut some e =
+    let whole = ap (λ l. l ++ missing) (sym e) ∙ cut ∙ sym (append-nil (list_form ts)) in
+    let none = lists-apart ss ts (left ++ missing) [] h k (sym (append_assoc (list_form ss) left missing) ∙ whole) in
+    omega (arith, length-append left missing, ap length none.1, some)
+
+-- ---- writing: the i-th value
+
+pub texts-push : (values : List Meaning) (v : Meaning) → texts (values ++ v ∷ []) ≡ texts values ++ v.text ∷ []
+texts-push values v = map-append (λ (v : Meaning). v.text) values (v ∷ [])
+
+module _ (values : List Meaning) (i : ℕ) (v : Meaning) (here : i < length values) (item : v ≡ get_or values i v) where
+  texts-more : texts (take (i + 1) values) ≡ texts (take i values) ++ v.text ∷ []
+  texts-more =
+      ap texts (take_more values i v here ∙ ap (λ w. take i values ++ w ∷ []) (sym item)) ∙ texts-push (take i values) v
+
+  pub one_written : (front old new : List ℕ) → All HasWire (texts (take i values)) → HasWire v.text
+      → old ≡ front ++ forms (texts (take i values)) → new ≡ old ++ wire v.text
+      → All HasWire (texts (take (i + 1) values)) × (new ≡ front ++ forms (texts (take (i + 1) values)))
+  one_written front old new sized fits so_far written =
+      rw texts-more (
+        All-push HasWire (texts (take i values)) v.text sized fits,
+        written ∙ ap (λ l. l ++ wire v.text) so_far ∙ flat_map_more wire front (texts (take i values)) v.text,
+      )
+
+  after_unwritten : (old new : Option (List ℕ)) (fault : EncodeFault)
+      → AfterEncodeFault (wire v.text) (HasWire v.text) old new fault → AfterUnlisted (texts values) fault
+  after_unwritten old new (WriteFailed e) h = tt
+  after_unwritten old new TooLong h = λ can.
+      let long = length-map values (λ (v : Meaning). v.text) in
+      let fits = All-get_or HasWire (texts values) i v.text (omega (arith, here, long)) can.sized in
+      h.0 (rw (get_or-map (λ (v : Meaning). v.text) values i v v.text here, ← item) at fits)
+
+  pub not_written : {T : Type 0} (r : Result T EncodeFault) (old new : Option (List ℕ)) (fault : EncodeFault)
+      → IsErrAnd r (λ f. f ≡ fault) → AfterEncodeFault (wire v.text) (HasWire v.text) old new fault
+      → IfErr r (AfterUnlisted (texts values))
+  not_written (Ok x) old new fault same h = tt
+  not_written (Err f) old new fault same h =
+      subst (AfterUnlisted (texts values)) (sym same) (after_unwritten old new fault h)
+
+-- ---- reading
+
+module _ (bytes : List ℕ) (count : ℕ) (ts : List (List ℕ)) (rest : List ℕ) (i : ℕ)
+    (read : AreRead bytes count ts rest i) (few : count < 2 ^ 32) (below : i < count) where
+  next_of : (more : List ℕ) → BeginsWithList (bytes ++ more)
+      → (t after : List ℕ) × HasWire t × IsTrue (all_scalars t) × (rest ++ more ≡ wire t ++ after)
+  next_of more (us, x, can, scalars, e) =
+      next_form bytes count ts rest i read few below us more x can.few can.sized scalars e
+
+  after_fault : (fault : DecodeFault) → AfterFromWireFault rest fault → AfterListFault bytes fault
+  after_fault Ended h = λ begins.
+      let (t, after, sized, scalars, e) = next_of [] (subst BeginsWithList (sym (append-nil bytes)) begins) in
+      form_is_whole rest t after sized scalars (sym (append-nil rest) ∙ e) h
+  after_fault (NotUtf8 fault) h = λ more begins.
+      let (t, after, sized, scalars, e) = next_of more begins in
+      h.1.0 (form-cut-utf8 rest more t after sized scalars e h.0)
+  after_fault OutOfMemory h = tt
+  after_fault (ReadFailed e) h = h
+
+  pub not_read : {T : Type 0} (r : Result T DecodeFault) (fault : DecodeFault) → IsErrAnd r (λ f. f ≡ fault)
+      → AfterFromWireFault rest fault → IfErr r (AfterListFault bytes)
+  not_read (Ok x) fault same h = tt
+  not_read (Err f) fault same h = subst (AfterListFault bytes) (sym same) (after_fault fault h)

@@ -1,0 +1,12 @@
+-- The bytes are the number of the values, and the forms of the values so far.
+use Rattle.std.proofs.Common.{◌≡◌, ◌++◌, length, take, All}
+use Rattle.std.specs.Int.{w32, to_le_bytes}
+use Rattle.smol_str.specs.Wire.{HasWire}
+use Rattle.uses.specs.Lists.{forms}
+use Rattle.uses.specs.Names.{texts}
+use Rattle.uses.proofs.lists.write_list.Given as goal
+
+abbrev pub invariant-loop-value : goal.invariant-loop-value
+invariant-loop-value l =
+    All HasWire (texts (take l.value-index l.values))
+    × (l.bytes.items ≡ to_le_bytes w32 (length l.values) ++ forms (texts (take l.value-index l.values)))

@@ -1,0 +1,101 @@
+//! Lists of values on the wire: how many they are, and then their wire forms, as borsh has a `Vec` of strings.
+ghost use Rattle.std.specs.Prelude.{◌≡◌, ◌<◌, ◌++◌, length, IfOk, IfErr, IfSome, MatchOption};
+ghost use Rattle.std.specs.Int.{w32, to_le_bytes};
+ghost use Rattle.uses.specs.Lists.{CanBeListed, list_form, AfterListFault, AfterUnlisted};
+ghost use Rattle.uses.specs.Names.{texts};
+
+use smol_str::SmolStr;
+use smol_str::borsh::{BorshSerialize, DecodeFault, EncodeFault, length_prefix, split_wire};
+use std::alloc::Global;
+use std::io::Write;
+
+/// The form of a list.
+pub fn write_list(alloc: Global, values: &[SmolStr]) -> Result<Vec<u8>, EncodeFault>
+    ensures listed { IfOk result (λ bytes. CanBeListed (texts values.now)) }
+    ensures form { IfOk result (λ bytes. bytes.items ≡ list_form (texts values.now)) }
+    ensures fault { IfErr result (AfterUnlisted (texts values.now)) }
+{
+    let Some(count) = length_prefix(values.len()) else {
+        return Err(EncodeFault::TooLong);
+    };
+    let mut bytes = Vec::new(alloc);
+    bytes.write_all(&count)?;
+    for value in values {
+        value.serialize(&mut bytes)?;
+    }
+    Ok(bytes)
+}
+
+/// The list whose form the bytes begin with, and the bytes behind that form.
+pub fn read_list(alloc: Global, bytes: &[u8]) -> Result<(Vec<SmolStr>, &[u8]), DecodeFault>
+    ensures listed { IfOk result (λ read. CanBeListed (texts read.0.items)) }
+    ensures form { IfOk result (λ read. bytes.now ≡ list_form (texts read.0.items) ++ read.1.now) }
+    ensures fault { IfErr result (AfterListFault bytes.now) }
+{
+    let Some((count, mut rest)) = split_count(bytes) else {
+        return Err(DecodeFault::Ended);
+    };
+    let mut values = Vec::new(alloc);
+    for i in 0..count {
+        let (value, after) = split_wire(alloc, rest)?;
+        values.push(value)?;
+        rest = after;
+    }
+    Ok((values, rest))
+}
+
+/// The number that four bytes state, the lowest first, and the bytes behind them.
+fn split_count(bytes: &[u8]) -> Option<(u32, &[u8])>
+    ensures { MatchOption result (length bytes.now < 4)
+        (λ found. bytes.now ≡ to_le_bytes w32 found.0 ++ found.1.now) }
+{
+    let (prefix, rest) = bytes.split_first_chunk::<4>()?;
+    Some((count_in(prefix), rest))
+}
+
+fn count_in(prefix: &[u8; 4]) -> u32
+    ensures { to_le_bytes w32 result ≡ prefix.now }
+{
+    u32::from_le_bytes(*prefix)
+}
+
+/// A list that was written, with `rest` behind it, is read back: the same texts, and `rest` is left.
+pub fn read_back<'a>(
+    alloc: Global,
+    bytes: &'a [u8],
+    values: &[SmolStr],
+    rest: &[u8],
+) -> Option<(Vec<SmolStr>, &'a [u8])>
+    requires listed { CanBeListed (texts values.now) }
+    requires written { bytes.now ≡ list_form (texts values.now) ++ rest.now }
+    ensures same { IfSome result (λ read. texts read.0.items ≡ texts values.now) }
+    ensures left { IfSome result (λ read. read.1.now ≡ rest.now) }
+{
+    match read_list(alloc, bytes) {
+        Ok(read) => Some(read),
+        Err(_fault) => None,
+    }
+}
+
+/// A list written, with `rest` behind it, and read back.
+pub fn there_and_back(alloc: Global, values: &[SmolStr], rest: &[u8]) -> Option<Vec<SmolStr>>
+    ensures { IfSome result (λ read. texts read.items ≡ texts values.now) }
+{
+    let mut bytes = write_list(alloc, values).ok()?;
+    bytes.extend_from_slice(rest).ok()?;
+    let (read, _rest) = read_back(alloc, bytes.as_slice(), values, rest)?;
+    Some(read)
+}
+
+/// Bytes of a list of which the end is missing: no list is read of them, wherever they were cut.
+pub fn read_cut(alloc: Global, bytes: &[u8], missing: &[u8], values: &[SmolStr]) -> DecodeFault
+    requires listed { CanBeListed (texts values.now) }
+    requires cut { bytes.now ++ missing.now ≡ list_form (texts values.now) }
+    requires some { 0 < length missing.now }
+    ensures { AfterListFault bytes.now result }
+{
+    match read_list(alloc, bytes) {
+        Ok(_read) => unreachable!(),
+        Err(fault) => fault,
+    }
+}

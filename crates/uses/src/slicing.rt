@@ -1,0 +1,54 @@
+//! What a caller does with an index or a buffer that a call returns.
+ghost use Rattle.std.specs.Prelude.{◌≡◌, ◌<◌, ◌≤◌, ◌↔◌, ◌+◌, [], length, IfSome, IsTrue, encode_utf8_all};
+ghost use Rattle.std.specs.Str.{IsCharBoundary};
+
+use smol_str::kernel::{AsciiCase, convert_while_ascii, next_match};
+use smol_str::{INLINE_CAP, SmolStr, SmolStrBuilder};
+
+/// What stands before the first comma of a text, and behind it.
+pub fn at_comma(text: &str) -> Option<(&str, &str)>
+    ensures { IfSome result (λ parts. length parts.0.now + 1 + length parts.1.now ≡ length text.now) }
+{
+    let found = next_match(text, 0, ",")?;
+    Some((&text[..found], &text[found + 1..]))
+}
+
+/// What stands between a byte index and the next match of a pattern, and behind the match.
+pub fn at_next<'a>(text: &'a str, from: usize, pattern: &str) -> Option<(&'a str, &'a str)>
+    requires boundary { IsCharBoundary text.now from }
+    requires some { 0 < length pattern.now }
+{
+    let found = next_match(text, from, pattern)?;
+    Some((&text[from..found], &text[found + pattern.len()..]))
+}
+
+/// How many bytes the ASCII front of a short text has, which are read off the buffer.
+pub fn front_len(text: &str) -> Option<usize>
+    ensures { IfSome result (λ len. len ≤ length text.now) }
+{
+    if text.len() > INLINE_CAP {
+        return None;
+    }
+    let (buffer, len) = convert_while_ascii(text, AsciiCase::Lower);
+    Some(buffer[..len].len())
+}
+
+/// The bytes of a value's text, read off its buffer.
+pub fn bytes_inside(value: &SmolStr) -> Option<&[u8]> {
+    let buffer = value.inline_buffer()?;
+    Some(&buffer[..value.len()])
+}
+
+/// The bytes of a builder's text, read off its buffer.
+pub fn bytes_so_far(builder: &SmolStrBuilder) -> Option<&[u8]> {
+    let buffer = builder.inline_buffer()?;
+    Some(&buffer[..builder.len()])
+}
+
+/// Whether a value and a builder have no text.
+pub fn have_nothing(value: &SmolStr, builder: &SmolStrBuilder) -> (bool, bool)
+    ensures value { IsTrue result.0 ↔ (value.now.text ≡ []) }
+    ensures builder { IsTrue result.1 ↔ (builder.now.text ≡ []) }
+{
+    (value.is_empty(), builder.is_empty())
+}
