@@ -6,6 +6,7 @@ mod refused;
 mod rows;
 mod same;
 mod show;
+mod state;
 mod tally;
 mod words;
 mod writers;

@@ -1,6 +1,7 @@
 //! The callers, each run once over values from outside, and memory refused.
 mod headers;
 mod lexer;
+mod lists;
 mod ordered;
 mod records;
 mod same;

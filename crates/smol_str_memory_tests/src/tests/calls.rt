@@ -25,15 +25,17 @@ macro_rules! rows {
 
 /// Each call by its name in messages, and what it asks for on a text that fills a buffer, on the longest blank run, and
 /// on a text that is not resident.
-const CALLS: [(&str, Call, &[Asks], &[Asks], &[Asks]); 39] = rows! {
+static CALLS: [(&str, Call, &[Asks], &[Asks], &[Asks]); 42] = rows! {
     "SmolStr::new": Call::Text(OfText::New), NONE, NONE, SHARED;
     "SmolStr::new_inline": Call::Other(Other::NewInline), NONE, NONE, NONE;
+    "SmolStr::new_inline_in_case": Call::Other(Other::NewInlineInCase), NONE, NONE, NONE;
     "SmolStr::new_static": Call::Other(Other::NewStatic), NONE, NONE, NONE;
     "SmolStr::from_str": Call::Text(OfText::FromStr), NONE, NONE, SHARED;
     "SmolStr::from_string_ref": Call::Owned(OfOwned::FromStringRef), NONE, NONE, SHARED;
     "SmolStr::from_utf8": Call::Text(OfText::FromUtf8), NONE, NONE, SHARED;
     "SmolStr::from_utf8_unchecked": Call::Text(OfText::FromUtf8Unchecked), NONE, NONE, SHARED;
     "SmolStr::from_string": Call::Owned(OfOwned::FromString), NONE, NONE, SHARED;
+    "SmolStr::from_owned": Call::Owned(OfOwned::FromOwned), NONE, NONE, KEPT;
     "SmolStr::from_boxed_str": Call::FromBoxedStr, NONE, NONE, SHARED;
     "SmolStr::from_cow_str, borrowed": Call::Text(OfText::FromCowStr), NONE, NONE, SHARED;
     "SmolStr::from_cow_str, owned": Call::Owned(OfOwned::FromCowStr), NONE, NONE, SHARED;
@@ -60,6 +62,7 @@ const CALLS: [(&str, Call, &[Asks], &[Asks], &[Asks]); 39] = rows! {
     "SmolStrBuilder::finish": Call::Builder(Start::Text, OfBuilder::Finish), NONE, NONE, SHARED;
     "SmolStrBuilder::finish, large": Call::Builder(Start::Large, OfBuilder::Finish), NONE, NONE, SHARED;
     "SmolStr::from_builder": Call::Builder(Start::Text, OfBuilder::FromBuilder), NONE, NONE, SHARED;
+    "SmolStrBuilder::into_value": Call::Builder(Start::Text, OfBuilder::IntoValue), NONE, NONE, KEPT;
     "build": Call::Build, NONE, WITH_ROOM, BUILT;
     "build, to size": Call::BuildWithCapacity, NONE, OWNED, BUILT_TO_SIZE;
     "ToSmolStr::to_smolstr": Call::Text(OfText::ToSmolStr), NONE, WITH_ROOM, PRINTED;
@@ -94,7 +97,7 @@ fn requests(rt: HostRuntime) -> Result<(), Fail> {
         &can_refuse(alloc),
         &"blocks are counted",
     );
-    for (name, call, of_full, of_blank, of_heap) in CALLS {
+    for &(name, call, of_full, of_blank, of_heap) in &CALLS {
         check_full(alloc, name, call, of_full)?;
         let blank = (name, "the longest blank");
         check_call(alloc, blank, call, texts.blank.as_str(), of_blank)?;

@@ -30,7 +30,7 @@ fn answer(alloc: Global, call: Call, text: &str) -> Result<SmolStr, AllocError> 
 }
 
 // One byte by one byte, a byte by more, pieces, and the empty pattern.
-const CALLS: [(&str, Call); 10] = [
+static CALLS: [(&str, Call); 10] = [
     ("to_ascii_lowercase_smolstr", Call::AsciiLower),
     ("to_ascii_uppercase_smolstr", Call::AsciiUpper),
     ("to_lowercase_smolstr", Call::Lower),
@@ -47,7 +47,7 @@ const CALLS: [(&str, Call); 10] = [
 fn each_request_in_turn(rt: HostRuntime) -> Result<(), Fail> {
     let alloc = rt.alloc();
     let long = repeated(alloc, "a", 5000)?;
-    for (name, call) in CALLS {
+    for &(name, call) in &CALLS {
         check_refused(&rt, alloc, (name, " of a byte too many"), call, long_text())?;
         check_refused(&rt, alloc, (name, " of 5,000 bytes"), call, long.as_str())?;
     }
@@ -101,7 +101,7 @@ fn check_made(name: &str, made: &Result<SmolStr, AllocError>, ample: &SmolStr) -
 #[test]
 fn no_request_for_a_short_answer(rt: HostRuntime) -> Result<(), Fail> {
     let alloc = rt.alloc();
-    for (name, call) in CALLS {
+    for &(name, call) in &CALLS {
         let text = match call {
             Call::Replace(_, "éé") => "a",
             Call::Replace("", _) => "ab",

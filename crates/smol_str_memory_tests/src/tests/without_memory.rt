@@ -2,13 +2,15 @@
 //! call which promises that has a line.
 use super::same::holds;
 use serde_json::Value;
-use smol_str::borsh::{BorshDeserialize, BorshSerialize, from_wire, length_prefix};
+use smol_str::borsh::{
+    BorshDeserialize, BorshSerialize, deserialize_limited, from_wire, length_prefix, split_wire,
+};
 use smol_str::json::from_value;
 use smol_str::kernel::{AsciiCase, convert_while_ascii, next_match};
 use smol_str::stream::{fill, write_steps};
 use smol_str::{
-    INLINE_CAP, Piece, Place, SmolStr, SmolStrBuilder, Step, StrExt, ToSmolStr, build, finished,
-    format_smolstr,
+    INLINE_CAP, Piece, Place, SmolStr, SmolStrBuilder, Step, StrExt, ToSmolStr, ValueAlloc, build,
+    finished, format_smolstr,
 };
 use std::alloc::Global;
 use std::borrow::CowStr;
@@ -71,9 +73,11 @@ fn borrowed_text(rt: &impl Abort, alloc: Global, text: &str) -> Result<(), Fail>
 
 fn owned_text(rt: &impl Abort, alloc: Global, text: &str) -> Result<(), Fail> {
     let owned = String::from_str(alloc, text)?;
+    let kept = String::from_str(alloc, text)?;
     let boxed = String::from_str(alloc, text)?.into_boxed_str();
     free! { rt, alloc;
         "SmolStr::from_string": SmolStr::from_string(alloc, owned).is_ok();
+        "SmolStr::from_owned": SmolStr::from_owned(kept).is_ok();
         "SmolStr::from_boxed_str": SmolStr::from_boxed_str(alloc, boxed).is_ok();
     }
     Ok(())
@@ -104,6 +108,7 @@ fn inline_and_heap(rt: &impl Abort, alloc: Global) -> Result<(), Fail> {
     let heap = SmolStr::new(alloc, long_text())?;
     free! { rt, alloc;
         "SmolStr::new_inline": full.len() <= INLINE_CAP && SmolStr::new_inline(full).eq_str(full);
+        "SmolStr::new_inline_in_case": SmolStr::new_inline_in_case("IF", AsciiCase::Lower).eq_str("if");
         "SmolStr::from": SmolStr::from('🦀').eq_str("🦀");
         "SmolStr::default": SmolStr::default().is_empty();
         "SmolStr::clone": inline.clone().is_ok();
@@ -122,6 +127,7 @@ fn values(rt: HostRuntime) -> Result<(), Fail> {
         "SmolStr::as_str": value.as_str() == long_text();
         "SmolStr::len": value.len() == INLINE_CAP + 1;
         "SmolStr::is_empty": !value.is_empty();
+        "SmolStr::is_ascii": value.is_ascii();
         "SmolStr::is_heap_allocated": value.is_heap_allocated();
         "SmolStr::place": value.place() == Place::Heap;
         "SmolStr::inline_buffer": value.inline_buffer().is_none();
@@ -158,6 +164,7 @@ fn builders_made(rt: HostRuntime) -> Result<(), Fail> {
     ];
     free! { &rt, alloc;
         "SmolStrBuilder::new": SmolStrBuilder::new(alloc).is_empty();
+        "ValueAlloc::builder": alloc.builder().is_empty();
         "SmolStrBuilder::with_capacity": SmolStrBuilder::with_capacity(alloc, INLINE_CAP).is_ok();
         "SmolStrBuilder::push": SmolStrBuilder::new(alloc).push('🦀').is_ok();
         "SmolStrBuilder::push_str": SmolStrBuilder::new(alloc).push_str(full_text()).is_ok();
@@ -190,10 +197,14 @@ fn builders_finished(rt: HostRuntime) -> Result<(), Fail> {
     let blank = builder_of(alloc, 100, long_blank())?;
     let large = builder_of(alloc, 100, full_text())?;
     let other = builder_of(alloc, 100, full_text())?;
+    let own = builder_of(alloc, 100, full_text())?;
+    let collected = builder_of(alloc, 100, full_text())?;
     free! { &rt, alloc;
         "SmolStrBuilder::finish": large.finish().is_ok();
+        "SmolStrBuilder::into_value": own.into_value().is_ok();
         "SmolStr::from_builder": SmolStr::from_builder(blank).is_ok();
         "format::finished": finished(other).is_ok();
+        "ValueAlloc::value_of": Global::value_of(collected).is_ok();
     }
     Ok(())
 }
@@ -271,13 +282,16 @@ fn streams(rt: HostRuntime) -> Result<(), Fail> {
     let alloc = rt.alloc();
     let value = SmolStr::new(alloc, long_text())?;
     let mut form = b"\x02\0\0\0ab".as_slice();
+    let mut limited = form;
     let mut rest = long_text().as_bytes();
     let mut buffer = [0; 7];
     let mut out = Vec::with_capacity(alloc, 100)?;
     free! { &rt, alloc;
         "borsh::length_prefix": length_prefix(5000).is_some();
         "borsh::from_wire": from_wire(alloc, b"\x02\0\0\0ab").is_ok();
+        "borsh::split_wire": split_wire(alloc, b"\x02\0\0\0ab").is_ok();
         "BorshDeserialize::deserialize_reader": SmolStr::deserialize_reader(alloc, &mut form).is_ok();
+        "borsh::deserialize_limited": deserialize_limited(alloc, &mut limited, 2).is_ok();
         "stream::fill": fill(&mut rest, &mut buffer).is_ok();
         "stream::write_steps": write_steps(&mut out, b"ab").is_ok();
         "BorshSerialize::serialize": value.serialize(&mut out).is_ok();

@@ -277,6 +277,46 @@ fn of_owned(alloc: Global, pieces: &[&str]) -> Result<SmolStr, AllocError> {
     SmolStr::from_strings(alloc, strings_of(alloc, pieces)?.into_iter())
 }
 
+#[test]
+fn ordinary_iterators(rt: HostRuntime) -> Result<(), Fail> {
+    let alloc = rt.alloc();
+    let values = [SmolStr::from('a'), SmolStr::default(), SmolStr::from('é')];
+    assert_text(&rt, of_values(alloc, &values), "aé")?;
+    assert_text(&rt, of_both(alloc, "ab", "é"), "abé")?;
+    assert_text(&rt, without_text(alloc, "a, b, é", ", "), "abé")?;
+    assert_text(&rt, without(alloc, "béa", 'b'), "éa")?;
+    assert_text(&rt, of_copies(alloc, &["a", "", "é"]), "aé")
+}
+
+fn assert_text(
+    rt: &impl Abort,
+    answer: Result<SmolStr, AllocError>,
+    text: &str,
+) -> Result<(), Fail> {
+    same_value(rt, &answer?, text, Place::Inline, &text);
+    Ok(())
+}
+
+fn of_values(alloc: Global, values: &[SmolStr]) -> Result<SmolStr, AllocError> {
+    SmolStr::from_strs(alloc, values.iter().map(|value| value.as_str()))
+}
+
+fn of_both(alloc: Global, first: &str, second: &str) -> Result<SmolStr, AllocError> {
+    SmolStr::from_chars(alloc, first.chars().chain(second.chars()))
+}
+
+fn without_text(alloc: Global, text: &str, left_out: &str) -> Result<SmolStr, AllocError> {
+    SmolStr::from_strs(alloc, text.split(left_out))
+}
+
+fn without(alloc: Global, text: &str, left_out: char) -> Result<SmolStr, AllocError> {
+    SmolStr::from_chars(alloc, text.chars().filter(|c| *c != left_out))
+}
+
+fn of_copies(alloc: Global, parts: &[&str]) -> Result<SmolStr, AllocError> {
+    SmolStr::from_strs(alloc, parts.iter().copied())
+}
+
 // Upstream's have pieces at random: here piece i, counted from 1, is `é` i mod 5 times.
 #[test]
 fn from_string_iter(rt: HostRuntime) -> Result<(), Fail> {

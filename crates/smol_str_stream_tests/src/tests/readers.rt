@@ -1,9 +1,9 @@
 //! Each call that reads, over readers of every step, which end after each byte and fail at each call.
 use super::same::{holds, same};
 use super::wire::{LETTERS, ROWS, form_of};
-use super::wire_faults::{Kind, kind_of};
+use super::wire_faults::{Kind, kind_of, kind_of_limited};
 use smol_str::SmolStr;
-use smol_str::borsh::{BorshDeserialize, BorshSerialize};
+use smol_str::borsh::{BorshDeserialize, BorshSerialize, deserialize_limited};
 use smol_str::stream::{PIECE, ReadFault, fill, read_all, read_up_to};
 use std::alloc::{AllocError, Global};
 use std::io::ErrorKind;
@@ -18,9 +18,16 @@ enum Call {
     ReadUpTo,
     ReadAll,
     WireForm,
+    LimitedForm,
 }
 
-const CALLS: [Call; 4] = [Call::Fill, Call::ReadUpTo, Call::ReadAll, Call::WireForm];
+static CALLS: [Call; 5] = [
+    Call::Fill,
+    Call::ReadUpTo,
+    Call::ReadAll,
+    Call::WireForm,
+    Call::LimitedForm,
+];
 
 /// The wire forms of the table, and one of two pieces and a part of a third.
 pub fn forms(alloc: Global) -> Result<Vec<Vec<u8>>, AllocError> {
@@ -52,6 +59,7 @@ fn read_by(
         Call::ReadUpTo => read_up_to(alloc, reader, size).map_err(kind_of_read),
         Call::ReadAll => read_all(alloc, reader).map_err(kind_of_read),
         Call::WireForm => written_again(alloc, reader),
+        Call::LimitedForm => limited_again(alloc, reader, size),
     }
 }
 
@@ -82,6 +90,13 @@ fn written_again(alloc: Global, reader: &mut Trickle<'_>) -> Result<Vec<u8>, Kin
     }
 }
 
+fn limited_again(alloc: Global, reader: &mut Trickle<'_>, limit: usize) -> Result<Vec<u8>, Kind> {
+    match deserialize_limited(alloc, reader, limit) {
+        Ok(value) => written(alloc, &value),
+        Err(fault) => Err(kind_of_limited(&fault)),
+    }
+}
+
 /// Only memory could be wanting.
 fn written(alloc: Global, value: &SmolStr) -> Result<Vec<u8>, Kind> {
     let mut form = Vec::new(alloc);
@@ -103,7 +118,7 @@ type Row = (Call, usize, usize, usize);
 #[test]
 fn end_after_each_byte(rt: HostRuntime) -> Result<(), Fail> {
     for form in forms(rt.alloc())?.iter() {
-        for call in CALLS {
+        for &call in &CALLS {
             for step in STEPS {
                 assert_ends(&rt, rt.alloc(), call, form.as_slice(), step);
             }
@@ -124,7 +139,8 @@ fn assert_ends(rt: &impl Abort, alloc: Global, call: Call, form: &[u8], step: us
 fn assert_end(rt: &impl Abort, alloc: Global, call: Call, front: &[u8], size: usize, step: usize) {
     let row = (call, size, step, front.len());
     let mut reader = trickle_of(front, step, 0);
-    let has_ended_early = call == Call::WireForm && front.len() < size;
+    let is_of_a_value = call == Call::WireForm || call == Call::LimitedForm;
+    let has_ended_early = is_of_a_value && front.len() < size;
     match read_by(alloc, call, &mut reader, size) {
         Ok(all) => holds(rt, all.as_slice() == front, &row),
         Err(kind) => same(rt, &(kind, has_ended_early), &(Kind::Ended, true), &row),
@@ -136,7 +152,7 @@ fn assert_end(rt: &impl Abort, alloc: Global, call: Call, front: &[u8], size: us
 #[test]
 fn fails_at_each_call(rt: HostRuntime) -> Result<(), Fail> {
     for form in forms(rt.alloc())?.iter() {
-        for call in CALLS {
+        for &call in &CALLS {
             for step in STEPS {
                 assert_fails(&rt, rt.alloc(), call, form.as_slice(), step);
             }

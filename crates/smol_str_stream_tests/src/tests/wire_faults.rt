@@ -1,7 +1,9 @@
 //! Bytes that hold no wire form.
 use super::same::same;
 use super::wire::{ROWS, form_of, letters};
-use smol_str::borsh::{BorshDeserialize, DecodeFault, from_wire};
+use smol_str::borsh::{
+    BorshDeserialize, DecodeFault, LimitedFault, deserialize_limited, from_wire, split_wire,
+};
 use smol_str::{INLINE_CAP, SmolStr};
 use std::alloc::Global;
 use std::io::ErrorKind;
@@ -16,6 +18,7 @@ pub enum Kind {
     NotUtf8,
     OutOfMemory,
     Io(ErrorKind),
+    TooLong,
 }
 
 pub fn kind_of(fault: &DecodeFault) -> Kind {
@@ -27,6 +30,13 @@ pub fn kind_of(fault: &DecodeFault) -> Kind {
     }
 }
 
+pub fn kind_of_limited(fault: &LimitedFault) -> Kind {
+    match fault {
+        LimitedFault::TooLong => Kind::TooLong,
+        LimitedFault::Decode(fault) => kind_of(fault),
+    }
+}
+
 /// The size 3, and the front of a character of four bytes.
 const CUT: &[u8] = b"\x03\0\0\0\xf0\x9f\x8f";
 
@@ -35,7 +45,7 @@ const NOISE: &[u8] = b"\x1e\0\0\0\xc1\x8a\x5f\xe2\x3a\x9e\x3b\xaa\x01\x08\x6f\x2
 \x9a\x2f\x4a\x3f\x25\x0d\x8a\x2a\x19\x11\xf0\x7f\x0e\x80";
 
 /// Bytes, the fault, and how many of them a reader has left.
-const REFUSED: [(&[u8], Kind, usize); 8] = [
+static REFUSED: [(&[u8], Kind, usize); 8] = [
     (b"", Kind::Ended, 0),
     (b"\0\0\0", Kind::Ended, 0),
     (b"\x05\0\0\0\xff", Kind::Ended, 0),
@@ -82,12 +92,15 @@ fn cut_short(rt: HostRuntime) -> Result<(), Fail> {
     Ok(())
 }
 
-/// Both calls return this fault, whatever the reader's steps.
+/// Each call returns this fault, whatever the reader's steps.
 fn assert_refused(rt: &impl Abort, alloc: Global, bytes: &[u8], kind: Kind, left: usize) {
     let fault = from_wire(alloc, bytes).err();
     same(rt, &fault.as_ref().map(kind_of), &Some(kind), &bytes);
+    let fault = split_wire(alloc, bytes).err();
+    same(rt, &fault.as_ref().map(kind_of), &Some(kind), &bytes);
     for step in STEPS {
         assert_reader_refused(rt, alloc, bytes, step, kind, left);
+        assert_limited_refused(rt, alloc, bytes, step, kind, left);
     }
 }
 
@@ -104,6 +117,26 @@ fn assert_reader_refused(
     same(
         rt,
         &fault.as_ref().map(kind_of),
+        &Some(kind),
+        &(bytes, step),
+    );
+    same(rt, &reader.rest.len(), &left, &(bytes, step));
+}
+
+/// With a limit that no size is above.
+fn assert_limited_refused(
+    rt: &impl Abort,
+    alloc: Global,
+    bytes: &[u8],
+    step: usize,
+    kind: Kind,
+    left: usize,
+) {
+    let mut reader = trickle_of(bytes, step, 0);
+    let fault = deserialize_limited(alloc, &mut reader, usize::MAX).err();
+    same(
+        rt,
+        &fault.as_ref().map(kind_of_limited),
         &Some(kind),
         &(bytes, step),
     );

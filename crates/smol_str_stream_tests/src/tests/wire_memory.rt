@@ -2,8 +2,11 @@
 use super::readers::kind_of_read;
 use super::same::{holds, same, same_value};
 use super::wire::{ROWS, Row, form_of, letters, text_of};
-use super::wire_faults::{Kind, kind_of};
-use smol_str::borsh::{BorshDeserialize, BorshSerialize, DecodeFault, from_wire};
+use super::wire_faults::{Kind, kind_of, kind_of_limited};
+use smol_str::borsh::{
+    BorshDeserialize, BorshSerialize, DecodeFault, LimitedFault, deserialize_limited, from_wire,
+    split_wire,
+};
 use smol_str::stream::{read_all, read_up_to};
 use smol_str::{INLINE_CAP, Place, SmolStr};
 use std::alloc::Global;
@@ -22,7 +25,9 @@ const MOST_BYTES: u32 = 0x200_0000;
 #[derive(Clone, Copy, Debug)]
 enum Call {
     FromWire,
+    SplitWire,
     Reader,
+    Limited,
     ReadUpTo,
     ReadAll,
 }
@@ -36,7 +41,9 @@ enum Made {
 fn make(alloc: Global, call: Call, bytes: &[u8]) -> Result<Made, Kind> {
     match call {
         Call::FromWire => value_found(alloc, bytes),
+        Call::SplitWire => value_split(alloc, bytes),
         Call::Reader => value_read(alloc, bytes),
+        Call::Limited => value_limited(alloc, bytes),
         Call::ReadUpTo => as_many_read(alloc, bytes),
         Call::ReadAll => all_read(alloc, bytes),
     }
@@ -46,6 +53,21 @@ fn value_found(alloc: Global, form: &[u8]) -> Result<Made, Kind> {
     match from_wire(alloc, form) {
         Ok((value, _)) => Ok(Made::Value(value)),
         Err(fault) => Err(kind_of(&fault)),
+    }
+}
+
+fn value_split(alloc: Global, form: &[u8]) -> Result<Made, Kind> {
+    match split_wire(alloc, form) {
+        Ok((value, _)) => Ok(Made::Value(value)),
+        Err(fault) => Err(kind_of(&fault)),
+    }
+}
+
+fn value_limited(alloc: Global, form: &[u8]) -> Result<Made, Kind> {
+    let mut reader = form;
+    match deserialize_limited(alloc, &mut reader, form.len()) {
+        Ok(value) => Ok(Made::Value(value)),
+        Err(fault) => Err(kind_of_limited(&fault)),
     }
 }
 
@@ -73,6 +95,9 @@ fn all_read(alloc: Global, bytes: &[u8]) -> Result<Made, Kind> {
     }
 }
 
+/// The calls that make a value of a wire form.
+const OF_FORMS: [Call; 4] = [Call::FromWire, Call::SplitWire, Call::Reader, Call::Limited];
+
 /// What the call asks for that makes these bytes or a value of them, each request refused in turn.
 fn call_refused(alloc: Global, call: Call, form: &[u8], wanted: &[u8]) -> Result<Asked, Fail> {
     each_refused(
@@ -87,7 +112,9 @@ fn call_refused(alloc: Global, call: Call, form: &[u8], wanted: &[u8]) -> Result
 fn name_of(call: Call) -> &'static str {
     match call {
         Call::FromWire => "from_wire",
+        Call::SplitWire => "split_wire",
         Call::Reader => "deserialize_reader",
+        Call::Limited => "deserialize_limited",
         Call::ReadUpTo => "read_up_to",
         Call::ReadAll => "read_all",
     }
@@ -109,10 +136,10 @@ fn check(answer: &Result<Made, Kind>, call: Call, wanted: &[u8]) -> Result<(), F
 
 #[test]
 fn each_request(rt: HostRuntime) -> Result<(), Fail> {
-    for count in [INLINE_CAP as u32 + 1, 5000, 20000] {
+    for count in [INLINE_CAP as u32 + 1, 5000, 20000, 70_000] {
         let form = letters(rt.alloc(), count, count)?;
         let text = repeated(rt.alloc(), "a", count as usize)?;
-        for call in [Call::FromWire, Call::Reader] {
+        for call in OF_FORMS {
             let asked = call_refused(rt.alloc(), call, form.as_slice(), text.as_bytes())?;
             same(
                 &rt,
@@ -173,9 +200,11 @@ fn no_request(rt: HostRuntime) -> Result<(), Fail> {
         let text = text_of(rt.alloc(), *row)?;
         if !matches!(row.4, Place::Heap) {
             assert_no_request(&rt, rt.alloc(), Call::FromWire, *row, text.as_str())?;
+            assert_no_request(&rt, rt.alloc(), Call::SplitWire, *row, text.as_str())?;
         }
         if text.len() <= INLINE_CAP {
             assert_no_request(&rt, rt.alloc(), Call::Reader, *row, text.as_str())?;
+            assert_no_request(&rt, rt.alloc(), Call::Limited, *row, text.as_str())?;
         }
     }
     Ok(())
@@ -224,6 +253,38 @@ fn largest_size_and_no_body(rt: HostRuntime) {
     holds(&rt, !end_refusals(rt.alloc()), &"refusals");
     holds(&rt, matches!(answer, Err(DecodeFault::Ended)), &"the fault");
     holds(&rt, reader.rest.is_empty(), &"the rest");
+}
+
+// A size above the limit is refused before memory is asked for, and nothing behind it is read.
+#[test]
+fn size_above_the_limit(rt: HostRuntime) {
+    for (size, limit) in [
+        (6, 5),
+        (u32::MAX, INLINE_CAP),
+        (u32::MAX, u32::MAX as usize - 1),
+    ] {
+        assert_too_long(&rt, rt.alloc(), size, limit);
+    }
+    let mut reader = trickle_of(b"\x05\0\0\0abcdef", usize::MAX, 0);
+    holds(
+        &rt,
+        deserialize_limited(rt.alloc(), &mut reader, 5).is_ok(),
+        &"the limit",
+    );
+    holds(&rt, reader.rest.len() == 1, &"the rest");
+}
+
+fn assert_too_long(rt: &impl Abort, alloc: Global, size: u32, limit: usize) {
+    let [a, b, c, d] = size.to_le_bytes();
+    let bytes = [a, b, c, d, b'a', b'b', b'c', b'd', b'e', b'f'];
+    let mut reader = trickle_of(&bytes, usize::MAX, 0);
+    refuse_all(alloc);
+    let is_too_long = matches!(
+        deserialize_limited(alloc, &mut reader, limit),
+        Err(LimitedFault::TooLong)
+    );
+    holds(rt, is_too_long && !end_refusals(alloc), &(size, limit));
+    holds(rt, reader.rest.len() == 6, &(size, limit));
 }
 
 #[test]

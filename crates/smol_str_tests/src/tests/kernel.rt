@@ -1,7 +1,8 @@
 //! The loops over bytes, against outside rows, a plain map and std's search.
 use super::same::same;
 use smol_str::kernel::{AsciiCase, convert_while_ascii, next_match};
-use smol_str::{INLINE_CAP, InlineBuffer};
+use smol_str::{INLINE_CAP, InlineBuffer, SmolStr};
+use std::alloc::Global;
 use std::process::Abort;
 use std::test::Fail;
 use test_support::texts::{full_capitals, full_text, small_texts};
@@ -52,6 +53,42 @@ fn fronts(rt: HostRuntime) -> Result<(), Fail> {
         assert_front(&rt, text, case, front, zeros)?;
     }
     assert_front(&rt, full_text(), AsciiCase::Upper, full_capitals(), 0)
+}
+
+// As values, which also say whether they are ASCII.
+#[test]
+fn values_in_a_case(rt: HostRuntime) -> Result<(), Fail> {
+    for &(text, ..) in &FRONTS {
+        assert_value(&rt, rt.alloc(), text)?;
+    }
+    assert_value(&rt, rt.alloc(), full_capitals())?;
+    for text in [
+        "a text that is longer than a value has room for",
+        "so is this, and not ASCII at its end: é",
+    ] {
+        same(
+            &rt,
+            &SmolStr::new(rt.alloc(), text)?.is_ascii(),
+            &text.is_ascii(),
+            &text,
+        );
+    }
+    Ok(())
+}
+
+fn assert_value(rt: &impl Abort, alloc: Global, text: &str) -> Result<(), Fail> {
+    if text.len() > INLINE_CAP {
+        return Err(Fail::new(format_args!("{text} is too long")));
+    }
+    let mut wanted = String::from_str(alloc, text)?;
+    wanted.make_ascii_lowercase();
+    let lower = SmolStr::new_inline_in_case(text, AsciiCase::Lower);
+    same(rt, &lower.as_str(), &wanted.as_str(), &text);
+    wanted.make_ascii_uppercase();
+    let upper = SmolStr::new_inline_in_case(text, AsciiCase::Upper);
+    same(rt, &upper.as_str(), &wanted.as_str(), &text);
+    same(rt, &upper.is_ascii(), &text.is_ascii(), &text);
+    Ok(())
 }
 
 fn assert_front(

@@ -7,7 +7,16 @@ use std::test::Fail;
 use test_support::texts::{repeated, repeated_and, small_texts};
 
 /// A text, a pattern, what stands in its place, at most how often, and the answer.
-static ROWS: [(&str, &str, &str, usize, &str); 19] = [
+type Row = (
+    &'static str,
+    &'static str,
+    &'static str,
+    usize,
+    &'static str,
+);
+
+/// Those of upstream's test_str_ext are the first four.
+pub static ROWS: [Row; 19] = [
     ("foo_bar_baz", "ba", "do", usize::MAX, "foo_dor_doz"),
     ("foo_bar_baz", "ba", "do", 1, "foo_dor_baz"),
     ("foo_bar_baz", "o", "u", 1, "fuo_bar_baz"),
@@ -31,10 +40,14 @@ static ROWS: [(&str, &str, &str, usize, &str); 19] = [
 
 #[test]
 fn rows(rt: HostRuntime) -> Result<(), Fail> {
-    for &(text, from, to, count, wanted) in &ROWS {
-        let value = text.replacen_smolstr(rt.alloc(), from, to, count)?;
+    assert_rows(&rt, rt.alloc(), &ROWS)
+}
+
+pub fn assert_rows(rt: &impl Abort, alloc: Global, rows: &[Row]) -> Result<(), Fail> {
+    for &(text, from, to, count, wanted) in rows {
+        let value = text.replacen_smolstr(alloc, from, to, count)?;
         same_value(
-            &rt,
+            rt,
             &value,
             wanted,
             Place::Inline,

@@ -1,4 +1,5 @@
 //! Case, against outside rows and std's own mappings, which only tests see printed.
+use super::replace::{self, assert_rows};
 use super::same::{holds, same, same_place, same_text, same_value};
 use smol_str::{INLINE_CAP, Place, SmolStr, StrExt};
 use std::alloc::{AllocError, Global};
@@ -24,8 +25,7 @@ fn answer(alloc: Global, call: Call, text: &str) -> Result<SmolStr, AllocError> 
     }
 }
 
-/// A call, a text, the answer and its place. Upstream's test_str_ext is among these and, of replacement,
-/// among the rows of the test beside this one.
+/// A call, a text, the answer and its place.
 static ROWS: [(Call, &str, &str, Place); 15] = [
     (Call::AsciiLower, "aßΔC", "aßΔc", Place::Inline),
     (Call::AsciiUpper, "aßΔC", "AßΔC", Place::Inline),
@@ -65,13 +65,14 @@ static ROWS: [(Call, &str, &str, Place); 15] = [
     ),
 ];
 
+// Upstream's rows are among these.
 #[test]
-fn rows(rt: HostRuntime) -> Result<(), Fail> {
+fn test_str_ext(rt: HostRuntime) -> Result<(), Fail> {
     for &(call, text, wanted, place) in &ROWS {
         let value = answer(rt.alloc(), call, text)?;
         same_value(&rt, &value, wanted, place, &(call, text));
     }
-    Ok(())
+    assert_rows(&rt, rt.alloc(), &replace::ROWS[..4])
 }
 
 #[test]

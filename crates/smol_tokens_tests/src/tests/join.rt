@@ -5,6 +5,7 @@ ghost use Rattle.smol_tokens_core.specs.Report.{report};
 
 use super::rows::answer;
 use super::same::{holds, same_bytes};
+use super::state::fixed_state;
 use smol_str::INLINE_CAP;
 use smol_tokens_core::fault::RunFault;
 use smol_tokens_core::mode::Mode;
@@ -20,12 +21,12 @@ fn joined(alloc: Global, input: &[u8]) -> Result<Vec<u8>, RunFault>
 {
     let mut reader = input;
     let mut out = Vec::new(alloc);
-    run(alloc, Mode::Join, &mut reader, &mut out)?;
+    run(alloc, fixed_state(), Mode::Join, &mut reader, &mut out)?;
     Ok(out)
 }
 
 /// Each input, and the report on it.
-const REPORTS: [(&[u8], &[u8]); 6] = [
+static REPORTS: [(&[u8], &[u8]); 6] = [
     (b"", b"inline 0 \n"),
     (b"\n", b"inline 0 \n"),
     (
@@ -45,7 +46,7 @@ const REPORTS: [(&[u8], &[u8]); 6] = [
 
 #[test]
 fn reports(rt: HostRuntime) -> Result<(), Fail> {
-    for (input, wanted) in REPORTS {
+    for &(input, wanted) in &REPORTS {
         let out = joined(rt.alloc(), input)?;
         same_bytes(&rt, out.as_slice(), wanted, &input);
     }

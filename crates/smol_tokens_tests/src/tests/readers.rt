@@ -1,6 +1,7 @@
 //! `run` in every mode, over readers of every step, which end after each byte and fail at each call.
 use super::rows::{LETTERS, Row, Words, all_rows};
 use super::same::{holds, same};
+use super::state::fixed_state;
 use super::words::mode_of_words;
 use smol_str::stream::PIECE;
 use smol_tokens_core::fault::RunFault;
@@ -41,7 +42,7 @@ pub fn run_by(
     writer: &mut Drip,
 ) -> Result<Answer, Fail> {
     let mode = mode_of_words(alloc, words)?;
-    Ok(answer_of(run(alloc, mode, reader, writer)))
+    Ok(answer_of(run(alloc, fixed_state(), mode, reader, writer)))
 }
 
 /// Runs into a writer that never fails; no buffer was empty or above a piece.

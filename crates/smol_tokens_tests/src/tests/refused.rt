@@ -1,6 +1,7 @@
 //! `run` with memory refused: nothing is written, or all.
 use super::rows::{Words, answer, report_by};
 use super::same::{holds, same};
+use super::state::fixed_state;
 use super::words::mode_of_words;
 use smol_str::stream::PIECE;
 use smol_tokens_core::fault::RunFault;
@@ -17,7 +18,7 @@ use test_support::texts::{long_blank, long_text, repeated};
 type Lengths = [usize; 3];
 
 /// The words of each mode, and which of the reports it writes; none changes the length of a line.
-const WORDS: [(Words, usize); 7] = [
+static WORDS: [(Words, usize); 7] = [
     (&["show"], 0),
     (&["join"], 1),
     (&["lower"], 0),
@@ -52,7 +53,7 @@ fn check_line(rt: &impl Abort, alloc: Global, line: &str, place: &str) -> Result
 }
 
 fn check_modes(rt: &impl Abort, alloc: Global, input: &str, lengths: Lengths) -> Result<(), Fail> {
-    for (words, which) in WORDS {
+    for &(words, which) in &WORDS {
         let len = lengths.get(which).copied().ok_or("no length")?;
         check_mode(rt, alloc, words, input.as_bytes(), len)?;
     }
@@ -107,7 +108,7 @@ type Faulty = (RunFault, Vec<u8>);
 fn ended(alloc: Global, input: &[u8], prepared: (Mode, Drip)) -> Result<Vec<u8>, Faulty> {
     let (mode, mut writer) = prepared;
     let mut reader = trickle_of(input, PIECE, 0);
-    match run(alloc, mode, &mut reader, &mut writer) {
+    match run(alloc, fixed_state(), mode, &mut reader, &mut writer) {
         Ok(()) => Ok(writer.taken),
         Err(fault) => Err((fault, writer.taken)),
     }

@@ -1,4 +1,5 @@
 //! Inputs in every mode, and the reports on them.
+use super::state::fixed_state;
 use super::words::mode_of_words;
 use smol_str::INLINE_CAP;
 use smol_tokens_core::run::run;
@@ -10,7 +11,7 @@ use test_support::texts::{full_text, long_blank, long_capitals, long_text, repea
 pub type Words = &'static [&'static str];
 
 /// The words of a mode, an input, and the report on it.
-const REPORTS: [(Words, &[u8], &[u8]); 17] = [
+static REPORTS: [(Words, &[u8], &[u8]); 17] = [
     (&[], b"abc", b"inline 3 abc\n"),
     (
         &["show"],
@@ -95,7 +96,7 @@ pub fn all_rows(alloc: Global) -> Result<Vec<Row>, AllocError> {
 }
 
 fn push_reports(all: &mut Vec<Row>, alloc: Global) -> Result<(), AllocError> {
-    for (words, input, report) in REPORTS {
+    for &(words, input, report) in &REPORTS {
         push_row(all, alloc, words, input, report)?;
     }
     Ok(())
@@ -191,6 +192,6 @@ pub fn report_by(alloc: Global, words: &[&str], input: &[u8]) -> Result<Vec<u8>,
     let mode = mode_of_words(alloc, words)?;
     let mut reader = input;
     let mut out = Vec::new(alloc);
-    run(alloc, mode, &mut reader, &mut out)?;
+    run(alloc, fixed_state(), mode, &mut reader, &mut out)?;
     Ok(out)
 }

@@ -1,21 +1,21 @@
 //! What tests compare, each with the row in its message. A call of a helper costs its caller's proof far less than an
-//! assertion does.
+//! assertion does, and one assertion serves all of them.
 use std::fmt::Debug;
 use std::process::Abort;
 
 /// The two are equal.
 pub fn same<T: PartialEq + Debug>(rt: &impl Abort, found: &T, wanted: &T, row: &impl Debug) {
-    assert_eq!(rt; found, wanted, "{row:?}");
+    holds(rt, found == wanted, &(row, found, wanted));
 }
 
 /// The texts are equal.
 pub fn same_text(rt: &impl Abort, found: &str, wanted: &str, row: &impl Debug) {
-    assert_eq!(rt; found, wanted, "{row:?}");
+    holds(rt, found == wanted, &(row, found, wanted));
 }
 
 /// The bytes are equal.
 pub fn same_bytes(rt: &impl Abort, found: &[u8], wanted: &[u8], row: &impl Debug) {
-    assert_eq!(rt; found, wanted, "{row:?}");
+    holds(rt, found == wanted, &(row, found, wanted));
 }
 
 /// It is so.

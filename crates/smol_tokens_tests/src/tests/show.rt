@@ -5,6 +5,7 @@ ghost use Rattle.smol_tokens_core.specs.Report.{report};
 
 use super::rows::answer;
 use super::same::{holds, same, same_bytes};
+use super::state::fixed_state;
 use smol_str::BLANK_SPACES;
 use smol_str::stream::PIECE;
 use smol_tokens_core::fault::RunFault;
@@ -23,7 +24,7 @@ fn shown_bytewise(alloc: Global, input: &[u8]) -> Result<Vec<u8>, RunFault>
 {
     let mut reader = trickle_of(input, 1, 0);
     let mut writer = empty_drip(alloc, 1, 0, Failure::TakesNone);
-    run(alloc, Mode::Show, &mut reader, &mut writer)?;
+    run(alloc, fixed_state(), Mode::Show, &mut reader, &mut writer)?;
     let Drip {
         taken,
         step: _,
@@ -40,12 +41,12 @@ fn shown_whole(alloc: Global, input: &[u8]) -> Result<Vec<u8>, RunFault>
 {
     let mut reader = input;
     let mut out = Vec::new(alloc);
-    run(alloc, Mode::Show, &mut reader, &mut out)?;
+    run(alloc, fixed_state(), Mode::Show, &mut reader, &mut out)?;
     Ok(out)
 }
 
 /// Each input, and the report on it.
-const REPORTS: [(&[u8], &[u8]); 8] = [
+static REPORTS: [(&[u8], &[u8]); 8] = [
     (
         b"if\n\naaaaaaaaaaaaaaaaaaaaaaaa",
         b"inline 2 if\ninline 0 \ninline 24 aaaaaaaaaaaaaaaaaaaaaaaa\n",
@@ -67,7 +68,7 @@ const REPORTS: [(&[u8], &[u8]); 8] = [
 
 #[test]
 fn reports(rt: HostRuntime) -> Result<(), Fail> {
-    for (input, wanted) in REPORTS {
+    for &(input, wanted) in &REPORTS {
         check_shown(&rt, rt.alloc(), input, wanted)?;
     }
     Ok(())
@@ -155,7 +156,7 @@ fn reads_by_pieces(rt: HostRuntime) -> Result<(), Fail> {
 fn check_pieces(rt: &impl Abort, alloc: Global, line: &str) -> Result<(), Fail> {
     let mut reader = trickle_of(line.as_bytes(), usize::MAX, 0);
     let mut writer = empty_drip(alloc, usize::MAX, 0, Failure::TakesNone);
-    run(alloc, Mode::Show, &mut reader, &mut writer)?;
+    run(alloc, fixed_state(), Mode::Show, &mut reader, &mut writer)?;
     same(rt, &reader.calls, &3, &line);
     same(rt, &reader.most, &PIECE, &line);
     holds(rt, reader.least >= 1, &line);
@@ -173,7 +174,13 @@ fn check_pieces(rt: &impl Abort, alloc: Global, line: &str) -> Result<(), Fail> 
 fn no_write_of_an_empty_report(rt: HostRuntime) -> Result<(), Fail> {
     let mut reader = trickle_of(b"", 1, 0);
     let mut writer = empty_drip(rt.alloc(), 1, 1, Failure::TakesNone);
-    run(rt.alloc(), Mode::Show, &mut reader, &mut writer)?;
+    run(
+        rt.alloc(),
+        fixed_state(),
+        Mode::Show,
+        &mut reader,
+        &mut writer,
+    )?;
     same(&rt, &writer.calls, &0, &"an empty report");
     Ok(())
 }

@@ -63,7 +63,7 @@ fn check_replacement(rt: &impl Abort, mode: &Mode, from: &str, to: &str) -> Resu
     Ok(())
 }
 
-const WRONG: [&[&str]; 20] = [
+static WRONG: [&[&str]; 20] = [
     &["Show"],
     &[""],
     &["show", "x"],
@@ -88,7 +88,7 @@ const WRONG: [&[&str]; 20] = [
 
 #[test]
 fn wrong_words(rt: HostRuntime) -> Result<(), Fail> {
-    for words in WRONG {
+    for &words in &WRONG {
         let words_of = strings(rt.alloc(), words)?;
         holds(&rt, mode_of(words_of).is_none(), &words);
     }

@@ -1,9 +1,9 @@
-//! The symbol table: the ids of names that come again, and memory refused.
+//! The symbol table: the ids of names that come again, look-ups without memory, and memory refused.
 use super::same::same;
 use std::alloc::Global;
 use std::process::Abort;
 use std::test::Fail;
-use test_support::refuse::{can_refuse, each_refused_by_value};
+use test_support::refuse::{can_refuse, each_refused_by_value, end_refusals, refuse_all};
 use test_support::texts::long_text;
 use uses::symbols::Symbols;
 
@@ -27,6 +27,26 @@ fn each_name_has_its_id(rt: HostRuntime) -> Result<(), Fail> {
 
 fn check_id(rt: &impl Abort, symbols: &mut Symbols, name: &str, id: usize) -> Result<(), Fail> {
     same(rt, &symbols.intern(name)?, &id, &name);
+    Ok(())
+}
+
+// However long a text is, no value is made to look it up, nor to intern it again.
+#[test]
+fn found_without_memory(rt: HostRuntime) -> Result<(), Fail> {
+    let alloc = rt.alloc();
+    let mut symbols = table_of_one(&rt, alloc)?;
+    check_id(&rt, &mut symbols, long_text(), 1)?;
+    refuse_all(alloc);
+    let found = [
+        symbols.find("if"),
+        symbols.find(long_text()),
+        symbols.find("else"),
+    ];
+    let again = symbols.intern(long_text()).ok();
+    let was_refused = end_refusals(alloc);
+    same(&rt, &found, &[Some(0), Some(1), None], &"found");
+    same(&rt, &again, &Some(1), &"interned again");
+    same(&rt, &was_refused, &false, &"a look-up makes a request");
     Ok(())
 }
 

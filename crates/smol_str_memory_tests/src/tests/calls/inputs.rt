@@ -47,6 +47,7 @@ pub enum OfText {
 #[derive(Clone, Copy)]
 pub enum Other {
     NewInline,
+    NewInlineInCase,
     NewStatic,
     CloneStatic,
     FromChar,
@@ -60,6 +61,7 @@ pub enum Other {
 pub enum OfOwned {
     FromStringRef,
     FromString,
+    FromOwned,
     FromCowStr,
 }
 
@@ -96,6 +98,7 @@ pub enum OfBuilder {
     Read,
     Finish,
     FromBuilder,
+    IntoValue,
     Finished,
 }
 
@@ -180,6 +183,7 @@ fn run_of_text(alloc: Global, call: OfText, text: &str) -> Result<Thing, Thing> 
 fn run_other(alloc: Global, call: Other, text: &str) -> Result<Thing, Thing> {
     match call {
         Other::NewInline => Ok(new_inline(text)),
+        Other::NewInlineInCase => Ok(new_inline_in_case(text)),
         Other::NewStatic => Ok(Thing::Value(SmolStr::new_static(long_text()))),
         Other::CloneStatic => made(SmolStr::new_static(long_text()).clone()),
         Other::FromChar => Ok(Thing::Value(SmolStr::from('🦀'))),
@@ -196,6 +200,7 @@ fn run_of_owned(alloc: Global, call: OfOwned, owned: String) -> Result<Thing, Th
         OfOwned::FromString => made_or(SmolStr::from_string(alloc, owned).map_err(|s| Thing::Owned(
             s,
         ))),
+        OfOwned::FromOwned => made(SmolStr::from_owned(owned)),
         OfOwned::FromCowStr => of_cow(SmolStr::from_cow_str(alloc, CowStr::Owned(owned))),
     }
 }
@@ -226,6 +231,7 @@ fn run_of_builder(call: OfBuilder, builder: SmolStrBuilder) -> Result<Thing, Thi
         OfBuilder::FromBuilder => made_or(SmolStr::from_builder(builder).map_err(|b| Thing::Builder(
             b,
         ))),
+        OfBuilder::IntoValue => made(builder.into_value()),
         OfBuilder::Finished => made(finished(builder)),
     }
 }
@@ -238,8 +244,18 @@ fn new_inline(text: &str) -> Thing {
     Thing::Nothing
 }
 
+fn new_inline_in_case(text: &str) -> Thing {
+    if text.len() <= INLINE_CAP {
+        return Thing::Value(SmolStr::new_inline_in_case(text, AsciiCase::Upper));
+    }
+    Thing::Nothing
+}
+
 fn read_value(value: &SmolStr) -> Result<Thing, Thing> {
-    let is_whole = value.as_str().len() == value.len() && value.is_empty() == (value.len() == 0);
+    let text = value.as_str();
+    let is_whole = text.len() == value.len()
+        && value.is_empty() == (value.len() == 0)
+        && value.is_ascii() == text.is_ascii();
     let is_inline = value.inline_buffer().is_some() && value.place() == Place::Inline;
     if is_whole && !(is_inline && value.is_heap_allocated()) {
         return Ok(Thing::Nothing);
