@@ -12,10 +12,14 @@
        5   granted exactly if bit n is set in the number of requests, malloc's and realloc's
        6   the same of the bytes that they asked for
        7   the same of the blocks that were handed out and not freed
+       8   the same of the bytes of these blocks, as the C library has made room for them
 
-   src/tests/refuse.rt of each crate sends these messages. At the process's end one line goes to the
+   A block that is made smaller is no request: it needs no memory, so it is neither refused nor counted.
+
+   crates/test_support/src/refuse.rt sends these messages. At the process's end one line goes to the
    file that REFUSE_LOG names: how often the program asked for refusals, and how many requests were
    refused. */
+#include <malloc.h>
 #include <stddef.h>
 #include <stdint.h>
 #include <stdio.h>
@@ -35,7 +39,8 @@ static enum { NONE, ONE, FROM } mode = NONE;
 static size_t nth;                     /* the first request to refuse, from 1 */
 static size_t seen, met;               /* requests and refusals since the mode was set */
 static size_t armed, total;            /* the same two numbers for the whole process */
-static uint32_t requests, bytes, blocks; /* the counts; blocks wraps where older ones are freed */
+/* The counts; the last two wrap where blocks of before are freed. */
+static uint32_t requests, bytes, blocks, held;
 
 static void arm(int new_mode, size_t n) {
     mode = new_mode;
@@ -46,7 +51,7 @@ static void arm(int new_mode, size_t n) {
 
 /* Whether the size is a message; then *answer is what malloc answers. */
 static int is_message(size_t size, void **answer) {
-    if (size < BASE || size >= BASE + 8 * WORD) return 0;
+    if (size < BASE || size >= BASE + 9 * WORD) return 0;
     size_t n = (size - BASE) % WORD;
     int granted = 0;
     switch ((size - BASE) / WORD) {
@@ -54,10 +59,11 @@ static int is_message(size_t size, void **answer) {
     case 1: arm(FROM, n); break;
     case 2: mode = NONE; granted = met > 0; break;
     case 3: granted = 1; break;
-    case 4: requests = bytes = blocks = 0; break;
+    case 4: requests = bytes = blocks = held = 0; break;
     case 5: granted = requests >> n & 1; break;
     case 6: granted = bytes >> n & 1; break;
     case 7: granted = blocks >> n & 1; break;
+    case 8: granted = held >> n & 1; break;
     }
     *answer = granted ? granted_block : NULL;
     return 1;
@@ -79,18 +85,23 @@ void *malloc(size_t size) {
     if (is_message(size, &answer)) return answer;
     answer = is_refused(size) ? NULL : __libc_malloc(size);
     blocks += answer != NULL;
+    held += malloc_usable_size(answer);
     return answer;
 }
 
 void *realloc(void *old, size_t size) {
-    void *answer = is_refused(size) ? NULL : __libc_realloc(old, size);
-    blocks += old == NULL && answer != NULL;
+    size_t before = malloc_usable_size(old);
+    void *answer = size > before && is_refused(size) ? NULL : __libc_realloc(old, size);
+    if (answer == NULL) return NULL;
+    blocks += old == NULL;
+    held += malloc_usable_size(answer) - before;
     return answer;
 }
 
 void free(void *block) {
     if (block == granted_block || block == NULL) return;
     blocks--;
+    held -= malloc_usable_size(block);
     __libc_free(block);
 }
 

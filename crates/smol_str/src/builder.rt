@@ -225,7 +225,7 @@ impl SmolStrBuilder {
     }
 
     /// The same value, where the builder is not wanted back: it keeps the memory that the text is in,
-    /// with the room that is left there. That no copy is made is only tested.
+    /// without the room that is left there. That no copy is made is only tested.
     ///
     /// It is refused with [`AllocError`] where the heap has no room for the value's own count.
     #[inline(always)]

@@ -248,7 +248,8 @@ impl SmolStr {
     }
 
     /// A value of the text of a `String`, where the argument is not wanted back: a value whose text is
-    /// not resident keeps the memory that it is in. That no copy is made is only tested.
+    /// not resident keeps the memory that it is in, without the room that is left there. That no copy
+    /// is made and no room is kept is only tested.
     #[inline(never)]
     pub fn from_owned(text: String) -> Result<SmolStr, AllocError>
         ensures ok { IfOk result (λ v. IsValueOf (chars (string_bytes text)) v) }
@@ -257,6 +258,8 @@ impl SmolStr {
         if let Some(value) = SmolStr::resident(text.as_str()) {
             return Ok(value);
         }
+        let mut text = text;
+        text.shrink_to_fit();
         Ok(SmolStr::from_heap(RcStr::from_string(text)?))
     }
 

@@ -2,6 +2,8 @@
 #![tactic(auto)]
 
 pub mod builders;
+pub mod by_std;
+pub mod held;
 pub mod refuse;
 pub mod streams;
 pub mod texts;

@@ -26,6 +26,15 @@ pub enum Refusals {
     From(u32),
 }
 
+impl Refusals {
+    /// The first request that is refused.
+    fn first(self) -> u32 {
+        match self {
+            Refusals::One(nth) | Refusals::From(nth) => nth,
+        }
+    }
+}
+
 /// From here on these requests are refused.
 pub fn refuse(alloc: Global, refusals: Refusals) {
     let message = match refusals {
@@ -55,14 +64,17 @@ pub fn can_refuse(alloc: Global) -> bool {
 pub struct Asked {
     pub requests: u32,
     pub bytes: u32,
+    /// The bytes of the blocks that its answer holds.
+    pub held: u32,
 }
 
 /// Makes a call with each of its requests refused in turn, that one alone and that one with all after it, until a run
 /// meets none. Returns what the call asks for where nothing is refused.
 ///
 /// `prepare` makes what the call takes, with ample memory, and `call` is the call under test and nothing else. A run
-/// fails where the call is `Ok` although a request was refused, where it is `Err` although none was, where `holds`
-/// fails, and where a block of memory is left once all is dropped.
+/// fails where the call is `Ok` although a request was refused, where it is `Err` although none was, where it makes
+/// another request after one that was refused, where `holds` fails, and where a block of memory is left once all is
+/// dropped.
 pub fn each_refused<I, T: Drop, E: Drop, P, C, H>(
     alloc: Global,
     name: &str,
@@ -138,8 +150,13 @@ where
     refuse(alloc, refusals);
     let answer = call(input);
     let was_refused = end_refusals(alloc);
-    let asked = count_asked(alloc).since(before);
+    let mut asked = count_asked(alloc).since(before);
+    // the counts began before its input was made, which is gone
+    asked.held = count_held(alloc);
     let gave_up = answer.is_err();
+    if was_refused && asked.requests != refusals.first() {
+        return Err(failed(name, "makes a request after one that was refused"));
+    }
     holds(answer)?;
     if gave_up && !was_refused {
         return Err(failed(name, "gives up although no request was refused"));
@@ -162,6 +179,7 @@ pub fn count_asked(alloc: Global) -> Asked {
     Asked {
         requests: count_requests(alloc),
         bytes: count_bytes(alloc),
+        held: count_held(alloc),
     }
 }
 
@@ -171,6 +189,7 @@ impl Asked {
         Asked {
             requests: self.requests.wrapping_sub(before.requests),
             bytes: self.bytes.wrapping_sub(before.bytes),
+            held: self.held.wrapping_sub(before.held),
         }
     }
 }
@@ -195,9 +214,14 @@ pub fn count_blocks(alloc: Global) -> u32 {
     count(alloc, 7)
 }
 
+/// How many bytes the blocks have that were handed out and not freed since the counts began.
+pub fn count_held(alloc: Global) -> u32 {
+    count(alloc, 8)
+}
+
 /// A count, bit by bit; 0 without the library.
 fn count(alloc: Global, message: usize) -> u32
-    requires { message < 8 }
+    requires { message < 9 }
 {
     if !can_refuse(alloc) {
         return 0;

@@ -2,6 +2,9 @@
 use smol_str::{BLANK_NEWLINES, BLANK_SPACES, INLINE_CAP};
 use std::alloc::{AllocError, Global};
 
+/// Byte lengths above each buffer that a call reads or writes by, and one far above.
+pub const ABOVE_BUFFERS: [usize; 3] = [4_097, 65_537, 5_000_000];
+
 /// A byte more than a buffer has room for.
 const LONG: usize = INLINE_CAP + 1;
 

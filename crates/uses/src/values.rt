@@ -1,6 +1,7 @@
 //! Values that cannot fail, or that lie where a caller knows.
-ghost use Rattle.std.specs.Prelude.{◌≡◌, codes, IsOk, IfOk};
+ghost use Rattle.std.specs.Prelude.{◌≡◌, [], codes, IsOk, IfOk, OnErr, encode_utf8_all};
 ghost use Rattle.std.specs.Str.{chars};
+ghost use Rattle.std.specs.String.{string_bytes};
 ghost use Rattle.smol_str.specs.Text.{IsResident};
 ghost use Rattle.smol_str.specs.Meaning.{IsValueOf};
 ghost use Rattle.smol_str.specs.declared.value.place.Place.TheVariants.{Heap};
@@ -30,4 +31,12 @@ pub fn second(value: &SmolStr) -> Result<SmolStr, AllocError>
     ensures same { IfOk result (λ copy. copy ≡ value.now) }
 {
     value.clone()
+}
+
+/// A `String` of a value's text: never refused where that is the empty text.
+pub fn owned(alloc: Global, value: SmolStr) -> Result<String, SmolStr>
+    ensures text { IfOk result (λ text. string_bytes text ≡ encode_utf8_all value.text) }
+    ensures refused { OnErr result (¬ (value.text ≡ [])) }
+{
+    value.into_string(alloc)
 }

@@ -136,11 +136,15 @@ impl SmolStr {
         }
     }
 
-    /// The text as a `String`; a refusal gives the value back.
+    /// The text as a `String`; a refusal gives the value back. The empty text needs no memory.
     pub fn into_string(self, alloc: Global) -> Result<String, SmolStr>
         ensures ok { IfOk result (λ text. string_bytes text ≡ encode_utf8_all self.text) }
         ensures back { IfErr result (λ back. back ≡ self) }
+        ensures refused { OnErr result (¬ (self.text ≡ [])) }
     {
+        if self.is_empty() {
+            return Ok(String::new(alloc));
+        }
         match String::from_str(alloc, self.as_str()) {
             Ok(text) => Ok(text),
             Err(_) => Err(self),

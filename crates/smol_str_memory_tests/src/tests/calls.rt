@@ -1,17 +1,17 @@
 //! Every call: what it asks the heap for, what stands where that is refused, and that all is freed.
-mod by_std;
 mod inputs;
 mod things;
 
 use super::same::same;
-use by_std::{
-    AND_CHAR, Asks, BUILT, BUILT_TO_SIZE, BY_CHAR, BY_TEXT, KEPT, NONE, OWNED, PRINTED, SHARED,
-    TWICE, WITH_ROOM, asked_by_all,
-};
 use inputs::{Append, Call, OfBuilder, OfOwned, OfText, OfValue, Other, Start, input_of, run};
 use smol_str::{INLINE_CAP, Place, SmolStr};
 use std::alloc::{AllocError, Global};
 use std::test::Fail;
+use test_support::by_std::{
+    AND_CHAR, Asks, BUILT, BUILT_TO_SIZE, BY_CHAR, BY_TEXT, KEPT, NONE, OWNED, PRINTED, SHARED,
+    TWICE, WITH_ROOM, asked_by_all, is_asked,
+};
+use test_support::held::is_exact;
 use test_support::refuse::{Asked, can_refuse, count_blocks, each_refused, start_counts};
 use test_support::texts::{full_text, joined, long_text, longest_blank, repeated};
 use things::{Thing, place_of, text_of};
@@ -154,7 +154,23 @@ fn check_call(
         |input| run(alloc, text, input),
         |answer| check_answer(name.as_str(), call, text, place, answer, &ample),
     )?;
+    check_held(alloc, name.as_str(), asked, &ample)?;
     check_asked(name.as_str(), asked, wanted)
+}
+
+/// A value keeps its text and no more.
+fn check_held(
+    alloc: Global,
+    name: &str,
+    asked: Asked,
+    ample: &Result<Thing, Thing>,
+) -> Result<(), Fail> {
+    match ample {
+        Ok(Thing::Value(value)) if !is_exact(alloc, asked.held, value)? => Err(Fail::new(
+            format_args!("{name} keeps {} bytes", asked.held),
+        )),
+        _ => Ok(()),
+    }
 }
 
 /// The call and the text, in messages.
@@ -164,7 +180,7 @@ fn name_of(alloc: Global, row: (&str, &str)) -> Result<String, AllocError> {
 }
 
 fn check_asked(name: &str, asked: Asked, wanted: Asked) -> Result<(), Fail> {
-    if asked == wanted {
+    if is_asked(asked, wanted) {
         return Ok(());
     }
     Err(Fail::new(format_args!("{name} asks for {asked:?} and std for {wanted:?}")))

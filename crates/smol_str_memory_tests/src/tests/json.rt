@@ -6,8 +6,12 @@ use smol_str::{INLINE_CAP, Place, SmolStr};
 use std::alloc::{AllocError, Global};
 use std::process::Abort;
 use std::test::Fail;
-use test_support::refuse::{can_refuse, each_refused};
-use test_support::texts::{full_text, joined, long_blank, long_text, repeated, repeated_and};
+use test_support::by_std::is_asked;
+use test_support::held::is_exact;
+use test_support::refuse::{Asked, can_refuse, count_asked, each_refused};
+use test_support::texts::{
+    ABOVE_BUFFERS, full_text, joined, long_blank, long_text, repeated, repeated_and,
+};
 
 /// What a call answered, without the text.
 #[derive(Clone, Copy, PartialEq, Eq, Debug)]
@@ -105,6 +109,33 @@ fn not_read(rt: HostRuntime) -> Result<(), Fail> {
 
 fn check_not_read(rt: &impl Abort, alloc: Global, json: &str, answer: Answer) {
     same(rt, &answer_of(&from_json(alloc, json)), &answer, &json);
+}
+
+// Longer than each buffer: a list, a string without its end, and one with half a surrogate pair at its end.
+#[test]
+fn long_not_read(rt: HostRuntime) -> Result<(), Fail> {
+    let alloc = rt.alloc();
+    for size in ABOVE_BUFFERS {
+        let letters = repeated(alloc, "a", size)?;
+        let text = letters.as_str();
+        check_parts(&rt, alloc, ("[\"", text, "\"]"), Answer::NotString)?;
+        check_parts(&rt, alloc, ("\"", text, ""), Answer::Json)?;
+        check_parts(&rt, alloc, ("\"", text, "\\ud800\""), Answer::Json)?;
+    }
+    Ok(())
+}
+
+fn check_parts(
+    rt: &impl Abort,
+    alloc: Global,
+    parts: (&str, &str, &str),
+    answer: Answer,
+) -> Result<(), Fail> {
+    let mut json = joined(alloc, parts.0, parts.1)?;
+    json.push_str(parts.2)?;
+    let found = answer_of(&from_json(alloc, json.as_str()));
+    same(rt, &found, &answer, &(parts.0, parts.1.len(), parts.2));
+    Ok(())
 }
 
 /// So many lists in one another.
@@ -242,7 +273,32 @@ fn check_call(
         &(asks && can_refuse(alloc)),
         &name,
     );
+    let wanted = asked_by_std(alloc, call, ample)?;
+    holds(rt, is_asked(asked, wanted), &(&name, asked, wanted));
+    if matches!(call, Call::FromValue | Call::FromJson) {
+        holds(rt, is_exact(alloc, asked.held, &ample.value)?, &name);
+    }
     Ok(())
+}
+
+/// What `serde_json`'s own calls ask for on the same text, and a value's own.
+fn asked_by_std(alloc: Global, call: Call, ample: &Ample) -> Result<Asked, Fail> {
+    let text = ample.value.as_str();
+    let before = count_asked(alloc);
+    match call {
+        Call::ToValue => drop(Value::String(String::from_str(alloc, text)?)),
+        Call::ToJson => drop(Value::String(String::from_str(alloc, text)?).to_string(alloc)?),
+        Call::FromValue => drop(SmolStr::new(alloc, text)?),
+        Call::FromJson => drop(read_by_serde(alloc, ample.json.as_str())?),
+    }
+    Ok(count_asked(alloc).since(before))
+}
+
+fn read_by_serde(alloc: Global, json: &str) -> Result<SmolStr, Fail> {
+    let Ok(Value::String(string)) = serde_json::from_str(alloc, json) else {
+        return Err("serde_json does not read it".into());
+    };
+    Ok(SmolStr::from_owned(string)?)
 }
 
 fn run(alloc: Global, call: Call, ample: &Ample) -> Result<Made, JsonFault> {

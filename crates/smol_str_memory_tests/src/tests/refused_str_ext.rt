@@ -4,6 +4,8 @@ use smol_str::{Place, SmolStr, StrExt};
 use std::alloc::{AllocError, Global};
 use std::process::Abort;
 use std::test::Fail;
+use test_support::by_std::{Asks, asked_by_all, is_asked};
+use test_support::held::is_exact;
 use test_support::refuse::{can_refuse, each_refused, end_refusals, refuse_all};
 use test_support::texts::{full_text, joined, long_text, repeated};
 
@@ -87,7 +89,24 @@ fn check_refused(
         |made| check_made(name.as_str(), made, &ample),
     )?;
     same(rt, &(asked.requests > 0), &can_refuse(alloc), &name);
+    holds(rt, is_exact(alloc, asked.held, &ample)?, &name);
+    if is_one_copy(call) && text.is_ascii() {
+        let wanted = asked_by_all(alloc, ONE_COPY, text)?;
+        holds(rt, is_asked(asked, wanted), &name);
+    }
     Ok(())
+}
+
+/// A copy of the text, which the value keeps.
+const ONE_COPY: &[Asks] = &[Asks::Owned, Asks::Kept];
+
+/// Whether the answer is as long as the text, where that is ASCII: it is made in one copy.
+fn is_one_copy(call: Call) -> bool {
+    match call {
+        Call::Replace(from, to) => from.len() == 1 && to.len() == 1,
+        Call::ReplaceN(..) => false,
+        _ => true,
+    }
 }
 
 fn check_made(name: &str, made: &Result<SmolStr, AllocError>, ample: &SmolStr) -> Result<(), Fail> {

@@ -113,6 +113,7 @@ fn inline_and_heap(rt: &impl Abort, alloc: Global) -> Result<(), Fail> {
         "SmolStr::default": SmolStr::default().is_empty();
         "SmolStr::clone": inline.clone().is_ok();
         "SmolStr::into_rc_str": heap.into_rc_str(alloc).is_ok();
+        "SmolStr::into_string": SmolStr::default().into_string(alloc).is_ok();
     }
     Ok(())
 }

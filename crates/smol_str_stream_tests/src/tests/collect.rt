@@ -10,6 +10,7 @@ use std::process::Abort;
 use std::test::Fail;
 use std::vec::IntoIter;
 use test_support::builders::builder_of;
+use test_support::held::is_exact;
 use test_support::refuse::{Asked, can_refuse, each_refused, end_refusals, refuse_all};
 use test_support::texts::{long_blank, repeated, repeated_and};
 
@@ -455,6 +456,7 @@ fn assert_requests(
     needs_memory: bool,
 ) -> Result<(), Fail> {
     let whole = joined(alloc, pieces)?;
+    let value = SmolStr::new(alloc, whole.as_str())?;
     for call in CALLS {
         let asked = if extends(call) {
             extended_refused(alloc, call, pieces, whole.as_str())?
@@ -463,6 +465,7 @@ fn assert_requests(
         };
         let makes_requests = needs_memory && can_refuse(alloc);
         same(rt, &(asked.requests > 0), &makes_requests, &call);
+        holds(rt, is_exact(alloc, asked.held, &value)?, &call);
     }
     Ok(())
 }

@@ -10,6 +10,7 @@ use std::io::ErrorKind;
 use std::process::Abort;
 use std::test::Fail;
 use test_support::streams::{STEPS, trickle_of};
+use test_support::texts::ABOVE_BUFFERS;
 
 /// A fault of reading a wire form, without what it tells of it.
 #[derive(Clone, Copy, PartialEq, Eq, Debug)]
@@ -92,12 +93,36 @@ fn cut_short(rt: HostRuntime) -> Result<(), Fail> {
     Ok(())
 }
 
-/// Each call returns this fault, whatever the reader's steps.
-fn assert_refused(rt: &impl Abort, alloc: Global, bytes: &[u8], kind: Kind, left: usize) {
+// The last byte of a long body is not there, or is not UTF-8.
+#[test]
+fn long_bodies(rt: HostRuntime) -> Result<(), Fail> {
+    for size in ABOVE_BUFFERS {
+        let count = size.saturating_sub(1) as u32;
+        let mut bytes = letters(rt.alloc(), size as u32, count)?;
+        assert_long_refused(&rt, rt.alloc(), bytes.as_slice(), Kind::Ended);
+        bytes.push(0xff)?;
+        assert_long_refused(&rt, rt.alloc(), bytes.as_slice(), Kind::NotUtf8);
+    }
+    Ok(())
+}
+
+/// Each call returns this fault, and a reader that gives all it is asked for has nothing left.
+fn assert_long_refused(rt: &impl Abort, alloc: Global, bytes: &[u8], kind: Kind) {
+    assert_refused_at_hand(rt, alloc, bytes, kind);
+    assert_reader_refused(rt, alloc, bytes, usize::MAX, kind, 0);
+    assert_limited_refused(rt, alloc, bytes, usize::MAX, kind, 0);
+}
+
+fn assert_refused_at_hand(rt: &impl Abort, alloc: Global, bytes: &[u8], kind: Kind) {
     let fault = from_wire(alloc, bytes).err();
     same(rt, &fault.as_ref().map(kind_of), &Some(kind), &bytes);
     let fault = split_wire(alloc, bytes).err();
     same(rt, &fault.as_ref().map(kind_of), &Some(kind), &bytes);
+}
+
+/// Each call returns this fault, whatever the reader's steps.
+fn assert_refused(rt: &impl Abort, alloc: Global, bytes: &[u8], kind: Kind, left: usize) {
+    assert_refused_at_hand(rt, alloc, bytes, kind);
     for step in STEPS {
         assert_reader_refused(rt, alloc, bytes, step, kind, left);
         assert_limited_refused(rt, alloc, bytes, step, kind, left);

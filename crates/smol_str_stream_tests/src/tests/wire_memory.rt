@@ -12,6 +12,8 @@ use smol_str::{INLINE_CAP, Place, SmolStr};
 use std::alloc::Global;
 use std::process::Abort;
 use std::test::Fail;
+use test_support::by_std::{SHARED, asked_by_all, is_asked};
+use test_support::held::is_exact;
 use test_support::refuse::{
     Asked, can_refuse, count_bytes, each_refused, end_refusals, refuse_all, start_counts,
 };
@@ -141,13 +143,27 @@ fn each_request(rt: HostRuntime) -> Result<(), Fail> {
         let text = repeated(rt.alloc(), "a", count as usize)?;
         for call in OF_FORMS {
             let asked = call_refused(rt.alloc(), call, form.as_slice(), text.as_bytes())?;
-            same(
-                &rt,
-                &(asked.requests > 0),
-                &can_refuse(rt.alloc()),
-                &(call, count),
-            );
+            assert_asked(&rt, rt.alloc(), call, asked, text.as_str())?;
         }
+    }
+    Ok(())
+}
+
+/// Bytes at hand are copied once, and the value keeps its text alone.
+fn assert_asked(
+    rt: &impl Abort,
+    alloc: Global,
+    call: Call,
+    asked: Asked,
+    text: &str,
+) -> Result<(), Fail> {
+    let row = (call, text.len());
+    same(rt, &(asked.requests > 0), &can_refuse(alloc), &row);
+    let value = SmolStr::new(alloc, text)?;
+    holds(rt, is_exact(alloc, asked.held, &value)?, &row);
+    if matches!(call, Call::FromWire | Call::SplitWire) {
+        let wanted = asked_by_all(alloc, SHARED, text)?;
+        holds(rt, is_asked(asked, wanted), &row);
     }
     Ok(())
 }

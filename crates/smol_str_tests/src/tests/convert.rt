@@ -7,7 +7,7 @@ use std::process::Abort;
 use std::rc::RcStr;
 use std::test::Fail;
 use test_support::refuse::{can_refuse, each_refused};
-use test_support::texts::{long_blank, long_text, repeated};
+use test_support::texts::{ABOVE_BUFFERS, long_blank, long_text, repeated};
 
 #[test]
 fn test_from_char(rt: HostRuntime) {
@@ -27,6 +27,21 @@ fn bytes(rt: HostRuntime) {
         let is_not_utf8 = matches!(answer, Err(FromUtf8Fault::NotUtf8(_)));
         holds(&rt, is_not_utf8, &bytes);
     }
+}
+
+// However long the text before it is, the byte that is not UTF-8 is told, and where.
+#[test]
+fn long_bytes(rt: HostRuntime) -> Result<(), Fail> {
+    for size in ABOVE_BUFFERS {
+        let mut bytes = repeated(rt.alloc(), "a", size)?.into_bytes();
+        bytes.push(0xff)?;
+        let valid = match SmolStr::from_utf8(rt.alloc(), bytes.as_slice()) {
+            Err(FromUtf8Fault::NotUtf8(error)) => Some(error.valid_up_to()),
+            _ => None,
+        };
+        same(&rt, &valid, &Some(size), &"from_utf8");
+    }
+    Ok(())
 }
 
 #[test]

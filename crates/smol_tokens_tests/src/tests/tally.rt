@@ -6,7 +6,9 @@ use std::alloc::Global;
 use std::process::Abort;
 use std::rc::RcStr;
 use std::test::Fail;
-use test_support::refuse::{can_refuse, each_refused_by_value, end_refusals, refuse_all};
+use test_support::refuse::{
+    can_refuse, count_blocks, each_refused_by_value, end_refusals, refuse_all, start_counts,
+};
 use test_support::texts::{long_blank, long_text, repeated};
 
 fn add(tally: &mut Tally, token: SmolStr, times: u64) -> Result<u64, Fail> {
@@ -151,6 +153,25 @@ fn built(alloc: Global, text: &str) -> Result<SmolStr, Fail> {
     let mut builder = SmolStrBuilder::with_capacity(alloc, 100)?;
     builder.push_str(text)?;
     Ok(builder.finish().ok().ok_or("refused")?)
+}
+
+// A token that is there and is added, counted and read again is freed with the tally.
+#[test]
+fn no_token_is_left(rt: HostRuntime) -> Result<(), Fail> {
+    start_counts(rt.alloc());
+    check_counted_again(&rt, rt.alloc())?;
+    same(&rt, &count_blocks(rt.alloc()), &0, &"blocks");
+    Ok(())
+}
+
+fn check_counted_again(rt: &impl Abort, alloc: Global) -> Result<(), Fail> {
+    let mut tally = Tally::new(alloc);
+    for turn in 1..4 {
+        check_add(rt, &mut tally, SmolStr::new(alloc, long_text())?, 1, turn)?;
+    }
+    let token = SmolStr::new(alloc, long_text())?;
+    same(rt, &tally.count(&token), &Some(3), &"again");
+    check_at(rt, &tally, 0, long_text(), 3)
 }
 
 const MANY: u64 = 200_000;

@@ -1,9 +1,9 @@
 //! What calls of std ask the heap for.
+use crate::refuse::{Asked, can_refuse, count_asked};
 use smol_str::INLINE_CAP;
 use std::alloc::Global;
 use std::rc::RcStr;
 use std::test::Fail;
-use test_support::refuse::{Asked, can_refuse, count_asked};
 
 /// A call of std that asks for what a call under test is to ask for.
 #[derive(Clone, Copy)]
@@ -55,6 +55,7 @@ pub fn asked_by_all(alloc: Global, asks: &[Asks], text: &str) -> Result<Asked, F
     let mut wanted = Asked {
         requests: 0,
         bytes: 0,
+        held: 0,
     };
     for ask in asks {
         let asked = asked_by_std(alloc, *ask, text)?;
@@ -65,6 +66,11 @@ pub fn asked_by_all(alloc: Global, asks: &[Asks], text: &str) -> Result<Asked, F
         return Err("std's calls ask for nothing".into());
     }
     Ok(wanted)
+}
+
+/// Whether the requests are as many, for as many bytes.
+pub fn is_asked(asked: Asked, wanted: Asked) -> bool {
+    asked.requests == wanted.requests && asked.bytes == wanted.bytes
 }
 
 fn asked_by_std(alloc: Global, ask: Asks, text: &str) -> Result<Asked, Fail> {
