@@ -6,6 +6,7 @@ pub mod building;
 pub mod by_text;
 pub mod collecting;
 pub mod cut_records;
+pub mod first;
 pub mod formatting;
 pub mod headers;
 pub mod headline;
