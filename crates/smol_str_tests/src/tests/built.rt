@@ -161,6 +161,55 @@ fn assert_steps_at(rt: &impl Abort, alloc: Global, capacity: usize, row: &Row) -
     Ok(())
 }
 
+/// A full buffer, a step of each kind that leaves it, and one of each kind behind that.
+static LEAVING: [&[Piece]; 4] = [
+    &[
+        Piece::Times("a", INLINE_CAP),
+        Piece::Char('b'),
+        Piece::Char('c'),
+    ],
+    &[
+        Piece::Times("a", INLINE_CAP),
+        Piece::Char('b'),
+        Piece::Text("c"),
+    ],
+    &[
+        Piece::Times("a", INLINE_CAP),
+        Piece::Text("b"),
+        Piece::Char('c'),
+    ],
+    &[
+        Piece::Times("a", INLINE_CAP),
+        Piece::Text("b"),
+        Piece::Text("c"),
+    ],
+];
+
+// A step that is refused ends the call: no step behind it is tried.
+#[test]
+fn steps_refused(rt: HostRuntime) -> Result<(), Fail> {
+    let alloc = rt.alloc();
+    let whole = repeated_and(alloc, "a", INLINE_CAP, "bc")?;
+    for pieces in &LEAVING {
+        let asked = each_refused(
+            alloc,
+            "build",
+            || Ok(steps_of(alloc, *pieces)?),
+            |steps| build(alloc, 0, &steps),
+            |made| check_built(made, whole.as_str()),
+        )?;
+        same(&rt, &(asked.requests > 0), &can_refuse(alloc), &"requests");
+    }
+    Ok(())
+}
+
+fn check_built(made: &Result<SmolStr, AllocError>, whole: &str) -> Result<(), Fail> {
+    match made {
+        Ok(value) if value.as_str() != whole => Err(Fail::new(format_args!("build makes {value}"))),
+        _ => Ok(()),
+    }
+}
+
 // Where one byte is left, a text of two bytes is refused, and a character of one byte then fits.
 #[test]
 fn refused_at_the_boundary(rt: HostRuntime) -> Result<(), Fail> {

@@ -1,10 +1,11 @@
 //! Values in containers.
-use super::same::{holds, same, same_place};
+use super::same::{holds, same, same_place, same_text};
 use smol_str::{Place, SmolStr};
 use std::alloc::Global;
 use std::collections::{BTreeMap, HashMap};
 use std::process::Abort;
 use std::test::Fail;
+use test_support::builders::builder_of;
 use test_support::texts::long_text;
 
 fn texts() -> [&'static str; 6] {
@@ -85,6 +86,21 @@ fn values_of(alloc: Global) -> Result<Vec<SmolStr>, Fail> {
     }
     values.push(SmolStr::new_static("ab"))?;
     Ok(values)
+}
+
+// A builder on the heap, too.
+#[test]
+fn clones_of_lists_of_builders(rt: HostRuntime) -> Result<(), Fail> {
+    let mut builders = Vec::new(rt.alloc());
+    for text in texts() {
+        builders.push(builder_of(rt.alloc(), 0, text)?)?;
+    }
+    let copies = builders.clone()?;
+    same(&rt, &copies.len(), &builders.len(), &"builders");
+    for (copy, builder) in copies.iter().zip(builders.iter()) {
+        same_text(&rt, copy.as_str(), builder.as_str(), &"builders");
+    }
+    Ok(())
 }
 
 #[test]

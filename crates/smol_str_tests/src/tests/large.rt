@@ -8,7 +8,7 @@ use test_support::builders::builder_of;
 use test_support::refuse::{can_refuse, end_refusals, refuse_all};
 use test_support::texts::{repeated, repeated_and};
 
-const CAPACITIES: [usize; 4] = [INLINE_CAP, 200, 5000, 1_000_001];
+const CAPACITIES: [usize; 4] = [INLINE_CAP, 200, 5000, 2_097_153];
 
 // All of a capacity is asked for at once.
 #[test]
