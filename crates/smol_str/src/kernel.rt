@@ -229,11 +229,14 @@ fn bytes_from(text: &str, from: usize) -> &[u8]
 }
 
 /// The first place at which the wanted bytes stand: by a search for the first of them, and only where
-/// that stands by one for several, which is slow to begin.
+/// that stands by one for several, which is slow to begin. Bytes that are fewer are not searched.
 fn find_bytes(bytes: &[u8], wanted: &[u8]) -> Option<usize>
     requires { 0 < length wanted.now }
     ensures { FindsNeedle bytes.now wanted.now 0 result }
 {
+    if bytes.len() < wanted.len() {
+        return None;
+    }
     let first = memchr(wanted[0], bytes)?;
     if wanted.len() == 1 {
         Some(first)

@@ -11,6 +11,7 @@ mod bytes;
 mod case;
 mod full;
 mod replace;
+mod search;
 
 use crate::kernel::AsciiCase;
 use crate::value::SmolStr;

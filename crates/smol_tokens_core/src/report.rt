@@ -42,7 +42,7 @@ fn answer_lines(alloc: Global, mode: &Mode, text: &str) -> Result<String, AllocE
 {
     let mut out = String::new(alloc);
     for line in Lines::of(text) {
-        push_answer(alloc, &mut out, value_of(alloc, mode, line)?)?;
+        push_answer(alloc, &mut out, &value_of(alloc, mode, line)?)?;
     }
     Ok(out)
 }
@@ -65,14 +65,38 @@ fn join(alloc: Global, text: &str) -> Result<String, AllocError>
 {
     let value = SmolStr::from_strs(alloc, Lines::of(text))?;
     let mut out = String::new(alloc);
-    push_answer(alloc, &mut out, value)?;
+    push_answer(alloc, &mut out, &value)?;
     Ok(out)
 }
 
 /// Appends the answer line of a value.
-fn push_answer(alloc: Global, out: &mut String, value: SmolStr) -> Result<(), AllocError>
+///
+/// That of a text on the heap is printed into the report: as a value of its own it would be one more copy of a long
+/// text.
+fn push_answer(alloc: Global, out: &mut String, value: &SmolStr) -> Result<(), AllocError>
     ensures { OnOk result (string_bytes out.new ≡ string_bytes out.old
-        ++ encode_utf8_all (answer_line value.place (size value.text) value.text)) }
+        ++ encode_utf8_all (answer_line value.now.place (size value.now.text) value.now.text)) }
+{
+    if value.is_heap_allocated() {
+        print_answer(out, value)
+    } else {
+        push_formatted(alloc, out, value)
+    }
+}
+
+/// The same, printed at once.
+fn print_answer(out: &mut String, value: &SmolStr) -> Result<(), AllocError>
+    ensures { OnOk result (string_bytes out.new ≡ string_bytes out.old
+        ++ encode_utf8_all (answer_line value.now.place (size value.now.text) value.now.text)) }
+{
+    let (place, size) = (word_of(value.place()), value.len());
+    write!(out, "{place} {size} {value}\n")
+}
+
+/// The same, as a value first, which takes no memory where the line is short.
+fn push_formatted(alloc: Global, out: &mut String, value: &SmolStr) -> Result<(), AllocError>
+    ensures { OnOk result (string_bytes out.new ≡ string_bytes out.old
+        ++ encode_utf8_all (answer_line value.now.place (size value.now.text) value.now.text)) }
 {
     let place = word_of(value.place());
     let size = value.len();

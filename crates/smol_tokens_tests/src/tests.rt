@@ -6,7 +6,6 @@ mod refused;
 mod rows;
 mod same;
 mod show;
-mod state;
 mod tally;
 mod words;
 mod writers;

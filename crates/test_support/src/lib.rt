@@ -1,9 +1,10 @@
-//! What the tests of all crates share: memory refused and counted, and readers and writers that fail.
+//! What the tests of all crates share: memory refused and counted, readers and writers that fail, and a hasher's state.
 #![tactic(auto)]
 
 pub mod builders;
 pub mod by_std;
 pub mod held;
 pub mod refuse;
+pub mod state;
 pub mod streams;
 pub mod texts;

@@ -8,20 +8,24 @@ ghost use Rattle.smol_str.specs.Keys.{value_at};
 use smol_str::{SmolStr, StrExt};
 use std::alloc::{AllocError, Global};
 use std::collections::HashMap;
+use std::hash::{BuildHasher, RandomState};
+use std::io;
+use std::random::RandomSource;
 
 /// The values of some names; each name is kept in lower case.
 #[derive(Drop)]
-pub struct Headers {
-    fields: HashMap<SmolStr, SmolStr>,
+pub struct Headers<S: BuildHasher> {
+    fields: HashMap<SmolStr, SmolStr, S>,
 }
 
-impl Headers {
-    /// A store in which no name has a value.
-    pub fn new(alloc: Global) -> Headers
+impl<S: BuildHasher> Headers<S> {
+    /// A store in which no name has a value, and that hashes names by `state`. What it holds does not depend on the
+    /// state.
+    pub fn with_hasher(alloc: Global, state: S) -> Headers<S>
         ensures { (name : List ℕ) → value_at name result.fields ≡ None }
     {
         Headers {
-            fields: HashMap::new(alloc),
+            fields: HashMap::with_hasher(alloc, state),
         }
     }
 
@@ -48,4 +52,12 @@ impl Headers {
         let key = name.to_ascii_lowercase_smolstr(alloc)?;
         Ok(self.fields.get(&key))
     }
+}
+
+/// A store for names that a peer chooses: its keys are the system's, so the peer cannot choose names that all have one
+/// hash. The error is that of the system, where it gives no random bytes.
+pub fn headers_of_peer(alloc: Global, rt: &impl RandomSource) -> io::Result<Headers<RandomState>>
+    ensures { IfOk result (λ headers. (name : List ℕ) → value_at name headers.fields ≡ None) }
+{
+    Ok(Headers::with_hasher(alloc, RandomState::new(rt)?))
 }

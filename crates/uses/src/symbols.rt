@@ -7,16 +7,17 @@ use crate::by_text::ByText;
 use indexmap::IndexSet;
 use smol_str::SmolStr;
 use std::alloc::{AllocError, Global};
+use std::hash::BuildHasher;
 use std::marker::Model;
 
 /// Names in the order in which they were first seen. A table means the list of its names' texts.
 #[derive(Drop)]
-pub struct Symbols {
+pub struct Symbols<S: BuildHasher> {
     alloc: Global,
-    names: IndexSet<SmolStr>,
+    names: IndexSet<SmolStr, S>,
 }
 
-impl Model for Symbols {
+impl<S: BuildHasher> Model for Symbols<S> {
     ghost use Rattle.std.specs.Prelude.{ℕ, List};
 
     ghost Value = { List (List ℕ) };
@@ -26,14 +27,14 @@ impl Model for Symbols {
     ghost view = { λ s. texts s.names.keys };
 }
 
-impl Symbols {
-    /// A table of no names.
-    pub fn new(alloc: Global) -> Symbols
+impl<S: BuildHasher> Symbols<S> {
+    /// A table of no names, that hashes names by `state`. No id depends on the state.
+    pub fn with_hasher(alloc: Global, state: S) -> Symbols<S>
         ensures { result ≡ [] }
     {
         Symbols {
             alloc,
-            names: IndexSet::new(alloc),
+            names: IndexSet::with_hasher(alloc, state),
         }
     }
 
@@ -69,7 +70,11 @@ impl Symbols {
 
 /// A text is interned, then another, and then the first again: it has the id that it had, and the
 /// id gives the text back.
-pub fn same_id(symbols: &mut Symbols, text: &str, other: &str) -> Result<(usize, usize), AllocError>
+pub fn same_id<S: BuildHasher>(
+    symbols: &mut Symbols<S>,
+    text: &str,
+    other: &str,
+) -> Result<(usize, usize), AllocError>
     ensures same { IfOk result (λ ids. ids.0 ≡ ids.1) }
     ensures back { IfOk result (λ ids. slice_get symbols.new ids.0 ≡ Some (chars text.now)) }
 {

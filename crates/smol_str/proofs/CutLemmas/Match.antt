@@ -1,5 +1,5 @@
 -- For `kernel::next_match`: the first place of a pattern's bytes is the first match of its characters.
-use Rattle.smol_str.proofs.Common.{◌≡◌, ◌↔◌, get_or, ℕ, ◌+◌, ◌<◌, List, ◌++◌, Option, None, Some, length, take, drop, refl, sym, ap, ◌∙◌, subst, arith, length-append, append_assoc, take-append-drop, length-take-le, IsUtf8, chars, encode_utf8_all, encodes-append, encodes-chars, length-le-encodes, take_at, drop_at, length-drop, take-append-le, Decides-eqb, size, Occurs, StandsAt, IsCharBoundary, but_last, IsNextMatch, same_Some, nil_from_length, ⊎_elim, cases_lt, ◌≤◌, common_steps, rules}
+use Rattle.smol_str.proofs.Common.{◌≡◌, ◌↔◌, get_or, ℕ, ◌+◌, ◌<◌, List, [], ◌++◌, Option, None, Some, length, take, drop, refl, sym, ap, ◌∙◌, subst, arith, length-append, append_assoc, take-append-drop, length-take-le, IsUtf8, chars, encode_utf8_all, encodes-append, encodes-chars, length-le-encodes, take_at, drop_at, length-drop, take-append-le, Decides-eqb, size, Occurs, StandsAt, IsCharBoundary, but_last, IsNextMatch, same_Some, nil_from_length, ⊎_elim, cases_lt, ◌≤◌, common_steps, rules}
 use Rattle.memchr.specs.Find.{OccursAt, FindsNeedle, is_byte, IsFirstByte}
 use Rattle.memchr.proofs.lemmas.FindLemmas.{OccursAt-byte, byte-OccursAt}
 use Rattle.memchr.proofs.lemmas.MatchLemmas.{OccursAt-split, OccursAt-from_part}
@@ -142,6 +142,11 @@ module _ (bs nd : List ℕ) (i : ℕ) where
   pub none_exact : (r : Option ℕ) → r ≡ None → IsUtf8 bs → IsUtf8 nd → FindsNeedle (drop i bs) nd 0 None
       → (a b : List ℕ) → chars bs ≡ a ++ b → size a ≡ i → (r ≡ None) ↔ (¬ Occurs (chars nd) b)
   none_exact r is u v f a b e n = (λ _. Occurs-none u v f a b e n, λ _. is)
+
+-- a pattern whose bytes are nowhere in a text's stands nowhere in the text
+pub not_found : (bs nd : List ℕ) → IsUtf8 bs → IsUtf8 nd → FindsNeedle bs nd 0 None → ¬ Occurs (chars nd) (chars bs)
+not_found bs nd u v f =
+    found_none [] (chars bs) (chars nd) 0 (rw (encodes-chars bs u, encodes-chars nd v) f)
 
 -- a pattern that stands in the bytes of a text stands at characters
 module _ (bs nd : List ℕ) (u : IsUtf8 bs) (v : IsUtf8 nd) (some : 0 < length nd) where

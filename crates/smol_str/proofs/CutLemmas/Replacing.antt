@@ -84,6 +84,17 @@ module _ (bs nd w : List ℕ) (n m : ℕ) (b : Draft) (i j : ℕ) (h : IsReplaci
         replacing-refused (chars bs) (chars nd) w n m l b i h (k.before ++ chars nd) k.after (k.before ++ w)
         match-passed match-made
 
+-- nothing is replaced in a text without a match
+pub replacing-nothing : (t p w : List ℕ) (n : ℕ) (b : Draft) → b ≡ grown [] → ¬ Occurs p t → IsReplacing t p w n 0 b 0
+replacing-nothing t p w n b empty none = record {
+  done = [];
+  rest = t;
+  parts = refl;
+  at = refl;
+  draft = empty ∙ ap grown (sym (ap (λ (d : Draft). d.text) empty));
+  text = ap (λ (d : Draft). d.text ++ replaced t p w 0) empty ∙ replaced-none t p w ∙ sym (replaced-unmatched t p w n none);
+}
+
 -- no match is left, or none is wanted
 pub replacing-unmatched : (t p w : List ℕ) (n m : ℕ) (b : Draft) (i : ℕ) (h : IsReplacing t p w n m b i)
     → ¬ Occurs p h.rest → IsReplacing t p w n 0 b i

@@ -8,9 +8,10 @@ ghost use Rattle.smol_str.specs.Replace.{replaced};
 ghost use Rattle.smol_str.specs.Replacing.{IsReplacing};
 
 use super::bytes::replace_byte;
+use super::search::{next_match_by, search_for};
 use crate::builder::SmolStrBuilder;
-use crate::kernel::next_match;
 use crate::value::SmolStr;
+use memchr::memmem::Finder;
 use std::alloc::{AllocError, Global};
 
 /// The text with the first `count` matches of a pattern replaced: one character by another byte for byte
@@ -51,9 +52,11 @@ fn push_replaced(
         (¬ (IsShort (replaced (chars text.now) (chars from.now) (chars to.now) count))) }
 {
     if from.is_empty() {
-        push_between(builder, text, to, count)
-    } else {
-        push_matches(builder, text, from, to, count)
+        return push_between(builder, text, to, count);
+    }
+    match search_for(text, from) {
+        Some(search) => push_matches(builder, text, from, &search, to, count),
+        None => Ok(0),
     }
 }
 
@@ -107,14 +110,16 @@ fn push_before(builder: &mut SmolStrBuilder, text: &str, character: char) -> Res
 }
 
 /// Appends what stands before each of the first `count` matches, and the new text; answers where the
-/// rest begins.
+/// rest begins. The search is prepared once, and not for each match.
 fn push_matches(
     builder: &mut SmolStrBuilder,
     text: &str,
     from: &str,
+    search: &Finder<'_>,
     to: &str,
     count: usize,
 ) -> Result<usize, AllocError>
+    requires search { search.now ≡ from.now }
     requires some { 0 < length from.now }
     requires empty { builder.old ≡ grown [] }
     ensures ok { IfOk result (λ place.
@@ -124,7 +129,7 @@ fn push_matches(
 {
     let mut place = 0;
     for taken in 0..count {
-        match next_match(text, place, from) {
+        match next_match_by(search, text, place, from) {
             Some(found) => {
                 push_two(builder, &text[place..found], to)?;
                 place = found + from.len();

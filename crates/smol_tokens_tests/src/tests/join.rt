@@ -5,7 +5,6 @@ ghost use Rattle.smol_tokens_core.specs.Report.{report};
 
 use super::rows::answer;
 use super::same::{holds, same_bytes};
-use super::state::fixed_state;
 use smol_str::INLINE_CAP;
 use smol_tokens_core::fault::RunFault;
 use smol_tokens_core::mode::Mode;
@@ -13,6 +12,7 @@ use smol_tokens_core::run::run;
 use std::alloc::{AllocError, Global};
 use std::process::Abort;
 use std::test::Fail;
+use test_support::state::fixed_state;
 use test_support::texts::{full_text, long_blank, long_text, repeated};
 
 /// The report by std's reader and writer over memory, and by the promise of `run` what it is.

@@ -1,7 +1,6 @@
 //! `run` in every mode, over readers of every step, which end after each byte and fail at each call.
 use super::rows::{LETTERS, Row, Words, all_rows};
 use super::same::{holds, same};
-use super::state::fixed_state;
 use super::words::mode_of_words;
 use smol_str::stream::PIECE;
 use smol_tokens_core::fault::RunFault;
@@ -10,6 +9,7 @@ use std::alloc::{AllocError, Global};
 use std::io::ErrorKind;
 use std::process::Abort;
 use std::test::Fail;
+use test_support::state::fixed_state;
 use test_support::streams::{
     Drip, Failure, READ_ERRORS, STEPS, Trickle, empty_drip, is_tried, trickle_of,
 };

@@ -1,7 +1,6 @@
 //! `run` with memory refused: nothing is written, or all.
 use super::rows::{Words, answer, report_by};
 use super::same::{holds, same};
-use super::state::fixed_state;
 use super::words::mode_of_words;
 use smol_str::stream::PIECE;
 use smol_tokens_core::fault::RunFault;
@@ -11,6 +10,7 @@ use std::alloc::Global;
 use std::process::Abort;
 use std::test::Fail;
 use test_support::refuse::{can_refuse, each_refused_by_value};
+use test_support::state::fixed_state;
 use test_support::streams::{Drip, Failure, empty_drip, trickle_of};
 use test_support::texts::{long_blank, long_text, repeated};
 

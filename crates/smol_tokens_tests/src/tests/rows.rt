@@ -1,10 +1,10 @@
 //! Inputs in every mode, and the reports on them.
-use super::state::fixed_state;
 use super::words::mode_of_words;
 use smol_str::INLINE_CAP;
 use smol_tokens_core::run::run;
 use std::alloc::{AllocError, Global};
 use std::test::Fail;
+use test_support::state::fixed_state;
 use test_support::texts::{full_text, long_blank, long_capitals, long_text, repeated};
 
 /// The words of a mode.

@@ -5,7 +5,6 @@ ghost use Rattle.smol_tokens_core.specs.Report.{report};
 
 use super::rows::answer;
 use super::same::{holds, same, same_bytes};
-use super::state::fixed_state;
 use smol_str::BLANK_SPACES;
 use smol_str::stream::PIECE;
 use smol_tokens_core::fault::RunFault;
@@ -14,6 +13,7 @@ use smol_tokens_core::run::run;
 use std::alloc::Global;
 use std::process::Abort;
 use std::test::Fail;
+use test_support::state::fixed_state;
 use test_support::streams::{Drip, Failure, empty_drip, trickle_of};
 use test_support::texts::{full_text, long_blank, long_text, repeated, repeated_and};
 

@@ -4,12 +4,15 @@ use std::alloc::Global;
 use std::process::Abort;
 use std::test::Fail;
 use test_support::refuse::{can_refuse, each_refused_by_value, end_refusals, refuse_all};
+use test_support::state::{FixedState, fixed_state};
 use test_support::texts::long_text;
-use uses::symbols::Symbols;
+use uses::symbols;
+
+type Symbols = symbols::Symbols<FixedState>;
 
 #[test]
 fn each_name_has_its_id(rt: HostRuntime) -> Result<(), Fail> {
-    let mut symbols = Symbols::new(rt.alloc());
+    let mut symbols = Symbols::with_hasher(rt.alloc(), fixed_state());
     // each name and the id that it is to have, in the order in which they come
     let names = [
         ("if", 0),
@@ -66,7 +69,7 @@ fn each_request_in_turn(rt: HostRuntime) -> Result<(), Fail> {
 }
 
 fn table_of_one(rt: &impl Abort, alloc: Global) -> Result<Symbols, Fail> {
-    let mut symbols = Symbols::new(alloc);
+    let mut symbols = Symbols::with_hasher(alloc, fixed_state());
     check_id(rt, &mut symbols, "if", 0)?;
     Ok(symbols)
 }

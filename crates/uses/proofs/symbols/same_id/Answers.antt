@@ -4,7 +4,7 @@ use Rattle.uses.proofs.symbols.same_id.Goals as goal
 
 -- the first id stays the text's, over the other text and over the text again
 pub returns-clause-back : goal.returns-clause-back
-returns-clause-back c =
+returns-clause-back g c =
     let t = chars c.args.text.now in
     let first = c.in_ok-first.first in
     let stays = id_of-stays t (chars c.args.other.now) c.intern.new.self first c.in_ok-first.ensures.id in

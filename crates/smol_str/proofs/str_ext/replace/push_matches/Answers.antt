@@ -3,8 +3,8 @@ use Rattle.smol_str.proofs.TextLemmas.Places.{OnErr-always}
 use Rattle.smol_str.proofs.CutLemmas.Replacing.{replacing-boundary, match-boundary, match-after, match-end, match-piece, match-step, match-refused, replacing-unmatched}
 use Rattle.smol_str.proofs.str_ext.replace.push_matches.Goals as goal
 
-pub next_match-requires-clause-boundary : goal.next_match-requires-clause-boundary
-next_match-requires-clause-boundary c = λ _. replacing-boundary _ _ _ _ _ _ _ c.loop-taken.invariant c.utf8.text
+pub next_match_by-requires-clause-boundary : goal.next_match_by-requires-clause-boundary
+next_match_by-requires-clause-boundary c = λ _. replacing-boundary _ _ _ _ _ _ _ c.loop-taken.invariant c.utf8.text
 
 pub range-requires-clause-start_le_end : goal.range-requires-clause-start_le_end
 range-requires-clause-start_le_end c =

@@ -1,6 +1,9 @@
 //! A state of the hasher that is the same in each run.
 use std::hash::{BuildHasherDefault, FoldHasher};
 
-pub fn fixed_state() -> BuildHasherDefault<FoldHasher> {
+/// The state, as a type.
+pub type FixedState = BuildHasherDefault<FoldHasher>;
+
+pub fn fixed_state() -> FixedState {
     BuildHasherDefault::new()
 }
