@@ -1,6 +1,6 @@
 -- What std's iterators give as lists of texts: characters from the end of a text, an array by value, a text split at
 -- another.
-use Rattle.std.proofs.Common.{◌≡◌, ℕ, ◌<◌, Bool, false, Bor, List, [], ◌∷◌, ◌++◌, length, map, take, reverse, Option, Some, None, MatchOption, refl, sym, ap, ◌∙◌, subst, arith, append-nil}
+use Rattle.std.proofs.Common.{◌≡◌, ℕ, Bool, false, Bor, List, [], ◌∷◌, ◌++◌, length, map, take, reverse, Option, refl, sym, ap, ◌∙◌, subst, arith, append-nil}
 use Rattle.std.specs.Str.{IsUtf8, chars, all_scalars, encode_utf8_all}
 use Rattle.std.specs.Char.{encode_utf8}
 use denote.Param.Members.{Mut}

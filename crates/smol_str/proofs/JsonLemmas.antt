@@ -1,10 +1,14 @@
 -- JSON strings, for module `json`.
-use Rattle.smol_str.proofs.Common.{String, Global, string_bytes, rules, ◌≡◌, ℕ, List, Some, Result, Ok, Err, IfOk, sym, ap, ◌∙◌, chars, encodes-chars, encodes_same, IsUtf8-string_bytes, place_of, Meaning, IsValueOf, common_steps, arith}
+use Rattle.smol_str.proofs.Common.{String, Global, string_bytes, rules, ◌≡◌, ℕ, ◌<◌, List, [], ◌∷◌, length, None, Some, Result, Ok, Err, IfOk, refl, sym, ap, ◌∙◌, chars, encodes-chars, encodes_same, IsUtf8-string_bytes, place_of, Meaning, IsValueOf, common_steps, arith}
+use Rattle.std.specs.Result.{IfErr}
 use Rattle.serde_json.specs.Data as json
 use Rattle.serde_json.specs.Read.{read}
 use Rattle.serde_json.specs.View.{view}
+use Rattle.serde_json.proofs.OnLiterals.{serde_json_on_literals}
 use Rattle.serde_json.specs.declared.value.Value as value
-use Rattle.smol_str.specs.Json.{json_value, IsJsonOf}
+use Rattle.smol_str.specs.declared.json.JsonFault.{JsonFault}
+use Rattle.smol_str.specs.declared.json.JsonFault.TheVariants.{NotString, Json, OutOfMemory}
+use Rattle.smol_str.specs.Json.{json_value, IsJsonOf, AfterValueFault, AfterJsonFault}
 
 view-String : (s : String Global) → view (value.String s) ≡ json.string (string_bytes s)
 view-String s = search (rules, value.the_lemmas)
@@ -31,3 +35,24 @@ pub IsValueOf-read : {E : Type 0} (r : Result Meaning E) (d : json.Data) (bs t :
     IfOk r (IsJsonOf d) → read bs ≡ Some (json_value t) → IfOk r (λ v. IsValueOf t v)
 IsValueOf-read (Ok v) d bs t e h f = let same : d ≡ json_value t = cc in IsValueOf-IsJsonOf t v (rw same at h)
 IsValueOf-read (Err x) d bs t e h f = tt
+
+-- no bytes are no JSON text
+read-nil : read [] ≡ None
+unfolding serde_json_on_literals
+read-nil = refl
+
+some_bytes : (bs : List ℕ) (d : json.Data) → read bs ≡ Some d → 0 < length bs
+some_bytes [] d e = let none = read-nil in absurd cc
+some_bytes (b ∷ bs) d e = omega arith
+
+-- a fault of the value that bytes read as
+AfterJsonFault-of_value : (bs : List ℕ) (d : json.Data) (fault : JsonFault) → read bs ≡ Some d → AfterValueFault d fault
+    → AfterJsonFault bs fault
+AfterJsonFault-of_value bs d NotString e h = (d, e, h)
+AfterJsonFault-of_value bs d (Json x) e h = absurd h
+AfterJsonFault-of_value bs d OutOfMemory e h = some_bytes bs d e
+
+pub AfterJsonFault-read : {T : Type 0} (r : Result T JsonFault) (bs : List ℕ) (d : json.Data) → read bs ≡ Some d
+    → IfErr r (AfterValueFault d) → IfErr r (AfterJsonFault bs)
+AfterJsonFault-read (Ok v) bs d e h = tt
+AfterJsonFault-read (Err fault) bs d e h = AfterJsonFault-of_value bs d fault e h

@@ -4,7 +4,7 @@
 --     IsJsonOf d v      d is the JSON value of v's text, and v keeps it in its place
 --     IsOther d         d is another JSON value than a string
 -- JSON values, and which text reads as which, are those of `serde_json`.
-use Rattle.std.specs.Prelude.{◌≡◌, ⊤, ℕ, List, Some, None, encode_utf8_all}
+use Rattle.std.specs.Prelude.{◌≡◌, ⊤, ℕ, ◌<◌, List, length, Some, None, encode_utf8_all}
 use Rattle.serde_json.specs.Data as json
 use Rattle.serde_json.specs.Read.{read}
 use Rattle.smol_str.specs.declared.json.JsonFault.{JsonFault}
@@ -36,8 +36,9 @@ AfterValueFault d NotString = IsOther d
 AfterValueFault d (Json e) = ⊥
 AfterValueFault d OutOfMemory = (t : List ℕ) × (d ≡ json_value t) × (¬ (IsResident t))
 
--- of the bytes of a text: they read as another value than a string, or as none
+-- of the bytes of a text: they read as another value than a string, or as none; out of memory: there are bytes, whatever
+-- they read as, since serde_json takes memory before it reads the first
 abbrev pub AfterJsonFault : List ℕ → JsonFault → Type 0
 AfterJsonFault bytes NotString = (d : json.Data) × (read bytes ≡ Some d) × IsOther d
 AfterJsonFault bytes (Json e) = read bytes ≡ None
-AfterJsonFault bytes OutOfMemory = ⊤
+AfterJsonFault bytes OutOfMemory = 0 < length bytes

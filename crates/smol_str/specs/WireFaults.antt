@@ -1,6 +1,7 @@
 -- What stands after the wire form was written or read, and after each fault.
 --     AfterEncodeFault      of a writer
 --     AfterReadFault        of a reader
+--     StopsEarly            the bytes that were consumed have ended early
 --     AfterLimitedFault     of a reader of values that have a greatest size
 --     AfterFromWireFault    of bytes
 -- A reader gives a size first, and then a body of this size.
@@ -29,10 +30,10 @@ use Rattle.smol_str.specs.declared.buffer.TheConstants.{INLINE_CAP}
 use Rattle.smol_str.specs.Text.{IsResident}
 use Rattle.smol_str.specs.Meaning.{Meaning, IsValueOf}
 use Rattle.smol_str.specs.Faults.{IsUtf8FaultOf}
-use Rattle.smol_str.specs.Stream.{AppendsBeginning, EndsBelow}
+use Rattle.smol_str.specs.Stream.{AppendsBeginning, EndsBelow, StopsBelow, ConsumesSome}
 use Rattle.smol_str.specs.Wire.{stated, HasEndedEarly, body}
 
--- too long: the value has no form, and nothing was written; else it has, and a beginning of it was written
+-- too long: the value has no form, and nothing was written; else it has, and a beginning of it was written, but not all
 abbrev pub AfterEncodeFault : List ℕ → Type 0 → Option (List ℕ) → Option (List ℕ) → EncodeFault → Type 0
 AfterEncodeFault form HasForm held holds TooLong = (¬ HasForm) × Keeps held holds
 AfterEncodeFault form HasForm held holds (WriteFailed e) = HasForm × AppendsBeginning held holds form
@@ -41,21 +42,32 @@ AfterEncodeFault form HasForm held holds (WriteFailed e) = HasForm × AppendsBeg
 abbrev pub IsRefusedBody : List ℕ → Utf8Error → Type 0
 IsRefusedBody bytes e = (¬ (IsUtf8 bytes)) × IsUtf8FaultOf bytes e
 
+-- the bytes that were consumed have ended early, as P says of them too: others may be left, and the whole form never came
+abbrev pub StopsEarly : Option (List ℕ) → Option (List ℕ) → (List ℕ → Type 0) → Type 0
+StopsEarly input left P = (bytes : List ℕ) × HasEndedEarly bytes × P bytes × Consumes input left bytes
+
+-- the size and some of the body were consumed, and no more than the whole body
+abbrev pub StopsInBody : Option (List ℕ) → Option (List ℕ) → Type 0
+StopsInBody input left =
+    (bytes : List ℕ) × (4 < length bytes) × (length bytes ≤ 4 + stated bytes) × Consumes input left bytes
+
 -- ended: the bytes had ended early, and none is left; not UTF-8: the size and the whole body were consumed and no more,
--- and the body is not UTF-8; out of memory: the size that was stated is above INLINE_CAP
+-- and the body is not UTF-8; out of memory: the size that was stated is above INLINE_CAP, and some of the body came; the
+-- reader failed before the whole form had come
 abbrev pub AfterReadFault : Option (List ℕ) → Option (List ℕ) → DecodeFault → Type 0
 AfterReadFault input left Ended = IfSome input HasEndedEarly × IsAtEnd left
 AfterReadFault input left (NotUtf8 e) =
     IfSome input (λ b. (¬ (HasEndedEarly b)) × IsRefusedBody (body b) e × Consumes input left (take (4 + stated b) b))
-AfterReadFault input left OutOfMemory = IfSome input (λ b. (4 ≤ length b) × (INLINE_CAP < stated b))
-AfterReadFault input left (ReadFailed e) = ⊤
+AfterReadFault input left OutOfMemory =
+    IfSome input (λ b. (4 ≤ length b) × (INLINE_CAP < stated b)) × StopsInBody input left
+AfterReadFault input left (ReadFailed e) = StopsEarly input left (λ bytes. ⊤)
 
 -- the size, where all four bytes of it are there, is within the limit
 abbrev pub StatesAtMost : ℕ → List ℕ → Type 0
 StatesAtMost limit b = 4 ≤ length b → stated b ≤ limit
 
 -- too long: the size that was stated is above the limit, and nothing behind it was consumed; else a fault of reading, of
--- a size within the limit, or the reader failed
+-- a size within the limit, if the whole of it came
 abbrev pub AfterLimitedFault : ℕ → Option (List ℕ) → Option (List ℕ) → LimitedFault → Type 0
 AfterLimitedFault limit input left AboveLimit =
     IfSome input (λ b. (4 ≤ length b) × (limit < stated b) × Consumes input left (take 4 b))
@@ -65,7 +77,7 @@ AfterLimitedFault limit input left (Decode (NotUtf8 e)) =
     AfterReadFault input left (NotUtf8 e) × IfSome input (StatesAtMost limit)
 AfterLimitedFault limit input left (Decode OutOfMemory) =
     AfterReadFault input left OutOfMemory × IfSome input (StatesAtMost limit)
-AfterLimitedFault limit input left (Decode (ReadFailed e)) = AfterReadFault input left (ReadFailed e)
+AfterLimitedFault limit input left (Decode (ReadFailed e)) = StopsEarly input left (StatesAtMost limit)
 
 -- ended: the bytes have; else the body is there, and is not UTF-8, or is that of a text that is not resident; no reader
 -- is asked, and so none fails
@@ -94,12 +106,13 @@ pub record HasReadNoText (input left : Option (List ℕ)) (n : ℕ) (e : Utf8Err
   pub refused : IsRefusedBody body e
   pub bytes : Consumes input left body
 
--- after reading a body of n bytes
+-- after reading a body of n bytes: out of memory comes only of a body above INLINE_CAP, and where some of it came; the
+-- reader failed before the whole body had come
 abbrev pub AfterBodyFault : Option (List ℕ) → Option (List ℕ) → ℕ → DecodeFault → Type 0
 AfterBodyFault input left n Ended = EndsBelow input left n
 AfterBodyFault input left n (NotUtf8 e) = HasReadNoText input left n e
-AfterBodyFault input left n OutOfMemory = INLINE_CAP < n
-AfterBodyFault input left n (ReadFailed e) = ⊤
+AfterBodyFault input left n OutOfMemory = (INLINE_CAP < n) × ConsumesSome input left n
+AfterBodyFault input left n (ReadFailed e) = StopsBelow input left n
 
 abbrev pub of_read_fault : ReadFault → DecodeFault
 of_read_fault NoMemoryToRead = OutOfMemory

@@ -3,11 +3,11 @@
 //!
 //! Readers and writers are called as [`crate::stream`] calls them, by single `read`s and `write`s. A
 //! reader or writer that does not tell its bytes is claimed nothing of.
-ghost use Rattle.std.specs.Prelude.{◌≡◌, ◌<◌, ◌≤◌, ◌^◌, ◌++◌, ℕ, List, length, Option, MatchOption, IfOk, OnOk, IfErr};
+ghost use Rattle.std.specs.Prelude.{◌≡◌, ◌<◌, ◌≤◌, ◌^◌, ◌++◌, ℕ, List, length, Option, MatchOption, IfOk, OnOk, IfErr, OnErr};
 ghost use Rattle.std.specs.Int.{w32, to_le_bytes, from_le_bytes};
 ghost use Rattle.std.specs.Io.KnownBytes.{Appends, Consumes};
 ghost use Rattle.smol_str.specs.Text.{size, place_of};
-ghost use Rattle.smol_str.specs.Stream.{EndsBelow};
+ghost use Rattle.smol_str.specs.Stream.{EndsBelow, StopsBelow};
 ghost use Rattle.smol_str.specs.Wire.{HasWire, wire, Holds, HasEndedEarly, body};
 ghost use Rattle.smol_str.specs.WireFaults.{AfterEncodeFault, AfterFromWireFault, AfterLimitedFault};
 ghost use Rattle.smol_str.specs.WireFaults.{HasReadSize, HasReadBody, AfterBodyFault};
@@ -167,9 +167,10 @@ fn size_in(prefix: &[u8; 4]) -> usize
 
 /// Reads the size, `None` where fewer than four bytes were left.
 fn read_size<R: Read>(reader: &mut R) -> Result<Option<usize>, io::Error>
-    ensures { IfOk result (λ found.
+    ensures ok { IfOk result (λ found.
         MatchOption found (EndsBelow (R.remaining reader.old) (R.remaining reader.new) 4)
         (HasReadSize (R.remaining reader.old) (R.remaining reader.new))) }
+    ensures failed { OnErr result (StopsBelow (R.remaining reader.old) (R.remaining reader.new) 4) }
 {
     let mut prefix = [0; 4];
     if fill(reader, &mut prefix)? < 4 {
@@ -257,11 +258,11 @@ impl BorshSerialize for SmolStr {
 ///
 /// * [`DecodeFault::Ended`]: the bytes have ended early, and all of them are consumed.
 /// * [`DecodeFault::NotUtf8`]: the size and the whole body are consumed, and the rest is unread.
-/// * [`DecodeFault::OutOfMemory`]: only where the stated size is above [`INLINE_CAP`]. It may come
-///   before an early end is seen.
+/// * [`DecodeFault::OutOfMemory`]: only where the stated size is above [`INLINE_CAP`], and some of the
+///   body came. It may come before an early end is seen.
 /// * [`DecodeFault::Io`]: a `read` failed, `Interrupted` among its errors; it may come before every
-///   other fault. That it comes only then, how much memory is taken and the sizes of the buffers are
-///   tested.
+///   other fault, and only before the whole body has come. That it comes only where a `read` failed, how
+///   much memory is taken and the sizes of the buffers are tested.
 impl BorshDeserialize for SmolStr {
     ghost use Rattle.std.specs.Prelude.{◌≡◌};
     ghost use Rattle.smol_str.specs.Text.{place_of};

@@ -3,9 +3,9 @@
 //! std's own `read_exact`, `read_to_end` and `write_all` go on after `Interrupted`, which a reader or
 //! a writer may answer without end; these give every error back at once. A reader or writer that
 //! does not tell its bytes is claimed nothing of.
-ghost use Rattle.std.specs.Prelude.{◌≡◌, ◌<◌, ◌≤◌, length, take, IfOk, OnOk, OnErr, IfSome};
+ghost use Rattle.std.specs.Prelude.{◌≡◌, ◌<◌, ◌≤◌, ◌-◌, ◌^◌, length, take, IfOk, OnOk, IfErr, OnErr, IfSome};
 ghost use Rattle.std.specs.Io.KnownBytes.{Appends, Consumes, IsAtEnd};
-ghost use Rattle.smol_str.specs.Stream.{AppendsBeginning};
+ghost use Rattle.smol_str.specs.Stream.{AppendsBeginning, StopsBelow, AfterStreamFault};
 ghost use Rattle.smol_str.specs.declared.stream.ReadFault.TheVariants.{OutOfMemory, Io};
 
 use std::alloc::{AllocError, Global};
@@ -15,12 +15,12 @@ use std::io::{ErrorKind, Read, Write};
 /// The most bytes that one `read` is asked for by [`read_up_to`] and [`read_all`].
 pub const PIECE: usize = 4096;
 
-/// Why bytes were not read; how many of them were consumed is left open.
+/// Why bytes were not read.
 #[derive(Debug, Drop)]
 pub enum ReadFault {
-    /// Memory was refused.
+    /// Memory was refused for bytes that came.
     OutOfMemory,
-    /// The reader failed.
+    /// The reader failed before all bytes had come.
     Io(io::Error),
 }
 
@@ -43,12 +43,13 @@ impl From<AllocError> for ReadFault {
 /// Fills `buf` from its front, each step by one `read` into what is left of it, and answers how many
 /// bytes came: fewer than `buf` has only where the reader is at its end.
 ///
-/// An empty `buf` makes no `read`.
+/// An empty `buf` makes no `read`. Where the reader failed, fewer bytes came than `buf` has.
 pub fn fill<R: Read>(reader: &mut R, buf: &mut [u8]) -> Result<usize, io::Error>
     ensures within { IfOk result (λ n. n ≤ length buf.old) }
     ensures bytes { IfOk result (λ n.
         Consumes (R.remaining reader.old) (R.remaining reader.new) (take n buf.new)) }
     ensures end { IfOk result (λ n. n < length buf.old → IsAtEnd (R.remaining reader.new)) }
+    ensures failed { OnErr result (StopsBelow (R.remaining reader.old) (R.remaining reader.new) (length buf.old)) }
 {
     let mut filled = 0;
     while filled < buf.len() {
@@ -72,6 +73,8 @@ pub fn read_up_to<R: Read>(
     ensures bytes { IfOk result (λ all.
         Consumes (R.remaining reader.old) (R.remaining reader.new) all.items) }
     ensures end { IfOk result (λ all. length all.items < limit → IsAtEnd (R.remaining reader.new)) }
+    ensures fault { IfErr result
+        (AfterStreamFault limit (R.remaining reader.old) (R.remaining reader.new)) }
 {
     let mut all = Vec::new(alloc);
     let mut piece = empty_piece();
@@ -100,12 +103,14 @@ pub fn read_all<R: Read>(alloc: Global, reader: &mut R) -> Result<Vec<u8>, ReadF
         Consumes (R.remaining reader.old) (R.remaining reader.new) all.items) }
     ensures end { OnOk result (IsAtEnd (R.remaining reader.new)) }
     ensures whole { IfOk result (λ all. IfSome (R.remaining reader.old) (λ input. all.items ≡ input)) }
+    ensures fault { IfErr result
+        (AfterStreamFault (2 ^ 64 - 1) (R.remaining reader.old) (R.remaining reader.new)) }
 {
     read_up_to(alloc, reader, usize::MAX)
 }
 
 /// Writes all of `bytes`, each step by one `write` of what is left; a `write` that takes no byte
-/// is the error `WriteZero`. After an error a beginning of `bytes` was written.
+/// is the error `WriteZero`. After an error a beginning of `bytes` was written, and not all of them.
 pub fn write_steps<W: Write>(writer: &mut W, bytes: &[u8]) -> Result<(), io::Error>
     ensures ok { OnOk result (Appends (W.contents writer.old) (W.contents writer.new) bytes.now) }
     ensures beginning { OnErr result

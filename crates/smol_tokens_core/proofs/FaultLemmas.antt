@@ -1,11 +1,17 @@
--- For `run`: what stands where there is no report.
-use Rattle.std.proofs.Common.{◌≡◌, ℕ, List, Option, Some, None, refl, subst, IsUtf8}
+-- What stands where an input was not read, or where there is no report on it.
+use Rattle.std.proofs.Common.{◌≡◌, ℕ, List, Option, Some, None, Result, Ok, Err, inl, inr, refl, sym, ap, ◌∙◌, subst, IsUtf8}
 use Rattle.std.specs.Prelude.{IfSome}
+use Rattle.std.specs.Result.{IsErrAnd, IfErr, OnErr}
 use Rattle.std.specs.Str.{chars}
 use Rattle.std.specs.Io.KnownBytes.{IsAtEnd, Keeps}
 use Rattle.std.proofs.lemmas.Option.{IfSome_then}
+use Rattle.std.proofs.lemmas.Result.{err_from_is_err_and}
+use Rattle.smol_str.specs.Stream.{AfterStreamFault}
+use Rattle.smol_str.specs.declared.stream.ReadFault.{ReadFault}
+use Rattle.smol_str.specs.declared.stream.ReadFault.TheVariants as reading
 use Rattle.smol_tokens_core.specs.Faults.{AfterFault}
-use Rattle.smol_tokens_core.specs.ReportFaults.{HasALineTooOften, HasNoReport}
+use Rattle.smol_tokens_core.specs.ReadFaults.{run_fault}
+use Rattle.smol_tokens_core.specs.ReportFaults.{HasALineTooOften, WantsMemory, HasNoReport, AfterInputFault}
 use Rattle.smol_tokens_core.specs.declared.mode.Mode.{Mode}
 use Rattle.smol_tokens_core.specs.declared.fault.RunFault.{RunFault}
 use Rattle.smol_tokens_core.specs.declared.fault.RunFault.TheVariants.{NotUtf8, OutOfMemory, Full, Io}
@@ -14,16 +20,55 @@ Keeps-itself : (known : Option (List ℕ)) → Keeps known known
 Keeps-itself None = tt
 Keeps-itself (Some bytes) = refl
 
+-- the input was not read to its end
+pub after-reading : (mode : Mode) (limit : ℕ) (input left held : Option (List ℕ)) (fault : ReadFault)
+    → AfterStreamFault limit input left fault → AfterFault mode input left held held (run_fault fault)
+after-reading mode limit input left held reading.OutOfMemory (bytes, some, within, consumed) =
+    (Keeps-itself held, inl (bytes, some, consumed))
+after-reading mode limit input left held (reading.Io e) (bytes, short, consumed) =
+    inl (Keeps-itself held, (bytes, consumed))
+
 -- nothing was written
 pub after-no_report : (mode : Mode) (input left held : Option (List ℕ)) (bytes : List ℕ) (fault : RunFault)
-    → IsAtEnd left → IfSome input (λ all. bytes ≡ all) → IsUtf8 bytes → HasNoReport mode (chars bytes) fault
+    → IsAtEnd left → IfSome input (λ all. bytes ≡ all) → AfterInputFault mode bytes fault
     → AfterFault mode input left held held fault
-after-no_report mode input left held bytes NotUtf8 end whole utf8 none = absurd none
-after-no_report mode input left held bytes OutOfMemory end whole utf8 none = Keeps-itself held
-after-no_report mode input left held bytes Full end whole utf8 none = (
-  none.0,
+after-no_report mode input left held bytes NotUtf8 end whole none = (
   end,
-  IfSome_then input whole (λ all same. subst (λ all. IsUtf8 all × HasALineTooOften (chars all)) same (utf8, none.1)),
+  IfSome_then input whole (λ all same. subst (λ all. ¬ (IsUtf8 all)) same none),
   Keeps-itself held,
 )
-after-no_report mode input left held bytes (Io e) end whole utf8 none = absurd none
+after-no_report mode input left held bytes OutOfMemory end whole none = (
+  Keeps-itself held,
+  inr (
+    end,
+    IfSome_then input whole (λ all same. subst (λ all. IsUtf8 all × WantsMemory mode (chars all)) same none),
+  ),
+)
+after-no_report mode input left held bytes Full end whole none = (
+  none.1,
+  end,
+  IfSome_then input whole
+      (λ all same. subst (λ all. IsUtf8 all × HasALineTooOften (chars all)) same (none.0, none.2)),
+  Keeps-itself held,
+)
+after-no_report mode input left held bytes (Io e) end whole none = absurd none
+
+-- the bytes are a text, on which there is no report
+pub after-no_report_on_text : (mode : Mode) (bytes : List ℕ) (fault : RunFault) → IsUtf8 bytes
+    → HasNoReport mode (chars bytes) fault → AfterInputFault mode bytes fault
+after-no_report_on_text mode bytes NotUtf8 utf8 none = absurd none
+after-no_report_on_text mode bytes OutOfMemory utf8 none = (utf8, none)
+after-no_report_on_text mode bytes Full utf8 none = (utf8, none.0, none.1)
+after-no_report_on_text mode bytes (Io e) utf8 none = absurd none
+
+-- memory was refused
+pub no_report-refused : {T : Type 0} (r : Result T RunFault) (mode : Mode) (t : List ℕ)
+    → IsErrAnd r (λ fault. fault ≡ OutOfMemory) → WantsMemory mode t → IfErr r (HasNoReport mode t)
+no_report-refused r mode t refused wants =
+    let (fault, is_err, is) = err_from_is_err_and r refused in
+    subst (λ r. IfErr r (HasNoReport mode t)) (sym (is_err ∙ ap Err is)) wants
+
+-- what holds anyway
+pub OnErr-from : {T E : Type 0} (P : Type 0) (r : Result T E) → P → OnErr r P
+OnErr-from P (Ok v) h = tt
+OnErr-from P (Err e) h = h

@@ -1,7 +1,7 @@
 -- For `tally_lines`: lines counted one after another, and what a count that is full says of all lines.
-use Rattle.std.proofs.Common.{◌≡◌, ℕ, ◌+◌, List, [], ◌∷◌, ◌++◌, cond, map, refl, sym, ap, ◌∙◌, arith}
+use Rattle.std.proofs.Common.{◌≡◌, ℕ, ◌+◌, ◌<◌, length, inr, List, [], ◌∷◌, ◌++◌, cond, map, refl, sym, ap, ◌∙◌, arith}
 use Rattle.std.specs.Prelude.{count_by}
-use Rattle.std.proofs.lemmas.List.{map-append, append_assoc}
+use Rattle.std.proofs.lemmas.List.{map-append, append_assoc, length-append}
 use Rattle.std.proofs.lemmas.List.Sums.{sum_by-cons, sum_by-append}
 use Rattle.smol_tokens_core.specs.Lines.{lines}
 use Rattle.smol_tokens_core.specs.Tally.{is_same, times_of, tally, seen_once}
@@ -10,6 +10,7 @@ use Rattle.smol_tokens_core.specs.ReportFaults.{HasNoReport}
 use Rattle.smol_tokens_core.specs.declared.mode.Mode.TheVariants.{Tokens}
 use Rattle.smol_tokens_core.specs.declared.tally.AddFault.{AddFault}
 use Rattle.smol_tokens_core.specs.declared.tally.AddFault.TheVariants.{OutOfMemory, Full}
+use Rattle.smol_tokens_core.proofs.PieceLemmas.{lines-nil}
 use Rattle.smol_tokens_core.proofs.SightLemmas.{is_same_itself}
 use Rattle.smol_tokens_core.proofs.TallyLemmas.{times_of-tally, tally-again}
 
@@ -36,11 +37,29 @@ lines-seen f seen x all left rest is next =
     is ∙ ap (λ us. map f seen ++ us) next
     ∙ sym (ap (λ us. us ++ rest) (map-append f seen (x ∷ [])) ∙ append_assoc (map f seen) (f x ∷ []) rest)
 
+-- a text that has a line is not empty
+pub some_text : (t : List ℕ) (seen left rest : List (List ℕ)) (line : List ℕ) → lines t ≡ seen ++ left
+    → left ≡ line ∷ rest → 0 < length t
+some_text [] seen left rest line is next =
+    let none : 0 ≡ length (seen ++ left) = ap length (sym lines-nil ∙ is) in
+    let some = ap length next in
+    let both = length-append seen left in
+    absurd (omega (arith, none, some, both))
+some_text (c ∷ cs) seen left rest line is next = omega arith
+
+-- and so is one whose lines have a count
+pub some_counts : (t : List ℕ) (counts : List (List ℕ × ℕ)) → counts ≡ tally (seen_once (lines t)) → 0 < length counts
+    → 0 < length t
+some_counts [] counts is some =
+    let none : length counts ≡ 0 = ap length (is ∙ ap (λ l. tally (seen_once l)) lines-nil) in
+    absurd (omega (arith, none, some))
+some_counts (c ∷ cs) counts is some = omega arith
+
 -- the lines so far with the one that was not counted are a front of the lines
 pub no_report-add : (t line : List ℕ) (seen rest left : List (List ℕ)) (old : List (List ℕ × ℕ)) (fault : AddFault)
     → old ≡ tally (seen_once seen) → lines t ≡ seen ++ left → left ≡ line ∷ rest → AfterAddFault old line 1 fault
     → HasNoReport Tokens t (run_fault_of fault)
-no_report-add t line seen rest left old (OutOfMemory token) so_far is next new = tt
+no_report-add t line seen rest left old (OutOfMemory token) so_far is next new = inr (some_text t seen left rest line is next)
 no_report-add t line seen rest left old (Full token) so_far is next full =
     let before : times_of line old ≡ count_by (is_same line) seen =
     ap (times_of line) so_far ∙ times_of-tally line (seen_once seen) ∙ times_of-seen_once line seen in

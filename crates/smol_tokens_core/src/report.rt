@@ -1,11 +1,11 @@
 //! The report on a text.
-ghost use Rattle.std.specs.Prelude.{◌≡◌, ◌++◌, IfOk, IfErr, OnOk, encode_utf8_all};
-ghost use Rattle.std.specs.Str.{chars};
+ghost use Rattle.std.specs.Prelude.{◌≡◌, ◌<◌, ◌++◌, length, IfOk, IfErr, OnOk, OnErr, encode_utf8_all};
+ghost use Rattle.std.specs.Str.{chars, IsUtf8};
 ghost use Rattle.std.specs.String.{string_bytes};
 ghost use Rattle.smol_str.specs.Text.{size};
 ghost use Rattle.smol_str.specs.Meaning.{IsValueOf};
 ghost use Rattle.smol_tokens_core.specs.Report.{place_word, answer_line, line_text, lines_report, join_report, report};
-ghost use Rattle.smol_tokens_core.specs.ReportFaults.{HasNoReport};
+ghost use Rattle.smol_tokens_core.specs.ReportFaults.{HasNoReport, AfterInputFault};
 
 use crate::fault::RunFault;
 use crate::lines::Lines;
@@ -15,11 +15,31 @@ use smol_str::{FormatError, Place, SmolStr, StrExt, format_smolstr};
 use std::alloc::{AllocError, Global};
 use std::hash::BuildHasher;
 
+/// The whole report on an input, where its bytes are a text.
+///
+/// UTF-8 is tested first, so an input that is not UTF-8 is [`RunFault::NotUtf8`], whatever the memory.
+/// [`RunFault::Io`] never comes.
+pub fn report_on_input<S: BuildHasher + Drop>(
+    alloc: Global,
+    state: S,
+    mode: Mode,
+    input: &[u8],
+) -> Result<String, RunFault>
+    ensures utf8 { OnOk result (IsUtf8 input.now) }
+    ensures ok { IfOk result (λ out. string_bytes out ≡ encode_utf8_all (report mode (chars input.now))) }
+    ensures fault { IfErr result (AfterInputFault mode input.now) }
+{
+    let Ok(text) = str::from_utf8(input) else {
+        return Err(RunFault::NotUtf8);
+    };
+    make_report(alloc, state, mode, text)
+}
+
 /// The whole report on a text.
 ///
 /// Mode tokens hashes the lines by `state`, on which no report depends. It is [`RunFault::Full`] only in mode tokens,
 /// where a line stands more than `u64::MAX` times.
-pub fn make_report<S: BuildHasher + Drop>(
+fn make_report<S: BuildHasher + Drop>(
     alloc: Global,
     state: S,
     mode: Mode,
@@ -38,7 +58,8 @@ pub fn make_report<S: BuildHasher + Drop>(
 
 /// The answer line of what each line is made to in a mode.
 fn answer_lines(alloc: Global, mode: &Mode, text: &str) -> Result<String, AllocError>
-    ensures { IfOk result (λ out. string_bytes out ≡ encode_utf8_all (lines_report mode.now (chars text.now))) }
+    ensures ok { IfOk result (λ out. string_bytes out ≡ encode_utf8_all (lines_report mode.now (chars text.now))) }
+    ensures refused { OnErr result (0 < length (chars text.now)) }
 {
     let mut out = String::new(alloc);
     for line in Lines::of(text) {

@@ -4,7 +4,7 @@ ghost use Rattle.smol_tokens_core.specs.Faults.{WroteReport, AfterFault};
 
 use crate::fault::RunFault;
 use crate::mode::Mode;
-use crate::report::make_report;
+use crate::report::report_on_input;
 use smol_str::stream::{read_all, write_steps};
 use std::alloc::Global;
 use std::hash::BuildHasher;
@@ -33,10 +33,7 @@ pub fn run<S: BuildHasher + Drop, R: Read, W: Write>(
         (W.contents writer.old) (W.contents writer.new)) }
 {
     let input = read_all(alloc, reader)?;
-    let Ok(text) = str::from_utf8(input.as_slice()) else {
-        return Err(RunFault::NotUtf8);
-    };
-    let report = make_report(alloc, state, mode, text)?;
+    let report = report_on_input(alloc, state, mode, input.as_slice())?;
     write_steps(writer, report.as_bytes())?;
     Ok(())
 }

@@ -1,5 +1,5 @@
 //! The report of mode tokens: how often each line stands.
-ghost use Rattle.std.specs.Prelude.{◌≡◌, ◌++◌, IfOk, IfErr, OnOk, encode_utf8_all};
+ghost use Rattle.std.specs.Prelude.{◌≡◌, ◌<◌, ◌++◌, length, IfOk, IfErr, OnOk, OnErr, encode_utf8_all};
 ghost use Rattle.std.specs.List.{flat_map};
 ghost use Rattle.std.specs.Str.{chars};
 ghost use Rattle.std.specs.String.{string_bytes};
@@ -49,7 +49,8 @@ fn tally_lines<S: BuildHasher + Drop>(
 
 /// The count line of each token.
 fn write_counts<S: BuildHasher>(alloc: Global, tally: &Tally<S>) -> Result<String, AllocError>
-    ensures { IfOk result (λ out. string_bytes out ≡ encode_utf8_all (flat_map count_line tally.now)) }
+    ensures ok { IfOk result (λ out. string_bytes out ≡ encode_utf8_all (flat_map count_line tally.now)) }
+    ensures refused { OnErr result (0 < length tally.now) }
 {
     let mut out = String::new(alloc);
     for index in 0..tally.len() {

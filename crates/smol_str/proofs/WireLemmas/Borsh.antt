@@ -1,5 +1,5 @@
 -- A wire form in two parts, its size and its text, for the calls that write and read one part after the other.
-use Rattle.smol_str.proofs.Common.{◌≡◌, ℕ, ◌+◌, ◌<◌, ◌≤◌, ◌^◌, Err, List, ◌++◌, Option, None, Some, IfSome, length, take, refl, sym, ap, ◌∙◌, subst, arith, append_assoc, append-nil, to_le_bytes, from_le_bytes, w32, encode_utf8_all, from_le_bytes-to_le_bytes_4, encodes-chars, take_at, drop_at, length-append, Appends, Consumes, IsAtEnd, Appends-trans, Consumes-trans, Result, err_from_is_err_and, INLINE_CAP, size, place_of, Meaning, HasWire, HasEndedEarly, body, common_steps, rules}
+use Rattle.smol_str.proofs.Common.{inr, ◌≡◌, ℕ, ◌+◌, ◌<◌, ◌≤◌, ◌^◌, Err, List, ◌++◌, Option, None, Some, IfSome, length, take, refl, sym, ap, ◌∙◌, subst, arith, append_assoc, append-nil, to_le_bytes, from_le_bytes, w32, encode_utf8_all, from_le_bytes-to_le_bytes_4, encodes-chars, take_at, drop_at, length-append, Appends, Consumes, IsAtEnd, Appends-trans, Consumes-trans, Result, err_from_is_err_and, INLINE_CAP, size, place_of, Meaning, HasWire, HasEndedEarly, body, common_steps, rules}
 use Rattle.std.specs.declared.str.Utf8Error.{Utf8Error}
 use Rattle.std.specs.declared.io.Error.{Error}
 use Rattle.std.specs.Result.{IsErrAnd, IfErr}
@@ -10,8 +10,9 @@ use Rattle.smol_str.specs.declared.borsh.fault.DecodeFault.TheVariants.{Ended, N
 use Rattle.smol_str.specs.declared.borsh.fault.LimitedFault.{LimitedFault}
 use Rattle.smol_str.specs.declared.borsh.fault.LimitedFault.TheVariants.{TooLong, Decode}
 use Rattle.smol_str.specs.Wire.{wire, stated}
-use Rattle.smol_str.specs.Stream.{AppendsBeginning, EndsBelow}
-use Rattle.smol_str.specs.WireFaults.{AfterEncodeFault, IsRefusedBody, AfterReadFault, HasReadBody, AfterBodyFault, StatesAtMost, AfterLimitedFault}
+use Rattle.std.specs.Prelude.{⊤}
+use Rattle.smol_str.specs.Stream.{AppendsBeginning, EndsBelow, StopsBelow, ConsumesSome}
+use Rattle.smol_str.specs.WireFaults.{AfterEncodeFault, IsRefusedBody, AfterReadFault, StopsEarly, StopsInBody, HasReadBody, AfterBodyFault, StatesAtMost, AfterLimitedFault}
 use Rattle.smol_str.proofs.WireLemmas.Stream.{beginning-of_first, beginning-of_second}
 
 -- ---- writing: the size of a text as it is found, and the text's bytes
@@ -93,6 +94,29 @@ module _ (n : ℕ) (fits : n < 2 ^ 32) where
   ended-of_body (Some x) (Some y) None p q = absurd q.2
   ended-of_body (Some x) (Some y) (Some z) p q = search (rules, append-nil, stated_front, length_front)
 
+  -- and then fewer bytes, with others left
+  pub early-of_body : (P : List ℕ → Type 0) → ((r : List ℕ) → P (to_le_bytes w32 n ++ r)) → (a b c : Option (List ℕ))
+      → Consumes a b (to_le_bytes w32 n) → StopsBelow b c n → StopsEarly a c P
+  early-of_body P holds a b c p (bs, short, consumed) =
+      let says = stated_front bs in
+      let long = length_front bs in (
+        to_le_bytes w32 n ++ bs,
+        inr (omega (arith, says, long)),
+        holds bs,
+        Consumes-trans a b c (to_le_bytes w32 n) bs p consumed,
+      )
+
+  -- and then some bytes, n of them at the most
+  within-of_body : (a b c : Option (List ℕ)) → Consumes a b (to_le_bytes w32 n) → ConsumesSome b c n → StopsInBody a c
+  within-of_body a b c p (bs, some, most, consumed) =
+      let says = stated_front bs in
+      let long = length_front bs in (
+        to_le_bytes w32 n ++ bs,
+        omega (arith, long),
+        omega (arith, says, long),
+        Consumes-trans a b c (to_le_bytes w32 n) bs p consumed,
+      )
+
   -- and then n bytes that are no text
   refused_at : (x y bs z : List ℕ) (e : Utf8Error) → x ≡ to_le_bytes w32 n ++ y → y ≡ bs ++ z → length bs ≡ n
       → IsRefusedBody bs e
@@ -116,8 +140,8 @@ module _ (n : ℕ) (fits : n < 2 ^ 32) where
   AfterReadFault-of_body (Some x) (Some y) None (NotUtf8 e) p h = absurd h.bytes
   AfterReadFault-of_body (Some x) (Some y) (Some z) (NotUtf8 e) p h =
       refused_at x y h.body z e p h.bytes h.whole h.refused
-  AfterReadFault-of_body a b c OutOfMemory p h = long-of_body a b p h
-  AfterReadFault-of_body a b c (Io e) p h = tt
+  AfterReadFault-of_body a b c OutOfMemory p h = (long-of_body a b p h.0, within-of_body a b c p h.1)
+  AfterReadFault-of_body a b c (Io e) p h = early-of_body (λ bytes. ⊤) (λ r. tt) a b c p h
 
   -- with a limit below the size
   pub AfterLimitedFault-above : (a b : Option (List ℕ)) (limit : ℕ) → Consumes a b (to_le_bytes w32 n) → limit < n
@@ -138,11 +162,15 @@ module _ (n : ℕ) (fits : n < 2 ^ 32) where
   states_within (Some x) (Some y) limit p h = let says : stated x ≡ n = ap stated p ∙ stated_front y in λ _. omega arith
 
   AfterLimitedFault-of_fault : (a b c : Option (List ℕ)) (limit : ℕ) (fault : DecodeFault)
-      → Consumes a b (to_le_bytes w32 n) → n ≤ limit → AfterReadFault a c fault → AfterLimitedFault limit a c (Decode fault)
-  AfterLimitedFault-of_fault a b c limit Ended p l h = (h, states_within a b limit p l)
-  AfterLimitedFault-of_fault a b c limit (NotUtf8 e) p l h = (h, states_within a b limit p l)
-  AfterLimitedFault-of_fault a b c limit OutOfMemory p l h = (h, states_within a b limit p l)
-  AfterLimitedFault-of_fault a b c limit (Io e) p l h = h
+      → Consumes a b (to_le_bytes w32 n) → n ≤ limit → AfterBodyFault b c n fault → AfterLimitedFault limit a c (Decode fault)
+  AfterLimitedFault-of_fault a b c limit Ended p l h =
+      (AfterReadFault-of_body a b c Ended p h, states_within a b limit p l)
+  AfterLimitedFault-of_fault a b c limit (NotUtf8 e) p l h =
+      (AfterReadFault-of_body a b c (NotUtf8 e) p h, states_within a b limit p l)
+  AfterLimitedFault-of_fault a b c limit OutOfMemory p l h =
+      (AfterReadFault-of_body a b c OutOfMemory p h, states_within a b limit p l)
+  AfterLimitedFault-of_fault a b c limit (Io e) p l h =
+      early-of_body (StatesAtMost limit) (λ r _. let says = stated_front r in omega (arith, says)) a b c p h
 
   pub AfterLimitedFault-of_body : {T : Type 0} (r : Result T LimitedFault) (a b c : Option (List ℕ)) (limit : ℕ)
       (fault : DecodeFault) → IsErrAnd r (λ f. f ≡ Decode fault) → Consumes a b (to_le_bytes w32 n) → n ≤ limit
@@ -150,4 +178,4 @@ module _ (n : ℕ) (fits : n < 2 ^ 32) where
   AfterLimitedFault-of_body r a b c limit fault failed p l h =
       let (f, is_err, is) = err_from_is_err_and r failed in
       subst (λ r. IfErr r (AfterLimitedFault limit a c)) (sym (is_err ∙ ap Err is))
-      (AfterLimitedFault-of_fault a b c limit fault p l (AfterReadFault-of_body a b c fault p h))
+      (AfterLimitedFault-of_fault a b c limit fault p l h)

@@ -1,13 +1,61 @@
--- A beginning of what is written in two parts: for `serialize`, which writes a size and then a text.
-use Rattle.smol_str.proofs.Common.{ℕ, List, ◌++◌, Option, ap, ◌∙◌, append_assoc, Appends, Appends-trans, common_steps, arith}
-use Rattle.smol_str.specs.Stream.{AppendsBeginning}
+-- A beginning of what is written in two parts: for `serialize`, which writes a size and then a text. And what is gone
+-- where a reader failed: for `stream`.
+use Rattle.smol_str.proofs.Common.{◌≡◌, subst, Err, Result, err_from_is_err_and, ℕ, ◌+◌, ◌<◌, ◌≤◌, length, List, ◌++◌, Option, sym, ap, ◌∙◌, arith, append_assoc, length-append, Appends, Appends-trans, Consumes, Consumes-trans}
+use Rattle.std.specs.Io.KnownBytes.{Keeps}
+use Rattle.std.proofs.KnownBytes.{Consumes-kept}
+use Rattle.smol_str.specs.Stream.{AppendsBeginning, StopsBelow, ConsumesSome, AfterStreamFault}
+use Rattle.std.specs.declared.io.Error.{Error}
+use Rattle.std.specs.Result.{IsErrAnd, IfErr}
+use Rattle.smol_str.specs.declared.stream.ReadFault.{ReadFault}
+use Rattle.smol_str.specs.declared.stream.ReadFault.TheVariants.{OutOfMemory, Io}
 
 module _ (first second : List ℕ) where
   pub beginning-of_first : (a b : Option (List ℕ)) → AppendsBeginning a b first
       → AppendsBeginning a b (first ++ second)
-  beginning-of_first a b p =
-      (p.0, p.1 ++ second, ap (λ l. l ++ second) p.2 ∙ append_assoc p.0 p.1 second, p.3)
+  beginning-of_first a b (front, rest, split, some, appended) =
+      let more = length-append rest second in
+      (front, rest ++ second, ap (λ l. l ++ second) split ∙ append_assoc front rest second, omega (arith, more), appended)
 
   pub beginning-of_second : (a b c : Option (List ℕ)) → Appends a b first → AppendsBeginning b c second
       → AppendsBeginning a c (first ++ second)
-  beginning-of_second a b c p q = grind (arith, common_steps, append_assoc, Appends-trans)
+  beginning-of_second a b c p (front, rest, split, some, appended) = (
+    first ++ front,
+    rest,
+    ap (λ l. first ++ l) split ∙ sym (append_assoc first front rest),
+    some,
+    Appends-trans a b c first front p appended,
+  )
+
+-- ---- reading: a reader that lost some bytes, and then failed, lost no others
+
+module _ (a b c : Option (List ℕ)) (kept : Keeps b c) where
+  pub StopsBelow-failed : (bytes : List ℕ) (n : ℕ) → Consumes a b bytes → length bytes < n → StopsBelow a c n
+  StopsBelow-failed bytes n consumed short = (bytes, short, Consumes-kept a b c bytes consumed kept)
+
+-- a reader that lost some bytes, and then fewer than there was room for
+pub StopsBelow-after : (a b c : Option (List ℕ)) (bytes : List ℕ) (room n : ℕ) → Consumes a b bytes → StopsBelow b c room
+    → length bytes + room ≤ n → StopsBelow a c n
+StopsBelow-after a b c bytes room n consumed (more, short, then) within =
+    let long = length-append bytes more in
+    (bytes ++ more, omega (arith, long), Consumes-trans a b c bytes more consumed then)
+
+-- a reader that lost some bytes, and then some more
+pub ConsumesSome-after : (a b c : Option (List ℕ)) (bytes more : List ℕ) (n : ℕ) → Consumes a b bytes
+    → Consumes b c more → 0 < length more → length bytes + length more ≤ n → ConsumesSome a c n
+ConsumesSome-after a b c bytes more n consumed then some within =
+    let long = length-append bytes more in
+    (bytes ++ more, omega (arith, long), omega (arith, long), Consumes-trans a b c bytes more consumed then)
+
+-- reading up to a limit, which the reader's failure ended, or want of memory
+module _ {T : Type 0} (limit : ℕ) (a b : Option (List ℕ)) (r : Result T ReadFault) where
+  pub AfterStreamFault-failed : (e : Error) → IsErrAnd r (λ fault. fault ≡ Io e) → StopsBelow a b limit
+      → IfErr r (AfterStreamFault limit a b)
+  AfterStreamFault-failed e failed stops =
+      let (fault, is_err, is) = err_from_is_err_and r failed in
+      subst (λ r. IfErr r (AfterStreamFault limit a b)) (sym (is_err ∙ ap Err is)) stops
+
+  pub AfterStreamFault-refused : IsErrAnd r (λ fault. fault ≡ OutOfMemory) → ConsumesSome a b limit
+      → IfErr r (AfterStreamFault limit a b)
+  AfterStreamFault-refused failed some =
+      let (fault, is_err, is) = err_from_is_err_and r failed in
+      subst (λ r. IfErr r (AfterStreamFault limit a b)) (sym (is_err ∙ ap Err is)) some

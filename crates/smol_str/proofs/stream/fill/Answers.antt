@@ -1,6 +1,7 @@
 use Rattle.smol_str.proofs.Common.{◌≡◌, ℕ, ◌+◌, ◌-◌, ◌≤◌, List, ◌++◌, rules, arith, length, take, slice_range, sym, ap, ◌∙◌, subst, le_refl, drop_at, length-take-le, Consumes, Consumes-trans, take-add, take-append-le}
 use Rattle.std.proofs.lemmas.Slice.{take-put_mid_below}
 use borrow.Rule.Slice.PartMut.{put_mid, post_of}
+use Rattle.smol_str.proofs.WireLemmas.Stream.{StopsBelow-failed}
 use Rattle.smol_str.proofs.stream.fill.Goals as goal
 
 take_split : (a b : ℕ) (old new : List ℕ) → a ≤ b → take a new ≡ take a old
@@ -30,3 +31,9 @@ loop-filled-preserved g c =
     (take-put_mid_below _ _ _ _ _ (le_refl _) within) in
     let both = Consumes-trans _ _ _ _ _ c.loop-filled.invariant.1 c.in_ok-n.ensures.bytes.0 in
     (search rules, subst (Consumes _ _) (ap (λ l. take from old ++ l) (sym part) ∙ joined) both)
+
+pub returns-in_err-n-clause-failed : goal.returns-in_err-n-clause-failed
+returns-in_err-n-clause-failed g c =
+    let gone = length-take-le c.loop-filled.filled c.loop-filled.buf c.loop-filled.invariant.0 in
+    let stops = StopsBelow-failed _ _ _ c.in_err-n.ensures.bytes _ (length c.args.buf.now) c.loop-filled.invariant.1 (omega arith) in
+    search (rules, stops)

@@ -1,6 +1,7 @@
-use Rattle.std.proofs.Common.{rules, map}
+use Rattle.std.proofs.Common.{rules, map, inr}
 use Rattle.std.specs.Str.{chars}
-use Rattle.smol_tokens_core.proofs.TokenLemmas.{tally-seen, lines-seen, no_report-add}
+use Rattle.smol_tokens_core.proofs.FaultLemmas.{no_report-refused}
+use Rattle.smol_tokens_core.proofs.TokenLemmas.{tally-seen, lines-seen, some_text, no_report-add}
 use Rattle.smol_tokens_core.proofs.tokens.tally_lines.Goals as goal
 
 pub loop-line-preserved : goal.loop-line-preserved
@@ -19,3 +20,8 @@ returns-in_err-add-clause-fault g c =
     let none = no_report-add (chars c.args.text.now) (chars line) (map (λ line. chars line.now) c.loop-line.yielded) _ _
     c.loop-line.tally fault c.loop-line.invariant.0 c.loop-line.invariant.1 c.in-Some.ensures.steps after in
     search (rules, none)
+
+pub returns-in_err-new-clause-fault : goal.returns-in_err-new-clause-fault
+returns-in_err-new-clause-fault g c =
+    no_report-refused _ _ (chars c.args.text.now) c.from_residual.ensures.1
+    (inr (some_text (chars c.args.text.now) _ _ _ _ c.loop-line.invariant.1 c.in-Some.ensures.steps))
