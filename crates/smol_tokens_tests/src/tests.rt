@@ -8,5 +8,6 @@ mod same;
 mod show;
 mod state;
 mod tally;
+mod whole;
 mod words;
 mod writers;

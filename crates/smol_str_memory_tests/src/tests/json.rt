@@ -107,6 +107,35 @@ fn check_not_read(rt: &impl Abort, alloc: Global, json: &str, answer: Answer) {
     same(rt, &answer_of(&from_json(alloc, json)), &answer, &json);
 }
 
+// A text longer than every buffer is told by what is wrong with it, and not as want of memory.
+#[test]
+fn long_texts_not_read(rt: HostRuntime) -> Result<(), Fail> {
+    for times in [4097, 65_537, 5_000_000] {
+        check_long(&rt, rt.alloc(), times)?;
+    }
+    Ok(())
+}
+
+/// Letters alone, letters behind a quote, and a number behind blanks.
+fn check_long(rt: &impl Abort, alloc: Global, times: usize) -> Result<(), Fail> {
+    let letters = repeated(alloc, "a", times)?;
+    check_long_answer(rt, alloc, letters.as_str(), Answer::Json);
+    let quoted = joined(alloc, "\"", letters.as_str())?;
+    check_long_answer(rt, alloc, quoted.as_str(), Answer::Json);
+    let number = repeated_and(alloc, " ", times, "1")?;
+    check_long_answer(rt, alloc, number.as_str(), Answer::NotString);
+    Ok(())
+}
+
+fn check_long_answer(rt: &impl Abort, alloc: Global, json: &str, answer: Answer) {
+    same(
+        rt,
+        &answer_of(&from_json(alloc, json)),
+        &answer,
+        &json.len(),
+    );
+}
+
 /// So many lists in one another.
 fn check_nested(rt: &impl Abort, alloc: Global, depth: usize, answer: Answer) -> Result<(), Fail> {
     let closed = repeated(alloc, "]", depth)?;

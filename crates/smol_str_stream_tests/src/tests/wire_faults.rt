@@ -80,6 +80,24 @@ fn borsh_non_utf8_heap(rt: HostRuntime) -> Result<(), Fail> {
     Ok(())
 }
 
+// A body longer than every buffer is told by what is wrong with it: not as want of memory, and not as a reader's fault.
+#[test]
+fn long_bodies_not_utf8(rt: HostRuntime) -> Result<(), Fail> {
+    for size in [4096, 4097, 65_537, 5_000_000] {
+        let mut bytes = letters(rt.alloc(), size, size.saturating_sub(1))?;
+        bytes.push(0xff)?;
+        let fault = from_wire(rt.alloc(), bytes.as_slice()).err();
+        same(
+            &rt,
+            &fault.as_ref().map(kind_of),
+            &Some(Kind::NotUtf8),
+            &size,
+        );
+        assert_reader_refused(&rt, rt.alloc(), bytes.as_slice(), 4096, Kind::NotUtf8, 0);
+    }
+    Ok(())
+}
+
 // Each form of the table, cut after every byte.
 #[test]
 fn cut_short(rt: HostRuntime) -> Result<(), Fail> {
