@@ -7,5 +7,6 @@ mod rows;
 mod same;
 mod show;
 mod tally;
+mod whole;
 mod words;
 mod writers;

@@ -93,7 +93,7 @@ fn cut_short(rt: HostRuntime) -> Result<(), Fail> {
     Ok(())
 }
 
-// The last byte of a long body is not there, or is not UTF-8.
+// Above each buffer, the fault is told as itself: the last byte of a body is not there, or is not UTF-8.
 #[test]
 fn long_bodies(rt: HostRuntime) -> Result<(), Fail> {
     for size in ABOVE_BUFFERS {

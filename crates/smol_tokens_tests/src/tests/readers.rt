@@ -169,7 +169,7 @@ fn not_utf8(rt: HostRuntime) -> Result<(), Fail> {
 }
 
 fn check_not_utf8(rt: &impl Abort, alloc: Global, words: Words) -> Result<(), Fail> {
-    for count in [0, PIECE - 1, 2 * PIECE, 9000] {
+    for count in [0, PIECE - 1, 2 * PIECE, 9000, 65_536, 5_000_000] {
         let input = ending_badly(alloc, count)?;
         check_answers(rt, alloc, words, input.as_slice(), Answer::NotUtf8)?;
     }

@@ -1,0 +1,37 @@
+//! A caller of `run` that goes by its contract alone, and what comes after a run.
+ghost use Rattle.std.specs.Prelude.{OnOk};
+ghost use Rattle.std.specs.Io.KnownBytes.{IsAtEnd};
+
+use super::same::holds;
+use smol_tokens_core::fault::RunFault;
+use smol_tokens_core::mode::Mode;
+use smol_tokens_core::run::run;
+use std::alloc::Global;
+use std::io::{Read, Write};
+use std::test::Fail;
+use test_support::state::fixed_state;
+
+/// Runs in mode show; after it the reader is at its end.
+fn run_to_the_end<R: Read, W: Write>(
+    alloc: Global,
+    reader: &mut R,
+    writer: &mut W,
+) -> Result<(), RunFault>
+    ensures { OnOk result (IsAtEnd (R.remaining reader.new)) }
+{
+    run(alloc, fixed_state(), Mode::Show, reader, writer)
+}
+
+#[test]
+fn nothing_is_left(rt: HostRuntime) -> Result<(), Fail> {
+    let mut reader = b"if\n\xc3\xa9".as_slice();
+    let mut writer = Vec::new(rt.alloc());
+    let is_done = run_to_the_end(rt.alloc(), &mut reader, &mut writer).is_ok();
+    holds(&rt, is_done && reader.is_empty(), &"one run");
+    holds(
+        &rt,
+        writer.as_slice() == b"inline 2 if\ninline 2 \xc3\xa9\n",
+        &"its report",
+    );
+    Ok(())
+}
