@@ -169,11 +169,22 @@ fn not_utf8(rt: HostRuntime) -> Result<(), Fail> {
 }
 
 fn check_not_utf8(rt: &impl Abort, alloc: Global, words: Words) -> Result<(), Fail> {
-    for count in [0, PIECE - 1, 2 * PIECE, 9000, 65_536, 5_000_000] {
+    for count in [0, PIECE - 1, 2 * PIECE, 9000] {
         let input = ending_badly(alloc, count)?;
         check_answers(rt, alloc, words, input.as_slice(), Answer::NotUtf8)?;
     }
     check_answers(rt, alloc, words, b"\xed\xa0\x80\n", Answer::NotUtf8)
+}
+
+// An input longer than every buffer is told to be no UTF-8, and not that memory is wanting.
+#[test]
+fn long_not_utf8(rt: HostRuntime) -> Result<(), Fail> {
+    for count in [PIECE, 65_536, 5_000_000] {
+        let input = ending_badly(rt.alloc(), count)?;
+        let mut reader = trickle_of(input.as_slice(), PIECE, 0);
+        check_answer(&rt, rt.alloc(), &["show"], &mut reader, Answer::NotUtf8)?;
+    }
+    Ok(())
 }
 
 /// So many letters, and a byte that no text has.
