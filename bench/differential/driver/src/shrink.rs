@@ -82,6 +82,13 @@ fn smaller_texts(text: &str) -> Vec<String> {
     all
 }
 
+/// A wire form with one byte less, in its size too.
+fn shorter_form(bytes: &[u8]) -> Option<Vec<u8>> {
+    let (prefix, body) = bytes.split_first_chunk()?;
+    let size = u32::from_le_bytes(*prefix).checked_sub(1)?;
+    Some([&size.to_le_bytes()[..], &body[..body.len().checked_sub(1)?]].concat())
+}
+
 fn smaller(operand: &Operand) -> Vec<Operand> {
     match operand {
         Operand::Byte(0) | Operand::Size(0) | Operand::Number(0) | Operand::Character('a') | Operand::Register(0) => vec![],
@@ -90,7 +97,7 @@ fn smaller(operand: &Operand) -> Vec<Operand> {
         Operand::Size(size) => vec![Operand::Size(0), Operand::Size(size / 2), Operand::Size(size - 1)],
         Operand::Number(number) => vec![Operand::Number(0), Operand::Number(number / 2)],
         Operand::Character(_) => vec![Operand::Character('a')],
-        Operand::Bytes(bytes) => shorter_lists(bytes).into_iter().map(Operand::Bytes).collect(),
+        Operand::Bytes(bytes) => shorter_form(bytes).into_iter().chain(shorter_lists(bytes)).map(Operand::Bytes).collect(),
         Operand::Text(text) => smaller_texts(text).into_iter().map(Operand::Text).collect(),
         Operand::Literal(text) => smaller_texts(text).into_iter().map(Operand::Literal).collect(),
         Operand::Texts(texts) => shorter_lists(texts).into_iter().map(Operand::Texts).collect(),

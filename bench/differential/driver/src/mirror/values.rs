@@ -1,4 +1,5 @@
 //! Values of texts and bytes, and owned texts.
+use super::faults::FromUtf8Fault;
 use super::{Mirror, Place, Report, Run, Value, is_resident};
 use crate::operation::{Operands, Operation};
 use crate::operations::*;
@@ -92,13 +93,13 @@ impl Mirror {
                 self.takes_none(run, is_resident(&text), "from_utf8 of resident text asks for memory");
                 self.made(run, dst, text, out);
                 if run.is_refused() {
-                    out.text("OutOfMemory");
+                    out.debug(&FromUtf8Fault::OutOfMemory);
                 }
             }
             Err(error) => {
                 self.takes_none(run, true, "from_utf8 of what is not UTF-8 asks for memory");
                 out.utf8_error(&error);
-                out.text(&format!("NotUtf8({error:?})"));
+                out.debug(&FromUtf8Fault::NotUtf8(error));
             }
         }
     }
