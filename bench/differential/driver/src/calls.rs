@@ -20,14 +20,18 @@ const fn plain(code: u8, name: &'static str, calls: &'static [&'static str]) -> 
 
 /// What each operation that reports a value reads of it.
 pub const READS: &[&str] = &[
-    "SmolStr::as_str", "SmolStr::len", "SmolStr::is_empty", "SmolStr::is_ascii", "SmolStr::is_heap_allocated",
-    "SmolStr::place", "SmolStr::inline_buffer",
+    "SmolStr::as_str",
+    "SmolStr::len",
+    "SmolStr::is_empty",
+    "SmolStr::is_ascii",
+    "SmolStr::is_heap_allocated",
+    "SmolStr::place",
+    "SmolStr::inline_buffer",
 ];
 
 /// What each operation that reports a builder reads of it.
-pub const BUILDER_READS: &[&str] = &[
-    "SmolStrBuilder::as_str", "SmolStrBuilder::len", "SmolStrBuilder::is_empty", "SmolStrBuilder::inline_buffer",
-];
+pub const BUILDER_READS: &[&str] =
+    &["SmolStrBuilder::as_str", "SmolStrBuilder::len", "SmolStrBuilder::is_empty", "SmolStrBuilder::inline_buffer"];
 
 pub static KINDS: &[Kind] = &[
     counted(NEW, "new", &["SmolStr::new"]),
@@ -112,9 +116,15 @@ pub static KINDS: &[Kind] = &[
         FAULTS_OF_MEMORY,
         "faults of memory",
         &[
-            "AllocErrorFromSmolStr::from", "AllocErrorFromSmolStrBuilder::from", "FromUtf8Fault::from",
-            "DecodeFaultFromAllocError::from", "LimitedFaultFromAllocError::from", "ReadFaultFromAllocError::from",
-            "JsonFault::from", "DecodeFaultFromAllocFailed::from", "LimitedFaultFromAllocFailed::from",
+            "AllocErrorFromSmolStr::from",
+            "AllocErrorFromSmolStrBuilder::from",
+            "FromUtf8Fault::from",
+            "DecodeFaultFromAllocError::from",
+            "LimitedFaultFromAllocError::from",
+            "ReadFaultFromAllocError::from",
+            "JsonFault::from",
+            "DecodeFaultFromAllocFailed::from",
+            "LimitedFaultFromAllocFailed::from",
             "JsonFaultDebug::fmt",
         ],
     ),
@@ -122,8 +132,12 @@ pub static KINDS: &[Kind] = &[
         FAULTS_OF_STREAMS,
         "faults of streams",
         &[
-            "EncodeFault::from", "DecodeFaultFromIoError::from", "LimitedFaultFromIoError::from",
-            "ReadFaultFromIoError::from", "DecodeFaultFromReadFault::from", "DecodeFaultFromFromUtf8Fault::from",
+            "EncodeFault::from",
+            "DecodeFaultFromIoError::from",
+            "LimitedFaultFromIoError::from",
+            "ReadFaultFromIoError::from",
+            "DecodeFaultFromReadFault::from",
+            "DecodeFaultFromFromUtf8Fault::from",
             "LimitedFaultFromDecodeFault::from",
         ],
     ),
@@ -131,8 +145,12 @@ pub static KINDS: &[Kind] = &[
         DEBUG_TEXTS,
         "debug texts",
         &[
-            "PlaceDebug::fmt", "PlacePartialEq::eq", "AsciiCaseDebug::fmt", "AsciiCasePartialEq::eq",
-            "FormatErrorDebug::fmt", "StepDebug::fmt",
+            "PlaceDebug::fmt",
+            "PlacePartialEq::eq",
+            "AsciiCaseDebug::fmt",
+            "AsciiCasePartialEq::eq",
+            "FormatErrorDebug::fmt",
+            "StepDebug::fmt",
         ],
     ),
     plain(CHARACTERS, "each character", &["StrExt::to_lowercase_smolstr", "StrExt::to_uppercase_smolstr"]),

@@ -12,8 +12,20 @@ use crate::unicode;
 const NO_CASE_FROM: char = '\u{20000}';
 
 const AROUND: &[(&str, &str)] = &[
-    ("a", "b"), ("A", ""), ("", "A"), ("Σ", ""), ("", "Σ"), ("aΣ", ""), ("aΣ", "a"), ("aΣ", " "), ("", "Σa"), ("a", "Σ"),
-    ("a", "Σb"), ("é", "Z"), ("ΑΣ", "Σ"), ("İ", "ß"),
+    ("a", "b"),
+    ("A", ""),
+    ("", "A"),
+    ("Σ", ""),
+    ("", "Σ"),
+    ("aΣ", ""),
+    ("aΣ", "a"),
+    ("aΣ", " "),
+    ("", "Σa"),
+    ("a", "Σ"),
+    ("a", "Σb"),
+    ("é", "Z"),
+    ("ΑΣ", "Σ"),
+    ("İ", "ß"),
 ];
 const AROUND_LONG: &[(&str, &str)] = &[("", ""), ("aΣ", "a"), ("aΣ", ""), ("a", "Σ"), (" ", "Σ"), ("ß", "İ")];
 
@@ -34,7 +46,8 @@ fn contexts(character: char) -> Vec<String> {
 
 /// The operations on a character that do not ask its case.
 fn plain(character: char) -> Vec<Operation> {
-    let escaped = character.to_string().encode_utf16().fold("\"".to_string(), |all, unit| format!("{all}\\u{unit:04x}"));
+    let escaped =
+        character.to_string().encode_utf16().fold("\"".to_string(), |all, unit| format!("{all}\\u{unit:04x}"));
     let text = character.to_string();
     vec![
         Operation::new(FROM_CHAR, vec![Byte(0), Character(character)]),
@@ -55,7 +68,8 @@ fn plain(character: char) -> Vec<Operation> {
 fn program_of(character: char) -> Program {
     let mut operations = plain(character);
     for text in contexts(character) {
-        let codes: &[u8] = if character >= NO_CASE_FROM { &[LOWER, UPPER] } else { &[ASCII_LOWER, ASCII_UPPER, LOWER, UPPER] };
+        let codes: &[u8] =
+            if character >= NO_CASE_FROM { &[LOWER, UPPER] } else { &[ASCII_LOWER, ASCII_UPPER, LOWER, UPPER] };
         operations.extend(codes.iter().map(|code| Operation::new(*code, vec![Byte(0), Literal(text.clone())])));
     }
     Program { operations, refusal: Refusal::None }

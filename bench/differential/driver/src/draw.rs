@@ -6,9 +6,8 @@ use crate::random::Random;
 use crate::texts::{INLINE_CAP, bytes, character, json, length, long_wire, piece, pieces, short, stream, text, wire};
 
 /// Capacities: about the limit, of some use, and of more bytes than any memory has.
-const CAPACITIES: &[u64] = &[
-    0, 1, 38, 39, 40, 41, 45, 64, 80, 100, 5000, 1 << 50, u64::MAX >> 1, (u64::MAX >> 1) + 1, u64::MAX,
-];
+const CAPACITIES: &[u64] =
+    &[0, 1, 38, 39, 40, 41, 45, 64, 80, 100, 5000, 1 << 50, u64::MAX >> 1, (u64::MAX >> 1) + 1, u64::MAX];
 const WIDTHS: &[u32] = &[0, 1, 2, 5, 36, 37, 38, 39, 40, 41, 64, 90, 254, 256, 257];
 const STEPS: &[u32] = &[1, 2, 3, 5, 39, 40, 4095, 4096, 4097, 5000];
 const ODD_NUMBERS: &[u64] = &[0, 1, 7, 9, 10, 99, 100, 255, 256, 1000, 1001, u64::MAX, 1 << 63, (1 << 63) - 1];
@@ -50,15 +49,15 @@ pub fn draw(random: &mut Random) -> Operation {
 
 fn value(random: &mut Random) -> (u8, Vec<Operand>) {
     let dst = register(random);
-    match random.below(12) {
+    match random.below(14) {
         0..=3 => (random.pick(&[NEW, NEW, FROM_STR, FROM_STRING_REF]), vec![dst, some_text(random)]),
         4 => (NEW_INLINE, vec![dst, Byte(0), Text(short(random))]),
         5 => (NEW_INLINE_IN_CASE, vec![dst, Byte(random.below(2) as u8), Text(short(random))]),
         6 if random.one_in(4) => (DEFAULT, vec![dst]),
-        6 => (NEW_STATIC, vec![dst, Byte(random.below(8) as u8)]),
-        7 => (FROM_UTF8_UNCHECKED, vec![dst, Bytes(text(random).into_bytes())]),
-        8 => (FROM_CHAR, vec![dst, Character(character(random))]),
-        9 => (random.pick(&[CLONE, CLONE_OF_TRAIT]), vec![dst, register(random)]),
+        6 | 7 => (NEW_STATIC, vec![dst, Byte(random.below(8) as u8)]),
+        8 => (FROM_UTF8_UNCHECKED, vec![dst, Bytes(text(random).into_bytes())]),
+        9 => (FROM_CHAR, vec![dst, Character(character(random))]),
+        10 | 11 => (random.pick(&[CLONE, CLONE_OF_TRAIT]), vec![dst, register(random)]),
         _ => (FROM_UTF8, vec![dst, Bytes(bytes(random))]),
     }
 }
@@ -66,7 +65,14 @@ fn value(random: &mut Random) -> (u8, Vec<Operand>) {
 fn owned(random: &mut Random) -> (u8, Vec<Operand>) {
     let dst = register(random);
     let code = random.pick(&[
-        FROM_STRING, FROM_OWNED, FROM_BOXED_STR, FROM_COW_BORROWED, FROM_COW_OWNED, FROM_RC_STR, INTO_STRING, INTO_RC_STR,
+        FROM_STRING,
+        FROM_OWNED,
+        FROM_BOXED_STR,
+        FROM_COW_BORROWED,
+        FROM_COW_OWNED,
+        FROM_RC_STR,
+        INTO_STRING,
+        INTO_RC_STR,
     ]);
     match code {
         INTO_STRING | INTO_RC_STR => (code, vec![dst, register(random)]),
@@ -243,7 +249,8 @@ fn wire_form(random: &mut Random) -> (u8, Vec<Operand>) {
             let manner = manner(random, 3).to_vec();
             if random.one_in(2) {
                 let near = form.len() as u32;
-                let limit = random.pick(&[0, 38, 39, 40, 4096, near.saturating_sub(5), near.saturating_sub(4), u32::MAX]);
+                let limit =
+                    random.pick(&[0, 38, 39, 40, 4096, near.saturating_sub(5), near.saturating_sub(4), u32::MAX]);
                 (READ_LIMITED, [vec![dst, Size(limit), Bytes(form)], manner].concat())
             } else {
                 (READ_WIRE, [vec![dst, Bytes(form)], manner].concat())

@@ -78,7 +78,9 @@ fn smaller_texts(text: &str) -> Vec<String> {
     let characters: Vec<char> = text.chars().collect();
     let mut all: Vec<String> = shorter_lists(&characters).into_iter().map(String::from_iter).collect();
     let odd = characters.iter().position(|character| *character != 'a');
-    all.extend(odd.map(|at| characters.iter().enumerate().map(|(place, it)| if place == at { 'a' } else { *it }).collect()));
+    all.extend(
+        odd.map(|at| characters.iter().enumerate().map(|(place, it)| if place == at { 'a' } else { *it }).collect()),
+    );
     all
 }
 
@@ -91,13 +93,17 @@ fn shorter_form(bytes: &[u8]) -> Option<Vec<u8>> {
 
 fn smaller(operand: &Operand) -> Vec<Operand> {
     match operand {
-        Operand::Byte(0) | Operand::Size(0) | Operand::Number(0) | Operand::Character('a') | Operand::Register(0) => vec![],
+        Operand::Byte(0) | Operand::Size(0) | Operand::Number(0) | Operand::Character('a') | Operand::Register(0) => {
+            vec![]
+        }
         Operand::Byte(byte) => vec![Operand::Byte(0), Operand::Byte(byte - 1)],
         Operand::Register(register) => vec![Operand::Register(register - 1)],
         Operand::Size(size) => vec![Operand::Size(0), Operand::Size(size / 2), Operand::Size(size - 1)],
         Operand::Number(number) => vec![Operand::Number(0), Operand::Number(number / 2)],
         Operand::Character(_) => vec![Operand::Character('a')],
-        Operand::Bytes(bytes) => shorter_form(bytes).into_iter().chain(shorter_lists(bytes)).map(Operand::Bytes).collect(),
+        Operand::Bytes(bytes) => {
+            shorter_form(bytes).into_iter().chain(shorter_lists(bytes)).map(Operand::Bytes).collect()
+        }
         Operand::Text(text) => smaller_texts(text).into_iter().map(Operand::Text).collect(),
         Operand::Literal(text) => smaller_texts(text).into_iter().map(Operand::Literal).collect(),
         Operand::Texts(texts) => shorter_lists(texts).into_iter().map(Operand::Texts).collect(),

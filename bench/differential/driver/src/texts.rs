@@ -5,9 +5,8 @@ use crate::unicode;
 pub use crate::limits::{BLANK_NEWLINES, BLANK_SPACES, INLINE_CAP};
 
 /// Lengths in bytes at which some code changes its way.
-const EDGES: &[usize] = &[
-    0, 1, 7, 8, 9, 15, 16, 17, 22, 23, 24, 31, 32, 33, 37, 38, 39, 40, 41, 47, 48, 63, 64, 65, 77, 78, 79, 80,
-];
+const EDGES: &[usize] =
+    &[0, 1, 7, 8, 9, 15, 16, 17, 22, 23, 24, 31, 32, 33, 37, 38, 39, 40, 41, 47, 48, 63, 64, 65, 77, 78, 79, 80];
 const LONG_EDGES: &[usize] = &[959, 960, 961, 1023, 1024, 1025, 4095, 4096, 4097, 8192, 65535, 65536, 65537, 70_000];
 
 /// Characters whose case is more than one ASCII letter for another.
@@ -20,8 +19,20 @@ const CASED: &[char] = &[
 
 /// The ends of the ranges of two, three and four bytes, and characters between them.
 const WIDE: &[char] = &[
-    'é', 'ß', '\u{80}', '\u{7ff}', '€', '\u{800}', '\u{fffd}', '\u{ffff}', '\u{d7ff}', '\u{e000}', '🦀', '\u{10000}',
-    '\u{10ffff}', '中',
+    'é',
+    'ß',
+    '\u{80}',
+    '\u{7ff}',
+    '€',
+    '\u{800}',
+    '\u{fffd}',
+    '\u{ffff}',
+    '\u{d7ff}',
+    '\u{e000}',
+    '🦀',
+    '\u{10000}',
+    '\u{10ffff}',
+    '中',
 ];
 
 const QUOTED: &[char] = &[
@@ -30,14 +41,28 @@ const QUOTED: &[char] = &[
 ];
 
 const NOT_UTF8: &[&[u8]] = &[
-    b"\xed\xa0\x80", b"\xed\xbf\xbf", b"\xf4\x90\x80\x80", b"\xe0\x9f\xbf", b"\xf0\x8f\xbf\xbf", b"\xc0\x80", b"\xc1\xbf",
-    b"\xf0\x9f\xa6", b"\xe2\x82", b"\xc3", b"\xf5\x80\x80\x80", b"\xff", b"\xfe", b"\x80", b"\xf4\x8f\xbf\xbf",
-    b"\xef\xbf\xbf", b"\xed\x9f\xbf",
+    b"\xed\xa0\x80",
+    b"\xed\xbf\xbf",
+    b"\xf4\x90\x80\x80",
+    b"\xe0\x9f\xbf",
+    b"\xf0\x8f\xbf\xbf",
+    b"\xc0\x80",
+    b"\xc1\xbf",
+    b"\xf0\x9f\xa6",
+    b"\xe2\x82",
+    b"\xc3",
+    b"\xf5\x80\x80\x80",
+    b"\xff",
+    b"\xfe",
+    b"\x80",
+    b"\xf4\x8f\xbf\xbf",
+    b"\xef\xbf\xbf",
+    b"\xed\x9f\xbf",
 ];
 
 const ODD_BYTES: &[u8] = &[
-    0, 0x7f, 0x80, 0x8f, 0x90, 0x9f, 0xa0, 0xbf, 0xc0, 0xc1, 0xc2, 0xdf, 0xe0, 0xe1, 0xec, 0xed, 0xee, 0xef, 0xf0, 0xf1,
-    0xf3, 0xf4, 0xf5, 0xff,
+    0, 0x7f, 0x80, 0x8f, 0x90, 0x9f, 0xa0, 0xbf, 0xc0, 0xc1, 0xc2, 0xdf, 0xe0, 0xe1, 0xec, 0xed, 0xee, 0xef, 0xf0,
+    0xf1, 0xf3, 0xf4, 0xf5, 0xff,
 ];
 
 /// A length in bytes.
@@ -96,7 +121,8 @@ pub fn sized(random: &mut Random, length: usize) -> String {
     let mut text = String::new();
     match random.below(6) {
         0 => (0..length).for_each(|_| text.push((b'a' + random.below(26) as u8) as char)),
-        1 => (0..length).for_each(|_| text.push(random.pick(&['a', 'b', 'A', 'Z', 'z', '@', '[', '`', '{', '\u{7f}', '0']))),
+        1 => (0..length)
+            .for_each(|_| text.push(random.pick(&['a', 'b', 'A', 'Z', 'z', '@', '[', '`', '{', '\u{7f}', '0']))),
         2 => one_wide(random, length, &mut text),
         3 => {
             while text.len() < length {
@@ -135,12 +161,23 @@ fn one_wide(random: &mut Random, length: usize, text: &mut String) {
     }
 }
 
+/// One of few texts that begin in the same way, so that orders are decided late and by wide characters.
+fn alike(random: &mut Random) -> String {
+    let mut text = "a".repeat(random.pick(&[0, 1, 15, 16, 38, 39, 40]));
+    text.push(random.pick(WIDE));
+    text.push_str(random.pick(&["", "a", "\0"]));
+    text
+}
+
 pub fn text(random: &mut Random) -> String {
     if random.one_in(6) {
         return blank(random);
     }
     if random.one_in(12) {
         return (0..length(random)).map(|_| random.pick(QUOTED)).collect();
+    }
+    if random.one_in(12) {
+        return alike(random);
     }
     if random.one_in(40) {
         // characters that are shorter in the other case
@@ -251,19 +288,79 @@ pub fn stream(random: &mut Random) -> Vec<u8> {
 }
 
 const JSON_WORDS: &[&str] = &[
-    "null", "true", "false", "nul", "tru", "0", "-0", "-", "01", "1.5", "1.", ".5", "1e5", "1e", "1E+5", "1e-400",
-    "1e400", "-1e999", "18446744073709551615", "18446744073709551616", "-9223372036854775808", "-9223372036854775809",
-    "123456789012345678901234567890", "0.1e1", "-1", "+1", "NaN", "Infinity", "'a'", "\"", "\"\\", "",
+    "null",
+    "true",
+    "false",
+    "nul",
+    "tru",
+    "0",
+    "-0",
+    "-",
+    "01",
+    "1.5",
+    "1.",
+    ".5",
+    "1e5",
+    "1e",
+    "1E+5",
+    "1e-400",
+    "1e400",
+    "-1e999",
+    "18446744073709551615",
+    "18446744073709551616",
+    "-9223372036854775808",
+    "-9223372036854775809",
+    "123456789012345678901234567890",
+    "0.1e1",
+    "-1",
+    "+1",
+    "NaN",
+    "Infinity",
+    "'a'",
+    "\"",
+    "\"\\",
+    "",
 ];
 const JSON_LISTS: &[&str] = &[
-    "[\"a\"]", "{\"a\":\"b\"}", "[", "]", "[\"a\",]", "{\"a\"}", "{}", "[]", "{\"a\":1,\"a\":2}", "[1,2,[3]]",
-    "{\"a\":}", "[\"\\ud800\"]", "[1e999]",
+    "[\"a\"]",
+    "{\"a\":\"b\"}",
+    "[",
+    "]",
+    "[\"a\",]",
+    "{\"a\"}",
+    "{}",
+    "[]",
+    "{\"a\":1,\"a\":2}",
+    "[1,2,[3]]",
+    "{\"a\":}",
+    "[\"\\ud800\"]",
+    "[1e999]",
 ];
 const ESCAPES: &[&str] = &["\\\"", "\\\\", "\\/", "\\b", "\\f", "\\n", "\\r", "\\t"];
 const BAD_ESCAPES: &[&str] = &[
-    "\\ud800", "\\udc00", "\\ud800\\ud800", "\\udc00\\ud800", "\\ud800a", "\\ud800\\n", "\\ud800\\u0041", "\\x41",
-    "\\u12", "\\u12g4", "\\U0041", "\\", "\"", "\n", "\u{1f}", "\0", "\\a", "\\'", "\\u", "\\ud800\\", "\\ud800\\u",
-    "\\uD83E\\uDD80", "\\ud83e\\uDD80",
+    "\\ud800",
+    "\\udc00",
+    "\\ud800\\ud800",
+    "\\udc00\\ud800",
+    "\\ud800a",
+    "\\ud800\\n",
+    "\\ud800\\u0041",
+    "\\x41",
+    "\\u12",
+    "\\u12g4",
+    "\\U0041",
+    "\\",
+    "\"",
+    "\n",
+    "\u{1f}",
+    "\0",
+    "\\a",
+    "\\'",
+    "\\u",
+    "\\ud800\\",
+    "\\ud800\\u",
+    "\\uD83E\\uDD80",
+    "\\ud83e\\uDD80",
 ];
 
 /// A JSON text, or nearly one.
@@ -315,11 +412,13 @@ fn push_string(random: &mut Random, json: &mut String) {
         match random.below(14) {
             0 => json.push_str(random.pick(ESCAPES)),
             1 => {
-                let number = random.pick(&[0u32, 0x1f, 0x22, 0x41, 0x5c, 0x7f, 0x80, 0xe9, 0x7ff, 0x800, 0x2028, 0xfffd]);
+                let number =
+                    random.pick(&[0u32, 0x1f, 0x22, 0x41, 0x5c, 0x7f, 0x80, 0xe9, 0x7ff, 0x800, 0x2028, 0xfffd]);
                 json.push_str(&if random.one_in(2) { format!("\\u{number:04x}") } else { format!("\\u{number:04X}") });
             }
             2 => {
-                let (high, low) = (random.pick(&[0xd800u32, 0xd83e, 0xdbff]), random.pick(&[0xdc00u32, 0xdd80, 0xdfff]));
+                let (high, low) =
+                    (random.pick(&[0xd800u32, 0xd83e, 0xdbff]), random.pick(&[0xdc00u32, 0xdd80, 0xdfff]));
                 json.push_str(&format!("\\u{high:04x}\\u{low:04x}"));
             }
             3 if random.one_in(12) => json.push_str(random.pick(BAD_ESCAPES)),

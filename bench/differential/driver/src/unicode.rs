@@ -70,7 +70,8 @@ pub fn compare(machine: &mut Machine) -> Option<Versions> {
         let mut numbers = report.chunks(8).map(|bytes| u64::from_le_bytes(bytes.try_into().unwrap_or_default()));
         for character in (first..first + BLOCK).filter_map(char::from_u32) {
             let texts = aspects(character);
-            let differing: Vec<usize> = (0..ASPECTS.len()).filter(|at| numbers.next() != Some(digest(&texts[*at]))).collect();
+            let differing: Vec<usize> =
+                (0..ASPECTS.len()).filter(|at| numbers.next() != Some(digest(&texts[*at]))).collect();
             differing.iter().for_each(|aspect| found.characters[*aspect].push(character));
             if !is_of_versions(character, &texts, &differing) {
                 found.unexplained.push(character);
@@ -93,7 +94,8 @@ pub fn ranges(characters: &[char]) -> String {
             _ => ranges.push((number, number)),
         }
     }
-    let shown = |(from, to): &(u32, u32)| if from == to { format!("{from:04X}") } else { format!("{from:04X}..{to:04X}") };
+    let shown =
+        |(from, to): &(u32, u32)| if from == to { format!("{from:04X}") } else { format!("{from:04X}..{to:04X}") };
     ranges.iter().map(shown).collect::<Vec<_>>().join(" ")
 }
 
@@ -102,7 +104,10 @@ impl Versions {
     /// version it is each that differs.
     pub fn tell(&self) -> usize {
         let (ours, upstream) = (self.ours, char::UNICODE_VERSION);
-        println!("Unicode {}.{}.{} here, {}.{}.{} upstream", ours.0, ours.1, ours.2, upstream.0, upstream.1, upstream.2);
+        println!(
+            "Unicode {}.{}.{} here, {}.{}.{} upstream",
+            ours.0, ours.1, ours.2, upstream.0, upstream.1, upstream.2
+        );
         for (aspect, characters) in ASPECTS.iter().zip(&self.characters) {
             println!("characters that differ, {aspect}: {}: {}", characters.len(), ranges(characters));
         }

@@ -65,7 +65,11 @@ pub fn stream(mirror: &mut Mirror, operation: &Operation, run: &Run, out: &mut R
         FILL => {
             mirror.takes_none(run, true, "fill asks for memory");
             let reading = reading(bytes.len(), manner, std::iter::once(limit));
-            if reading.has_failed { mirror.io_error(manner.error(), manner, out) } else { out.size(reading.taken) }
+            if reading.has_failed {
+                mirror.io_error(manner.error(), manner, out)
+            } else {
+                out.size(reading.taken)
+            }
             let mut room = vec![0; limit];
             room[..reading.taken].copy_from_slice(&bytes[..reading.taken]);
             out.bytes(&room);

@@ -74,7 +74,11 @@ impl Mirror {
                 if run.is_refused() {
                     return self.not_decoded(DecodeFault::OutOfMemory, out);
                 }
-                if code == FROM_WIRE { out.size(bytes.len() - rest.len()) } else { out.bytes(rest) }
+                if code == FROM_WIRE {
+                    out.size(bytes.len() - rest.len())
+                } else {
+                    out.bytes(rest)
+                }
                 self.keep(dst, text, out);
             }
             Err(_) => {
