@@ -224,8 +224,32 @@ fn odd_byte(random: &mut Random) -> u8 {
     if random.one_in(3) { random.next() as u8 } else { random.pick(ODD_BYTES) }
 }
 
+/// Draws until no odd byte has made a character on which both sides' Unicode disagrees.
+fn agreed(random: &mut Random, draw: fn(&mut Random) -> Vec<u8>) -> Vec<u8> {
+    loop {
+        let bytes = draw(random);
+        if !String::from_utf8_lossy(&bytes).chars().any(unicode::is_known_to_differ) {
+            return bytes;
+        }
+    }
+}
+
 /// Bytes that are a text, or nearly.
 pub fn bytes(random: &mut Random) -> Vec<u8> {
+    agreed(random, nearly_text)
+}
+
+/// A wire form, or nearly one.
+pub fn wire(random: &mut Random) -> Vec<u8> {
+    agreed(random, nearly_wire)
+}
+
+/// A wire form of more than a piece, at times cut short or with one odd byte.
+pub fn long_wire(random: &mut Random) -> Vec<u8> {
+    agreed(random, nearly_long_wire)
+}
+
+fn nearly_text(random: &mut Random) -> Vec<u8> {
     let mut bytes = text(random).into_bytes();
     if random.one_in(3) {
         return bytes;
@@ -242,8 +266,7 @@ pub fn bytes(random: &mut Random) -> Vec<u8> {
     bytes
 }
 
-/// A wire form, or nearly one.
-pub fn wire(random: &mut Random) -> Vec<u8> {
+fn nearly_wire(random: &mut Random) -> Vec<u8> {
     let body = if random.one_in(3) { bytes(random) } else { text(random).into_bytes() };
     let mut stated = body.len() as u32;
     if random.one_in(4) {
@@ -264,8 +287,7 @@ pub fn wire(random: &mut Random) -> Vec<u8> {
     form
 }
 
-/// A wire form of more than a piece, at times cut short or with one odd byte.
-pub fn long_wire(random: &mut Random) -> Vec<u8> {
+fn nearly_long_wire(random: &mut Random) -> Vec<u8> {
     let length = random.pick(&[4095usize, 4096, 4097, 8192, 9000]);
     let unit = random.pick(&["a", "é", "€", "🦀", "ab€"]);
     let mut body = unit.repeat(length / unit.len() + 1).into_bytes();

@@ -33,6 +33,11 @@ pub fn differs(character: char) -> bool {
     DIFFERING.get().is_none_or(|all| all.binary_search(&character).is_ok())
 }
 
+/// Whether both sides were asked for a character, and disagree.
+pub fn is_known_to_differ(character: char) -> bool {
+    DIFFERING.get().is_some() && differs(character)
+}
+
 fn aspects(character: char) -> [String; 5] {
     let alone = character.to_string();
     let beside = |before: &str, behind: &str| format!("{before}{character}{behind}").to_lowercase();
