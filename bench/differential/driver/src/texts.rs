@@ -35,6 +35,9 @@ const WIDE: &[char] = &[
     '中',
 ];
 
+/// Characters that stand in another order by their code units of 16 bits.
+const ORDERED: &[char] = &['é', '中', '\u{e000}', '\u{ffff}', '\u{10000}', '🦀'];
+
 const QUOTED: &[char] = &[
     '"', '\\', '/', '\n', '\r', '\t', '\u{8}', '\u{c}', '\0', '\u{1f}', '\u{7f}', '\u{2028}', '\u{ad}', '\u{300}', 'a',
     'é',
@@ -163,9 +166,9 @@ fn one_wide(random: &mut Random, length: usize, text: &mut String) {
 
 /// One of few texts that begin in the same way, so that orders are decided late and by wide characters.
 fn alike(random: &mut Random) -> String {
-    let mut text = "a".repeat(random.pick(&[0, 1, 15, 16, 38, 39, 40]));
-    text.push(random.pick(WIDE));
-    text.push_str(random.pick(&["", "a", "\0"]));
+    let mut text = "a".repeat(random.pick(&[0, 0, 15, 39]));
+    text.push(random.pick(ORDERED));
+    text.push_str(random.pick(&["", "a"]));
     text
 }
 
@@ -176,7 +179,7 @@ pub fn text(random: &mut Random) -> String {
     if random.one_in(12) {
         return (0..length(random)).map(|_| random.pick(QUOTED)).collect();
     }
-    if random.one_in(12) {
+    if random.one_in(8) {
         return alike(random);
     }
     if random.one_in(40) {
