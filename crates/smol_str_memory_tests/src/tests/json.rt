@@ -289,16 +289,18 @@ fn asked_by_std(alloc: Global, call: Call, ample: &Ample) -> Result<Asked, Fail>
         Call::ToValue => drop(Value::String(String::from_str(alloc, text)?)),
         Call::ToJson => drop(Value::String(String::from_str(alloc, text)?).to_string(alloc)?),
         Call::FromValue => drop(SmolStr::new(alloc, text)?),
-        Call::FromJson => drop(read_by_serde(alloc, ample.json.as_str())?),
+        Call::FromJson => read_by_serde(alloc, ample.json.as_str(), text)?,
     }
     Ok(count_asked(alloc).since(before))
 }
 
-fn read_by_serde(alloc: Global, json: &str) -> Result<SmolStr, Fail> {
-    let Ok(Value::String(string)) = serde_json::from_str(alloc, json) else {
+fn read_by_serde(alloc: Global, json: &str, text: &str) -> Result<(), Fail> {
+    let Ok(read) = Value::from_str(alloc, json) else {
         return Err("serde_json does not read it".into());
     };
-    Ok(SmolStr::from_owned(string)?)
+    drop(SmolStr::new(alloc, text)?);
+    drop(read);
+    Ok(())
 }
 
 fn run(alloc: Global, call: Call, ample: &Ample) -> Result<Made, JsonFault> {
