@@ -7,6 +7,7 @@
    BASE + 0x10000 + place * 256 + byte         a byte of the head: which requests are refused (0 none, 1 the nth, 2 from
                the nth on, 3 each by a chance of one in n), seven bytes of n, eight of a seed */
 #include <fcntl.h>
+#include <malloc.h>
 #include <stddef.h>
 #include <stdint.h>
 #include <stdlib.h>
@@ -105,7 +106,8 @@ void *machine_malloc(size_t size) {
 }
 
 void *machine_realloc(void *old, size_t size) {
-    if (is_refused(size)) return NULL;
+    /* a block that is made smaller needs no memory */
+    if (size > malloc_usable_size(old) && is_refused(size)) return NULL;
     void *block = realloc(old, size);
     live += old == NULL && block != NULL;
     return block;

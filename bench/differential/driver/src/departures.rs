@@ -59,6 +59,6 @@ pub static DEPARTURES: &[Row] = &[
     Row {
         departure: Departure::Refusal,
         operations: "each call that was refused memory",
-        upstream: "No call aborts for want of memory.",
+        upstream: "No call aborts where memory is refused.",
     },
 ];
