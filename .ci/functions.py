@@ -44,6 +44,24 @@ class Functions:
             at += 1
         return names
 
+    def beside(self, path):
+        """The lines of each function of a file that another function can stand beside, by its name: from its first
+        attribute to its last line. Those of impls of traits, and of traits, are not among them."""
+        lines, found, is_open = (self.crate / path).read_text(encoding="utf-8").split("\n"), {}, True
+        for at, (line, name) in enumerate(zip(lines, self.named(path))):
+            if line.startswith(("impl", "pub trait ", "trait ")):
+                is_open = line.startswith("impl") and " for " not in _header(lines, at)
+            elif line == "}":
+                is_open = True
+            if name in found:
+                found[name] = found[name][0], at
+            elif name and is_open:
+                first = at
+                while lines[first - 1].strip().startswith("#["):
+                    first -= 1
+                found[name] = first, at
+        return found
+
     def owner(self, module, header):
         """The path below which the functions of an impl or a trait stand."""
         declared = TYPE.match(header)
