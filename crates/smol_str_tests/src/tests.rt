@@ -7,6 +7,7 @@ mod kernel;
 mod keys;
 mod large;
 mod long_texts;
+mod operations;
 mod places;
 mod replace;
 mod same;
