@@ -1,6 +1,6 @@
 //! Texts collected through std's adapters, and by a builder that draws them.
-ghost use Rattle.std.specs.Prelude.{◌≡◌, ◌<◌, ◌==◌, ◌++◌, ◌∷◌, [], codes, length, map, not, reverse, take, IfOk, OnOk, OnErr};
-ghost use Rattle.std.specs.List.{filter};
+ghost use Rattle.std.specs.Prelude.{◌≡◌, ◌<◌, ◌==◌, ◌++◌, ◌∷◌, [], codes, length, map, not, reverse, take, IfOk, IsOk, OnOk, OnErr};
+ghost use Rattle.std.specs.List.{filter, slice_split};
 ghost use Rattle.std.specs.Str.{chars};
 ghost use Rattle.std.specs.Iterator.{IsFinite};
 ghost use Rattle.smol_str.specs.Collect.{IsValueOfRun, Outgrown};
@@ -41,6 +41,15 @@ pub fn without(alloc: Global, text: &str, left_out: char) -> Result<SmolStr, All
     SmolStr::from_chars(alloc, text.chars().filter(|c| *c != left_out))
 }
 
+/// A text without its commas.
+#[tactic(auto, using(smol_str::proofs::CallerLemmas::collecting))]
+pub fn without_commas(alloc: Global, text: &str) -> Result<SmolStr, AllocError>
+    ensures ok { IfOk result (λ v. IsValueOf (joined chars (slice_split (λ b. b == 44) text.now)) v) }
+    ensures refused { OnErr result (¬ (IsShort (joined chars (slice_split (λ b. b == 44) text.now)))) }
+{
+    SmolStr::from_strs(alloc, text.split(','))
+}
+
 /// A text without each match of another, which is not empty.
 #[tactic(auto, using(smol_str::proofs::CallerLemmas::collecting))]
 pub fn without_text(alloc: Global, text: &str, left_out: &str) -> Result<SmolStr, AllocError>
@@ -58,6 +67,15 @@ pub fn of_parts(alloc: Global, parts: &[&str]) -> Result<SmolStr, AllocError>
     ensures refused { OnErr result (¬ (IsShort (joined str_text parts.now))) }
 {
     SmolStr::from_strs(alloc, parts.iter().copied())
+}
+
+/// The characters of a literal; short text is never refused.
+#[tactic(auto, using(smol_str::proofs::CallerLemmas::collecting))]
+pub fn abc(alloc: Global) -> Result<SmolStr, AllocError>
+    ensures ok { IsOk result }
+    ensures text { IfOk result (λ v. IsValueOf (codes "abc") v) }
+{
+    SmolStr::from_chars(alloc, "abc".chars())
 }
 
 /// Two texts with a dash between them.
@@ -112,6 +130,17 @@ pub fn push_reversed(builder: &mut SmolStrBuilder, text: &str) -> Result<(), All
     ensures refused { OnErr result ((appended builder.old (reverse (chars text.now))).kind ≡ OnHeap) }
 {
     builder.extend_chars(text.chars().rev())
+}
+
+/// A builder, and a text without its commas after it.
+#[tactic(auto, using(smol_str::proofs::CallerLemmas::collecting))]
+pub fn push_without_commas(builder: &mut SmolStrBuilder, text: &str) -> Result<(), AllocError>
+    ensures ok { OnOk result
+        (builder.new ≡ appended builder.old (joined chars (slice_split (λ b. b == 44) text.now))) }
+    ensures refused { OnErr result
+        ((appended builder.old (joined chars (slice_split (λ b. b == 44) text.now))).kind ≡ OnHeap) }
+{
+    builder.extend_strs(text.split(','))
 }
 
 /// The texts of any iterator that ends: a generic caller.
