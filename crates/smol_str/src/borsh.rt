@@ -1,8 +1,8 @@
 //! The wire form: a text as a string of borsh, its size as four little-endian bytes and then its
 //! UTF-8 bytes.
 //!
-//! Readers and writers are called as [`crate::stream`] calls them, by single `read`s and `write`s. A
-//! reader or writer that does not tell its bytes is claimed nothing of.
+//! Readers and writers are called as [`crate::stream`] calls them, by single `read`s and `write`s.
+//! Of a reader or writer whose bytes are not known nothing is claimed.
 ghost use Rattle.std.specs.Prelude.{◌≡◌, ◌<◌, ◌≤◌, ◌^◌, ◌++◌, ℕ, List, length, Option, MatchOption, IfOk, OnOk, IfErr, OnErr};
 ghost use Rattle.std.specs.Int.{w32, to_le_bytes, from_le_bytes};
 ghost use Rattle.std.specs.Io.KnownBytes.{Appends, Consumes};
@@ -78,7 +78,7 @@ pub fn length_prefix(len: usize) -> Option<[u8; 4]>
 /// The value whose wire form `bytes` begin with, and how many of them that takes.
 ///
 /// An early end is found first, then bytes that are not UTF-8, and memory is asked for last; a
-/// resident text needs none. The answer is never [`DecodeFault::Io`].
+/// resident text needs none. It never returns [`DecodeFault::Io`].
 ///
 /// ```
 /// let (value, taken) = from_wire(alloc, b"\x02\0\0\0abc")?;
@@ -138,7 +138,7 @@ pub fn deserialize_limited<R: Read>(
     Ok(read_body(alloc, reader, size)?)
 }
 
-/// The body that the bytes state, `None` exactly where they have ended early.
+/// The body, as long as the prefix says; `None` if the input is truncated.
 fn whole_body(bytes: &[u8]) -> Option<&[u8]>
     ensures { MatchOption result (HasEndedEarly bytes.now)
         (λ found. (¬ (HasEndedEarly bytes.now)) × (found.now ≡ body bytes.now)) }

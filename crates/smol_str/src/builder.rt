@@ -19,7 +19,7 @@ use std::marker::Model;
 ///
 /// A builder means its text and its kind. It begins in its own buffer, and takes no memory while its
 /// text fits there; it moves to the heap when the text outgrows the buffer, or at once where a larger
-/// capacity was asked for. What [`finish`](SmolStrBuilder::finish) answers depends on the text alone.
+/// capacity was asked for. What [`finish`](SmolStrBuilder::finish) returns depends on the text alone.
 ///
 /// ```
 /// let mut builder = SmolStrBuilder::new(alloc);
@@ -256,7 +256,7 @@ impl Clone for SmolStrBuilder {
 }
 
 impl SmolStr {
-    /// The value of a builder's text: [`SmolStrBuilder::finish`] as a function of the value's type.
+    /// The same as `builder.finish()`; stands for upstream's `From<SmolStrBuilder>`.
     pub fn from_builder(builder: SmolStrBuilder) -> Result<SmolStr, SmolStrBuilder>
         ensures ok { IfOk result (λ v. IsValueOf builder.text v) }
         ensures back { IfErr result (λ back. back ≡ builder) }
@@ -266,7 +266,7 @@ impl SmolStr {
     }
 }
 
-/// For `?` in a function that answers [`AllocError`], where the builder is not wanted back.
+/// For `?` in a function that returns [`AllocError`], where the builder is not wanted back.
 impl From<SmolStrBuilder> for AllocError {
     fn from(_builder: SmolStrBuilder) -> AllocError {
         AllocError

@@ -60,7 +60,7 @@ impl<'a> Piece for &'a String {
 
 /// An allocator that collects values: `Global`.
 ///
-/// The collecting calls answer its `Value`, which is [`SmolStr`]. One that named [`SmolStr`] could not
+/// The collecting calls return its `Value`, which is [`SmolStr`]. One that named [`SmolStr`] could not
 /// be called, for the borrow checker, with an iterator whose type names several lifetimes.
 pub trait ValueAlloc {
     type Value;

@@ -20,7 +20,7 @@ use full::to_full_case;
 use replace::replace;
 use std::alloc::{AllocError, Global};
 
-/// Calls of a `str` whose answer is a new text, as a [`SmolStr`].
+/// Calls of a `str` that return a new text, as a [`SmolStr`].
 ///
 /// Each returns the text that Rust's `str` does in its call of the same beginning, in the place of
 /// that text. A replacement and a text in ASCII case are built in a builder, so a short one takes no
@@ -85,7 +85,7 @@ pub trait StrExt {
     /// The text in lower case as Unicode maps it, as `str::to_lowercase`: `Σ` at the end of a word
     /// becomes `ς`, in short texts too.
     ///
-    /// No short ASCII text is refused. Any other may be, one with `Σ` even where the answer is short.
+    /// No short ASCII text is refused. Any other may be, one with `Σ` even where the result is short.
     fn to_lowercase_smolstr(&self, alloc: Global) -> Result<SmolStr, AllocError>
         ensures ok { IfOk result (λ v. IsValueOf (lowercased (content self.now)) v) }
         ensures ascii { IsAsciiText (content self.now) →

@@ -1,8 +1,8 @@
 //! Reading and writing by single calls, for the wire form and for programs.
 //!
 //! std's own `read_exact`, `read_to_end` and `write_all` go on after `Interrupted`, which a reader or
-//! a writer may answer without end; these give every error back at once. A reader or writer that
-//! does not tell its bytes is claimed nothing of.
+//! a writer may return without end; these return every error at once. Of a reader or writer whose
+//! bytes are not known nothing is claimed.
 ghost use Rattle.std.specs.Prelude.{◌≡◌, ◌<◌, ◌≤◌, ◌-◌, ◌^◌, length, take, IfOk, OnOk, IfErr, OnErr, IfSome};
 ghost use Rattle.std.specs.Io.KnownBytes.{Appends, Consumes, IsAtEnd};
 ghost use Rattle.smol_str.specs.Stream.{AppendsBeginning, StopsBelow, AfterStreamFault};
@@ -40,7 +40,7 @@ impl From<AllocError> for ReadFault {
     }
 }
 
-/// Fills `buf` from its front, each step by one `read` into what is left of it, and answers how many
+/// Fills `buf` from its front, each step by one `read` into what is left of it, and returns how many
 /// bytes came: fewer than `buf` has only where the reader is at its end.
 ///
 /// An empty `buf` makes no `read`. Where the reader failed, fewer bytes came than `buf` has.

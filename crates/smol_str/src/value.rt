@@ -286,7 +286,7 @@ impl SmolStr {
     }
 }
 
-/// For `?` in a function that answers [`AllocError`], where the value that a refused conversion gives
+/// For `?` in a function that returns [`AllocError`], where the value that a refused conversion gives
 /// back is not wanted.
 impl From<SmolStr> for AllocError {
     fn from(_value: SmolStr) -> AllocError {

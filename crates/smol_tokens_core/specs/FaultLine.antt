@@ -1,4 +1,4 @@
--- The line that tells a fault on standard error.
+-- The line that reports a fault on standard error.
 use Rattle.std.specs.Prelude.{ℕ, List, codes}
 use Rattle.smol_tokens_core.specs.declared.fault.RunFault.{RunFault}
 use Rattle.smol_tokens_core.specs.declared.fault.RunFault.TheVariants.{NotUtf8, OutOfMemory, Full, Io}

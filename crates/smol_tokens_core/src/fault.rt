@@ -1,4 +1,4 @@
-//! Why a run failed, and how that is told.
+//! Why a run failed, and how that is reported.
 ghost use Rattle.std.specs.Prelude.{◌≡◌};
 ghost use Rattle.smol_tokens_core.specs.FaultLine.{line_of};
 ghost use Rattle.smol_tokens_core.specs.ReadFaults.{run_fault};
@@ -61,7 +61,7 @@ impl From<AddFault> for RunFault {
     }
 }
 
-/// The line that tells a fault on standard error, without its newline.
+/// The line that reports a fault on standard error, without its newline.
 pub fn fault_line(fault: &RunFault) -> &'static str
     ensures { result.now ≡ line_of fault.now }
 {

@@ -24,8 +24,8 @@ pub fn written(alloc: Global, value: &SmolStr) -> Result<Vec<u8>, EncodeFault>
     Ok(form)
 }
 
-/// The value of bytes that are the wire form of `text`, with `rest` after it: nothing but want of
-/// memory can go wrong.
+/// The value of bytes that are the wire form of `text`, with `rest` after it: it can only run
+/// out of memory.
 pub fn read_from_bytes(
     alloc: Global,
     bytes: &[u8],
@@ -81,8 +81,8 @@ pub fn there_and_back(alloc: Global, text: &str, rest: &[u8]) -> Option<(SmolStr
     Some((one, other))
 }
 
-/// A value of a reader whose bytes state a short text: memory is never wanting, and what can fail is the reader, or the
-/// bytes themselves.
+/// A value of a reader whose bytes state a short text: it never runs out of memory, and what can fail is the reader,
+/// or the bytes themselves.
 pub fn read_short<R: Read>(
     alloc: Global,
     reader: &mut R,

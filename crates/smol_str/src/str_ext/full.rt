@@ -51,7 +51,7 @@ fn long_full_case(alloc: Global, text: &str, case: AsciiCase) -> Result<SmolStr,
     }
 }
 
-/// The same of a short text, with no memory while the answer is short, unless a character has to be
+/// The same of a short text, with no memory while the result is short, unless a character has to be
 /// mapped by what stands around it.
 #[inline(never)]
 fn short_full_case(alloc: Global, text: &str, case: AsciiCase) -> Result<SmolStr, AllocError>

@@ -37,7 +37,7 @@ pub(super) fn replace(
     builder.into_value()
 }
 
-/// Appends the text up to the last match that is replaced; answers where the rest begins.
+/// Appends the text up to the last match that is replaced; returns where the rest begins.
 fn push_replaced(
     builder: &mut SmolStrBuilder,
     text: &str,
@@ -61,7 +61,7 @@ fn push_replaced(
 }
 
 /// Appends the new text before each of the first `count` characters, and at the end where the limit
-/// goes past them; answers where the rest begins.
+/// goes past them; returns where the rest begins.
 fn push_between(
     builder: &mut SmolStrBuilder,
     text: &str,
@@ -109,7 +109,7 @@ fn push_before(builder: &mut SmolStrBuilder, text: &str, character: char) -> Res
     push_two(builder, text, last)
 }
 
-/// Appends what stands before each of the first `count` matches, and the new text; answers where the
+/// Appends what stands before each of the first `count` matches, and the new text; returns where the
 /// rest begins. The search is prepared once, and not for each match.
 fn push_matches(
     builder: &mut SmolStrBuilder,
