@@ -5,6 +5,6 @@ use Rattle.smol_str.specs.declared.stream.ReadFault.{ReadFault}
 use Rattle.smol_str.specs.declared.stream.ReadFault.TheVariants.{OutOfMemory, Io}
 
 -- out of memory stays out of memory, and an error of the reader goes on as it is
-abbrev pub run_fault : ReadFault → RunFault
-run_fault OutOfMemory = run.OutOfMemory
-run_fault (Io e) = run.Io e
+abbrev pub fault_of_read : ReadFault → RunFault
+fault_of_read OutOfMemory = run.OutOfMemory
+fault_of_read (Io e) = run.Io e

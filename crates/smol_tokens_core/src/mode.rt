@@ -1,6 +1,6 @@
 //! What the program is asked to do.
 ghost use Rattle.std.specs.Prelude.{◌≡◌};
-ghost use Rattle.smol_tokens_core.specs.Words.{asked_mode, mode_of_word};
+ghost use Rattle.smol_tokens_core.specs.ModeWords.{asked_mode, mode_of_word};
 
 /// What the program writes of its input.
 #[derive(Debug, Drop)]
