@@ -267,13 +267,13 @@ impl BorshDeserialize for SmolStr {
     ghost use Rattle.std.specs.Prelude.{◌≡◌};
     ghost use Rattle.smol_str.specs.Text.{place_of};
     ghost use Rattle.smol_str.specs.Wire.{HasWire, wire};
-    ghost use Rattle.smol_str.specs.WireFaults.{AfterReadFault};
+    ghost use Rattle.smol_str.specs.WireFaults.{AfterDecodeFault};
 
     ghost form_read = { λ s. wire s.text };
 
     ghost is_read = { λ s. HasWire s.text × (s.place ≡ place_of s.text) };
 
-    ghost after_fault = { λ input left fault. AfterReadFault input left fault };
+    ghost after_fault = { λ input left fault. AfterDecodeFault input left fault };
 
     fn deserialize_reader<R: Read>(alloc: Global, reader: &mut R) -> Result<SmolStr, DecodeFault> {
         let Some(size) = read_size(reader)? else {

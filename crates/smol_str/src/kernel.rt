@@ -6,7 +6,7 @@ ghost use Rattle.memchr.specs.Find.{FindsNeedle};
 ghost use Rattle.smol_str.specs.Text.{size};
 ghost use Rattle.smol_str.specs.Buffer.{padded};
 ghost use Rattle.smol_str.specs.Case.{lower, upper, front};
-ghost use Rattle.smol_str.specs.Convert.{converted, IsAsciiFront};
+ghost use Rattle.smol_str.specs.InCase.{converted, IsAsciiFront};
 ghost use Rattle.smol_str.specs.Cut.{Occurs, StandsAt, IsNextMatch};
 
 use crate::buffer::{INLINE_CAP, InlineBuffer, InlineText};

@@ -6,7 +6,7 @@ ghost use Rattle.std.specs.Rc.{rc_str_bytes};
 ghost use Rattle.smol_str.specs.Text.{size, IsShort, IsResident, place_of};
 ghost use Rattle.smol_str.specs.Buffer.{padded};
 ghost use Rattle.smol_str.specs.Case.{IsAsciiText};
-ghost use Rattle.smol_str.specs.Convert.{converted};
+ghost use Rattle.smol_str.specs.InCase.{converted};
 ghost use Rattle.smol_str.specs.Meaning.{IsValueOf};
 
 pub mod blank;

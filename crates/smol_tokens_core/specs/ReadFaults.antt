@@ -5,6 +5,6 @@ use Rattle.smol_str.specs.declared.stream.ReadFault.{ReadFault}
 use Rattle.smol_str.specs.declared.stream.ReadFault.TheVariants.{OutOfMemory, Io}
 
 -- out of memory stays out of memory, and an error of the reader goes on as it is
-abbrev pub fault_of_read : ReadFault → RunFault
-fault_of_read OutOfMemory = run.OutOfMemory
-fault_of_read (Io e) = run.Io e
+abbrev pub of_read_fault : ReadFault → RunFault
+of_read_fault OutOfMemory = run.OutOfMemory
+of_read_fault (Io e) = run.Io e

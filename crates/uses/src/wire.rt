@@ -4,7 +4,7 @@ ghost use Rattle.std.specs.Io.KnownBytes.{Consumes};
 ghost use Rattle.std.specs.Str.{chars};
 ghost use Rattle.smol_str.specs.Text.{size, IsResident, place_of};
 ghost use Rattle.smol_str.specs.Meaning.{IsValueOf};
-ghost use Rattle.smol_str.specs.Wire.{HasWire, wire, stated};
+ghost use Rattle.smol_str.specs.Wire.{HasWire, wire, prefix_size};
 
 use smol_str::borsh::{
     BorshDeserialize, BorshSerialize, DecodeFault, EncodeFault, LimitedFault, deserialize_limited,
@@ -89,7 +89,7 @@ pub fn read_short<R: Read>(
     bytes: &[u8],
 ) -> Result<SmolStr, DecodeFault>
     requires known { R.remaining reader.old ≡ Some bytes.now }
-    requires short { stated bytes.now ≤ INLINE_CAP }
+    requires short { prefix_size bytes.now ≤ INLINE_CAP }
     ensures value { IfOk result (λ v. Consumes (R.remaining reader.old) (R.remaining reader.new) (wire v.text)) }
     ensures place { IfOk result (λ v. v.place ≡ place_of v.text) }
     ensures refused { IfErr result (λ fault. ¬ (fault ≡ DecodeFault.OutOfMemory)) }

@@ -19,7 +19,7 @@ ghost use Rattle.std.specs.Ordering.{nat_cmp};
 ghost use Rattle.std.specs.Cmp.Lexicographic.{pointwise, slice_cmp};
 ghost use Rattle.std.specs.Int.{w64, to_le_bytes, from_be_bytes};
 ghost use Rattle.smol_str.specs.Buffer.{packed};
-ghost use Rattle.smol_str.specs.Words.{word, put_at, zeroed};
+ghost use Rattle.smol_str.specs.Words.{word, put_at, with_zeros};
 
 use super::{INLINE_CAP, PACKED_LEN, Packed};
 use std::cmp::Ordering;
@@ -67,7 +67,7 @@ pub(super) fn pack_char(character: char) -> Packed
 fn put_words(buf: &mut Packed, bytes: &[u8])
     requires least { 8 ≤ length bytes.now }
     requires most { length bytes.now ≤ INLINE_CAP }
-    ensures { buf.new ≡ zeroed bytes.now }
+    ensures { buf.new ≡ with_zeros bytes.now }
 {
     for i in 0..WORDS {
         put_word(buf, 8 * i, word_at(bytes, 8 * i));

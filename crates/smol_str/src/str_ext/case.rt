@@ -5,7 +5,7 @@ ghost use Rattle.smol_str.specs.Text.{IsShort};
 ghost use Rattle.smol_str.specs.Meaning.{IsValueOf};
 ghost use Rattle.smol_str.specs.Draft.{OnHeap, appended};
 ghost use Rattle.smol_str.specs.Case.{front};
-ghost use Rattle.smol_str.specs.Convert.{converted};
+ghost use Rattle.smol_str.specs.InCase.{converted};
 
 use crate::buffer::INLINE_CAP;
 use crate::builder::SmolStrBuilder;

@@ -3,7 +3,7 @@ ghost use Rattle.std.specs.Prelude.{◌≡◌, ◌<◌, ℕ, List, [], ◌∷◌
 ghost use Rattle.std.specs.Str.{IsCharBoundary, chars};
 ghost use Rattle.smol_str.specs.Text.{size, IsShort};
 ghost use Rattle.smol_str.specs.Meaning.{IsValueOf};
-ghost use Rattle.smol_str.specs.Draft.{OnHeap, grown, appended};
+ghost use Rattle.smol_str.specs.Draft.{OnHeap, draft_of, appended};
 ghost use Rattle.smol_str.specs.Replace.{replaced};
 ghost use Rattle.smol_str.specs.Replacing.{IsReplacing};
 
@@ -45,7 +45,7 @@ fn push_replaced(
     to: &str,
     count: usize,
 ) -> Result<usize, AllocError>
-    requires { builder.old ≡ grown [] }
+    requires { builder.old ≡ draft_of [] }
     ensures ok { IfOk result (λ place.
         IsReplacing (chars text.now) (chars from.now) (chars to.now) count 0 builder.new place) }
     ensures refused { OnErr result
@@ -68,7 +68,7 @@ fn push_between(
     to: &str,
     count: usize,
 ) -> Result<usize, AllocError>
-    requires { builder.old ≡ grown [] }
+    requires { builder.old ≡ draft_of [] }
     ensures ok { IfOk result (λ place.
         IsReplacing (chars text.now) [] (chars to.now) count 0 builder.new place) }
     ensures refused { OnErr result (¬ (IsShort (replaced (chars text.now) [] (chars to.now) count))) }
@@ -121,7 +121,7 @@ fn push_matches(
 ) -> Result<usize, AllocError>
     requires search { search.now ≡ from.now }
     requires some { 0 < length from.now }
-    requires empty { builder.old ≡ grown [] }
+    requires empty { builder.old ≡ draft_of [] }
     ensures ok { IfOk result (λ place.
         IsReplacing (chars text.now) (chars from.now) (chars to.now) count 0 builder.new place) }
     ensures refused { OnErr result
