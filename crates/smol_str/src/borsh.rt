@@ -34,6 +34,12 @@ pub trait BorshSerialize {
     ///
     /// A value without one is refused with [`EncodeFault::TooLong`] before anything is written. Where
     /// the writer fails, a beginning of the form was written.
+    ///
+    /// ```
+    /// let mut form = Vec::new(alloc);
+    /// SmolStr::new_inline("ab").serialize(&mut form)?;
+    /// assert_eq!(rt; form.as_slice(), b"\x02\0\0\0ab".as_slice());
+    /// ```
     fn serialize<W: Write>(&self, writer: &mut W) -> Result<(), EncodeFault>
         ensures sized { OnOk result (has_form self.now) }
         ensures ok { OnOk result (Appends (W.contents writer.old) (W.contents writer.new) (form self.now)) }
@@ -56,6 +62,12 @@ pub trait BorshDeserialize: Sized {
     ghost after_fault: { Option (List ℕ) → Option (List ℕ) → DecodeFault → Type 0 };
 
     /// Reads one value, and no byte past its wire form.
+    ///
+    /// ```
+    /// let mut reader = b"\x02\0\0\0abc".as_slice();
+    /// let value = SmolStr::deserialize_reader(alloc, &mut reader)?;
+    /// assert!(rt; value.as_str() == "ab" && reader == b"c".as_slice());
+    /// ```
     fn deserialize_reader<R: Read>(alloc: Global, reader: &mut R) -> Result<Self, DecodeFault>
         ensures ok { IfOk result (λ v.
             Consumes (R.remaining reader.old) (R.remaining reader.new) (form_read v)) }
@@ -65,6 +77,10 @@ pub trait BorshDeserialize: Sized {
 
 /// The four bytes that state a size in bytes, the lowest first; `None` exactly for more than
 /// 4294967295.
+///
+/// ```
+/// assert_eq!(rt; length_prefix(2), Some([2, 0, 0, 0]));
+/// ```
 pub fn length_prefix(len: usize) -> Option<[u8; 4]>
     ensures { MatchOption result (2 ^ 32 ≤ len)
         (λ prefix. (len < 2 ^ 32) × (prefix ≡ to_le_bytes w32 len)) }
@@ -101,7 +117,7 @@ pub fn from_wire(alloc: Global, bytes: &[u8]) -> Result<(SmolStr, usize), Decode
 ///
 /// ```
 /// let (value, rest) = split_wire(alloc, b"\x02\0\0\0abc")?;
-/// assert!(rt; value.as_str() == "ab" && rest == b"c");
+/// assert!(rt; value.as_str() == "ab" && rest == b"c".as_slice());
 /// ```
 pub fn split_wire(alloc: Global, bytes: &[u8]) -> Result<(SmolStr, &[u8]), DecodeFault>
     ensures form { IfOk result (λ r. bytes.now ≡ wire r.0.text ++ r.1.now) }
@@ -118,6 +134,12 @@ pub fn split_wire(alloc: Global, bytes: &[u8]) -> Result<(SmolStr, &[u8]), Decod
 ///
 /// A length prefix above the limit is [`LimitedFault::TooLong`]: the four bytes are consumed, no memory was
 /// asked for, and nothing of the body was read.
+///
+/// ```
+/// let mut reader = b"\x02\0\0\0ab".as_slice();
+/// let fault = deserialize_limited(alloc, &mut reader, 1).err();
+/// assert!(rt; matches!(fault, Some(LimitedFault::TooLong)));
+/// ```
 pub fn deserialize_limited<R: Read>(
     alloc: Global,
     reader: &mut R,

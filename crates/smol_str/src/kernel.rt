@@ -31,7 +31,7 @@ pub enum AsciiCase {
 ///
 /// ```
 /// let (buffer, len) = convert_while_ascii("ABCé", AsciiCase::Lower);
-/// assert_eq!(rt; &buffer[..len], b"abc");
+/// assert_eq!(rt; &buffer[..len], b"abc".as_slice());
 /// ```
 pub fn convert_while_ascii(text: &str, case: AsciiCase) -> (InlineBuffer, usize)
     requires { length text.now ≤ INLINE_CAP }
