@@ -14,7 +14,7 @@ use std::alloc::{AllocError, Global};
 /// The characters of a text.
 #[tactic(auto, using(smol_str::proofs::CallerLemmas::collecting))]
 pub fn copied(alloc: Global, text: &str) -> Result<SmolStr, AllocError>
-    ensures ok { IfOk result (λ v. IsValueOf (chars text.now) v) }
+    ensures value { IfOk result (λ v. IsValueOf (chars text.now) v) }
     ensures refused { OnErr result (¬ (IsShort (chars text.now))) }
 {
     SmolStr::from_chars(alloc, text.chars())
@@ -23,7 +23,7 @@ pub fn copied(alloc: Global, text: &str) -> Result<SmolStr, AllocError>
 /// The texts of `String`s that are handed over.
 #[tactic(auto, using(smol_str::proofs::CallerLemmas::collecting))]
 pub fn all_of(alloc: Global, texts: Vec<String>) -> Result<SmolStr, AllocError>
-    ensures ok { IfOk result (λ v. IsValueOf (joined string_text texts.items) v) }
+    ensures value { IfOk result (λ v. IsValueOf (joined string_text texts.items) v) }
     ensures refused { OnErr result (¬ (IsShort (joined string_text texts.items))) }
 {
     SmolStr::from_strings(alloc, texts.into_iter())
@@ -32,7 +32,7 @@ pub fn all_of(alloc: Global, texts: Vec<String>) -> Result<SmolStr, AllocError>
 /// The texts of `String`s that are lent.
 #[tactic(auto, using(smol_str::proofs::CallerLemmas::collecting))]
 pub fn all_of_slice(alloc: Global, texts: &[String]) -> Result<SmolStr, AllocError>
-    ensures ok { IfOk result (λ v. IsValueOf (joined string_text texts.now) v) }
+    ensures value { IfOk result (λ v. IsValueOf (joined string_text texts.now) v) }
     ensures refused { OnErr result (¬ (IsShort (joined string_text texts.now))) }
 {
     SmolStr::from_string_refs(alloc, texts.iter())
