@@ -28,8 +28,8 @@ use Rattle.smol_str.proofs.TextLemmas.Places.{IsShort-chars}
 use Rattle.smol_str.proofs.TextLemmas.Split.{chars-middle}
 use Rattle.smol_str.proofs.BuilderLemmas.Draft.{kind_with-short}
 use Rattle.smol_str.proofs.BuilderLemmas.Collect.{joined-chars, joined-drained, not_short-outgrown}
-use Rattle.smol_str.specs.Wire.{stated}
-use Rattle.smol_str.proofs.WireLemmas.Wire.{length-wire, stated_size, wire-apart, Holds-one, Holds-whole, body-Holds, Holds-written, wire-held, length-Holds}
+use Rattle.smol_str.specs.Wire.{prefix_size}
+use Rattle.smol_str.proofs.WireLemmas.Wire.{length-wire, prefix_size-wire, wire-apart, Holds-one, Holds-whole, body-Holds, Holds-written, wire-held, length-Holds}
 use Rattle.std.proofs.Common.{◌^◌, ◌∷◌, All, append_assoc, nat_eq, if◌then◌else◌}
 use Rattle.std.specs.Bool.{one_answer}
 use Rattle.std.specs.Cmp.Lexicographic.{bytes_decides}
@@ -416,12 +416,12 @@ module _ (b more t x : List ℕ) (sized : HasWire t) (scalars : IsTrue (all_scal
   four : 4 ≤ length b
   four = omega (arith, λ (h : length b < 4). whole (inl h))
 
-  states : stated b ≡ size t
-  unfolding stated
-  states = sym (ap (from_le_bytes w32) (take-append-le 4 b more four)) ∙ ap stated is ∙ stated_size t x sized
+  states : prefix_size b ≡ size t
+  unfolding prefix_size
+  states = sym (ap (from_le_bytes w32) (take-append-le 4 b more four)) ∙ ap prefix_size is ∙ prefix_size-wire t x sized
 
   within : size t + 4 ≤ length b
-  within = let says = states in omega (arith, λ (h : length b < 4 + stated b). whole (inr h))
+  within = let says = states in omega (arith, λ (h : length b < 4 + prefix_size b). whole (inr h))
 
   pub form-cut-held : Holds b t (size t + 4)
   form-cut-held =

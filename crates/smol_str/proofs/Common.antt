@@ -3,16 +3,16 @@ pub use Rattle.std.proofs.Common.{◌≡◌, ℕ, ◌<◌, List, [], ◌∷◌, 
 pub use Rattle.smol_str.specs.Buffer.{IsPacked, packed, padded, unpacked, HaveOneBuffer}
 pub use Rattle.smol_str.specs.Case.{front, lower, upper, lowercased, uppercased, IsAsciiText, HasSigma, BeginsPastAscii}
 pub use Rattle.smol_str.specs.Collect.{AppendedAll, StoppedAt, Collected, Outgrown, IsValueOfRun, AppendsRun}
-pub use Rattle.smol_str.specs.Convert.{converted, full_case, mapped, IsMappedAlone, IsAsciiFront}
+pub use Rattle.smol_str.specs.InCase.{converted, full_case, mapped, IsMappedAlone, IsAsciiFront}
 pub use Rattle.smol_str.specs.Cut.{StandsAt, Occurs, IsNextMatch, IsCut, joined_by, IsFirstAfter, IsCutAt, but_last, IsSpelled, IsCutBetween}
-pub use Rattle.smol_str.specs.Draft.{Draft, OnHeap, empty_draft, kind_for, appended, Kind, InBuffer, kind_with, grown}
+pub use Rattle.smol_str.specs.Draft.{Draft, OnHeap, empty_draft, kind_for, appended, Kind, InBuffer, kind_with, draft_of}
 pub use Rattle.smol_str.specs.Joined.{joined, char_text, str_text, string_text, string_ref_text, joined_strs, joined_string_refs}
 pub use Rattle.smol_str.specs.Meaning.{Meaning, IsValueOf}
 pub use Rattle.smol_str.specs.Replace.{replaced, replaced_all, first_match, cut, cut_at, cut_between, spell, no_limit, match_count, each_replaced}
 pub use Rattle.smol_str.specs.Replacing.{IsReplacing}
 pub use Rattle.smol_str.specs.Text.{IsShort, size, is_short, place_of, blank_run, leading_newlines, all_spaces, IsBlankRun, IsResident, is_blank_run}
-pub use Rattle.smol_str.specs.Wire.{HasWire, wire, Holds, stated, HasEndedEarly, body}
-pub use Rattle.smol_str.specs.Words.{word, put_at, zeroed}
+pub use Rattle.smol_str.specs.Wire.{HasWire, wire, Holds, prefix_size, HasEndedEarly, body}
+pub use Rattle.smol_str.specs.Words.{word, put_at, with_zeros}
 pub use Rattle.smol_str.specs.declared.buffer.TheConstants.{INLINE_CAP, PACKED_LEN}
 pub use Rattle.smol_str.specs.declared.buffer.words.TheConstants.{WORDS}
 pub use Rattle.smol_str.specs.declared.kernel.AsciiCase.{AsciiCase}

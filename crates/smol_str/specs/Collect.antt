@@ -4,7 +4,7 @@
 --     Collected m v           the iterator came to its end, and v, which means m v, is the value of the texts of all items
 --     Outgrown                items came whose texts, one after another, are not short
 --     OutgrownAfter old       items came with whose texts the builder would be on the heap
--- The same of a run of the iterator, as std tells what iterators give; `texts` says the text of a list of items.
+-- The same of a run of the iterator, as std says what iterators give; `texts` says the text of a list of items.
 --     IsValueOfRun texts m v      v, which means m v, is the value of the text of all items
 --     AppendsRun texts old new    the text of all items was appended
 use Rattle.std.specs.Prelude.{◌≡◌, ℕ, List, Option, Some}

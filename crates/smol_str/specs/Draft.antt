@@ -3,7 +3,7 @@
 --     empty_draft k     no text yet
 --     appended b u      the builder b, and the text u at its end
 --     kind_for n t      the kind of a builder that was given capacity n and has the text t
---     grown t           a builder that began without capacity and has the text t
+--     draft_of t        a builder that began without capacity and has the text t
 use Rattle.std.specs.Prelude.{ℕ, List, [], ◌++◌, ◌&&◌, nat_le, if◌then◌else◌}
 use Rattle.smol_str.specs.declared.buffer.TheConstants.{INLINE_CAP}
 use Rattle.smol_str.specs.Text.{is_short}
@@ -35,6 +35,6 @@ appended b u = record { text = b.text ++ u; kind = kind_with b.kind (b.text ++ u
 abbrev pub kind_for : ℕ → List ℕ → Kind
 kind_for n t = if nat_le n INLINE_CAP && is_short t then InBuffer else OnHeap
 
--- begun without capacity, and grown to this text
-abbrev pub grown : List ℕ → Draft
-grown t = record { text = t; kind = kind_for 0 t }
+-- begun without capacity, and with this text
+abbrev pub draft_of : List ℕ → Draft
+draft_of t = record { text = t; kind = kind_for 0 t }

@@ -7,7 +7,7 @@ use Rattle.smol_str.specs.declared.value.convert.FromUtf8Fault.{FromUtf8Fault}
 use Rattle.smol_str.specs.declared.value.convert.FromUtf8Fault.TheVariants.{NotUtf8, OutOfMemory}
 use Rattle.smol_str.specs.Text.{IsResident}
 
--- the fault of these bytes and of no others, as std's `str::from_utf8` tells it
+-- the fault of these bytes and of no others, as std's `str::from_utf8` reports it
 pub record IsUtf8FaultOf (bytes : List ℕ) (e : Utf8Error) : Type 0 where
   -- so many bytes are the longest front that is UTF-8
   pub valid : IsValidUpTo bytes (valid_up_to e)

@@ -17,7 +17,7 @@ pub mod Case
 pub mod Cut
 pub mod Replace
 pub mod Replacing
-pub mod Convert
+pub mod InCase
 pub mod Wire
 pub mod Json
 pub mod CutExamples

@@ -1,4 +1,4 @@
--- What writing and reading by single calls do to the bytes that a writer or a reader tells; `Appends` and `Consumes`
+-- What writing and reading by single calls do to the known bytes of a writer or a reader; `Appends` and `Consumes`
 -- of std say it of a whole list.
 --     AppendsBeginning held holds bytes    a beginning of the bytes was appended, but not all of them
 --     EndsBelow input left n               fewer than n bytes were left, and all of them are gone

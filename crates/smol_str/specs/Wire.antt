@@ -2,7 +2,7 @@
 --     HasWire t            t is short enough to have one
 --     wire t               its size as a little-endian `u32`, and then its UTF-8 bytes
 --     Holds b t n          the first n bytes of b are the wire form of t
---     stated b             the size that the first four bytes of b state
+--     prefix_size b             the size that the first four bytes of b state
 --     HasEndedEarly b      b is shorter than four bytes, or than four bytes and the size that they state
 --     body b               as many bytes as b states, from its fifth on
 use Rattle.std.specs.Prelude.{◌≡◌, ℕ, ◌+◌, ◌<◌, ◌≤◌, ◌^◌, ◌⊎◌, List, ◌++◌, length, take, drop, IsTrue, encode_utf8_all}
@@ -26,13 +26,13 @@ pub record Holds (b t : List ℕ) (n : ℕ) : Type 0 where
   pub reads : take n b ≡ wire t
 
 -- four bytes read as a number, the lowest first
-unfoldable pub stated : List ℕ → ℕ
-stated b = from_le_bytes w32 (take 4 b)
+unfoldable pub prefix_size : List ℕ → ℕ
+prefix_size b = from_le_bytes w32 (take 4 b)
 
 -- no size, or less than the size
 abbrev pub HasEndedEarly : List ℕ → Type 0
-HasEndedEarly b = (length b < 4) ⊎ (length b < 4 + stated b)
+HasEndedEarly b = (length b < 4) ⊎ (length b < 4 + prefix_size b)
 
 -- the bytes of the text that b holds, where b has not ended early
 abbrev pub body : List ℕ → List ℕ
-body b = take (stated b) (drop 4 b)
+body b = take (prefix_size b) (drop 4 b)

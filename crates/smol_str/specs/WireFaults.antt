@@ -1,6 +1,6 @@
 -- What stands after the wire form was written or read, and after each fault.
 --     AfterEncodeFault      of a writer
---     AfterReadFault        of a reader
+--     AfterDecodeFault        of a reader
 --     StopsEarly            the bytes that were consumed have ended early
 --     AfterLimitedFault     of a reader of values that have a greatest size
 --     AfterFromWireFault    of bytes
@@ -31,7 +31,7 @@ use Rattle.smol_str.specs.Text.{IsResident}
 use Rattle.smol_str.specs.Meaning.{Meaning, IsValueOf}
 use Rattle.smol_str.specs.Faults.{IsUtf8FaultOf}
 use Rattle.smol_str.specs.Stream.{AppendsBeginning, EndsBelow, StopsBelow, ConsumesSome}
-use Rattle.smol_str.specs.Wire.{stated, HasEndedEarly, body}
+use Rattle.smol_str.specs.Wire.{prefix_size, HasEndedEarly, body}
 
 -- too long: the value has no form, and nothing was written; else it has, and a beginning of it was written, but not all
 abbrev pub AfterEncodeFault : List ℕ → Type 0 → Option (List ℕ) → Option (List ℕ) → EncodeFault → Type 0
@@ -49,34 +49,34 @@ StopsEarly input left P = (bytes : List ℕ) × HasEndedEarly bytes × P bytes �
 -- the size and some of the body were consumed, and no more than the whole body
 abbrev pub StopsInBody : Option (List ℕ) → Option (List ℕ) → Type 0
 StopsInBody input left =
-    (bytes : List ℕ) × (4 < length bytes) × (length bytes ≤ 4 + stated bytes) × Consumes input left bytes
+    (bytes : List ℕ) × (4 < length bytes) × (length bytes ≤ 4 + prefix_size bytes) × Consumes input left bytes
 
 -- ended: the bytes had ended early, and none is left; not UTF-8: the size and the whole body were consumed and no more,
 -- and the body is not UTF-8; out of memory: the size that was stated is above INLINE_CAP, and some of the body came; the
 -- reader failed before the whole form had come
-abbrev pub AfterReadFault : Option (List ℕ) → Option (List ℕ) → DecodeFault → Type 0
-AfterReadFault input left Ended = IfSome input HasEndedEarly × IsAtEnd left
-AfterReadFault input left (NotUtf8 e) =
-    IfSome input (λ b. (¬ (HasEndedEarly b)) × IsRefusedBody (body b) e × Consumes input left (take (4 + stated b) b))
-AfterReadFault input left OutOfMemory =
-    IfSome input (λ b. (4 ≤ length b) × (INLINE_CAP < stated b)) × StopsInBody input left
-AfterReadFault input left (ReadFailed e) = StopsEarly input left (λ bytes. ⊤)
+abbrev pub AfterDecodeFault : Option (List ℕ) → Option (List ℕ) → DecodeFault → Type 0
+AfterDecodeFault input left Ended = IfSome input HasEndedEarly × IsAtEnd left
+AfterDecodeFault input left (NotUtf8 e) =
+    IfSome input (λ b. (¬ (HasEndedEarly b)) × IsRefusedBody (body b) e × Consumes input left (take (4 + prefix_size b) b))
+AfterDecodeFault input left OutOfMemory =
+    IfSome input (λ b. (4 ≤ length b) × (INLINE_CAP < prefix_size b)) × StopsInBody input left
+AfterDecodeFault input left (ReadFailed e) = StopsEarly input left (λ bytes. ⊤)
 
 -- the size, where all four bytes of it are there, is within the limit
 abbrev pub StatesAtMost : ℕ → List ℕ → Type 0
-StatesAtMost limit b = 4 ≤ length b → stated b ≤ limit
+StatesAtMost limit b = 4 ≤ length b → prefix_size b ≤ limit
 
 -- too long: the size that was stated is above the limit, and nothing behind it was consumed; else a fault of reading, of
 -- a size within the limit, if the whole of it came
 abbrev pub AfterLimitedFault : ℕ → Option (List ℕ) → Option (List ℕ) → LimitedFault → Type 0
 AfterLimitedFault limit input left AboveLimit =
-    IfSome input (λ b. (4 ≤ length b) × (limit < stated b) × Consumes input left (take 4 b))
+    IfSome input (λ b. (4 ≤ length b) × (limit < prefix_size b) × Consumes input left (take 4 b))
 AfterLimitedFault limit input left (Decode Ended) =
-    AfterReadFault input left Ended × IfSome input (StatesAtMost limit)
+    AfterDecodeFault input left Ended × IfSome input (StatesAtMost limit)
 AfterLimitedFault limit input left (Decode (NotUtf8 e)) =
-    AfterReadFault input left (NotUtf8 e) × IfSome input (StatesAtMost limit)
+    AfterDecodeFault input left (NotUtf8 e) × IfSome input (StatesAtMost limit)
 AfterLimitedFault limit input left (Decode OutOfMemory) =
-    AfterReadFault input left OutOfMemory × IfSome input (StatesAtMost limit)
+    AfterDecodeFault input left OutOfMemory × IfSome input (StatesAtMost limit)
 AfterLimitedFault limit input left (Decode (ReadFailed e)) = StopsEarly input left (StatesAtMost limit)
 
 -- ended: the bytes have; else the body is there, and is not UTF-8, or is that of a text that is not resident; no reader

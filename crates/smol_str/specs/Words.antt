@@ -12,5 +12,5 @@ abbrev pub put_at : List ℕ → ℕ → List ℕ → List ℕ
 put_at others start bytes = take start others ++ (bytes ++ drop (start + length bytes) others)
 
 -- bytes, and zeros after them up to where the length is to stand, and there
-abbrev pub zeroed : List ℕ → List ℕ
-zeroed bytes = bytes ++ replicate (INLINE_CAP + 1 - length bytes) 0
+abbrev pub with_zeros : List ℕ → List ℕ
+with_zeros bytes = bytes ++ replicate (INLINE_CAP + 1 - length bytes) 0

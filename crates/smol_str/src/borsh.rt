@@ -1,8 +1,8 @@
 //! The wire form: a text as a string of borsh, its size as four little-endian bytes and then its
 //! UTF-8 bytes.
 //!
-//! Readers and writers are called as [`crate::stream`] calls them, by single `read`s and `write`s. A
-//! reader or writer that does not tell its bytes is claimed nothing of.
+//! Readers and writers are called as [`crate::stream`] calls them, by single `read`s and `write`s.
+//! Of a reader or writer whose bytes are not known nothing is claimed.
 ghost use Rattle.std.specs.Prelude.{◌≡◌, ◌<◌, ◌≤◌, ◌^◌, ◌++◌, ℕ, List, length, Option, MatchOption, IfOk, OnOk, IfErr, OnErr};
 ghost use Rattle.std.specs.Int.{w32, to_le_bytes, from_le_bytes};
 ghost use Rattle.std.specs.Io.KnownBytes.{Appends, Consumes};
@@ -34,6 +34,12 @@ pub trait BorshSerialize {
     ///
     /// A value without one is refused with [`EncodeFault::TooLong`] before anything is written. Where
     /// the writer fails, a beginning of the form was written.
+    ///
+    /// ```
+    /// let mut form = Vec::new(alloc);
+    /// SmolStr::new_inline("ab").serialize(&mut form)?;
+    /// assert_eq!(rt; form.as_slice(), b"\x02\0\0\0ab".as_slice());
+    /// ```
     fn serialize<W: Write>(&self, writer: &mut W) -> Result<(), EncodeFault>
         ensures sized { OnOk result (has_form self.now) }
         ensures ok { OnOk result (Appends (W.contents writer.old) (W.contents writer.new) (form self.now)) }
@@ -56,6 +62,12 @@ pub trait BorshDeserialize: Sized {
     ghost after_fault: { Option (List ℕ) → Option (List ℕ) → DecodeFault → Type 0 };
 
     /// Reads one value, and no byte past its wire form.
+    ///
+    /// ```
+    /// let mut reader = b"\x02\0\0\0abc".as_slice();
+    /// let value = SmolStr::deserialize_reader(alloc, &mut reader)?;
+    /// assert!(rt; value.as_str() == "ab" && reader == b"c".as_slice());
+    /// ```
     fn deserialize_reader<R: Read>(alloc: Global, reader: &mut R) -> Result<Self, DecodeFault>
         ensures ok { IfOk result (λ v.
             Consumes (R.remaining reader.old) (R.remaining reader.new) (form_read v)) }
@@ -65,6 +77,10 @@ pub trait BorshDeserialize: Sized {
 
 /// The four bytes that state a size in bytes, the lowest first; `None` exactly for more than
 /// 4294967295.
+///
+/// ```
+/// assert_eq!(rt; length_prefix(2), Some([2, 0, 0, 0]));
+/// ```
 pub fn length_prefix(len: usize) -> Option<[u8; 4]>
     ensures { MatchOption result (2 ^ 32 ≤ len)
         (λ prefix. (len < 2 ^ 32) × (prefix ≡ to_le_bytes w32 len)) }
@@ -78,7 +94,7 @@ pub fn length_prefix(len: usize) -> Option<[u8; 4]>
 /// The value whose wire form `bytes` begin with, and how many of them that takes.
 ///
 /// An early end is found first, then bytes that are not UTF-8, and memory is asked for last; a
-/// resident text needs none. The answer is never [`DecodeFault::Io`].
+/// resident text needs none. It never returns [`DecodeFault::Io`].
 ///
 /// ```
 /// let (value, taken) = from_wire(alloc, b"\x02\0\0\0abc")?;
@@ -101,7 +117,7 @@ pub fn from_wire(alloc: Global, bytes: &[u8]) -> Result<(SmolStr, usize), Decode
 ///
 /// ```
 /// let (value, rest) = split_wire(alloc, b"\x02\0\0\0abc")?;
-/// assert!(rt; value.as_str() == "ab" && rest == b"c");
+/// assert!(rt; value.as_str() == "ab" && rest == b"c".as_slice());
 /// ```
 pub fn split_wire(alloc: Global, bytes: &[u8]) -> Result<(SmolStr, &[u8]), DecodeFault>
     ensures form { IfOk result (λ r. bytes.now ≡ wire r.0.text ++ r.1.now) }
@@ -118,6 +134,12 @@ pub fn split_wire(alloc: Global, bytes: &[u8]) -> Result<(SmolStr, &[u8]), Decod
 ///
 /// A length prefix above the limit is [`LimitedFault::TooLong`]: the four bytes are consumed, no memory was
 /// asked for, and nothing of the body was read.
+///
+/// ```
+/// let mut reader = b"\x02\0\0\0ab".as_slice();
+/// let fault = deserialize_limited(alloc, &mut reader, 1).err();
+/// assert!(rt; matches!(fault, Some(LimitedFault::TooLong)));
+/// ```
 pub fn deserialize_limited<R: Read>(
     alloc: Global,
     reader: &mut R,
@@ -138,7 +160,7 @@ pub fn deserialize_limited<R: Read>(
     Ok(read_body(alloc, reader, size)?)
 }
 
-/// The body that the bytes state, `None` exactly where they have ended early.
+/// The body, as long as the prefix says; `None` if the input is truncated.
 fn whole_body(bytes: &[u8]) -> Option<&[u8]>
     ensures { MatchOption result (HasEndedEarly bytes.now)
         (λ found. (¬ (HasEndedEarly bytes.now)) × (found.now ≡ body bytes.now)) }
@@ -267,13 +289,13 @@ impl BorshDeserialize for SmolStr {
     ghost use Rattle.std.specs.Prelude.{◌≡◌};
     ghost use Rattle.smol_str.specs.Text.{place_of};
     ghost use Rattle.smol_str.specs.Wire.{HasWire, wire};
-    ghost use Rattle.smol_str.specs.WireFaults.{AfterReadFault};
+    ghost use Rattle.smol_str.specs.WireFaults.{AfterDecodeFault};
 
     ghost form_read = { λ s. wire s.text };
 
     ghost is_read = { λ s. HasWire s.text × (s.place ≡ place_of s.text) };
 
-    ghost after_fault = { λ input left fault. AfterReadFault input left fault };
+    ghost after_fault = { λ input left fault. AfterDecodeFault input left fault };
 
     fn deserialize_reader<R: Read>(alloc: Global, reader: &mut R) -> Result<SmolStr, DecodeFault> {
         let Some(size) = read_size(reader)? else {

@@ -19,7 +19,7 @@ use std::marker::Model;
 ///
 /// A builder means its text and its kind. It begins in its own buffer, and takes no memory while its
 /// text fits there; it moves to the heap when the text outgrows the buffer, or at once where a larger
-/// capacity was asked for. What [`finish`](SmolStrBuilder::finish) answers depends on the text alone.
+/// capacity was asked for. What [`finish`](SmolStrBuilder::finish) returns depends on the text alone.
 ///
 /// ```
 /// let mut builder = SmolStrBuilder::new(alloc);
@@ -76,6 +76,11 @@ impl SmolStrBuilder {
     /// Up to [`INLINE_CAP`] bytes it takes no memory. A larger capacity is asked for at once, so that
     /// appends up to it take no more, which is only tested, since no contract sees a capacity. It is
     /// refused with [`AllocError`] where the heap has no such room, and nothing is made.
+    ///
+    /// ```
+    /// let builder = SmolStrBuilder::with_capacity(alloc, 100)?;
+    /// assert!(rt; builder.is_empty() && builder.inline_buffer().is_none());
+    /// ```
     pub fn with_capacity(alloc: Global, capacity: usize) -> Result<SmolStrBuilder, AllocError>
         ensures ok { IfOk result (λ b. b ≡ empty_draft (kind_for capacity [])) }
         ensures refused { OnErr result (INLINE_CAP < capacity) }
@@ -205,6 +210,13 @@ impl SmolStrBuilder {
     /// Builders with one text therefore finish to equal values in the same place, however each was
     /// filled. A resident text needs no memory. Any other is refused where the heap has no room for
     /// the value, and the builder is given back.
+    ///
+    /// ```
+    /// let mut builder = SmolStrBuilder::new(alloc);
+    /// builder.push_str("fn")?;
+    /// let value = builder.finish().map_err(|_builder| AllocError)?;
+    /// assert_eq!(rt; value.as_str(), "fn");
+    /// ```
     #[inline(always)]
     pub fn finish(self) -> Result<SmolStr, SmolStrBuilder>
         ensures ok { IfOk result (λ v. IsValueOf self.text v) }
@@ -228,6 +240,12 @@ impl SmolStrBuilder {
     /// without the room that is left there. That no copy is made is only tested.
     ///
     /// It is refused with [`AllocError`] where the heap has no room for the value's own count.
+    ///
+    /// ```
+    /// let mut builder = SmolStrBuilder::new(alloc);
+    /// builder.push_str("fn")?;
+    /// assert_eq!(rt; builder.into_value()?.as_str(), "fn");
+    /// ```
     #[inline(always)]
     pub fn into_value(self) -> Result<SmolStr, AllocError>
         ensures ok { IfOk result (λ v. IsValueOf self.text v) }
@@ -256,7 +274,7 @@ impl Clone for SmolStrBuilder {
 }
 
 impl SmolStr {
-    /// The value of a builder's text: [`SmolStrBuilder::finish`] as a function of the value's type.
+    /// The same as `builder.finish()`; stands for upstream's `From<SmolStrBuilder>`.
     pub fn from_builder(builder: SmolStrBuilder) -> Result<SmolStr, SmolStrBuilder>
         ensures ok { IfOk result (λ v. IsValueOf builder.text v) }
         ensures back { IfErr result (λ back. back ≡ builder) }
@@ -266,7 +284,7 @@ impl SmolStr {
     }
 }
 
-/// For `?` in a function that answers [`AllocError`], where the builder is not wanted back.
+/// For `?` in a function that returns [`AllocError`], where the builder is not wanted back.
 impl From<SmolStrBuilder> for AllocError {
     fn from(_builder: SmolStrBuilder) -> AllocError {
         AllocError

@@ -60,7 +60,7 @@ impl<'a> Piece for &'a String {
 
 /// An allocator that collects values: `Global`.
 ///
-/// The collecting calls answer its `Value`, which is [`SmolStr`]. One that named [`SmolStr`] could not
+/// The collecting calls return its `Value`, which is [`SmolStr`]. One that named [`SmolStr`] could not
 /// be called, for the borrow checker, with an iterator whose type names several lifetimes.
 pub trait ValueAlloc {
     type Value;
@@ -135,6 +135,12 @@ impl SmolStr {
 
     /// A value of the texts, one after another: [`SmolStr::from_chars`] of `String`s, which are
     /// dropped one by one.
+    ///
+    /// ```
+    /// let parts = [String::from_str(alloc, "ab")?, String::from_str(alloc, "c")?];
+    /// let whole = SmolStr::from_strings(alloc, parts.into_iter())?;
+    /// assert_eq!(rt; whole.as_str(), "abc");
+    /// ```
     pub fn from_strings<A: ValueAlloc, I: Iterator<Item = String>>(
         alloc: A,
         iter: I,
@@ -149,6 +155,12 @@ impl SmolStr {
     }
 
     /// A value of the texts, one after another: [`SmolStr::from_chars`] of borrowed `String`s.
+    ///
+    /// ```
+    /// let parts = [String::from_str(alloc, "ab")?, String::from_str(alloc, "c")?];
+    /// let whole = SmolStr::from_string_refs(alloc, parts.iter())?;
+    /// assert_eq!(rt; whole.as_str(), "abc");
+    /// ```
     pub fn from_string_refs<'a, A: ValueAlloc, I: Iterator<Item = &'a String>>(
         alloc: A,
         iter: I,
@@ -168,6 +180,12 @@ impl SmolStrBuilder {
     ///
     /// A refusal is [`AllocError`]: the characters before the refused one stay appended, and the
     /// iterator is dropped. It stands for upstream's `Extend<char>`.
+    ///
+    /// ```
+    /// let mut builder = SmolStrBuilder::new(alloc);
+    /// builder.extend_chars("abc".chars().rev())?;
+    /// assert_eq!(rt; builder.as_str(), "cba");
+    /// ```
     pub fn extend_chars<I: Iterator<Item = char>>(&mut self, iter: I) -> Result<(), AllocError>
         requires can { I.can_next iter }
         requires ends { IsFinite (I.remaining iter) }
@@ -180,6 +198,12 @@ impl SmolStrBuilder {
     }
 
     /// Appends the texts, in order: [`SmolStrBuilder::extend_chars`] of `&str`s.
+    ///
+    /// ```
+    /// let mut builder = SmolStrBuilder::new(alloc);
+    /// builder.extend_strs("a, b".split(", "))?;
+    /// assert_eq!(rt; builder.as_str(), "ab");
+    /// ```
     pub fn extend_strs<'a, I: Iterator<Item = &'a str>>(
         &mut self,
         iter: I,

@@ -37,6 +37,12 @@ impl SmolStrBuilder {
     ///
     /// Where the type does not state what it prints, it appends some text. After an error the pieces
     /// that were printed before it stay.
+    ///
+    /// ```
+    /// let mut builder = SmolStrBuilder::new(alloc);
+    /// write!(builder, "{}-{:02}", "a", 7).map_err(|_error| FormatError)?;
+    /// assert_eq!(rt; builder.as_str(), "a-07");
+    /// ```
     pub fn write_fmt<D: fmt::Display + Drop>(&mut self, value: D) -> fmt::Result
         ensures text { OnOk result
             (IfSome (D.output value) (λ bytes. self.new ≡ appended self.old (chars bytes))) }

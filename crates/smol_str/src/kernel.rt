@@ -6,7 +6,7 @@ ghost use Rattle.memchr.specs.Find.{FindsNeedle};
 ghost use Rattle.smol_str.specs.Text.{size};
 ghost use Rattle.smol_str.specs.Buffer.{padded};
 ghost use Rattle.smol_str.specs.Case.{lower, upper, front};
-ghost use Rattle.smol_str.specs.Convert.{converted, IsAsciiFront};
+ghost use Rattle.smol_str.specs.InCase.{converted, IsAsciiFront};
 ghost use Rattle.smol_str.specs.Cut.{Occurs, StandsAt, IsNextMatch};
 
 use crate::buffer::{INLINE_CAP, InlineBuffer, InlineText};
@@ -31,7 +31,7 @@ pub enum AsciiCase {
 ///
 /// ```
 /// let (buffer, len) = convert_while_ascii("ABCé", AsciiCase::Lower);
-/// assert_eq!(rt; &buffer[..len], b"abc");
+/// assert_eq!(rt; &buffer[..len], b"abc".as_slice());
 /// ```
 pub fn convert_while_ascii(text: &str, case: AsciiCase) -> (InlineBuffer, usize)
     requires { length text.now ≤ INLINE_CAP }
@@ -44,10 +44,10 @@ pub fn convert_while_ascii(text: &str, case: AsciiCase) -> (InlineBuffer, usize)
     (*front.buffer(), len)
 }
 
-/// The byte place of the first match of a pattern at or after `from`, `None` where there is none.
+/// The byte index of the first match of a pattern at or after `from`, `None` where there is none.
 ///
-/// `from` is a byte index, and a char boundary; 0 always is. Both the index that is returned and the one
-/// behind the match are char boundaries, so the text may be cut at either. The clauses `found` and `none`
+/// `from` must be a char boundary, as 0 always is, and `pattern` not empty. Both the index that is
+/// returned and the one behind the match are char boundaries, so the text may be cut at either. The clauses `found` and `none`
 /// speak of the characters before `from`, `a`, and those from there on, `b`.
 ///
 /// ```
@@ -228,8 +228,8 @@ fn bytes_from(text: &str, from: usize) -> &[u8]
     &text.as_bytes()[from..]
 }
 
-/// The first place at which the wanted bytes stand: by a search for the first of them, and only where
-/// that stands by one for several, which is slow to begin. Bytes that are fewer are not searched.
+/// The index of the first match of the needle: `memchr` for its first byte; `memmem`, which has a
+/// set-up cost, only if that occurs. A needle longer than the haystack is not searched for.
 fn find_bytes(bytes: &[u8], wanted: &[u8]) -> Option<usize>
     requires { 0 < length wanted.now }
     ensures { FindsNeedle bytes.now wanted.now 0 result }

@@ -1,8 +1,8 @@
 //! Small immutable strings.
 //!
 //! A [`SmolStr`] means a text and a place. A text of at most [`INLINE_CAP`] bytes lies in the value
-//! itself and needs no memory, and so does a blank run: at most [`BLANK_NEWLINES`] newlines and then
-//! at most [`BLANK_SPACES`] spaces. A [`SmolStrBuilder`] makes a text piece by piece.
+//! itself and needs no memory. Nor does a blank run, which is a slice of one constant: at most
+//! [`BLANK_NEWLINES`] newlines and then at most [`BLANK_SPACES`] spaces. A [`SmolStrBuilder`] makes a text piece by piece.
 //!
 //! The modules lie in layers, and each uses those below it:
 //!

@@ -20,7 +20,7 @@ use full::to_full_case;
 use replace::replace;
 use std::alloc::{AllocError, Global};
 
-/// Calls of a `str` whose answer is a new text, as a [`SmolStr`].
+/// Calls of a `str` that return a new text, as a [`SmolStr`].
 ///
 /// Each returns the text that Rust's `str` does in its call of the same beginning, in the place of
 /// that text. A replacement and a text in ASCII case are built in a builder, so a short one takes no
@@ -61,6 +61,11 @@ pub trait StrExt {
             (¬ (IsShort (replaced (content self.now) (chars from.now) (chars to.now) count))) };
 
     /// The text with `to` in place of each match of `from`, as `str::replace`.
+    ///
+    /// ```
+    /// let path = "a\\b\\c".replace_smolstr(alloc, "\\", "/")?;
+    /// assert_eq!(rt; path.as_str(), "a/b/c");
+    /// ```
     fn replace_smolstr(&self, alloc: Global, from: &str, to: &str) -> Result<SmolStr, AllocError>
         ensures ok { IfOk result (λ v.
             IsValueOf (replaced_all (content self.now) (chars from.now) (chars to.now)) v) }
@@ -73,6 +78,11 @@ pub trait StrExt {
             (¬ (IsShort (replaced_all (content self.now) (chars from.now) (chars to.now)))) };
 
     /// The text with A to Z as a to z, as `str::to_ascii_lowercase`. No short text is refused.
+    ///
+    /// ```
+    /// let header = "Content-Type".to_ascii_lowercase_smolstr(alloc)?;
+    /// assert_eq!(rt; header.as_str(), "content-type");
+    /// ```
     fn to_ascii_lowercase_smolstr(&self, alloc: Global) -> Result<SmolStr, AllocError>
         ensures ok { IfOk result (λ v. IsValueOf (lower (content self.now)) v) }
         ensures refused { OnErr result (¬ (IsShort (content self.now))) };
@@ -85,7 +95,12 @@ pub trait StrExt {
     /// The text in lower case as Unicode maps it, as `str::to_lowercase`: `Σ` at the end of a word
     /// becomes `ς`, in short texts too.
     ///
-    /// No short ASCII text is refused. Any other may be, one with `Σ` even where the answer is short.
+    /// No short ASCII text is refused. Any other may be, one with `Σ` even where the result is short.
+    ///
+    /// ```
+    /// let word = "ΟΔΟΣ".to_lowercase_smolstr(alloc)?;
+    /// assert_eq!(rt; word.as_str(), "οδος");
+    /// ```
     fn to_lowercase_smolstr(&self, alloc: Global) -> Result<SmolStr, AllocError>
         ensures ok { IfOk result (λ v. IsValueOf (lowercased (content self.now)) v) }
         ensures ascii { IsAsciiText (content self.now) →

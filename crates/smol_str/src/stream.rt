@@ -1,8 +1,8 @@
 //! Reading and writing by single calls, for the wire form and for programs.
 //!
 //! std's own `read_exact`, `read_to_end` and `write_all` go on after `Interrupted`, which a reader or
-//! a writer may answer without end; these give every error back at once. A reader or writer that
-//! does not tell its bytes is claimed nothing of.
+//! a writer may return without end; these return every error at once. Of a reader or writer whose
+//! bytes are not known nothing is claimed.
 ghost use Rattle.std.specs.Prelude.{◌≡◌, ◌<◌, ◌≤◌, ◌-◌, ◌^◌, length, take, IfOk, OnOk, IfErr, OnErr, IfSome};
 ghost use Rattle.std.specs.Io.KnownBytes.{Appends, Consumes, IsAtEnd};
 ghost use Rattle.smol_str.specs.Stream.{AppendsBeginning, StopsBelow, AfterStreamFault};
@@ -40,10 +40,17 @@ impl From<AllocError> for ReadFault {
     }
 }
 
-/// Fills `buf` from its front, each step by one `read` into what is left of it, and answers how many
+/// Fills `buf` from its front, each step by one `read` into what is left of it, and returns how many
 /// bytes came: fewer than `buf` has only where the reader is at its end.
 ///
 /// An empty `buf` makes no `read`. Where the reader failed, fewer bytes came than `buf` has.
+///
+/// ```
+/// let mut reader = b"abc".as_slice();
+/// let mut buffer = [0; 2];
+/// assert_eq!(rt; fill(&mut reader, &mut buffer)?, 2);
+/// assert_eq!(rt; reader, b"c".as_slice());
+/// ```
 pub fn fill<R: Read>(reader: &mut R, buf: &mut [u8]) -> Result<usize, io::Error>
     ensures within { IfOk result (λ n. n ≤ length buf.old) }
     ensures bytes { IfOk result (λ n.
@@ -64,6 +71,12 @@ pub fn fill<R: Read>(reader: &mut R, buf: &mut [u8]) -> Result<usize, io::Error>
 
 /// Reads `limit` bytes, or all that there are where these are fewer, by pieces of at most [`PIECE`]
 /// bytes. Memory is asked for by what came, and not by `limit`.
+///
+/// ```
+/// let mut reader = b"abc".as_slice();
+/// let bytes = read_up_to(alloc, &mut reader, 2)?;
+/// assert!(rt; bytes.as_slice() == b"ab".as_slice() && reader == b"c".as_slice());
+/// ```
 pub fn read_up_to<R: Read>(
     alloc: Global,
     reader: &mut R,
@@ -111,6 +124,12 @@ pub fn read_all<R: Read>(alloc: Global, reader: &mut R) -> Result<Vec<u8>, ReadF
 
 /// Writes all of `bytes`, each step by one `write` of what is left; a `write` that takes no byte
 /// is the error `WriteZero`. After an error a beginning of `bytes` was written, and not all of them.
+///
+/// ```
+/// let mut written = Vec::new(alloc);
+/// write_steps(&mut written, b"ab")?;
+/// assert_eq!(rt; written.as_slice(), b"ab".as_slice());
+/// ```
 pub fn write_steps<W: Write>(writer: &mut W, bytes: &[u8]) -> Result<(), io::Error>
     ensures ok { OnOk result (Appends (W.contents writer.old) (W.contents writer.new) bytes.now) }
     ensures beginning { OnErr result

@@ -6,7 +6,7 @@ ghost use Rattle.std.specs.Rc.{rc_str_bytes};
 ghost use Rattle.smol_str.specs.Text.{size, IsShort, IsResident, place_of};
 ghost use Rattle.smol_str.specs.Buffer.{padded};
 ghost use Rattle.smol_str.specs.Case.{IsAsciiText};
-ghost use Rattle.smol_str.specs.Convert.{converted};
+ghost use Rattle.smol_str.specs.InCase.{converted};
 ghost use Rattle.smol_str.specs.Meaning.{IsValueOf};
 
 pub mod blank;
@@ -128,6 +128,11 @@ impl SmolStr {
     }
 
     /// A value that refers to `text` where it stands, in place Static whatever its length.
+    ///
+    /// ```
+    /// let name = SmolStr::new_static("a constant");
+    /// assert_eq!(rt; name.place(), Place::Static);
+    /// ```
     #[inline(always)]
     pub fn new_static(text: &'static str) -> SmolStr
         ensures text { result.text ≡ chars text.now }
@@ -222,6 +227,12 @@ impl SmolStr {
 
     /// The buffer of an inline value, `None` in the other places: the text's bytes, and then zeros
     /// up to its end.
+    ///
+    /// ```
+    /// let token = SmolStr::new_inline("if");
+    /// let buffer = token.inline_buffer().ok_or("no buffer")?;
+    /// assert_eq!(rt; &buffer[..3], b"if\0".as_slice());
+    /// ```
     pub fn inline_buffer(&self) -> Option<&InlineBuffer>
         ensures place { IsSome result ↔ (self.now.place ≡ Place.Inline) }
         ensures short { IsSome result → IsShort self.now.text }
@@ -250,6 +261,11 @@ impl SmolStr {
     /// A value of the text of a `String`, where the argument is not wanted back: a value whose text is
     /// not resident keeps the memory that it is in, without the room that is left there. That no copy
     /// is made and no room is kept is only tested.
+    ///
+    /// ```
+    /// let token = SmolStr::from_owned(String::from_str(alloc, "if")?)?;
+    /// assert_eq!(rt; token.place(), Place::Inline);
+    /// ```
     #[inline(never)]
     pub fn from_owned(text: String) -> Result<SmolStr, AllocError>
         ensures ok { IfOk result (λ v. IsValueOf (chars (string_bytes text)) v) }
@@ -286,7 +302,7 @@ impl SmolStr {
     }
 }
 
-/// For `?` in a function that answers [`AllocError`], where the value that a refused conversion gives
+/// For `?` in a function that returns [`AllocError`], where the value that a refused conversion gives
 /// back is not wanted.
 impl From<SmolStr> for AllocError {
     fn from(_value: SmolStr) -> AllocError {

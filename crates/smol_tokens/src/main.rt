@@ -1,6 +1,6 @@
 //! Reads text from standard input and writes, for each line, where a `SmolStr` would keep it.
 //!
-//! `main` gathers the words, calls [`run`] and tells the fault; the promise of the whole program is
+//! `main` gathers the words, calls [`run`] and reports the fault; the promise of the whole program is
 //! the contract of `run`.
 #![tactic(auto)]
 
@@ -21,7 +21,7 @@ fn words(rt: &HostRuntime) -> Result<Vec<String>, RunFault> {
     Ok(args.skip(1).collect(rt.alloc())?)
 }
 
-/// Tells a fault in one line, and answers the status of a failed run.
+/// Reports a fault in one line, and returns the status of a failed run.
 fn failed(rt: &HostRuntime, fault: &RunFault) -> ExitCode {
     let _ = rt.eprintln(fault_line(fault));
     ExitCode::from(1)

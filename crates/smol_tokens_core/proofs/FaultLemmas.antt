@@ -10,7 +10,7 @@ use Rattle.smol_str.specs.Stream.{AfterStreamFault}
 use Rattle.smol_str.specs.declared.stream.ReadFault.{ReadFault}
 use Rattle.smol_str.specs.declared.stream.ReadFault.TheVariants as reading
 use Rattle.smol_tokens_core.specs.Faults.{AfterFault}
-use Rattle.smol_tokens_core.specs.ReadFaults.{run_fault}
+use Rattle.smol_tokens_core.specs.ReadFaults.{of_read_fault}
 use Rattle.smol_tokens_core.specs.ReportFaults.{HasALineTooOften, WantsMemory, HasNoReport, AfterInputFault}
 use Rattle.smol_tokens_core.specs.declared.mode.Mode.{Mode}
 use Rattle.smol_tokens_core.specs.declared.fault.RunFault.{RunFault}
@@ -22,7 +22,7 @@ Keeps-itself (Some bytes) = refl
 
 -- the input was not read to its end
 pub after-reading : (mode : Mode) (limit : ℕ) (input left held : Option (List ℕ)) (fault : ReadFault)
-    → AfterStreamFault limit input left fault → AfterFault mode input left held held (run_fault fault)
+    → AfterStreamFault limit input left fault → AfterFault mode input left held held (of_read_fault fault)
 after-reading mode limit input left held reading.OutOfMemory (bytes, some, within, consumed) =
     (Keeps-itself held, inl (bytes, some, consumed))
 after-reading mode limit input left held (reading.Io e) (bytes, short, consumed) =

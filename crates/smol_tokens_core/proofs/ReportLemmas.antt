@@ -1,4 +1,4 @@
--- For the reports: the bytes of answer lines and of count lines, one after another.
+-- For the reports: the bytes of report lines and of count lines, one after another.
 use Rattle.std.proofs.Common.{◌≡◌, ℕ, ◌+◌, ◌<◌, ◌^◌, List, [], ◌∷◌, ◌++◌, Some, take, refl, sym, ap, ◌∙◌}
 use Rattle.std.proofs.Common.{codes, encode_utf8_all}
 use Rattle.std.specs.Fmt.{decimal}
@@ -13,7 +13,7 @@ use Rattle.smol_str.specs.declared.value.place.Place.{Place}
 use Rattle.smol_str.specs.declared.value.place.Place.TheVariants.{Inline, Static, Heap}
 use Rattle.smol_str.specs.Text.{size}
 use Rattle.smol_str.specs.Meaning.{Meaning, IsValueOf}
-use Rattle.smol_tokens_core.specs.Report.{place_word, answer_line, answer, count_line}
+use Rattle.smol_tokens_core.specs.Report.{place_word, report_line, value_line, count_line}
 
 encodes-place_word : (place : Place) → encode_utf8_all (place_word place) ≡ place_word place
 unfolding lib.Utf8.encode
@@ -24,12 +24,12 @@ encodes-place_word Heap = refl
 encodes-decimal : (n : ℕ) → n < 2 ^ 64 → encode_utf8_all (decimal n) ≡ decimal n
 encodes-decimal n small = encodes-IsAscii (decimal n) (IsAscii-decimal n small)
 
--- an answer line, in bytes
-pub encodes-answer_line : (place : Place) (n : ℕ) (t : List ℕ) → n < 2 ^ 64
-    → encode_utf8_all (answer_line place n t)
+-- an report line, in bytes
+pub encodes-report_line : (place : Place) (n : ℕ) (t : List ℕ) → n < 2 ^ 64
+    → encode_utf8_all (report_line place n t)
     ≡ place_word place ++ (codes " " ++ (decimal n ++ (codes " " ++ (encode_utf8_all t ++ codes "\n"))))
 unfolding lib.Utf8.encode
-encodes-answer_line place n t small = simp (encodes-append, encodes-place_word, encodes-decimal n small)
+encodes-report_line place n t small = simp (encodes-append, encodes-place_word, encodes-decimal n small)
 
 -- a count line, in bytes
 pub encodes-count_line : (t : List ℕ) (n : ℕ) → n < 2 ^ 64
@@ -37,11 +37,11 @@ pub encodes-count_line : (t : List ℕ) (n : ℕ) → n < 2 ^ 64
 unfolding lib.Utf8.encode
 encodes-count_line t n small = simp (encodes-append, encodes-decimal n small)
 
--- the answer line of a value of the text
-pub answer_line-value : (t : List ℕ) (v : Meaning) → IsValueOf t v → answer_line v.place (size v.text) v.text ≡ answer t
-answer_line-value t v is = rw (is.text, is.place) refl
+-- the report line of a value of the text
+pub report_line-value : (t : List ℕ) (v : Meaning) → IsValueOf t v → report_line v.place (size v.text) v.text ≡ value_line t
+report_line-value t v is = rw (is.text, is.place) refl
 
--- what is out, and one item's answer after it
+-- what is out, and one item's value_line after it
 pub report-last : {A : Type 0} (f : A → List ℕ) (items : List A) (x : A) (out new : List ℕ)
     → out ≡ encode_utf8_all (flat_map f items) → new ≡ out ++ encode_utf8_all (f x)
     → new ≡ encode_utf8_all (flat_map f (items ++ x ∷ []))

@@ -5,7 +5,7 @@ use Rattle.std.proofs.lemmas.List.{map-append, append_assoc, length-append}
 use Rattle.std.proofs.lemmas.List.Sums.{sum_by-cons, sum_by-append}
 use Rattle.smol_tokens_core.specs.Lines.{lines}
 use Rattle.smol_tokens_core.specs.Tally.{is_same, times_of, tally, seen_once}
-use Rattle.smol_tokens_core.specs.TallyFaults.{AfterAddFault, run_fault_of}
+use Rattle.smol_tokens_core.specs.TallyFaults.{AfterAddFault, of_add_fault}
 use Rattle.smol_tokens_core.specs.ReportFaults.{HasNoReport}
 use Rattle.smol_tokens_core.specs.declared.mode.Mode.TheVariants.{Tokens}
 use Rattle.smol_tokens_core.specs.declared.tally.AddFault.{AddFault}
@@ -58,7 +58,7 @@ some_counts (c ∷ cs) counts is some = omega arith
 -- the lines so far with the one that was not counted are a front of the lines
 pub no_report-add : (t line : List ℕ) (seen rest left : List (List ℕ)) (old : List (List ℕ × ℕ)) (fault : AddFault)
     → old ≡ tally (seen_once seen) → lines t ≡ seen ++ left → left ≡ line ∷ rest → AfterAddFault old line 1 fault
-    → HasNoReport Tokens t (run_fault_of fault)
+    → HasNoReport Tokens t (of_add_fault fault)
 no_report-add t line seen rest left old (OutOfMemory token) so_far is next new = inr (some_text t seen left rest line is next)
 no_report-add t line seen rest left old (Full token) so_far is next full =
     let before : times_of line old ≡ count_by (is_same line) seen =

@@ -1,11 +1,11 @@
--- The line that tells a fault on standard error.
+-- The line that reports a fault on standard error.
 use Rattle.std.specs.Prelude.{ℕ, List, codes}
 use Rattle.smol_tokens_core.specs.declared.fault.RunFault.{RunFault}
 use Rattle.smol_tokens_core.specs.declared.fault.RunFault.TheVariants.{NotUtf8, OutOfMemory, Full, Io}
 
 -- without its newline
-abbrev pub line_of : RunFault → List ℕ
-line_of NotUtf8 = codes "not UTF-8"
-line_of OutOfMemory = codes "out of memory"
-line_of Full = codes "full"
-line_of (Io e) = codes "read or write failed"
+abbrev pub fault_line : RunFault → List ℕ
+fault_line NotUtf8 = codes "not UTF-8"
+fault_line OutOfMemory = codes "out of memory"
+fault_line Full = codes "full"
+fault_line (Io e) = codes "read or write failed"

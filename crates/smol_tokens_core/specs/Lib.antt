@@ -3,11 +3,11 @@ pub mod Tally
 pub mod TallyFaults
 pub mod Report
 pub mod ReportFaults
-pub mod Words
+pub mod ModeWords
 pub mod Faults
 pub mod FaultLine
 pub mod ReadFaults
 pub mod LineExamples
 pub mod TallyExamples
 pub mod ReportExamples
-pub mod WordExamples
+pub mod ModeWordExamples

@@ -4,7 +4,7 @@ use Rattle.smol_tokens_core.specs.declared.fault.RunFault.TheVariants as run
 use Rattle.smol_str.specs.declared.stream.ReadFault.{ReadFault}
 use Rattle.smol_str.specs.declared.stream.ReadFault.TheVariants.{OutOfMemory, Io}
 
--- want of memory stays want of memory, and an error of the reader goes on as it is
-abbrev pub run_fault : ReadFault → RunFault
-run_fault OutOfMemory = run.OutOfMemory
-run_fault (Io e) = run.Io e
+-- out of memory stays out of memory, and an error of the reader goes on as it is
+abbrev pub of_read_fault : ReadFault → RunFault
+of_read_fault OutOfMemory = run.OutOfMemory
+of_read_fault (Io e) = run.Io e

@@ -1,12 +1,12 @@
 -- What the program writes of a text, as characters.
 --     place_word p       the word for a place
---     answer t           the answer line of a text
+--     value_line t       the report line of a text
 --     count_line e       the count line of a token and how often it stands
 --     show_report t, join_report t, lower_report t, upper_report t, replace_report from to t, tokens_report t
 --                        what is written of t in the mode of that name
 --     report mode t      what the program writes in a mode
 --     line_text mode l   what a line is made to in a mode
---     lines_report mode t    the answer line of what each line is made to
+--     lines_report mode t    the report line of what each line is made to
 use Rattle.std.specs.Prelude.{ℕ, List, ◌++◌, codes}
 use Rattle.std.specs.List.{concat, flat_map}
 use Rattle.std.specs.Fmt.{decimal}
@@ -29,32 +29,32 @@ place_word Static = codes "static"
 place_word Heap = codes "heap"
 
 -- a place's word, a size in decimal and a text, with a space between each two, and a newline
-abbrev pub answer_line : Place → ℕ → List ℕ → List ℕ
-answer_line place n t = place_word place ++ (codes " " ++ (decimal n ++ (codes " " ++ (t ++ codes "\n"))))
+abbrev pub report_line : Place → ℕ → List ℕ → List ℕ
+report_line place n t = place_word place ++ (codes " " ++ (decimal n ++ (codes " " ++ (t ++ codes "\n"))))
 
--- the answer line of a text: its place, its size in bytes, itself
-abbrev pub answer : List ℕ → List ℕ
-answer t = answer_line (place_of t) (size t) t
+-- the report line of a text: its place, its size in bytes, itself
+abbrev pub value_line : List ℕ → List ℕ
+value_line t = report_line (place_of t) (size t) t
 
--- the answer line of each line
+-- the report line of each line
 abbrev pub show_report : List ℕ → List ℕ
-show_report t = flat_map answer (lines t)
+show_report t = flat_map value_line (lines t)
 
--- one answer line: of all lines joined
+-- one report line: of all lines joined
 abbrev pub join_report : List ℕ → List ℕ
-join_report t = answer (concat (lines t))
+join_report t = value_line (concat (lines t))
 
--- the answer line of each line in small letters of ASCII
+-- the report line of each line in small letters of ASCII
 abbrev pub lower_report : List ℕ → List ℕ
-lower_report t = flat_map (λ line. answer (lower line)) (lines t)
+lower_report t = flat_map (λ line. value_line (lower line)) (lines t)
 
--- the answer line of each line in capital letters of ASCII
+-- the report line of each line in capital letters of ASCII
 abbrev pub upper_report : List ℕ → List ℕ
-upper_report t = flat_map (λ line. answer (upper line)) (lines t)
+upper_report t = flat_map (λ line. value_line (upper line)) (lines t)
 
--- the answer line of each line, with `to` in place of each match of `from`
+-- the report line of each line, with `to` in place of each match of `from`
 abbrev pub replace_report : List ℕ → List ℕ → List ℕ → List ℕ
-replace_report from to t = flat_map (λ line. answer (replaced_all line from to)) (lines t)
+replace_report from to t = flat_map (λ line. value_line (replaced_all line from to)) (lines t)
 
 -- a count in decimal, a space, the token, and a newline
 abbrev pub count_line : List ℕ × ℕ → List ℕ
@@ -82,6 +82,6 @@ line_text Upper line = upper line
 line_text (Replace from to) line = replaced_all line (chars (string_bytes from)) (chars (string_bytes to))
 line_text Tokens line = line
 
--- the answer line of what each line is made to: the report of each mode but join and tokens
+-- the report line of what each line is made to: the report of each mode but join and tokens
 abbrev pub lines_report : Mode → List ℕ → List ℕ
-lines_report mode t = flat_map (λ line. answer (line_text mode line)) (lines t)
+lines_report mode t = flat_map (λ line. value_line (line_text mode line)) (lines t)

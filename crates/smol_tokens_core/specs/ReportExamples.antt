@@ -5,7 +5,7 @@ use Rattle.smol_str.specs.declared.buffer.TheConstants.{INLINE_CAP}
 use Rattle.smol_str.specs.declared.value.blank.TheConstants.{BLANK_SPACES}
 use Rattle.smol_str.specs.Text.{place_of, is_blank_run}
 use Rattle.smol_tokens_core.specs.Lines.{lines}
-use Rattle.smol_tokens_core.specs.Report.{answer, report, join_report, lower_report, upper_report, replace_report}
+use Rattle.smol_tokens_core.specs.Report.{value_line, report, join_report, lower_report, upper_report, replace_report}
 use Rattle.smol_tokens_core.specs.Report.{tokens_report}
 use Rattle.smol_tokens_core.specs.declared.mode.Mode.TheVariants.{Show}
 
@@ -17,9 +17,9 @@ too_many c = replicate (INLINE_CAP + 1) c
 abbrev place_of_spaces : List ℕ
 place_of_spaces = if nat_le (INLINE_CAP + 1) BLANK_SPACES then codes "static " else codes "heap "
 
-answer_of_empty : answer [] ≡ codes "inline 0 \n"
+value_line_of_empty : value_line [] ≡ codes "inline 0 \n"
 unfolding place_of is_blank_run digits lib.Utf8.encode
-answer_of_empty = refl
+value_line_of_empty = refl
 
 -- a line that fits the buffer, an empty one, and one that is too long
 report_of_lines : report Show (codes "if\n\n" ++ too_many 97)

@@ -2,7 +2,7 @@
 --     HasALineTooOften t             some line stands in the text more than `u64::MAX` times
 --     WantsMemory mode t             some report is to be written: always in mode join, else on each text but the empty one
 --     HasNoReport mode t             what is known after each fault; only memory, or a count that is full, can be missing
---     AfterInputFault mode bytes     the same of the bytes of an input; of those that are not UTF-8 nothing else is told
+--     AfterInputFault mode bytes     the same of the bytes of an input; of those that are not UTF-8 nothing else is reported
 use Rattle.std.specs.Prelude.{◌≡◌, ◌⊎◌, ℕ, ◌<◌, ◌≤◌, ◌^◌, List, length, count_by, IsUtf8}
 use Rattle.std.specs.Str.{chars}
 use Rattle.smol_tokens_core.specs.Lines.{lines}

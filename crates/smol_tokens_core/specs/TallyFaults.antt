@@ -19,6 +19,6 @@ given_back (OutOfMemory token) = token
 given_back (Full token) = token
 
 -- the token is let go
-abbrev pub run_fault_of : AddFault → RunFault
-run_fault_of (OutOfMemory token) = run.OutOfMemory
-run_fault_of (Full token) = run.Full
+abbrev pub of_add_fault : AddFault → RunFault
+of_add_fault (OutOfMemory token) = run.OutOfMemory
+of_add_fault (Full token) = run.Full

@@ -1,8 +1,8 @@
-//! Why a run failed, and how that is told.
+//! Why a run failed, and how that is reported.
 ghost use Rattle.std.specs.Prelude.{◌≡◌};
-ghost use Rattle.smol_tokens_core.specs.FaultLine.{line_of};
-ghost use Rattle.smol_tokens_core.specs.ReadFaults.{run_fault};
-ghost use Rattle.smol_tokens_core.specs.TallyFaults.{run_fault_of};
+ghost use Rattle.smol_tokens_core.specs.FaultLine.{fault_line};
+ghost use Rattle.smol_tokens_core.specs.ReadFaults.{of_read_fault};
+ghost use Rattle.smol_tokens_core.specs.TallyFaults.{of_add_fault};
 ghost use Rattle.smol_tokens_core.specs.declared.fault.RunFault.TheVariants.{OutOfMemory, Io};
 
 use crate::tally::AddFault;
@@ -40,7 +40,7 @@ impl From<io::Error> for RunFault {
 }
 
 impl From<ReadFault> for RunFault {
-    ghost from_gives = { λ reading fault. fault ≡ run_fault reading };
+    ghost from_gives = { λ reading fault. fault ≡ of_read_fault reading };
 
     fn from(reading: ReadFault) -> RunFault {
         match reading {
@@ -51,7 +51,7 @@ impl From<ReadFault> for RunFault {
 }
 
 impl From<AddFault> for RunFault {
-    ghost from_gives = { λ adding fault. fault ≡ run_fault_of adding };
+    ghost from_gives = { λ adding fault. fault ≡ of_add_fault adding };
 
     fn from(adding: AddFault) -> RunFault {
         match adding {
@@ -61,9 +61,9 @@ impl From<AddFault> for RunFault {
     }
 }
 
-/// The line that tells a fault on standard error, without its newline.
+/// The line that reports a fault on standard error, without its newline.
 pub fn fault_line(fault: &RunFault) -> &'static str
-    ensures { result.now ≡ line_of fault.now }
+    ensures { result.now ≡ fault_line fault.now }
 {
     match fault {
         RunFault::NotUtf8 => "not UTF-8",

@@ -2,7 +2,7 @@
 //! line stands.
 //!
 //! [`run::run`] is the whole program over any reader and writer, and its contract the program's promise.
-//! [`mode::mode_of`] reads the words of a command line, and [`fault::fault_line`] tells why a run failed.
+//! [`mode::mode_of`] reads the words of a command line, and [`fault::fault_line`] says why a run failed.
 #![tactic(auto)]
 
 pub mod fault;

@@ -4,6 +4,8 @@ ghost use Rattle.std.specs.Iterator.{YieldsFirstBy, item_count};
 ghost use Rattle.std.specs.Str.{chars};
 ghost use Rattle.smol_tokens_core.specs.Lines.{lines};
 
+use std::marker::Model;
+
 /// The first line of a text, without its newline, and what follows it; `None` where there is no
 /// line.
 ///
@@ -22,16 +24,26 @@ pub fn first_line(text: &str) -> Option<(&str, &str)>
     }
 }
 
-/// The lines of a text in order, without their newlines.
+/// The lines of a text in order, without their newlines. It means the text whose lines are still to come.
 #[derive(Drop)]
 pub struct Lines<'a> {
     rest: &'a str,
 }
 
+impl<'a> Model for Lines<'a> {
+    ghost use Rattle.std.specs.Prelude.{ℕ, List};
+
+    ghost Value = { List ℕ };
+
+    ghost use Rattle.std.specs.Str.{chars};
+
+    ghost view = { λ s. chars s.rest.now };
+}
+
 impl<'a> Lines<'a> {
     /// All lines of a text.
     pub fn of(text: &'a str) -> Lines<'a>
-        ensures { result.rest.now ≡ text.now }
+        ensures { result ≡ chars text.now }
     {
         Lines { rest: text }
     }
@@ -40,9 +52,9 @@ impl<'a> Lines<'a> {
 impl<'a> Iterator for Lines<'a> {
     type Item = &'a str;
 
-    ghost next_gives = { YieldsFirstBy (λ line. chars line.now) (λ s. lines (chars s.rest.now)) };
+    ghost next_gives = { YieldsFirstBy (λ line. chars line.now) lines };
 
-    ghost remaining = { item_count (λ s. lines (chars s.rest.now)) };
+    ghost remaining = { item_count lines };
 
     fn next(&mut self) -> Option<&'a str> {
         let (line, after) = first_line(self.rest)?;

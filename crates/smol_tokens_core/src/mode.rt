@@ -1,6 +1,6 @@
 //! What the program is asked to do.
 ghost use Rattle.std.specs.Prelude.{◌≡◌};
-ghost use Rattle.smol_tokens_core.specs.Words.{asked_mode, mode_of_word};
+ghost use Rattle.smol_tokens_core.specs.ModeWords.{asked_mode, mode_of_word};
 
 /// What the program writes of its input.
 #[derive(Debug, Drop)]
@@ -20,7 +20,7 @@ pub enum Mode {
 }
 
 /// Reads the words after the program's name: none, or the word of a mode, or `replace` and its two
-/// texts, either of which may be empty. It takes no memory, and answers `None` for every other list
+/// texts, either of which may be empty. It takes no memory, and returns `None` for every other list
 /// of words.
 pub fn mode_of(mut words: Vec<String>) -> Option<Mode>
     ensures { result ≡ asked_mode words.items }

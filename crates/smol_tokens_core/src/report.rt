@@ -4,7 +4,7 @@ ghost use Rattle.std.specs.Str.{chars, IsUtf8};
 ghost use Rattle.std.specs.String.{string_bytes};
 ghost use Rattle.smol_str.specs.Text.{size};
 ghost use Rattle.smol_str.specs.Meaning.{IsValueOf};
-ghost use Rattle.smol_tokens_core.specs.Report.{place_word, answer_line, line_text, lines_report, join_report, report};
+ghost use Rattle.smol_tokens_core.specs.Report.{place_word, report_line, line_text, lines_report, join_report, report};
 ghost use Rattle.smol_tokens_core.specs.ReportFaults.{HasNoReport, AfterInputFault};
 
 use crate::fault::RunFault;
@@ -51,19 +51,19 @@ fn make_report<S: BuildHasher + Drop>(
     let report = match &mode {
         Mode::Join => join(alloc, text)?,
         Mode::Tokens => count_lines(alloc, state, text)?,
-        _ => answer_lines(alloc, &mode, text)?,
+        _ => lines_report(alloc, &mode, text)?,
     };
     Ok(report)
 }
 
-/// The answer line of what each line is made to in a mode.
-fn answer_lines(alloc: Global, mode: &Mode, text: &str) -> Result<String, AllocError>
+/// One report line per line of the text, as the mode transforms it.
+fn lines_report(alloc: Global, mode: &Mode, text: &str) -> Result<String, AllocError>
     ensures ok { IfOk result (λ out. string_bytes out ≡ encode_utf8_all (lines_report mode.now (chars text.now))) }
     ensures refused { OnErr result (0 < length (chars text.now)) }
 {
     let mut out = String::new(alloc);
     for line in Lines::of(text) {
-        push_answer(alloc, &mut out, &value_of(alloc, mode, line)?)?;
+        push_line(alloc, &mut out, &value_of(alloc, mode, line)?)?;
     }
     Ok(out)
 }
@@ -80,55 +80,55 @@ fn value_of(alloc: Global, mode: &Mode, line: &str) -> Result<SmolStr, AllocErro
     }
 }
 
-/// One answer line: of all lines joined.
+/// One report line: of all lines joined.
 fn join(alloc: Global, text: &str) -> Result<String, AllocError>
     ensures { IfOk result (λ out. string_bytes out ≡ encode_utf8_all (join_report (chars text.now))) }
 {
     let value = SmolStr::from_strs(alloc, Lines::of(text))?;
     let mut out = String::new(alloc);
-    push_answer(alloc, &mut out, &value)?;
+    push_line(alloc, &mut out, &value)?;
     Ok(out)
 }
 
-/// Appends the answer line of a value.
+/// Appends the report line of a value.
 ///
 /// That of a text on the heap is printed into the report: as a value of its own it would be one more copy of a long
 /// text.
-fn push_answer(alloc: Global, out: &mut String, value: &SmolStr) -> Result<(), AllocError>
+fn push_line(alloc: Global, out: &mut String, value: &SmolStr) -> Result<(), AllocError>
     ensures { OnOk result (string_bytes out.new ≡ string_bytes out.old
-        ++ encode_utf8_all (answer_line value.now.place (size value.now.text) value.now.text)) }
+        ++ encode_utf8_all (report_line value.now.place (size value.now.text) value.now.text)) }
 {
     if value.is_heap_allocated() {
-        print_answer(out, value)
+        print_line(out, value)
     } else {
         push_formatted(alloc, out, value)
     }
 }
 
 /// The same, printed at once.
-fn print_answer(out: &mut String, value: &SmolStr) -> Result<(), AllocError>
+fn print_line(out: &mut String, value: &SmolStr) -> Result<(), AllocError>
     ensures { OnOk result (string_bytes out.new ≡ string_bytes out.old
-        ++ encode_utf8_all (answer_line value.now.place (size value.now.text) value.now.text)) }
+        ++ encode_utf8_all (report_line value.now.place (size value.now.text) value.now.text)) }
 {
-    let (place, size) = (word_of(value.place()), value.len());
+    let (place, size) = (place_word(value.place()), value.len());
     write!(out, "{place} {size} {value}\n")
 }
 
 /// The same, as a value first, which takes no memory where the line is short.
 fn push_formatted(alloc: Global, out: &mut String, value: &SmolStr) -> Result<(), AllocError>
     ensures { OnOk result (string_bytes out.new ≡ string_bytes out.old
-        ++ encode_utf8_all (answer_line value.now.place (size value.now.text) value.now.text)) }
+        ++ encode_utf8_all (report_line value.now.place (size value.now.text) value.now.text)) }
 {
-    let place = word_of(value.place());
+    let place = place_word(value.place());
     let size = value.len();
     match format_smolstr!(alloc; "{place} {size} {value}\n") {
-        Ok(answer) => out.push_str(answer.as_str()),
+        Ok(line) => out.push_str(line.as_str()),
         Err(FormatError) => Err(AllocError),
     }
 }
 
-/// The word that an answer line has for a place.
-fn word_of(place: Place) -> &'static str
+/// The word that a report line has for a place.
+fn place_word(place: Place) -> &'static str
     ensures { result.now ≡ place_word place }
 {
     match place {

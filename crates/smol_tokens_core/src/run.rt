@@ -16,8 +16,8 @@ use std::io::{Read, Write};
 /// of some text, and exactly the report on that text was written. Nothing is written before the
 /// whole report is there, so after [`RunFault::NotUtf8`], [`RunFault::OutOfMemory`] and
 /// [`RunFault::Full`] nothing was written; after [`RunFault::Io`] nothing, or a beginning of the
-/// report. All this holds for every `state`, by which mode tokens hashes the lines. A reader or writer that does not
-/// tell its bytes is claimed nothing of.
+/// report. All this holds for every `state`, by which mode tokens hashes the lines. Of a reader or writer
+/// whose bytes are not known nothing is claimed.
 pub fn run<S: BuildHasher + Drop, R: Read, W: Write>(
     alloc: Global,
     state: S,

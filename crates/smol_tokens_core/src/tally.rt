@@ -68,7 +68,7 @@ impl<S: BuildHasher> Tally<S> {
         }
     }
 
-    /// Counts a token so many `times` more, and answers its count then.
+    /// Counts a token so many `times` more, and returns its count then.
     ///
     /// A new token goes last, also with 0 `times`. Nothing changes after a refusal, and the token
     /// comes back in it: it is [`AddFault::Full`] where the count would pass `u64::MAX`, which is

@@ -49,7 +49,7 @@ pub fn refuse_all(alloc: Global) {
     refuse(alloc, Refusals::From(1));
 }
 
-/// Nothing is refused from here on. Answers whether something was.
+/// Nothing is refused from here on. Returns whether something was.
 pub fn end_refusals(alloc: Global) -> bool {
     is_granted(alloc, BASE + 2 * WORD)
 }
@@ -64,7 +64,7 @@ pub fn can_refuse(alloc: Global) -> bool {
 pub struct Asked {
     pub requests: u32,
     pub bytes: u32,
-    /// The bytes of the blocks that its answer holds.
+    /// The bytes of the blocks that its result holds.
     pub held: u32,
 }
 

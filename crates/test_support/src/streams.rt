@@ -1,4 +1,4 @@
-//! A reader and a writer that tell their bytes, and fail where they are told to.
+//! A reader and a writer whose bytes are known, and which fail where they are set to.
 ghost use Rattle.std.specs.Prelude.{Some, ◌≡◌, []};
 
 use smol_str::stream::PIECE;
@@ -9,7 +9,7 @@ use std::io::{ErrorKind, Read, Write};
 /// How many bytes a call the readers and writers give and take at most.
 pub const STEPS: [usize; 7] = [1, 2, 3, PIECE - 1, PIECE, PIECE + 1, usize::MAX];
 
-/// The errors that readers answer. Upstream's readers call again after the first, ours do not.
+/// The errors that readers return. Upstream's readers call again after the first, ours do not.
 pub const READ_ERRORS: [ErrorKind; 2] = [ErrorKind::Interrupted, ErrorKind::BrokenPipe];
 
 /// Whether a place in so many bytes is tried: each in a few, and in many those about the ends of pieces.
@@ -18,7 +18,7 @@ pub fn is_tried(place: usize, size: usize) -> bool {
     size < 200 || after % PIECE < 7 || after > size
 }
 
-/// A reader that gives its bytes, at most `step` a call, and answers the error `failure` at the call
+/// A reader that gives its bytes, at most `step` a call, and returns the error `failure` at the call
 /// `fails_at`, counted from 1. It keeps the least and the greatest length of the buffers that it was
 /// given.
 #[derive(Drop)]
@@ -50,7 +50,7 @@ impl Read for Trickle<'_> {
     }
 }
 
-/// A reader of these bytes; it never fails where `fails_at` is 0, and else answers `Interrupted`.
+/// A reader of these bytes; it never fails where `fails_at` is 0, and else returns `Interrupted`.
 pub fn trickle_of(rest: &[u8], step: usize, fails_at: usize) -> Trickle<'_>
     ensures { result.rest.now ≡ rest.now }
 {
@@ -68,20 +68,20 @@ pub fn trickle_of(rest: &[u8], step: usize, fails_at: usize) -> Trickle<'_>
 /// What a writer does at the call where it fails.
 #[derive(Clone, Copy, PartialEq, Eq, Debug)]
 pub enum Failure {
-    /// It answers this error.
-    Answers(ErrorKind),
+    /// It returns this error.
+    Returns(ErrorKind),
     /// It takes no byte.
     TakesNone,
 }
 
-/// What writers do, and the error that is told then.
+/// What writers do, and the error that is reported then.
 pub const WRITE_FAILURES: [(Failure, ErrorKind); 3] = [
     (
-        Failure::Answers(ErrorKind::Interrupted),
+        Failure::Returns(ErrorKind::Interrupted),
         ErrorKind::Interrupted,
     ),
     (
-        Failure::Answers(ErrorKind::BrokenPipe),
+        Failure::Returns(ErrorKind::BrokenPipe),
         ErrorKind::BrokenPipe,
     ),
     (Failure::TakesNone, ErrorKind::WriteZero),
@@ -104,7 +104,7 @@ impl Write for Drip {
         self.calls = self.calls.wrapping_add(1);
         if self.calls == self.fails_at {
             return match self.failure {
-                Failure::Answers(error) => Err(io::Error::from(error)),
+                Failure::Returns(error) => Err(io::Error::from(error)),
                 Failure::TakesNone => Ok(0),
             };
         }

@@ -12,7 +12,7 @@ use Rattle.smol_str.specs.declared.borsh.fault.DecodeFault.{DecodeFault}
 use Rattle.smol_str.specs.declared.borsh.fault.DecodeFault.TheVariants.{Ended, NotUtf8, OutOfMemory, Io}
 use Rattle.smol_str.specs.Meaning.{IsValueOf}
 use Rattle.smol_str.specs.Wire.{HasWire, wire, Holds}
-use Rattle.smol_str.specs.WireFaults.{AfterReadFault, AfterFromWireFault}
+use Rattle.smol_str.specs.WireFaults.{AfterDecodeFault, AfterFromWireFault}
 use Rattle.uses.specs.declared.records.Field.{Field}
 
 abbrev pub HasForm : Field → Type 0
@@ -29,9 +29,9 @@ HoldsField bytes field n = (bytes ≡ form field ++ drop n bytes) × (n ≡ leng
 
 abbrev pub AfterFieldFault : Option (List ℕ) → Option (List ℕ) → DecodeFault → Type 0
 AfterFieldFault input left fault =
-    AfterReadFault input left fault
+    AfterDecodeFault input left fault
     ⊎ ((name : List ℕ) × (middle : Option (List ℕ)) × HasWire name × Consumes input middle (wire name)
-    × AfterReadFault middle left fault)
+    × AfterDecodeFault middle left fault)
 
 abbrev pub AfterFieldWireFault : List ℕ → DecodeFault → Type 0
 AfterFieldWireFault bytes fault =

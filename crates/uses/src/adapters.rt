@@ -1,6 +1,6 @@
 //! Texts collected through std's adapters, and by a builder that draws them.
-ghost use Rattle.std.specs.Prelude.{◌≡◌, ◌<◌, ◌==◌, ◌++◌, ◌∷◌, [], codes, length, map, not, reverse, take, IfOk, OnOk, OnErr};
-ghost use Rattle.std.specs.List.{filter};
+ghost use Rattle.std.specs.Prelude.{◌≡◌, ◌<◌, ◌==◌, ◌++◌, ◌∷◌, [], codes, length, map, not, reverse, take, IfOk, IsOk, OnOk, OnErr};
+ghost use Rattle.std.specs.List.{filter, slice_split};
 ghost use Rattle.std.specs.Str.{chars};
 ghost use Rattle.std.specs.Iterator.{IsFinite};
 ghost use Rattle.smol_str.specs.Collect.{IsValueOfRun, Outgrown};
@@ -17,7 +17,7 @@ use std::alloc::{AllocError, Global};
 /// The texts of values.
 #[tactic(auto, using(smol_str::proofs::CallerLemmas::collecting))]
 pub fn of_values(alloc: Global, values: &[SmolStr]) -> Result<SmolStr, AllocError>
-    ensures ok { IfOk result (λ v. IsValueOf (joined (λ value. value.text) values.now) v) }
+    ensures value { IfOk result (λ v. IsValueOf (joined (λ value. value.text) values.now) v) }
     ensures refused { OnErr result (¬ (IsShort (joined (λ value. value.text) values.now))) }
 {
     SmolStr::from_strs(alloc, values.iter().map(|value| value.as_str()))
@@ -26,7 +26,7 @@ pub fn of_values(alloc: Global, values: &[SmolStr]) -> Result<SmolStr, AllocErro
 /// The characters of two texts.
 #[tactic(auto, using(smol_str::proofs::CallerLemmas::collecting))]
 pub fn of_both(alloc: Global, first: &str, second: &str) -> Result<SmolStr, AllocError>
-    ensures ok { IfOk result (λ v. IsValueOf (chars first.now ++ chars second.now) v) }
+    ensures value { IfOk result (λ v. IsValueOf (chars first.now ++ chars second.now) v) }
     ensures refused { OnErr result (¬ (IsShort (chars first.now ++ chars second.now))) }
 {
     SmolStr::from_chars(alloc, first.chars().chain(second.chars()))
@@ -35,17 +35,26 @@ pub fn of_both(alloc: Global, first: &str, second: &str) -> Result<SmolStr, Allo
 /// A text without one character.
 #[tactic(auto, using(smol_str::proofs::CallerLemmas::collecting))]
 pub fn without(alloc: Global, text: &str, left_out: char) -> Result<SmolStr, AllocError>
-    ensures ok { IfOk result (λ v. IsValueOf (filter (λ c. not (c == left_out)) (chars text.now)) v) }
+    ensures value { IfOk result (λ v. IsValueOf (filter (λ c. not (c == left_out)) (chars text.now)) v) }
     ensures refused { OnErr result (¬ (IsShort (filter (λ c. not (c == left_out)) (chars text.now)))) }
 {
     SmolStr::from_chars(alloc, text.chars().filter(|c| *c != left_out))
+}
+
+/// A text without its commas.
+#[tactic(auto, using(smol_str::proofs::CallerLemmas::collecting))]
+pub fn without_commas(alloc: Global, text: &str) -> Result<SmolStr, AllocError>
+    ensures value { IfOk result (λ v. IsValueOf (joined chars (slice_split (λ b. b == 44) text.now)) v) }
+    ensures refused { OnErr result (¬ (IsShort (joined chars (slice_split (λ b. b == 44) text.now)))) }
+{
+    SmolStr::from_strs(alloc, text.split(','))
 }
 
 /// A text without each match of another, which is not empty.
 #[tactic(auto, using(smol_str::proofs::CallerLemmas::collecting))]
 pub fn without_text(alloc: Global, text: &str, left_out: &str) -> Result<SmolStr, AllocError>
     requires some { 0 < length left_out.now }
-    ensures ok { IfOk result (λ v. IsValueOf (replaced_all (chars text.now) (chars left_out.now) []) v) }
+    ensures value { IfOk result (λ v. IsValueOf (replaced_all (chars text.now) (chars left_out.now) []) v) }
     ensures refused { OnErr result (¬ (IsShort (replaced_all (chars text.now) (chars left_out.now) []))) }
 {
     SmolStr::from_strs(alloc, text.split(left_out))
@@ -54,16 +63,25 @@ pub fn without_text(alloc: Global, text: &str, left_out: &str) -> Result<SmolStr
 /// The texts of a list.
 #[tactic(auto, using(smol_str::proofs::CallerLemmas::collecting))]
 pub fn of_parts(alloc: Global, parts: &[&str]) -> Result<SmolStr, AllocError>
-    ensures ok { IfOk result (λ v. IsValueOf (joined str_text parts.now) v) }
+    ensures value { IfOk result (λ v. IsValueOf (joined str_text parts.now) v) }
     ensures refused { OnErr result (¬ (IsShort (joined str_text parts.now))) }
 {
     SmolStr::from_strs(alloc, parts.iter().copied())
 }
 
+/// The characters of a literal; short text is never refused.
+#[tactic(auto, using(smol_str::proofs::CallerLemmas::collecting))]
+pub fn abc(alloc: Global) -> Result<SmolStr, AllocError>
+    ensures ok { IsOk result }
+    ensures value { IfOk result (λ v. IsValueOf (codes "abc") v) }
+{
+    SmolStr::from_chars(alloc, "abc".chars())
+}
+
 /// Two texts with a dash between them.
 #[tactic(auto, using(smol_str::proofs::CallerLemmas::collecting))]
 pub fn with_dash(alloc: Global, first: &str, second: &str) -> Result<SmolStr, AllocError>
-    ensures ok { IfOk result (λ v. IsValueOf (joined chars (first.now ∷ codes "-" ∷ second.now ∷ [])) v) }
+    ensures value { IfOk result (λ v. IsValueOf (joined chars (first.now ∷ codes "-" ∷ second.now ∷ [])) v) }
     ensures refused { OnErr result (¬ (IsShort (joined chars (first.now ∷ codes "-" ∷ second.now ∷ [])))) }
 {
     SmolStr::from_strs(alloc, [first, "-", second].into_iter())
@@ -72,7 +90,7 @@ pub fn with_dash(alloc: Global, first: &str, second: &str) -> Result<SmolStr, Al
 /// The first three characters of a text.
 #[tactic(auto, using(smol_str::proofs::CallerLemmas::collecting))]
 pub fn first_three(alloc: Global, text: &str) -> Result<SmolStr, AllocError>
-    ensures ok { IfOk result (λ v. IsValueOf (take 3 (chars text.now)) v) }
+    ensures value { IfOk result (λ v. IsValueOf (take 3 (chars text.now)) v) }
     ensures refused { OnErr result (¬ (IsShort (take 3 (chars text.now)))) }
 {
     SmolStr::from_chars(alloc, text.chars().take(3))
@@ -81,7 +99,7 @@ pub fn first_three(alloc: Global, text: &str) -> Result<SmolStr, AllocError>
 /// A text from its last character to its first.
 #[tactic(auto, using(smol_str::proofs::CallerLemmas::collecting))]
 pub fn reversed(alloc: Global, text: &str) -> Result<SmolStr, AllocError>
-    ensures ok { IfOk result (λ v. IsValueOf (reverse (chars text.now)) v) }
+    ensures value { IfOk result (λ v. IsValueOf (reverse (chars text.now)) v) }
     ensures refused { OnErr result (¬ (IsShort (reverse (chars text.now)))) }
 {
     SmolStr::from_chars(alloc, text.chars().rev())
@@ -90,7 +108,7 @@ pub fn reversed(alloc: Global, text: &str) -> Result<SmolStr, AllocError>
 /// A text in upper case of ASCII.
 #[tactic(auto, using(smol_str::proofs::CallerLemmas::collecting))]
 pub fn in_capitals(alloc: Global, text: &str) -> Result<SmolStr, AllocError>
-    ensures ok { IfOk result (λ v. IsValueOf (upper (chars text.now)) v) }
+    ensures value { IfOk result (λ v. IsValueOf (upper (chars text.now)) v) }
     ensures refused { OnErr result (¬ (IsShort (upper (chars text.now)))) }
 {
     SmolStr::from_chars(alloc, text.chars().map(|c| c.to_ascii_uppercase()))
@@ -114,6 +132,17 @@ pub fn push_reversed(builder: &mut SmolStrBuilder, text: &str) -> Result<(), All
     builder.extend_chars(text.chars().rev())
 }
 
+/// A builder, and a text without its commas after it.
+#[tactic(auto, using(smol_str::proofs::CallerLemmas::collecting))]
+pub fn push_without_commas(builder: &mut SmolStrBuilder, text: &str) -> Result<(), AllocError>
+    ensures ok { OnOk result
+        (builder.new ≡ appended builder.old (joined chars (slice_split (λ b. b == 44) text.now))) }
+    ensures refused { OnErr result
+        ((appended builder.old (joined chars (slice_split (λ b. b == 44) text.now))).kind ≡ OnHeap) }
+{
+    builder.extend_strs(text.split(','))
+}
+
 /// The texts of any iterator that ends: a generic caller.
 pub fn of_texts<'a, A: ValueAlloc, I: Iterator<Item = &'a str>>(
     alloc: A,
@@ -121,7 +150,7 @@ pub fn of_texts<'a, A: ValueAlloc, I: Iterator<Item = &'a str>>(
 ) -> Result<A::Value, AllocError>
     requires can { I.can_next texts }
     requires ends { IsFinite (I.remaining texts) }
-    ensures ok { IfOk result (IsValueOfRun I.next_gives texts joined_strs A.meaning) }
+    ensures value { IfOk result (IsValueOfRun I.next_gives texts joined_strs A.meaning) }
     ensures refused { OnErr result (Outgrown str_text I.next_gives texts) }
 {
     SmolStr::from_strs(alloc, texts)
@@ -129,7 +158,7 @@ pub fn of_texts<'a, A: ValueAlloc, I: Iterator<Item = &'a str>>(
 
 /// Two texts, by a builder: a generic caller.
 pub fn of_two<A: ValueAlloc>(alloc: A, first: &str, second: &str) -> Result<A::Value, AllocError>
-    ensures ok { IfOk result (λ v. IsValueOf (chars first.now ++ chars second.now) (A.meaning v)) }
+    ensures value { IfOk result (λ v. IsValueOf (chars first.now ++ chars second.now) (A.meaning v)) }
 {
     let mut builder = alloc.builder();
     builder.push_str(first)?;
@@ -139,7 +168,7 @@ pub fn of_two<A: ValueAlloc>(alloc: A, first: &str, second: &str) -> Result<A::V
 
 /// A builder's value, as collecting ends.
 pub fn of_filled(builder: SmolStrBuilder) -> Result<SmolStr, AllocError>
-    ensures ok { IfOk result (λ v. IsValueOf builder.text v) }
+    ensures value { IfOk result (λ v. IsValueOf builder.text v) }
     ensures refused { OnErr result (¬ (IsResident builder.text)) }
 {
     Global::value_of(builder)

@@ -27,7 +27,7 @@ pub fn read_cut(
     read_field(alloc, &mut reader)
 }
 
-/// The same by `from_wire`: where the name needs no memory, the fault is `Ended`; else it may be want of memory for it.
+/// The same by `from_wire`: where the name needs no memory, the fault is `Ended`; else it may be `OutOfMemory` for it.
 pub fn find_cut(
     alloc: Global,
     bytes: &[u8],

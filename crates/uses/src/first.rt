@@ -1,4 +1,6 @@
 //! Two texts as one value, and a clone of it.
+#![tactic(auto)]
+
 ghost use Rattle.std.specs.Prelude.{◌≡◌, ◌++◌, IfOk};
 ghost use Rattle.std.specs.Str.{chars};
 ghost use Rattle.smol_str.specs.Meaning.{IsValueOf};

@@ -2,7 +2,7 @@
 //! one text have in common, whichever way each was made.
 //!
 //! Each way ensures `value`, that the value is of exactly the text that is meant and lies in the place of that text; and
-//! `refused`, that memory can be wanting only for text that is not resident, or not short where it comes in parts.
+//! `refused`, that memory may be refused only for text that is not resident, or not short where it comes in parts.
 ghost use Rattle.std.specs.Prelude.{◌≡◌, ◌≢◌, ◌≤◌, ◌++◌, [], ◌∷◌, length, IfOk, OnErr, IsTrue};
 ghost use Rattle.std.specs.Str.{chars, IsUtf8};
 ghost use Rattle.std.specs.String.{string_bytes};
@@ -16,7 +16,7 @@ ghost use Rattle.smol_str.specs.Meaning.{IsValueOf};
 ghost use Rattle.smol_str.specs.Joined.{joined, string_text};
 ghost use Rattle.smol_str.specs.Steps.{step_text};
 ghost use Rattle.smol_str.specs.Case.{lower, upper, lowercased, uppercased, IsAsciiText};
-ghost use Rattle.smol_str.specs.Convert.{converted};
+ghost use Rattle.smol_str.specs.InCase.{converted};
 ghost use Rattle.smol_str.specs.Replace.{replaced, replaced_all};
 
 use crate::collecting::{all_of_slice, copied};

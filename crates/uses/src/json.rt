@@ -26,7 +26,7 @@ pub fn known(alloc: Global, json: &str, name: &str) -> Result<SmolStr, JsonFault
     from_json(alloc, json)
 }
 
-/// A value there and back as a JSON value: only want of memory can go wrong.
+/// A value there and back as a JSON value: it can only run out of memory.
 pub fn as_json_value(alloc: Global, value: &SmolStr) -> Result<SmolStr, AllocError>
     ensures { IfOk result (λ back. IsValueOf value.now.text back) }
 {

@@ -1,4 +1,6 @@
 //! What a caller does with an index or a buffer that a call returns.
+#![tactic(auto)]
+
 ghost use Rattle.std.specs.Prelude.{◌≡◌, ◌<◌, ◌≤◌, ◌↔◌, ◌+◌, [], length, IfSome, IsTrue, encode_utf8_all};
 ghost use Rattle.std.specs.Str.{IsCharBoundary};
 

@@ -1,4 +1,6 @@
 //! Values that cannot fail, or that lie where a caller knows.
+#![tactic(auto)]
+
 ghost use Rattle.std.specs.Prelude.{◌≡◌, [], codes, IsOk, IfOk, OnErr, encode_utf8_all};
 ghost use Rattle.std.specs.Str.{chars};
 ghost use Rattle.std.specs.String.{string_bytes};

@@ -4,7 +4,7 @@ ghost use Rattle.std.specs.Io.KnownBytes.{Consumes};
 ghost use Rattle.std.specs.Str.{chars};
 ghost use Rattle.smol_str.specs.Text.{size, IsResident, place_of};
 ghost use Rattle.smol_str.specs.Meaning.{IsValueOf};
-ghost use Rattle.smol_str.specs.Wire.{HasWire, wire, stated};
+ghost use Rattle.smol_str.specs.Wire.{HasWire, wire, prefix_size};
 
 use smol_str::borsh::{
     BorshDeserialize, BorshSerialize, DecodeFault, EncodeFault, LimitedFault, deserialize_limited,
@@ -24,8 +24,8 @@ pub fn written(alloc: Global, value: &SmolStr) -> Result<Vec<u8>, EncodeFault>
     Ok(form)
 }
 
-/// The value of bytes that are the wire form of `text`, with `rest` after it: nothing but want of
-/// memory can go wrong.
+/// The value of bytes that are the wire form of `text`, with `rest` after it: it can only run
+/// out of memory.
 pub fn read_from_bytes(
     alloc: Global,
     bytes: &[u8],
@@ -81,15 +81,15 @@ pub fn there_and_back(alloc: Global, text: &str, rest: &[u8]) -> Option<(SmolStr
     Some((one, other))
 }
 
-/// A value of a reader whose bytes state a short text: memory is never wanting, and what can fail is the reader, or the
-/// bytes themselves.
+/// A value of a reader whose bytes state a short text: it never runs out of memory, and what can fail is the reader,
+/// or the bytes themselves.
 pub fn read_short<R: Read>(
     alloc: Global,
     reader: &mut R,
     bytes: &[u8],
 ) -> Result<SmolStr, DecodeFault>
     requires known { R.remaining reader.old ≡ Some bytes.now }
-    requires short { stated bytes.now ≤ INLINE_CAP }
+    requires short { prefix_size bytes.now ≤ INLINE_CAP }
     ensures value { IfOk result (λ v. Consumes (R.remaining reader.old) (R.remaining reader.new) (wire v.text)) }
     ensures place { IfOk result (λ v. v.place ≡ place_of v.text) }
     ensures refused { IfErr result (λ fault. ¬ (fault ≡ DecodeFault.OutOfMemory)) }

@@ -4,7 +4,7 @@ use crate::operations::*;
 pub struct Kind {
     pub code: u8,
     pub name: &'static str,
-    /// The calls by the names that docs/REFUSALS.md has for them, and the impls of faults that it leaves out.
+    /// The calls by the names that docs/memory.txt has for them, and the impls of faults that it leaves out.
     pub calls: &'static [&'static str],
     /// Whether its requests for memory are counted, and may be refused.
     pub is_counted: bool,

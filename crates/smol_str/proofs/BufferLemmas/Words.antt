@@ -1,5 +1,5 @@
 -- For the functions of `buffer::words` that read, pack and overwrite bytes: bytes as words.
-use Rattle.smol_str.proofs.Common.{◌≡◌, ℕ, zero, suc, ◌+◌, ◌-◌, ◌*◌, ◌^◌, ◌/◌, ◌<◌, ◌≤◌, List, [], ◌∷◌, ◌++◌, length, take, drop, get_or, replicate, sym, ◌∙◌, ap, arith, refl, length-take, length-drop, nat_eq, ◌&&◌, set, length-append, w64, w32, to_le_bytes, from_le_bytes, pointwise, bytes_decides, take-add, take-append-add, drop-append-add, le_bytes_8, pow-add, cases_lt, Decides-and, Decides-like, Decides-eqb, same_from_decides, take_at, drop_at, take_all, take-take, drop-take, drop-drop, take-append-le, take-append-drop, append_assoc, length-take-le, get_or-drop, get_or-take, get_or_past, set_at, length-replicate, drop-replicate, INLINE_CAP, packed, padded, put_at, zeroed, encode, replicate_more, common_steps, rules}
+use Rattle.smol_str.proofs.Common.{◌≡◌, ℕ, zero, suc, ◌+◌, ◌-◌, ◌*◌, ◌^◌, ◌/◌, ◌<◌, ◌≤◌, List, [], ◌∷◌, ◌++◌, length, take, drop, get_or, replicate, sym, ◌∙◌, ap, arith, refl, length-take, length-drop, nat_eq, ◌&&◌, set, length-append, w64, w32, to_le_bytes, from_le_bytes, pointwise, bytes_decides, take-add, take-append-add, drop-append-add, le_bytes_8, pow-add, cases_lt, Decides-and, Decides-like, Decides-eqb, same_from_decides, take_at, drop_at, take_all, take-take, drop-take, drop-drop, take-append-le, take-append-drop, append_assoc, length-take-le, get_or-drop, get_or-take, get_or_past, set_at, length-replicate, drop-replicate, INLINE_CAP, packed, padded, put_at, with_zeros, encode, replicate_more, common_steps, rules}
 use Rattle.std.proofs.Math.Nat.{div-div-eq-div-mul, pow-succ', mul-le-mul_left}
 use Rattle.smol_str.specs.Words.{word}
 use Rattle.smol_str.proofs.BufferLemmas.Packed.{length-padded}
@@ -94,8 +94,8 @@ get_or-zeros [] (suc m) (suc k) = get_or-zeros [] m k
 get_or-zeros (x ∷ xs) m zero = refl
 get_or-zeros (x ∷ xs) m (suc k) = get_or-zeros xs m k
 
-length-zeroed : (bytes : List ℕ) → length bytes ≤ INLINE_CAP → length (zeroed bytes) ≡ INLINE_CAP + 1
-length-zeroed bytes h = omega (arith, length-append {A = ℕ}, length-replicate {A = ℕ} (INLINE_CAP + 1 - length bytes) 0)
+length-with_zeros : (bytes : List ℕ) → length bytes ≤ INLINE_CAP → length (with_zeros bytes) ≡ INLINE_CAP + 1
+length-with_zeros bytes h = omega (arith, length-append {A = ℕ}, length-replicate {A = ℕ} (INLINE_CAP + 1 - length bytes) 0)
 
 word-same : (k : ℕ) (xs ys : List ℕ) (at : ℕ) → ((j : ℕ) → get_or xs j 0 ≡ get_or ys j 0) → word k xs at ≡ word k ys at
 unfolding word
@@ -106,52 +106,52 @@ word-same (suc k) xs ys at h = rw (h (at + k), word-same k xs ys at h)
 take-end : (xs ys zs : List ℕ) (n m : ℕ) → length xs ≡ n → length ys ≡ m → take (n + m) (xs ++ (ys ++ zs)) ≡ xs ++ ys
 take-end xs ys zs n m e f = rw (← e) (take-append-add xs (ys ++ zs) m ∙ ap (λ t. xs ++ t) (take_at ys zs m f))
 
-word-zeroed : (bytes : List ℕ) (at n : ℕ) → AreBytes bytes → length bytes ≤ INLINE_CAP →
-    at + 8 ≤ INLINE_CAP + 1 → n ≡ word 8 bytes at → to_le_bytes w64 n ≡ take 8 (drop at (zeroed bytes))
-word-zeroed bytes at n b h within e =
+word-with_zeros : (bytes : List ℕ) (at n : ℕ) → AreBytes bytes → length bytes ≤ INLINE_CAP →
+    at + 8 ≤ INLINE_CAP + 1 → n ≡ word 8 bytes at → to_le_bytes w64 n ≡ take 8 (drop at (with_zeros bytes))
+word-with_zeros bytes at n b h within e =
     let zeros = λ (i : ℕ). get_or-zeros bytes (INLINE_CAP + 1 - length bytes) i in
-    let number : n ≡ word 8 (zeroed bytes) at = e ∙ sym (word-same 8 (zeroed bytes) bytes at zeros) in
-    let are : AreBytes (zeroed bytes) = λ i. rw (zeros i) (b i) in
+    let number : n ≡ word 8 (with_zeros bytes) at = e ∙ sym (word-same 8 (with_zeros bytes) bytes at zeros) in
+    let are : AreBytes (with_zeros bytes) = λ i. rw (zeros i) (b i) in
     ap (to_le_bytes w64) number
-    ∙ write-eight (zeroed bytes) at are (omega (arith, within, length-zeroed bytes h))
+    ∙ write-eight (with_zeros bytes) at are (omega (arith, within, length-with_zeros bytes h))
 
 pub pack-step : (new old bytes : List ℕ) (at n : ℕ) → AreBytes bytes → length bytes ≤ INLINE_CAP →
-    at + 8 ≤ INLINE_CAP + 1 → at + 8 ≤ length old → take at old ≡ take at (zeroed bytes) → n ≡ word 8 bytes at →
-    new ≡ put_at old at (to_le_bytes w64 n) → take (at + 8) new ≡ take (at + 8) (zeroed bytes)
-pack-step new old bytes at n b h within long front e put = grind (arith, common_steps, word-zeroed, take-end, length-take-le, take-add)
+    at + 8 ≤ INLINE_CAP + 1 → at + 8 ≤ length old → take at old ≡ take at (with_zeros bytes) → n ≡ word 8 bytes at →
+    new ≡ put_at old at (to_le_bytes w64 n) → take (at + 8) new ≡ take (at + 8) (with_zeros bytes)
+pack-step new old bytes at n b h within long front e put = grind (arith, common_steps, word-with_zeros, take-end, length-take-le, take-add)
 
 -- its end: all words are written, and then the length
-pub all-zeroed : (buf bytes : List ℕ) → length buf ≡ INLINE_CAP + 1 → length bytes ≤ INLINE_CAP →
-    take (INLINE_CAP + 1) buf ≡ take (INLINE_CAP + 1) (zeroed bytes) → buf ≡ zeroed bytes
-all-zeroed buf bytes long h e =
+pub all-with_zeros : (buf bytes : List ℕ) → length buf ≡ INLINE_CAP + 1 → length bytes ≤ INLINE_CAP →
+    take (INLINE_CAP + 1) buf ≡ take (INLINE_CAP + 1) (with_zeros bytes) → buf ≡ with_zeros bytes
+all-with_zeros buf bytes long h e =
     sym (take_all (INLINE_CAP + 1) buf (omega (arith, long))) ∙ e
-    ∙ take_all (INLINE_CAP + 1) (zeroed bytes) (omega (arith, length-zeroed bytes h))
+    ∙ take_all (INLINE_CAP + 1) (with_zeros bytes) (omega (arith, length-with_zeros bytes h))
 
-pub pack-end : (buf bytes : List ℕ) → length bytes ≤ INLINE_CAP → buf ≡ zeroed bytes →
+pub pack-end : (buf bytes : List ℕ) → length bytes ≤ INLINE_CAP → buf ≡ with_zeros bytes →
     set buf INLINE_CAP (length bytes) ≡ packed bytes
 pack-end buf bytes h all =
     let n : ℕ = INLINE_CAP - length bytes in
     let more : INLINE_CAP + 1 - length bytes ≡ n + 1 = omega (arith, h) in
-    let last : zeroed bytes ≡ padded bytes ++ (0 ∷ []) =
+    let last : with_zeros bytes ≡ padded bytes ++ (0 ∷ []) =
     ap (λ m. bytes ++ replicate m 0) more ∙ ap (λ t. bytes ++ t) (sym (replicate_more n 0))
     ∙ sym (append_assoc bytes (replicate n 0) (0 ∷ [])) in
     rw (all, last) (set_at (padded bytes) 0 [] (length bytes) INLINE_CAP (length-padded bytes h))
 
 -- at most eight bytes, by one word over zeros
 pub one-word : (buf bytes : List ℕ) (n : ℕ) → AreBytes bytes → length bytes ≤ 8 → n ≡ word 8 bytes 0 →
-    buf ≡ put_at (replicate (INLINE_CAP + 1) 0) 0 (to_le_bytes w64 n) → buf ≡ zeroed bytes
+    buf ≡ put_at (replicate (INLINE_CAP + 1) 0) 0 (to_le_bytes w64 n) → buf ≡ with_zeros bytes
 one-word buf bytes n b h e put =
     let m : ℕ = INLINE_CAP + 1 - length bytes in
     let zeros : List ℕ = replicate (INLINE_CAP + 1) 0 in
-    let eight : to_le_bytes w64 n ≡ take 8 (zeroed bytes) = word-zeroed bytes 0 n b (omega arith) (omega arith) e in
+    let eight : to_le_bytes w64 n ≡ take 8 (with_zeros bytes) = word-with_zeros bytes 0 n b (omega arith) (omega arith) e in
     let split : length bytes + (8 - length bytes) ≡ 8 = omega (arith, h) in
     let left : m - (8 - length bytes) ≡ INLINE_CAP + 1 - 8 = omega (arith, h) in
-    let rest : drop 8 (zeroed bytes) ≡ drop 8 zeros =
-    ap (λ k. drop k (zeroed bytes)) (sym split) ∙ drop-append-add bytes (replicate m 0) (8 - length bytes)
+    let rest : drop 8 (with_zeros bytes) ≡ drop 8 zeros =
+    ap (λ k. drop k (with_zeros bytes)) (sym split) ∙ drop-append-add bytes (replicate m 0) (8 - length bytes)
     ∙ drop-replicate (8 - length bytes) m 0 ∙ ap (λ k. replicate k 0) left
     ∙ sym (drop-replicate 8 (INLINE_CAP + 1) 0) in
-    put ∙ ap (λ t. t ++ drop 8 zeros) eight ∙ ap (λ t. take 8 (zeroed bytes) ++ t) (sym rest)
-    ∙ take-append-drop 8 (zeroed bytes)
+    put ∙ ap (λ t. t ++ drop 8 zeros) eight ∙ ap (λ t. take 8 (with_zeros bytes) ++ t) (sym rest)
+    ∙ take-append-drop 8 (with_zeros bytes)
 
 -- one word of two lists
 same-word : (xs ys : List ℕ) (at : ℕ) → take (at + 8) xs ≡ take (at + 8) ys →

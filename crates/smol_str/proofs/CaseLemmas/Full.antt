@@ -1,7 +1,7 @@
 -- For `str_ext::case` and `str_ext::full`: the ASCII front of a text and the rest of it, in a case.
-use Rattle.smol_str.proofs.Common.{◌≡◌, ℕ, ◌≤◌, List, [], ◌++◌, length, take, drop, sym, ap, ◌∙◌, arith, length-take-le, length-append, IsUtf8, IsAscii, IsCharBoundary, chars, encode_utf8_all, take_at, IsUtf8-from_ascii, chars-IsAscii, encodes-IsAscii, IsAscii-from_all, AsciiCase, Lower, Upper, size, IsShort, padded, front, converted, Draft, OnHeap, grown, appended, common_steps, rules, suc, ◌<◌, ◌∷◌, Bool, false, Option, None, Some, Result, IfOk, flat_map, refl, subst, append-nil, ne_eqb, to_ascii_lowercase, to_ascii_uppercase, chars-encodes, encodes_same, IsAscii-cons, IsAscii-nil, INLINE_CAP, Meaning, IsValueOf, place_of, Occurs, lower, upper, lowercased, uppercased, IsAsciiText, HasSigma, full_case, mapped, IsMappedAlone, IfOk-weaker}
+use Rattle.smol_str.proofs.Common.{◌≡◌, ℕ, ◌≤◌, List, [], ◌++◌, length, take, drop, sym, ap, ◌∙◌, arith, length-take-le, length-append, IsUtf8, IsAscii, IsCharBoundary, chars, encode_utf8_all, take_at, IsUtf8-from_ascii, chars-IsAscii, encodes-IsAscii, IsAscii-from_all, AsciiCase, Lower, Upper, size, IsShort, padded, front, converted, Draft, OnHeap, draft_of, appended, common_steps, rules, suc, ◌<◌, ◌∷◌, Bool, false, Option, None, Some, Result, IfOk, flat_map, refl, subst, append-nil, ne_eqb, to_ascii_lowercase, to_ascii_uppercase, chars-encodes, encodes_same, IsAscii-cons, IsAscii-nil, INLINE_CAP, Meaning, IsValueOf, place_of, Occurs, lower, upper, lowercased, uppercased, IsAsciiText, HasSigma, full_case, mapped, IsMappedAlone, IfOk-weaker}
 use Rattle.smol_str.proofs.CaseLemmas.Ascii.{front-parts, size-lower, size-upper, front-append, converted-append, length-converted, IsAscii-converted}
-use Rattle.smol_str.proofs.BuilderLemmas.Push.{grown-heap, appended-heap}
+use Rattle.smol_str.proofs.BuilderLemmas.Push.{draft_of-heap, appended-heap}
 use Rattle.smol_str.proofs.TextLemmas.Split.{boundary-parts, chars-drop}
 use Rattle.std.specs.Option.{option_to_list, is_some}
 use Rattle.std.specs.declared.char.ToLowercase.{CaseChanged}
@@ -70,9 +70,9 @@ front-heap case t b heap =
     ∙ appended-heap b (converted case (front t)) (converted case p.0) heap
 
 -- a text that outgrows the buffer in a case is not short itself
-pub converted-heap : (case : AsciiCase) (t : List ℕ) → (appended (grown []) (converted case t)).kind ≡ OnHeap
+pub converted-heap : (case : AsciiCase) (t : List ℕ) → (appended (draft_of []) (converted case t)).kind ≡ OnHeap
     → ¬ (IsShort t)
-converted-heap case t heap short = search (rules, grown-heap, size-converted)
+converted-heap case t heap short = search (rules, draft_of-heap, size-converted)
 
 pub lower_is : (bs : List ℕ) → str_to_lowercase bs ≡ encode_utf8_all (lowercased (chars bs))
 unfolding str_to_lowercase
@@ -199,15 +199,15 @@ none-found (Some x) b e f = absurd (cc)
 
 -- the short way: the front in a new builder, and then the rest, mapped character by character
 module _ (case : AsciiCase) (t r : List ℕ) (e : front t ++ r ≡ t) (alone : IsMappedAlone case r) (b d : Draft)
-    (begins : b ≡ grown []) (first : d ≡ appended b (converted case (front t))) where
-  appended-full_case : appended d (mapped case r) ≡ appended (grown []) (full_case case t)
+    (begins : b ≡ draft_of []) (first : d ≡ appended b (converted case (front t))) where
+  appended-full_case : appended d (mapped case r) ≡ appended (draft_of []) (full_case case t)
   appended-full_case = grind (arith, common_steps, appended-twice, full-parts)
 
   pub short-text : (f : Draft) → f ≡ appended d (mapped case r) → f.text ≡ full_case case t
   short-text f put = ap (λ x. x.text) (put ∙ appended-full_case)
 
   pub short-refused : (appended d (mapped case r)).kind ≡ OnHeap → ¬ (IsAsciiText t × IsShort t)
-  short-refused heap = search (rules, full-long, grown-heap, appended-full_case)
+  short-refused heap = search (rules, full-long, draft_of-heap, appended-full_case)
 
 -- what a caller sees
 module _ {E : Type 0} (r : Result Meaning E) (case : AsciiCase) (t : List ℕ) where

@@ -1,7 +1,7 @@
 -- For `str_ext::replace`: replacing match by match.
-use Rattle.smol_str.proofs.Common.{◌≡◌, ℕ, ◌+◌, ◌-◌, ◌<◌, ◌≤◌, List, [], ◌∷◌, ◌++◌, length, take, drop, refl, sym, ap, ◌∙◌, subst, arith, append_assoc, append-nil, length-append, Option, MatchOption, Result, IfOk, IsUtf8, IsCharBoundary, chars, encode_utf8_all, len_utf8, slice_get, encode, length-encode, length-le-encodes, chars-nil, size, IsShort, Occurs, IsNextMatch, IsCut, joined_by, Meaning, IsValueOf, replaced, replaced_all, IsReplacing, Draft, OnHeap, grown, appended, nil_from_length, IfOk-weaker, common_steps, rules}
+use Rattle.smol_str.proofs.Common.{◌≡◌, ℕ, ◌+◌, ◌-◌, ◌<◌, ◌≤◌, List, [], ◌∷◌, ◌++◌, length, take, drop, refl, sym, ap, ◌∙◌, subst, arith, append_assoc, append-nil, length-append, Option, MatchOption, Result, IfOk, IsUtf8, IsCharBoundary, chars, encode_utf8_all, len_utf8, slice_get, encode, length-encode, length-le-encodes, chars-nil, size, IsShort, Occurs, IsNextMatch, IsCut, joined_by, Meaning, IsValueOf, replaced, replaced_all, IsReplacing, Draft, OnHeap, draft_of, appended, nil_from_length, IfOk-weaker, common_steps, rules}
 use Rattle.smol_str.proofs.TextLemmas.Places.{size-append, size-chars, IsShort-front}
-use Rattle.smol_str.proofs.BuilderLemmas.Push.{appended-grown, grown-heap}
+use Rattle.smol_str.proofs.BuilderLemmas.Push.{appended-draft_of, draft_of-heap}
 use Rattle.smol_str.proofs.CutLemmas.Replace.{replaced-none, replaced-matched, replaced-unmatched, replaced-between, replaced-end, replaced-enough, replaced-cut, match_count-limit}
 use Rattle.smol_str.proofs.TextLemmas.Split.{boundary-parts, chars-drop, chars-middle}
 
@@ -18,23 +18,23 @@ module _ (t p w : List ℕ) (n m l : ℕ) (b : Draft) (i : ℕ) (h : IsReplacing
   more-text : (b.text ++ x) ++ replaced r p w l ≡ replaced t p w n
   more-text = append_assoc b.text x (replaced r p w l) ∙ ap (λ y. b.text ++ y) (sym made) ∙ h.text
 
-  more-grown : (d : Draft) → d ≡ appended b x → d ≡ grown (b.text ++ x)
-  more-grown d e = e ∙ ap (λ y. appended y x) h.draft ∙ appended-grown b.text x
+  more-draft_of : (d : Draft) → d ≡ appended b x → d ≡ draft_of (b.text ++ x)
+  more-draft_of d e = e ∙ ap (λ y. appended y x) h.draft ∙ appended-draft_of b.text x
 
   replacing-more : (d : Draft) → d ≡ appended b x → IsReplacing t p w n l d (i + size q)
   replacing-more d e =
-      let now : d.text ≡ b.text ++ x = ap (λ y. y.text) (more-grown d e) in
+      let now : d.text ≡ b.text ++ x = ap (λ y. y.text) (more-draft_of d e) in
       record {
         done = h.done ++ q;
         rest = r;
         parts = h.parts ∙ ap (λ y. h.done ++ y) reads ∙ sym (append_assoc h.done q r);
         at = omega (arith, size-append h.done q, h.at);
-        draft = more-grown d e ∙ ap grown (sym now);
+        draft = more-draft_of d e ∙ ap draft_of (sym now);
         text = ap (λ y. y ++ replaced r p w l) now ∙ more-text;
       }
 
   replacing-refused : (appended b x).kind ≡ OnHeap → ¬ (IsShort (replaced t p w n))
-  replacing-refused e = grind (arith, common_steps, grown-heap, IsShort-front, more-text)
+  replacing-refused e = grind (arith, common_steps, draft_of-heap, IsShort-front, more-text)
 
 -- in the text bs, the next match of the pattern nd is at j
 module _ (bs nd w : List ℕ) (n m : ℕ) (b : Draft) (i j : ℕ) (h : IsReplacing (chars bs) (chars nd) w n m b i)
@@ -85,13 +85,13 @@ module _ (bs nd w : List ℕ) (n m : ℕ) (b : Draft) (i j : ℕ) (h : IsReplaci
         match-passed match-made
 
 -- nothing is replaced in a text without a match
-pub replacing-nothing : (t p w : List ℕ) (n : ℕ) (b : Draft) → b ≡ grown [] → ¬ Occurs p t → IsReplacing t p w n 0 b 0
+pub replacing-nothing : (t p w : List ℕ) (n : ℕ) (b : Draft) → b ≡ draft_of [] → ¬ Occurs p t → IsReplacing t p w n 0 b 0
 replacing-nothing t p w n b empty none = record {
   done = [];
   rest = t;
   parts = refl;
   at = refl;
-  draft = empty ∙ ap grown (sym (ap (λ (d : Draft). d.text) empty));
+  draft = empty ∙ ap draft_of (sym (ap (λ (d : Draft). d.text) empty));
   text = ap (λ (d : Draft). d.text ++ replaced t p w 0) empty ∙ replaced-none t p w ∙ sym (replaced-unmatched t p w n none);
 }
 
@@ -166,12 +166,12 @@ module _ (bs p w : List ℕ) (n : ℕ) (b : Draft) (i : ℕ) (h : IsReplacing (c
   rest-made : replaced h.rest p w 0 ≡ chars (drop i bs) ++ replaced [] p w 0
   rest-made = grind (arith, common_steps, replaced-none, chars-drop, append-nil)
 
-  pub rest-whole : (d : Draft) → d ≡ appended b (chars (drop i bs)) → d ≡ grown (replaced (chars bs) p w n)
+  pub rest-whole : (d : Draft) → d ≡ appended b (chars (drop i bs)) → d ≡ draft_of (replaced (chars bs) p w n)
   rest-whole d e =
       let x = chars (drop i bs) in
       let reads = sym (append-nil h.rest) in
-      more-grown (chars bs) p w n 0 0 b i h h.rest [] x reads rest-made d e
-      ∙ ap grown (sym (ap (λ y. (b.text ++ x) ++ y) (replaced-none [] p w) ∙ append-nil (b.text ++ x))
+      more-draft_of (chars bs) p w n 0 0 b i h h.rest [] x reads rest-made d e
+      ∙ ap draft_of (sym (ap (λ y. (b.text ++ x) ++ y) (replaced-none [] p w) ∙ append-nil (b.text ++ x))
       ∙ more-text (chars bs) p w n 0 0 b i h h.rest [] x reads rest-made)
 
   pub rest-refused : (appended b (chars (drop i bs))).kind ≡ OnHeap → ¬ (IsShort (replaced (chars bs) p w n))

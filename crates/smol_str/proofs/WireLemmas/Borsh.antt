@@ -9,10 +9,10 @@ use Rattle.smol_str.specs.declared.borsh.fault.DecodeFault.{DecodeFault}
 use Rattle.smol_str.specs.declared.borsh.fault.DecodeFault.TheVariants.{Ended, NotUtf8, OutOfMemory, Io}
 use Rattle.smol_str.specs.declared.borsh.fault.LimitedFault.{LimitedFault}
 use Rattle.smol_str.specs.declared.borsh.fault.LimitedFault.TheVariants.{TooLong, Decode}
-use Rattle.smol_str.specs.Wire.{wire, stated}
+use Rattle.smol_str.specs.Wire.{wire, prefix_size}
 use Rattle.std.specs.Prelude.{⊤}
 use Rattle.smol_str.specs.Stream.{AppendsBeginning, EndsBelow, StopsBelow, ConsumesSome}
-use Rattle.smol_str.specs.WireFaults.{AfterEncodeFault, IsRefusedBody, AfterReadFault, StopsEarly, StopsInBody, HasReadBody, AfterBodyFault, StatesAtMost, AfterLimitedFault}
+use Rattle.smol_str.specs.WireFaults.{AfterEncodeFault, IsRefusedBody, AfterDecodeFault, StopsEarly, StopsInBody, HasReadBody, AfterBodyFault, StatesAtMost, AfterLimitedFault}
 use Rattle.smol_str.proofs.WireLemmas.Stream.{beginning-of_first, beginning-of_second}
 
 -- ---- writing: the size of a text as it is found, and the text's bytes
@@ -43,18 +43,18 @@ module _ (t prefix bytes : List ℕ) (is : bytes ≡ encode_utf8_all t)
 -- ---- bytes
 
 -- the size that four bytes at the front of b are read as
-pub stated-of_prefix : (b front prefix : List ℕ) (n : ℕ) → front ≡ take 4 b → prefix ≡ front
-    → n ≡ from_le_bytes w32 prefix → stated b ≡ n
-unfolding stated
-stated-of_prefix b front prefix n e f is = sym (is ∙ ap (from_le_bytes w32) (f ∙ e))
+pub prefix_size-of_bytes : (b front prefix : List ℕ) (n : ℕ) → front ≡ take 4 b → prefix ≡ front
+    → n ≡ from_le_bytes w32 prefix → prefix_size b ≡ n
+unfolding prefix_size
+prefix_size-of_bytes b front prefix n e f is = sym (is ∙ ap (from_le_bytes w32) (f ∙ e))
 
 -- ---- reading: a reader that gave the size n, below 2 ^ 32
 
 module _ (n : ℕ) (fits : n < 2 ^ 32) where
   -- bytes that begin with the size n
-  pub stated_front : (r : List ℕ) → stated (to_le_bytes w32 n ++ r) ≡ n
-  unfolding stated
-  stated_front r = ap (from_le_bytes w32) (take_at (to_le_bytes w32 n) r 4 refl) ∙ from_le_bytes-to_le_bytes_4 n fits
+  pub prefix_size-front : (r : List ℕ) → prefix_size (to_le_bytes w32 n ++ r) ≡ n
+  unfolding prefix_size
+  prefix_size-front r = ap (from_le_bytes w32) (take_at (to_le_bytes w32 n) r 4 refl) ∙ from_le_bytes-to_le_bytes_4 n fits
 
   length_front : (r : List ℕ) → length (to_le_bytes w32 n ++ r) ≡ 4 + length r
   length_front r = length-append (to_le_bytes w32 n) r
@@ -62,14 +62,14 @@ module _ (n : ℕ) (fits : n < 2 ^ 32) where
   -- and go on with n bytes
   module _ (bs r : List ℕ) (l : length bs ≡ n) where
     whole_front : ¬ HasEndedEarly (to_le_bytes w32 n ++ (bs ++ r))
-    whole_front early = grind (arith, common_steps, stated_front, length_front, length-append)
+    whole_front early = grind (arith, common_steps, prefix_size-front, length_front, length-append)
 
     body_front : body (to_le_bytes w32 n ++ (bs ++ r)) ≡ bs
-    body_front = search (rules, stated_front, drop_at, take_at)
+    body_front = search (rules, prefix_size-front, drop_at, take_at)
 
-    taken_front : take (4 + stated (to_le_bytes w32 n ++ (bs ++ r))) (to_le_bytes w32 n ++ (bs ++ r))
+    taken_front : take (4 + prefix_size (to_le_bytes w32 n ++ (bs ++ r))) (to_le_bytes w32 n ++ (bs ++ r))
         ≡ to_le_bytes w32 n ++ bs
-    taken_front = grind (arith, common_steps, length_front, stated_front, append_assoc, take_at)
+    taken_front = grind (arith, common_steps, length_front, prefix_size-front, append_assoc, take_at)
 
   -- and then the text of a value
   module _ (b c : Option (List ℕ)) (v : Meaning) (h : HasReadBody b c n v) where
@@ -92,13 +92,13 @@ module _ (n : ℕ) (fits : n < 2 ^ 32) where
   ended-of_body None b c p q = (tt, q.3)
   ended-of_body (Some x) None c p q = absurd p
   ended-of_body (Some x) (Some y) None p q = absurd q.2
-  ended-of_body (Some x) (Some y) (Some z) p q = search (rules, append-nil, stated_front, length_front)
+  ended-of_body (Some x) (Some y) (Some z) p q = search (rules, append-nil, prefix_size-front, length_front)
 
   -- and then fewer bytes, with others left
   pub early-of_body : (P : List ℕ → Type 0) → ((r : List ℕ) → P (to_le_bytes w32 n ++ r)) → (a b c : Option (List ℕ))
       → Consumes a b (to_le_bytes w32 n) → StopsBelow b c n → StopsEarly a c P
   early-of_body P holds a b c p (bs, short, consumed) =
-      let says = stated_front bs in
+      let says = prefix_size-front bs in
       let long = length_front bs in (
         to_le_bytes w32 n ++ bs,
         inr (omega (arith, says, long)),
@@ -109,7 +109,7 @@ module _ (n : ℕ) (fits : n < 2 ^ 32) where
   -- and then some bytes, n of them at the most
   within-of_body : (a b c : Option (List ℕ)) → Consumes a b (to_le_bytes w32 n) → ConsumesSome b c n → StopsInBody a c
   within-of_body a b c p (bs, some, most, consumed) =
-      let says = stated_front bs in
+      let says = prefix_size-front bs in
       let long = length_front bs in (
         to_le_bytes w32 n ++ bs,
         omega (arith, long),
@@ -120,28 +120,28 @@ module _ (n : ℕ) (fits : n < 2 ^ 32) where
   -- and then n bytes that are no text
   refused_at : (x y bs z : List ℕ) (e : Utf8Error) → x ≡ to_le_bytes w32 n ++ y → y ≡ bs ++ z → length bs ≡ n
       → IsRefusedBody bs e
-      → (¬ (HasEndedEarly x)) × IsRefusedBody (body x) e × (x ≡ take (4 + stated x) x ++ z)
+      → (¬ (HasEndedEarly x)) × IsRefusedBody (body x) e × (x ≡ take (4 + prefix_size x) x ++ z)
   refused_at x y bs z e p q l other = grind (arith, common_steps, whole_front, body_front, append_assoc, taken_front)
 
   long-of_body : (a b : Option (List ℕ)) → Consumes a b (to_le_bytes w32 n) → INLINE_CAP < n
-      → IfSome a (λ b. (4 ≤ length b) × (INLINE_CAP < stated b))
+      → IfSome a (λ b. (4 ≤ length b) × (INLINE_CAP < prefix_size b))
   long-of_body None b p h = tt
   long-of_body (Some x) None p h = absurd p
   long-of_body (Some x) (Some y) p h =
-      let says : stated x ≡ n = ap stated p ∙ stated_front y in
+      let says : prefix_size x ≡ n = ap prefix_size p ∙ prefix_size-front y in
       let long : length x ≡ 4 + length y = ap length p ∙ length_front y in
       (omega arith, omega arith)
 
-  pub AfterReadFault-of_body : (a b c : Option (List ℕ)) (fault : DecodeFault) → Consumes a b (to_le_bytes w32 n)
-      → AfterBodyFault b c n fault → AfterReadFault a c fault
-  AfterReadFault-of_body a b c Ended p h = ended-of_body a b c p h
-  AfterReadFault-of_body None b c (NotUtf8 e) p h = tt
-  AfterReadFault-of_body (Some x) None c (NotUtf8 e) p h = absurd p
-  AfterReadFault-of_body (Some x) (Some y) None (NotUtf8 e) p h = absurd h.bytes
-  AfterReadFault-of_body (Some x) (Some y) (Some z) (NotUtf8 e) p h =
+  pub AfterDecodeFault-of_body : (a b c : Option (List ℕ)) (fault : DecodeFault) → Consumes a b (to_le_bytes w32 n)
+      → AfterBodyFault b c n fault → AfterDecodeFault a c fault
+  AfterDecodeFault-of_body a b c Ended p h = ended-of_body a b c p h
+  AfterDecodeFault-of_body None b c (NotUtf8 e) p h = tt
+  AfterDecodeFault-of_body (Some x) None c (NotUtf8 e) p h = absurd p
+  AfterDecodeFault-of_body (Some x) (Some y) None (NotUtf8 e) p h = absurd h.bytes
+  AfterDecodeFault-of_body (Some x) (Some y) (Some z) (NotUtf8 e) p h =
       refused_at x y h.body z e p h.bytes h.whole h.refused
-  AfterReadFault-of_body a b c OutOfMemory p h = (long-of_body a b p h.0, within-of_body a b c p h.1)
-  AfterReadFault-of_body a b c (Io e) p h = early-of_body (λ bytes. ⊤) (λ r. tt) a b c p h
+  AfterDecodeFault-of_body a b c OutOfMemory p h = (long-of_body a b p h.0, within-of_body a b c p h.1)
+  AfterDecodeFault-of_body a b c (Io e) p h = early-of_body (λ bytes. ⊤) (λ r. tt) a b c p h
 
   -- with a limit below the size
   pub AfterLimitedFault-above : (a b : Option (List ℕ)) (limit : ℕ) → Consumes a b (to_le_bytes w32 n) → limit < n
@@ -149,7 +149,7 @@ module _ (n : ℕ) (fits : n < 2 ^ 32) where
   AfterLimitedFault-above None b limit p h = tt
   AfterLimitedFault-above (Some x) None limit p h = absurd p
   AfterLimitedFault-above (Some x) (Some y) limit p h =
-      let says : stated x ≡ n = ap stated p ∙ stated_front y in
+      let says : prefix_size x ≡ n = ap prefix_size p ∙ prefix_size-front y in
       let long : length x ≡ 4 + length y = ap length p ∙ length_front y in
       let front : take 4 x ≡ to_le_bytes w32 n = ap (take 4) p ∙ take_at (to_le_bytes w32 n) y 4 refl in
       (omega arith, omega arith, p ∙ ap (λ l. l ++ y) (sym front))
@@ -159,18 +159,18 @@ module _ (n : ℕ) (fits : n < 2 ^ 32) where
       → IfSome a (StatesAtMost limit)
   states_within None b limit p h = tt
   states_within (Some x) None limit p h = absurd p
-  states_within (Some x) (Some y) limit p h = let says : stated x ≡ n = ap stated p ∙ stated_front y in λ _. omega arith
+  states_within (Some x) (Some y) limit p h = let says : prefix_size x ≡ n = ap prefix_size p ∙ prefix_size-front y in λ _. omega arith
 
   AfterLimitedFault-of_fault : (a b c : Option (List ℕ)) (limit : ℕ) (fault : DecodeFault)
       → Consumes a b (to_le_bytes w32 n) → n ≤ limit → AfterBodyFault b c n fault → AfterLimitedFault limit a c (Decode fault)
   AfterLimitedFault-of_fault a b c limit Ended p l h =
-      (AfterReadFault-of_body a b c Ended p h, states_within a b limit p l)
+      (AfterDecodeFault-of_body a b c Ended p h, states_within a b limit p l)
   AfterLimitedFault-of_fault a b c limit (NotUtf8 e) p l h =
-      (AfterReadFault-of_body a b c (NotUtf8 e) p h, states_within a b limit p l)
+      (AfterDecodeFault-of_body a b c (NotUtf8 e) p h, states_within a b limit p l)
   AfterLimitedFault-of_fault a b c limit OutOfMemory p l h =
-      (AfterReadFault-of_body a b c OutOfMemory p h, states_within a b limit p l)
+      (AfterDecodeFault-of_body a b c OutOfMemory p h, states_within a b limit p l)
   AfterLimitedFault-of_fault a b c limit (Io e) p l h =
-      early-of_body (StatesAtMost limit) (λ r _. let says = stated_front r in omega (arith, says)) a b c p h
+      early-of_body (StatesAtMost limit) (λ r _. let says = prefix_size-front r in omega (arith, says)) a b c p h
 
   pub AfterLimitedFault-of_body : {T : Type 0} (r : Result T LimitedFault) (a b c : Option (List ℕ)) (limit : ℕ)
       (fault : DecodeFault) → IsErrAnd r (λ f. f ≡ Decode fault) → Consumes a b (to_le_bytes w32 n) → n ≤ limit

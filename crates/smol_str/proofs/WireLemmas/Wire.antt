@@ -1,6 +1,6 @@
 -- For the laws of the wire form: none begins another, and bytes hold the form that they say.
 use Rattle.smol_str.proofs.Common.{◌≡◌, ℕ, zero, suc, ◌+◌, ◌<◌, ◌≤◌, ◌^◌, inl, inr, lit<, List, [], ◌∷◌, ◌++◌, ⊎_elim, get_or, IsTrue, length, take, drop, refl, sym, ap, ◌∙◌, arith, length-append, append_assoc, take-append-drop, to_le_bytes, from_le_bytes, w32, All, encode_utf8_all, all_scalars, from_le_bytes-to_le_bytes_4, le_bytes_4, encodes_same, take_at, drop_at, append_cancel_left, length-take-le, length-drop, All-head, All-tail, take-add, size, HasWire, Holds, HasEndedEarly, body, All-take, rules}
-use Rattle.smol_str.specs.Wire.{wire, stated}
+use Rattle.smol_str.specs.Wire.{wire, prefix_size}
 
 four : (n : ℕ) → length (to_le_bytes w32 n) ≡ 4
 four n = refl
@@ -13,13 +13,13 @@ wire-append : (t x : List ℕ) → wire t ++ x ≡ to_le_bytes w32 (size t) ++ (
 unfolding wire
 wire-append t x = append_assoc (to_le_bytes w32 (size t)) (encode_utf8_all t) x
 
-pub stated_size : (t x : List ℕ) → HasWire t → stated (wire t ++ x) ≡ size t
-unfolding stated
-stated_size t x h = search (rules, wire-append, take_at, from_le_bytes-to_le_bytes_4)
+pub prefix_size-wire : (t x : List ℕ) → HasWire t → prefix_size (wire t ++ x) ≡ size t
+unfolding prefix_size
+prefix_size-wire t x h = search (rules, wire-append, take_at, from_le_bytes-to_le_bytes_4)
 
 pub wire-apart : (s t x y : List ℕ) → HasWire s → HasWire t → wire s ++ x ≡ wire t ++ y → (s ≡ t) × (x ≡ y)
 wire-apart s t x y h k e =
-    let sizes : size s ≡ size t = sym (stated_size s x h) ∙ ap stated e ∙ stated_size t y k in
+    let sizes : size s ≡ size t = sym (prefix_size-wire s x h) ∙ ap prefix_size e ∙ prefix_size-wire t y k in
     let rest : encode_utf8_all s ++ x ≡ encode_utf8_all t ++ y =
     append_cancel_left (to_le_bytes w32 (size s)) (encode_utf8_all s ++ x) (encode_utf8_all t ++ y)
     (sym (wire-append s x) ∙ e ∙ wire-append t y ∙ ap (λ n. to_le_bytes w32 n ++ (encode_utf8_all t ++ y)) (sym sizes)) in
@@ -42,13 +42,13 @@ Holds-one b s t m n h k =
 
 pub Holds-whole : (b t : List ℕ) (n : ℕ) → Holds b t n → ¬ HasEndedEarly b
 Holds-whole b t n h early =
-    let says : stated b ≡ size t = ap stated (wire-held b t n h) ∙ stated_size t (drop n b) h.sized in
+    let says : prefix_size b ≡ size t = ap prefix_size (wire-held b t n h) ∙ prefix_size-wire t (drop n b) h.sized in
     let long : n ≡ size t + 4 = length-Holds b t n h in
     ⊎_elim (λ l. omega (arith, h.within)) (λ l. omega (arith, h.within)) early
 
 pub body-Holds : (b t : List ℕ) (n : ℕ) → Holds b t n → body b ≡ encode_utf8_all t
 body-Holds b t n h =
-    let says : stated b ≡ size t = ap stated (wire-held b t n h) ∙ stated_size t (drop n b) h.sized in
+    let says : prefix_size b ≡ size t = ap prefix_size (wire-held b t n h) ∙ prefix_size-wire t (drop n b) h.sized in
     let back : drop 4 b ≡ encode_utf8_all t ++ drop n b = ap (drop 4) (wire-held b t n h ∙ wire-append t (drop n b))
     ∙ drop_at (to_le_bytes w32 (size t)) (encode_utf8_all t ++ drop n b) 4 (four (size t)) in
     (λ i. take (says i) (back i)) ∙ take_at (encode_utf8_all t) (drop n b) (size t) refl
@@ -73,19 +73,19 @@ u32_from bs small = omega (arith, small 0, small 1, small 2, small 3)
 -- bytes that have not ended early hold the text that their body is
 pub Holds-stated : (b t : List ℕ) → All (λ c. c < 2 ^ 8) b → ¬ HasEndedEarly b → body b ≡ encode_utf8_all t →
     IsTrue (all_scalars t) → Holds b t (size t + 4)
-unfolding stated wire
+unfolding prefix_size wire
 Holds-stated b t small whole e scalars =
     let four : 4 ≤ length b = omega (arith, λ (h : length b < 4). whole (inl h)) in
-    let rest : 4 + stated b ≤ length b = omega (arith, λ (h : length b < 4 + stated b). whole (inr h)) in
+    let rest : 4 + prefix_size b ≤ length b = omega (arith, λ (h : length b < 4 + prefix_size b). whole (inr h)) in
     let front = small_at (take 4 b) (All-take (λ c. c < 2 ^ 8) 4 b small) in
     let fits = u32_from (take 4 b) front in
-    let long : size t ≡ stated b =
-    ap length (sym e) ∙ length-take-le (stated b) (drop 4 b) (omega (arith, length-drop 4 b)) in
+    let long : size t ≡ prefix_size b =
+    ap length (sym e) ∙ length-take-le (prefix_size b) (drop 4 b) (omega (arith, length-drop 4 b)) in
     let sized : to_le_bytes w32 (size t) ≡ take 4 b =
     le_bytes_4 (take 4 b) (size t) (length-take-le 4 b four) front long in
     record {
       scalars = scalars;
       sized = omega arith;
       within = omega arith;
-      reads = ap (λ k. take k b) (omega arith) ∙ take-add 4 (stated b) b ∙ (λ i. sym sized i ++ e i);
+      reads = ap (λ k. take k b) (omega arith) ∙ take-add 4 (prefix_size b) b ∙ (λ i. sym sized i ++ e i);
     }

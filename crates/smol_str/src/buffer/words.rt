@@ -11,15 +11,15 @@
 //!             +-----+-----+------+---------------+
 //! ```
 //!
-//! So two texts are equal where their words are, and the first words that differ order them: behind a
-//! text that begins another stand zeros, and then the lesser length. A text is written by words too,
-//! since a value that is filled byte by byte waits where it is moved by words at once.
+//! So two texts are equal where their words are, and the first words that differ order them: if one
+//! text is a prefix of the other, zeros follow it and then a smaller length, so it sorts first. A text
+//! is written by words too, since loading a word just after byte stores stalls.
 ghost use Rattle.std.specs.Prelude.{◌≡◌, ◌+◌, ◌*◌, ◌<◌, ◌≤◌, length, take, drop, nat_eq, encode_utf8};
 ghost use Rattle.std.specs.Ordering.{nat_cmp};
 ghost use Rattle.std.specs.Cmp.Lexicographic.{pointwise, slice_cmp};
 ghost use Rattle.std.specs.Int.{w64, to_le_bytes, from_be_bytes};
 ghost use Rattle.smol_str.specs.Buffer.{packed};
-ghost use Rattle.smol_str.specs.Words.{word, put_at, zeroed};
+ghost use Rattle.smol_str.specs.Words.{word, put_at, with_zeros};
 
 use super::{INLINE_CAP, PACKED_LEN, Packed};
 use std::cmp::Ordering;
@@ -67,7 +67,7 @@ pub(super) fn pack_char(character: char) -> Packed
 fn put_words(buf: &mut Packed, bytes: &[u8])
     requires least { 8 ≤ length bytes.now }
     requires most { length bytes.now ≤ INLINE_CAP }
-    ensures { buf.new ≡ zeroed bytes.now }
+    ensures { buf.new ≡ with_zeros bytes.now }
 {
     for i in 0..WORDS {
         put_word(buf, 8 * i, word_at(bytes, 8 * i));
@@ -189,8 +189,7 @@ fn read_ordered(buf: &Packed, at: usize) -> u64
     u64::from_be_bytes(*buf[at..].first_chunk::<8>().unwrap())
 }
 
-/// Overwrites the bytes from `start` on by two parts of one size, which may overlap, so that nothing
-/// is called.
+/// Copies `bytes` to `buf[start..]`, up to 32 bytes as two overlapping fixed blocks.
 #[inline(always)]
 pub(super) fn write_at(buf: &mut Packed, start: usize, bytes: &[u8])
     requires { start + length bytes.now ≤ INLINE_CAP }

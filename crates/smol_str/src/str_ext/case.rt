@@ -5,7 +5,7 @@ ghost use Rattle.smol_str.specs.Text.{IsShort};
 ghost use Rattle.smol_str.specs.Meaning.{IsValueOf};
 ghost use Rattle.smol_str.specs.Draft.{OnHeap, appended};
 ghost use Rattle.smol_str.specs.Case.{front};
-ghost use Rattle.smol_str.specs.Convert.{converted};
+ghost use Rattle.smol_str.specs.InCase.{converted};
 
 use crate::buffer::INLINE_CAP;
 use crate::builder::SmolStrBuilder;
@@ -46,7 +46,7 @@ pub(super) fn to_ascii_case_on_heap(
     SmolStr::from_owned(copy)
 }
 
-/// Appends the ASCII front of a short text in a case; answers the rest of the text.
+/// Appends the ASCII front of a short text in a case; returns the rest of the text.
 pub(super) fn push_front<'a>(
     builder: &mut SmolStrBuilder,
     text: &'a str,

@@ -7,9 +7,9 @@ ghost use Rattle.std.specs.String.{string_bytes};
 ghost use Rattle.std.specs.Char.Iter.{case_mapping_chars};
 ghost use Rattle.smol_str.specs.Text.{IsShort};
 ghost use Rattle.smol_str.specs.Meaning.{IsValueOf};
-ghost use Rattle.smol_str.specs.Draft.{OnHeap, grown, appended};
+ghost use Rattle.smol_str.specs.Draft.{OnHeap, draft_of, appended};
 ghost use Rattle.smol_str.specs.Case.{IsAsciiText};
-ghost use Rattle.smol_str.specs.Convert.{full_case, mapped, IsMappedAlone};
+ghost use Rattle.smol_str.specs.InCase.{full_case, mapped, IsMappedAlone};
 
 use super::case::{push_front, to_ascii_case_on_heap};
 use crate::buffer::INLINE_CAP;
@@ -51,7 +51,7 @@ fn long_full_case(alloc: Global, text: &str, case: AsciiCase) -> Result<SmolStr,
     }
 }
 
-/// The same of a short text, with no memory while the answer is short, unless a character has to be
+/// The same of a short text, with no memory while the result is short, unless a character has to be
 /// mapped by what stands around it.
 #[inline(never)]
 fn short_full_case(alloc: Global, text: &str, case: AsciiCase) -> Result<SmolStr, AllocError>
@@ -99,7 +99,7 @@ fn whole_text(alloc: Global, text: &str, case: AsciiCase) -> Result<String, Allo
 
 /// Appends what each character of a text is mapped to.
 fn push_mapped(builder: &mut SmolStrBuilder, text: &str, case: AsciiCase) -> Result<(), AllocError>
-    requires { builder.old ≡ grown builder.old.text }
+    requires { builder.old ≡ draft_of builder.old.text }
     ensures ok { OnOk result (builder.new ≡ appended builder.old (mapped case (chars text.now))) }
     ensures refused { OnErr result ((appended builder.old (mapped case (chars text.now))).kind ≡ OnHeap) }
 {
@@ -121,7 +121,7 @@ fn letters_of(character: char, case: AsciiCase) -> ToLowercase
 
 /// Appends the letters that one character is mapped to: at most three.
 fn push_letters(builder: &mut SmolStrBuilder, mut letters: ToLowercase) -> Result<(), AllocError>
-    requires { builder.old ≡ grown builder.old.text }
+    requires { builder.old ≡ draft_of builder.old.text }
     ensures ok { OnOk result (builder.new ≡ appended builder.old (case_mapping_chars letters)) }
     ensures refused { OnErr result ((appended builder.old (case_mapping_chars letters)).kind ≡ OnHeap) }
 {
@@ -133,7 +133,7 @@ fn push_letters(builder: &mut SmolStrBuilder, mut letters: ToLowercase) -> Resul
 /// Appends a character where there is one.
 #[inline(always)]
 fn push_some(builder: &mut SmolStrBuilder, letter: Option<char>) -> Result<(), AllocError>
-    requires { builder.old ≡ grown builder.old.text }
+    requires { builder.old ≡ draft_of builder.old.text }
     ensures ok { OnOk result (builder.new ≡ appended builder.old (option_to_list letter)) }
     ensures refused { OnErr result ((appended builder.old (option_to_list letter)).kind ≡ OnHeap) }
 {

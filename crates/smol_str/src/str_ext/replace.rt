@@ -3,7 +3,7 @@ ghost use Rattle.std.specs.Prelude.{◌≡◌, ◌<◌, ℕ, List, [], ◌∷◌
 ghost use Rattle.std.specs.Str.{IsCharBoundary, chars};
 ghost use Rattle.smol_str.specs.Text.{size, IsShort};
 ghost use Rattle.smol_str.specs.Meaning.{IsValueOf};
-ghost use Rattle.smol_str.specs.Draft.{OnHeap, grown, appended};
+ghost use Rattle.smol_str.specs.Draft.{OnHeap, draft_of, appended};
 ghost use Rattle.smol_str.specs.Replace.{replaced};
 ghost use Rattle.smol_str.specs.Replacing.{IsReplacing};
 
@@ -37,7 +37,7 @@ pub(super) fn replace(
     builder.into_value()
 }
 
-/// Appends the text up to the last match that is replaced; answers where the rest begins.
+/// Appends the text up to the last match that is replaced; returns where the rest begins.
 fn push_replaced(
     builder: &mut SmolStrBuilder,
     text: &str,
@@ -45,7 +45,7 @@ fn push_replaced(
     to: &str,
     count: usize,
 ) -> Result<usize, AllocError>
-    requires { builder.old ≡ grown [] }
+    requires { builder.old ≡ draft_of [] }
     ensures ok { IfOk result (λ place.
         IsReplacing (chars text.now) (chars from.now) (chars to.now) count 0 builder.new place) }
     ensures refused { OnErr result
@@ -61,14 +61,14 @@ fn push_replaced(
 }
 
 /// Appends the new text before each of the first `count` characters, and at the end where the limit
-/// goes past them; answers where the rest begins.
+/// goes past them; returns where the rest begins.
 fn push_between(
     builder: &mut SmolStrBuilder,
     text: &str,
     to: &str,
     count: usize,
 ) -> Result<usize, AllocError>
-    requires { builder.old ≡ grown [] }
+    requires { builder.old ≡ draft_of [] }
     ensures ok { IfOk result (λ place.
         IsReplacing (chars text.now) [] (chars to.now) count 0 builder.new place) }
     ensures refused { OnErr result (¬ (IsShort (replaced (chars text.now) [] (chars to.now) count))) }
@@ -109,7 +109,7 @@ fn push_before(builder: &mut SmolStrBuilder, text: &str, character: char) -> Res
     push_two(builder, text, last)
 }
 
-/// Appends what stands before each of the first `count` matches, and the new text; answers where the
+/// Appends what stands before each of the first `count` matches, and the new text; returns where the
 /// rest begins. The search is prepared once, and not for each match.
 fn push_matches(
     builder: &mut SmolStrBuilder,
@@ -121,7 +121,7 @@ fn push_matches(
 ) -> Result<usize, AllocError>
     requires search { search.now ≡ from.now }
     requires some { 0 < length from.now }
-    requires empty { builder.old ≡ grown [] }
+    requires empty { builder.old ≡ draft_of [] }
     ensures ok { IfOk result (λ place.
         IsReplacing (chars text.now) (chars from.now) (chars to.now) count 0 builder.new place) }
     ensures refused { OnErr result

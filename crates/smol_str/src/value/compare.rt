@@ -18,6 +18,10 @@ use std::hash::{Hash, Hasher};
 
 impl SmolStr {
     /// Whether the texts are equal; it stands for `==` with a `str`, either way round.
+    ///
+    /// ```
+    /// assert!(rt; SmolStr::new_inline("if").eq_str("if"));
+    /// ```
     #[inline(always)]
     pub fn eq_str(&self, other: &str) -> bool
         ensures { IsTrue result ↔ (self.now.text ≡ chars other.now) }
@@ -34,6 +38,10 @@ impl SmolStr {
     }
 
     /// The order of the texts, by their characters, which is also that of their bytes.
+    ///
+    /// ```
+    /// assert_eq!(rt; SmolStr::new_inline("if").cmp_str("of"), Ordering::Less);
+    /// ```
     #[inline(always)]
     pub fn cmp_str(&self, other: &str) -> Ordering
         ensures texts { result ≡ slice_cmp nat_cmp self.now.text (chars other.now) }

@@ -66,6 +66,11 @@ impl SmolStr {
     }
 
     /// A value of the text of these bytes; UTF-8 is tested before memory is asked for.
+    ///
+    /// ```
+    /// let fault = SmolStr::from_utf8(alloc, b"ab\xff").err();
+    /// assert!(rt; matches!(fault, Some(FromUtf8Fault::NotUtf8(_))));
+    /// ```
     #[inline(always)]
     pub fn from_utf8(alloc: Global, bytes: &[u8]) -> Result<SmolStr, FromUtf8Fault>
         ensures ok { IfOk result (λ v. IsUtf8 bytes.now × IsValueOf (chars bytes.now) v) }
@@ -90,6 +95,12 @@ impl SmolStr {
     }
 
     /// A value of the text of a `String`; a refusal gives the argument back.
+    ///
+    /// ```
+    /// let owned = String::from_str(alloc, "if")?;
+    /// let token = SmolStr::from_string(alloc, owned).map_err(|_owned| AllocError)?;
+    /// assert_eq!(rt; token.as_str(), "if");
+    /// ```
     pub fn from_string(alloc: Global, text: String) -> Result<SmolStr, String>
         ensures ok { IfOk result (λ v. IsValueOf (chars (string_bytes text)) v) }
         ensures back { IfErr result (λ back. back ≡ text) }
@@ -114,6 +125,11 @@ impl SmolStr {
     }
 
     /// A value of a text that is borrowed or owned; a refusal gives the argument back.
+    ///
+    /// ```
+    /// let token = SmolStr::from_cow_str(alloc, CowStr::Borrowed("if")).map_err(|_cow| AllocError)?;
+    /// assert_eq!(rt; token.as_str(), "if");
+    /// ```
     pub fn from_cow_str<'a>(alloc: Global, cow: CowStr<'a>) -> Result<SmolStr, CowStr<'a>>
         ensures ok { IfOk result (λ v. IsValueOf (chars (cow_str_bytes cow.entry)) v) }
         ensures back { IfErr result (λ back. back ≡ cow.entry) }
@@ -127,6 +143,12 @@ impl SmolStr {
 
     /// A value of a shared text, which takes no memory: the argument itself is kept where the text
     /// is not resident, and let go where it is. That no copy is made is only tested.
+    ///
+    /// ```
+    /// let shared = RcStr::from_str(alloc, "a text that is longer than any buffer")?;
+    /// let value = SmolStr::from_rc_str(shared);
+    /// assert_eq!(rt; value.len(), 37);
+    /// ```
     pub fn from_rc_str(shared: RcStr) -> SmolStr
         ensures { IsValueOf (chars (rc_str_bytes shared)) result }
     {

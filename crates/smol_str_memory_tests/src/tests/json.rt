@@ -13,7 +13,7 @@ use test_support::texts::{
     ABOVE_BUFFERS, full_text, joined, long_blank, long_text, repeated, repeated_and,
 };
 
-/// What a call answered, without the text.
+/// What a call returned, without the text.
 #[derive(Clone, Copy, PartialEq, Eq, Debug)]
 enum Answer {
     Made,
@@ -333,7 +333,7 @@ fn value_made(made: Result<SmolStr, JsonFault>) -> Result<Made, JsonFault> {
     }
 }
 
-/// What is made with ample memory, in its place, or want of memory.
+/// What is made with ample memory, in its place, or out of memory.
 fn check_answer(name: &str, answer: &Result<Made, JsonFault>, ample: &Ample) -> Result<(), Fail> {
     let is_so = match answer {
         Ok(Made::Value(value)) => *value == ample.value && value.place() == ample.value.place(),

@@ -1,4 +1,4 @@
-//! Case and replacement with memory refused: no answer, or the one with ample memory.
+//! Case and replacement with memory refused: no value, or the one with ample memory.
 use super::same::{holds, same, same_place};
 use smol_str::{Place, SmolStr, StrExt};
 use std::alloc::{AllocError, Global};
@@ -53,7 +53,7 @@ fn each_request_in_turn(rt: HostRuntime) -> Result<(), Fail> {
         check_refused(&rt, alloc, (name, " of a byte too many"), call, long_text())?;
         check_refused(&rt, alloc, (name, " of 5,000 bytes"), call, long.as_str())?;
     }
-    // A short text, of which the answer is not short, or which a capital sigma stands in.
+    // A short text, of which the result is not short, or which a capital sigma stands in.
     check_refused(
         &rt,
         alloc,
@@ -71,7 +71,7 @@ fn each_request_in_turn(rt: HostRuntime) -> Result<(), Fail> {
     check_refused(&rt, alloc, ("a capital ", "sigma"), Call::Lower, "ΑΣ")
 }
 
-/// With each request refused in turn the call is refused, and with none refused it answers as with ample memory.
+/// With each request refused in turn the call is refused, and with none refused it returns what it does with ample memory.
 fn check_refused(
     rt: &impl Abort,
     alloc: Global,
@@ -100,7 +100,7 @@ fn check_refused(
 /// A copy of the text, which the value keeps.
 const ONE_COPY: &[Asks] = &[Asks::Owned, Asks::Kept];
 
-/// Whether the answer is as long as the text, where that is ASCII: it is made in one copy.
+/// Whether the result is as long as the text, where that is ASCII: it is made in one copy.
 fn is_one_copy(call: Call) -> bool {
     match call {
         Call::Replace(from, to) => from.len() == 1 && to.len() == 1,

@@ -1,4 +1,4 @@
-//! Values and builders from iterators: the answers, hints that promise too much, and memory refused.
+//! Values and builders from iterators: what is returned, hints that promise too much, and memory refused.
 ghost use Rattle.std.specs.Prelude.{◌≡◌, ◌+◌, length};
 ghost use Rattle.std.specs.Iterator.{at_most, YieldsFirst};
 ghost use Rattle.std.specs.Vec.Iter.{into_iter_items};

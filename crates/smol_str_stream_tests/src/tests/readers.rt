@@ -97,7 +97,7 @@ fn limited_again(alloc: Global, reader: &mut Trickle<'_>, limit: usize) -> Resul
     }
 }
 
-/// Only memory could be wanting.
+/// Only memory could be refused.
 fn written(alloc: Global, value: &SmolStr) -> Result<Vec<u8>, Kind> {
     let mut form = Vec::new(alloc);
     match value.serialize(&mut form) {

@@ -122,7 +122,7 @@ fn name_of(call: Call) -> &'static str {
     }
 }
 
-/// What was made has these bytes, and there is no other fault than want of memory.
+/// What was made has these bytes, and there is no other fault than out of memory.
 fn check(answer: &Result<Made, Kind>, call: Call, wanted: &[u8]) -> Result<(), Fail> {
     let is_right = match answer {
         Ok(Made::Value(value)) => value.as_str().as_bytes() == wanted,

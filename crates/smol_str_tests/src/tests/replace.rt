@@ -6,7 +6,7 @@ use std::process::Abort;
 use std::test::Fail;
 use test_support::texts::{repeated, repeated_and, small_texts};
 
-/// A text, a pattern, what stands in its place, at most how often, and the answer.
+/// A text, a pattern, what stands in its place, at most how often, and the result.
 type Row = (
     &'static str,
     &'static str,
@@ -68,7 +68,7 @@ fn rows_without_a_limit(rt: HostRuntime) -> Result<(), Fail> {
     Ok(())
 }
 
-/// A text so many times, a pattern, what stands in its place, at most how often, the answer as two
+/// A text so many times, a pattern, what stands in its place, at most how often, the result as two
 /// texts so many times, one after the other, and its place.
 type LongRow = (
     (&'static str, usize),

@@ -25,7 +25,7 @@ fn answer(alloc: Global, call: Call, text: &str) -> Result<SmolStr, AllocError> 
     }
 }
 
-/// A call, a text, the answer and its place.
+/// A call, a text, the result and its place.
 static ROWS: [(Call, &str, &str, Place); 15] = [
     (Call::AsciiLower, "aßΔC", "aßΔc", Place::Inline),
     (Call::AsciiUpper, "aßΔC", "AßΔC", Place::Inline),

@@ -24,7 +24,7 @@ fn long_lines(rt: HostRuntime) -> Result<(), Fail> {
     Ok(())
 }
 
-/// The report is the answer's front and a line of the letter.
+/// The report is the report line's front and a line of the letter.
 fn check_long(
     rt: &impl Abort,
     alloc: Global,

@@ -14,7 +14,7 @@ use test_support::streams::{
     Drip, Failure, READ_ERRORS, STEPS, Trickle, empty_drip, is_tried, trickle_of,
 };
 
-/// An answer of `run`, without what a fault tells of itself.
+/// What `run` returns, without what an error says of itself.
 #[derive(Clone, Copy, PartialEq, Eq, Debug)]
 pub enum Answer {
     Done,
@@ -118,7 +118,7 @@ fn check_failures(
     Ok(())
 }
 
-/// The reader's error is told at once, and nothing is written.
+/// The reader's error is reported at once, and nothing is written.
 fn check_failure(
     rt: &impl Abort,
     alloc: Global,
@@ -176,7 +176,7 @@ fn check_not_utf8(rt: &impl Abort, alloc: Global, words: Words) -> Result<(), Fa
     check_answers(rt, alloc, words, b"\xed\xa0\x80\n", Answer::NotUtf8)
 }
 
-// An input longer than every buffer is told to be no UTF-8, and not that memory is wanting.
+// An input longer than every buffer is reported as no UTF-8, and not as out of memory.
 #[test]
 fn long_not_utf8(rt: HostRuntime) -> Result<(), Fail> {
     for count in [PIECE, 65_536, 5_000_000] {
@@ -194,7 +194,7 @@ fn ending_badly(alloc: Global, count: usize) -> Result<Vec<u8>, AllocError> {
     Ok(input)
 }
 
-/// The answer by every step, after the whole input came; nothing is written after a fault.
+/// What is returned by every step, after the whole input came; nothing is written after a fault.
 fn check_answers(
     rt: &impl Abort,
     alloc: Global,

@@ -122,7 +122,7 @@ fn check_ended(
 ) -> Result<(), Fail> {
     match ended {
         Ok(taken) => holds(rt, taken.as_slice() == wanted, &name),
-        // nothing is written after want of memory
+        // nothing is written after out of memory
         Err((RunFault::OutOfMemory, taken)) => holds(rt, taken.is_empty(), &name),
         Err((fault, _)) => return Err(Fail::new(format_args!("{name}: {fault:?}"))),
     }

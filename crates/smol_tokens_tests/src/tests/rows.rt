@@ -55,7 +55,7 @@ static REPORTS: [(Words, &[u8], &[u8]); 17] = [
     (&["tokens"], b"", b""),
 ];
 
-/// The words of a mode, how the answer to a line of 70,000 `a` begins, and to one of 9,000, and the
+/// The words of a mode, how the report line for one of 70,000 `a` begins, and to one of 9,000, and the
 /// letter made of an `a`.
 pub const LETTERS: [(Words, [&str; 2], char); 7] = [
     (&["show"], HEAP, 'a'),
@@ -128,7 +128,7 @@ fn push_tokens(all: &mut Vec<Row>, alloc: Global) -> Result<(), AllocError> {
     push_texts(all, alloc, TOKENS, input.as_str(), report.as_str())
 }
 
-/// A line, and the answer to it: a text, and where that is kept.
+/// A line, and what the report says of it: a text, and where that is kept.
 fn push_line(
     all: &mut Vec<Row>,
     alloc: Global,

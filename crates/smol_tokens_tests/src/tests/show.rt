@@ -126,7 +126,7 @@ fn long_inputs(rt: HostRuntime) -> Result<(), Fail> {
     Ok(())
 }
 
-/// The answers to so many lines of as many `a`.
+/// The report on so many lines of as many `a`.
 fn check_answers(
     rt: &impl Abort,
     alloc: Global,

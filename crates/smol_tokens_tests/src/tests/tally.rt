@@ -392,3 +392,13 @@ fn tally_of_two(alloc: Global) -> Result<Tally, Fail> {
     add(&mut tally, SmolStr::new_inline("b"), 2)?;
     Ok(tally)
 }
+
+// The example in the documentation of `Tally`.
+#[test]
+fn tally_example(rt: HostRuntime) -> Result<(), Fail> {
+    let alloc = rt.alloc();
+    let mut seen = Tally::new(alloc);
+    seen.add(SmolStr::new_inline("if"), 1)?;
+    assert_eq!(rt; seen.count(&SmolStr::new_inline("if")), Some(1));
+    Ok(())
+}

@@ -1,4 +1,4 @@
-//! The words of a command line, and the lines that tell a fault.
+//! The words of a command line, and the lines that report a fault.
 use super::same::{holds, same_text};
 use smol_tokens_core::fault::{RunFault, fault_line};
 use smol_tokens_core::mode::{Mode, mode_of};

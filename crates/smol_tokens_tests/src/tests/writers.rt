@@ -27,7 +27,7 @@ fn check_row(rt: &impl Abort, alloc: Global, row: &Row) -> Result<(), Fail> {
     Ok(())
 }
 
-/// The report goes out by as many writes as its steps are; where one fails, its error is told at
+/// The report goes out by as many writes as its steps are; where one fails, its error is reported at
 /// once, and what went out before stays.
 fn check_failures(
     rt: &impl Abort,
@@ -51,7 +51,7 @@ fn check_failures(
     Ok(())
 }
 
-/// The answer of a run, how many writes it made, and how many bytes of the report went out.
+/// What a run returns, how many writes it made, and how many bytes of the report went out.
 fn check_run(
     rt: &impl Abort,
     alloc: Global,

@@ -38,7 +38,7 @@ pub fn text_of<'a>(thing: &'a Thing) -> Option<&'a str> {
     }
 }
 
-/// The answer of a call that gives nothing back.
+/// What a call returns that gives nothing back.
 pub fn made<E: Drop>(answer: Result<SmolStr, E>) -> Result<Thing, Thing> {
     made_or(answer.map_err(|_| Thing::Nothing))
 }

@@ -1,6 +1,6 @@
 use Rattle.smol_str.proofs.Common.{IfOk-weaker, IfErr-weaker}
-use Rattle.smol_str.specs.WireFaults.{AfterReadFault, AfterBodyFault}
-use Rattle.smol_str.proofs.WireLemmas.Borsh.{is_read-of_body, Consumes-of_body, AfterReadFault-of_body}
+use Rattle.smol_str.specs.WireFaults.{AfterDecodeFault, AfterBodyFault}
+use Rattle.smol_str.proofs.WireLemmas.Borsh.{is_read-of_body, Consumes-of_body, AfterDecodeFault-of_body}
 use Rattle.smol_str.proofs.borsh.SmolStrBorshDeserialize.deserialize_reader.Goals as goal
 
 pub returns-clause-ok : goal.returns-clause-ok
@@ -20,5 +20,5 @@ returns-clause-fault g c =
     let left = known c.read_body.new.reader in
     let n = c.in-Some.size in
     let after_body = AfterBodyFault (known c.read_size.new.reader) left n in
-    IfErr-weaker c.read_body.result after_body (AfterReadFault (known c.args.reader.now) left)
-    (λ e h. AfterReadFault-of_body n size.0 _ _ _ e size.1 h) c.read_body.ensures.fault
+    IfErr-weaker c.read_body.result after_body (AfterDecodeFault (known c.args.reader.now) left)
+    (λ e h. AfterDecodeFault-of_body n size.0 _ _ _ e size.1 h) c.read_body.ensures.fault

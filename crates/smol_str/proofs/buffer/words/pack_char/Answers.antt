@@ -1,6 +1,6 @@
 use Rattle.smol_str.proofs.Common.{◌≡◌, ◌≤◌, ◌-◌, ◌∙◌, sym, ap, arith, take, length, encode_utf8, length-encode, len_utf8_bounds, PACKED_LEN}
 use Rattle.smol_str.proofs.TextLemmas.Places.{short_encode}
-use Rattle.smol_str.proofs.BufferLemmas.Words.{AreBytes, bytes-encode, word-none, one-word, pack-step, all-zeroed, pack-end}
+use Rattle.smol_str.proofs.BufferLemmas.Words.{AreBytes, bytes-encode, word-none, one-word, pack-step, all-with_zeros, pack-end}
 use Rattle.smol_str.proofs.buffer.words.pack_char.Goals as goal
 
 pub returns : goal.returns
@@ -16,4 +16,4 @@ returns c =
     (omega (arith, c.put_word.array_long)) (ap (take (PACKED_LEN - 8)) first)
     (sym (word-none 8 bytes (PACKED_LEN - 8) (omega (arith, few)))) c.put_word-2.ensures in
     rw (← long) (pack-end _ bytes (short_encode character)
-    (all-zeroed _ bytes c.put_word-2.array_long (short_encode character) last))
+    (all-with_zeros _ bytes c.put_word-2.array_long (short_encode character) last))

@@ -2,7 +2,7 @@ use Rattle.smol_str.proofs.Common.{◌∙◌, refl, sym, ap}
 use Rattle.std.specs.Option.{option_to_list}
 use Rattle.std.specs.Char.Iter.{case_mapping_second, case_mapping_third}
 use Rattle.smol_str.proofs.TextLemmas.Places.{OnErr-always}
-use Rattle.smol_str.proofs.BuilderLemmas.Push.{grown-appended, appended-thrice, appended-first_heap, appended-second_heap}
+use Rattle.smol_str.proofs.BuilderLemmas.Push.{draft_of-appended, appended-thrice, appended-first_heap, appended-second_heap}
 use Rattle.smol_str.proofs.CaseLemmas.Full.{letters-listed}
 use Rattle.smol_str.proofs.str_ext.full.push_letters.Goals as goal
 
@@ -18,7 +18,7 @@ returns-in_err-push_some-clause-refused c =
     all c.in_err-push_some.ensures.refused)
 
 pub push_some-requires-2 : goal.push_some-requires-2
-push_some-requires-2 c = grown-appended _ _ _ c.requires c.in_ok-push_some.ensures.ok
+push_some-requires-2 c = draft_of-appended _ _ _ c.requires c.in_ok-push_some.ensures.ok
 
 pub returns-in_err-push_some-2-clause-refused : goal.returns-in_err-push_some-2-clause-refused
 returns-in_err-push_some-2-clause-refused c =
@@ -34,7 +34,7 @@ returns-in_err-push_some-2-clause-refused c =
 
 pub push_some-requires-3 : goal.push_some-requires-3
 push_some-requires-3 c =
-    grown-appended _ _ _ (grown-appended _ _ _ c.requires c.in_ok-push_some.ensures.ok) c.in_ok-push_some-2.ensures.ok
+    draft_of-appended _ _ _ (draft_of-appended _ _ _ c.requires c.in_ok-push_some.ensures.ok) c.in_ok-push_some-2.ensures.ok
 
 pub returns : goal.returns
 returns c =

@@ -1,7 +1,7 @@
 use Rattle.smol_str.proofs.Common.{mapped, YieldsList-from_chars, rules}
 use Rattle.smol_str.proofs.TextLemmas.Places.{OnErr-always}
 use Rattle.smol_str.proofs.CaseLemmas.Full.{mapped-append, mapped-nil}
-use Rattle.smol_str.proofs.BuilderLemmas.Push.{grown-appended, mapped-start, mapped-more, mapped-refused, mapped-all}
+use Rattle.smol_str.proofs.BuilderLemmas.Push.{draft_of-appended, mapped-start, mapped-more, mapped-refused, mapped-all}
 use Rattle.std.proofs.lemmas.Iterator.Consumers.{YieldsList-so_far, YieldsList-turn, YieldsList-end}
 use Rattle.smol_str.proofs.str_ext.full.push_mapped.Goals as goal
 
@@ -10,7 +10,7 @@ loop-character-init c =
     mapped-start (mapped c.args.case) (mapped-append c.args.case) c.args.builder.now (mapped-nil c.args.case) c.requires
 
 pub push_letters-requires : goal.push_letters-requires
-push_letters-requires c = grown-appended _ _ _ c.requires c.loop-character.invariant
+push_letters-requires c = draft_of-appended _ _ _ c.requires c.loop-character.invariant
 
 pub loop-character-preserved : goal.loop-character-preserved
 loop-character-preserved c = search (rules, mapped-more, mapped-append)

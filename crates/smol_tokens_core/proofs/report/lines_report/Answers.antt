@@ -1,15 +1,15 @@
 use Rattle.std.specs.Str.{chars}
-use Rattle.smol_tokens_core.specs.Report.{answer, line_text}
+use Rattle.smol_tokens_core.specs.Report.{value_line, line_text}
 use Rattle.smol_tokens_core.proofs.FaultLemmas.{OnErr-from}
-use Rattle.smol_tokens_core.proofs.ReportLemmas.{answer_line-value, report-last}
+use Rattle.smol_tokens_core.proofs.ReportLemmas.{report_line-value, report-last}
 use Rattle.smol_tokens_core.proofs.TokenLemmas.{lines-seen, some_text}
-use Rattle.smol_tokens_core.proofs.report.answer_lines.Goals as goal
+use Rattle.smol_tokens_core.proofs.report.lines_report.Goals as goal
 
 pub loop-line-preserved : goal.loop-line-preserved
 loop-line-preserved c =
-    let line = answer_line-value _ c.in_ok-value_of.field-0 c.in_ok-value_of.ensures in
-    let written = rw line at c.in_ok-push_answer.ensures in (
-      report-last (λ l. answer (line_text c.args.mode.now (chars l.now))) c.loop-line.yielded c.in-Some.line _ _
+    let line = report_line-value _ c.in_ok-value_of.field-0 c.in_ok-value_of.ensures in
+    let written = rw line at c.in_ok-push_line.ensures in (
+      report-last (λ l. value_line (line_text c.args.mode.now (chars l.now))) c.loop-line.yielded c.in-Some.line _ _
           c.loop-line.invariant.0 written,
       lines-seen (λ line. chars line.now) c.loop-line.yielded c.in-Some.line _ _ _ c.loop-line.invariant.1
           c.in-Some.ensures.steps,
@@ -20,7 +20,7 @@ returns-in_err-value_of-clause-refused c =
     OnErr-from _ c.from_residual.result
     (some_text (chars c.args.text.now) _ _ _ _ c.loop-line.invariant.1 c.in-Some.ensures.steps)
 
-pub returns-in_err-push_answer-clause-refused : goal.returns-in_err-push_answer-clause-refused
-returns-in_err-push_answer-clause-refused c =
-    OnErr-from _ c.from_residual-in_err-push_answer.result
+pub returns-in_err-push_line-clause-refused : goal.returns-in_err-push_line-clause-refused
+returns-in_err-push_line-clause-refused c =
+    OnErr-from _ c.from_residual-in_err-push_line.result
     (some_text (chars c.args.text.now) _ _ _ _ c.loop-line.invariant.1 c.in-Some.ensures.steps)

@@ -1,7 +1,7 @@
 use Rattle.std.proofs.Common.{lit<}
 use Rattle.std.proofs.lemmas.Iterator.Splits.{YieldsList-from_str_split}
 use Rattle.smol_str.proofs.CallerLemmas.{strs_extended, strs_extend_refused}
-use Rattle.uses.proofs.collecting.push_without_commas.Goals as goal
+use Rattle.uses.proofs.adapters.push_without_commas.Goals as goal
 
 pub returns : goal.returns
 returns c =

@@ -2,7 +2,7 @@ use Rattle.std.proofs.Common.{ℕ, List, codes, refl, arith}
 use Rattle.std.specs.Str.{IsUtf8}
 use Rattle.std.proofs.lemmas.Iterator.{YieldsList-from_chars}
 use Rattle.smol_str.proofs.CallerLemmas.{short_is_ok}
-use Rattle.uses.proofs.collecting.abc.Goals as goal
+use Rattle.uses.proofs.adapters.abc.Goals as goal
 
 pub returns-clause-ok : goal.returns-clause-ok
 unfolding lib.Utf8.encode

@@ -1,6 +1,6 @@
 -- What some words ask for, computed by the checker.
 use Rattle.std.specs.Prelude.{◌≡◌, [], codes, Some, None, refl}
-use Rattle.smol_tokens_core.specs.Words.{asked_mode, mode_of_word}
+use Rattle.smol_tokens_core.specs.ModeWords.{asked_mode, mode_of_word}
 use Rattle.smol_tokens_core.specs.declared.mode.Mode.TheVariants.{Show, Join, Lower, Upper, Tokens}
 
 no_word : asked_mode [] ≡ Some Show
