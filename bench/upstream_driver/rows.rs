@@ -23,6 +23,7 @@ pub type Row = (&'static str, &'static str, usize, Input);
 /// Rows whose texts stay short on both sides.
 pub const SHORT: &[Row] = &[
     ("(loop)", "loop", 20, Same),
+    ("(SipHash of a str of 20)", "str-sip", 20, Same),
     ("new 5", "new", 5, Same),
     ("new 20", "new", 20, Same),
     ("new 23", "new", 23, Same),
@@ -81,6 +82,10 @@ pub const SHORT: &[Row] = &[
 /// Rows of static and heap texts.
 pub const LONG: &[Row] = &[
     ("(String of 30)", "string", 30, Same),
+    ("(eq of two str of 40)", "str-eq", 40, Same),
+    ("(eq of two str of 100)", "str-eq", 100, Same),
+    ("(cmp of two str of 100)", "str-cmp", 100, DiffersLate),
+    ("(SipHash of a str of 39)", "str-sip", 39, Same),
     ("new 24", "new", 24, Same),
     ("new 30", "new", 30, Same),
     ("new 100", "new", 100, Same),

@@ -63,7 +63,7 @@ fn number(order: std::cmp::Ordering) -> u64 {
 }
 
 #[inline(always)]
-fn hashed<H: Hasher>(value: &SmolStr, mut hasher: H, pick: usize) -> u64 {
+fn hashed<H: Hasher>(value: &(impl Hash + ?Sized), mut hasher: H, pick: usize) -> u64 {
     value.hash(&mut hasher);
     hasher.finish().wrapping_add(pick as u64)
 }
@@ -254,6 +254,9 @@ pub fn bench_upstream(operation: &str, texts: &[u8], others: &[u8], size: usize,
         "from_strs" => run(all, n, |it, at| seen(&it.text.split(' ').collect::<SmolStr>(), at)),
         "extend_chars" => run(all, n, |it, at| extend_chars(&it.text, at)),
         "extend_strs" => run(all, n, |it, at| extend_strs(&it.text, at)),
+        "str-eq" => run(all, n, |it, at| told(u64::from(it.text == it.other), at)),
+        "str-cmp" => run(all, n, |it, at| told(number(it.text.cmp(&it.other)), at)),
+        "str-sip" => run(all, n, |it, at| hashed(it.text.as_str(), DefaultHasher::new(), at)),
         "get" => {
             let places = places(all);
             run(all, n, |it, at| told(places[&it.other_value] as u64, at))
