@@ -1,12 +1,18 @@
 //! The crate and upstream's in one process, over the same input. `bench/against_upstream` builds and runs it:
 //!
-//!     driver names   each row's kind and name
-//!     driver sums    each row once on both sides: the sums must be equal
-//!     driver count   under callgrind, which writes counts at each end of `counted`: for each row, first of
-//!                    ours and then of upstream's, after FEW and after MANY rounds
-//!     driver times   each row's name, and the least nanoseconds of an operation, ours and upstream's
+//!     driver names     each row's kind and name
+//!     driver sums      each row once on both sides: the sums must be equal
+//!     driver count     under callgrind, which writes counts at each end of `counted`: for each row, first of
+//!                      ours and then of upstream's, after FEW and after MANY rounds
+//!     driver upstream  the same of upstream's alone
+//!     driver times     each row's name, and the least nanoseconds of an operation, ours and upstream's
+//!
+//! A word after that leaves out the rows whose name does not begin with it, or with one of several.
+mod rows;
 mod upstream;
 
+use rows::Input::{self, *};
+use rows::{LONG, Row, SHORT};
 use std::hint::black_box;
 use std::time::Instant;
 
@@ -25,99 +31,6 @@ unsafe extern "C" {
         pick: usize,
     ) -> u64;
 }
-
-/// What a text is made of, and how the other text of its case differs.
-#[derive(Clone, Copy)]
-enum Input {
-    Same,
-    Differs,
-    DiffersEarly,
-    DiffersLate,
-    Spaces,
-    BlankRun,
-    TwoByteCharacters,
-    FewLetters,
-    BothCases,
-}
-use Input::*;
-
-/// The name of the row, the operation, the bytes of a text and what it is. A name in brackets is no
-/// operation of the crate.
-type Row = (&'static str, &'static str, usize, Input);
-
-/// Rows whose texts stay short on both sides.
-const SHORT: &[Row] = &[
-    ("(loop)", "loop", 20, Same),
-    ("new 5", "new", 5, Same),
-    ("new 20", "new", 20, Same),
-    ("new 23", "new", 23, Same),
-    ("new_inline 5", "new_inline", 5, Same),
-    ("new_inline 23", "new_inline", 23, Same),
-    ("as_str 20", "as_str", 20, Same),
-    ("len 20", "len", 20, Same),
-    ("clone 5", "clone", 5, Same),
-    ("clone 20", "clone", 20, Same),
-    ("eq 5", "eq", 5, Same),
-    ("eq 20", "eq", 20, Same),
-    ("eq 20, other text", "eq", 20, Differs),
-    ("eq_str 20", "eq_str", 20, Same),
-    ("cmp 5, differ late", "cmp", 5, DiffersLate),
-    ("cmp 20, differ early", "cmp", 20, DiffersEarly),
-    ("cmp 20, differ late", "cmp", 20, DiffersLate),
-    ("cmp_str 20, differ late", "cmp_str", 20, DiffersLate),
-    ("hash 5 by FNV", "hash-fnv", 5, Same),
-    ("hash 20 by FNV", "hash-fnv", 20, Same),
-    ("hash 20 by SipHash", "hash-sip", 20, Same),
-    ("from_utf8 10", "from_utf8", 10, Same),
-    ("from_utf8 23", "from_utf8", 23, Same),
-    ("from_utf8 22, past ASCII", "from_utf8", 22, TwoByteCharacters),
-    ("from_string 10", "from_string", 10, Same),
-    ("into_string 20", "into_string", 20, Same),
-    ("from a char", "from_char", 5, Same),
-    ("from_chars 10", "from_chars", 10, Same),
-    ("push_str 3 times 5", "push_str", 5, Same),
-    ("push 10 times", "push", 10, Same),
-    ("with_capacity 100, 5", "with_capacity", 5, Same),
-    ("display 20", "display", 20, Same),
-    ("serialize 10 into a Vec", "serialize", 10, Same),
-    ("from_wire 10", "from_wire", 10, Same),
-    ("ASCII lower 20", "ascii_lower", 20, BothCases),
-    ("ASCII upper 20", "ascii_upper", 20, BothCases),
-    ("lower 20", "lower", 20, BothCases),
-    ("upper 20", "upper", 20, BothCases),
-    ("ASCII lower 12, past ASCII", "ascii_lower", 12, TwoByteCharacters),
-    ("ASCII upper 12, past ASCII", "ascii_upper", 12, TwoByteCharacters),
-    ("lower 12, past ASCII", "lower", 12, TwoByteCharacters),
-    ("upper 12, past ASCII", "upper", 12, TwoByteCharacters),
-];
-
-/// Rows of static and heap texts.
-const LONG: &[Row] = &[
-    ("(String of 30)", "string", 30, Same),
-    ("new 24", "new", 24, Same),
-    ("new 30", "new", 30, Same),
-    ("new 100", "new", 100, Same),
-    ("new 24 spaces", "new", 24, Spaces),
-    ("new blank run of 160", "new", 160, BlankRun),
-    ("new_static", "new_static", 5, Same),
-    ("as_str 40", "as_str", 40, Same),
-    ("len 40", "len", 40, Same),
-    ("clone 24 spaces", "clone", 24, Spaces),
-    ("clone 30", "clone", 30, Same),
-    ("clone 40", "clone", 40, Same),
-    ("eq 30", "eq", 30, Same),
-    ("eq 40", "eq", 40, Same),
-    ("cmp 30, differ late", "cmp", 30, DiffersLate),
-    ("eq_str 40", "eq_str", 40, Same),
-    ("from_string 30", "from_string", 30, Same),
-    ("push_str 3 times 20", "push_str", 20, Same),
-    ("display 40", "display", 40, Same),
-    ("from_wire 100", "from_wire", 100, Same),
-    ("replace a by x in 60", "replace-a-x", 60, FewLetters),
-    ("replace ab by c in 60", "replace-ab-c", 60, FewLetters),
-    ("replace z in 200, no match", "replace-z-x", 200, Same),
-    ("replace zz in 200, no match", "replace-zz-x", 200, Same),
-];
 
 /// So few that the values of both sides stay in the first cache.
 const CASES: usize = 128;
@@ -190,6 +103,7 @@ impl Draw {
             Spaces => vec![b' '; size],
             BlankRun => [vec![b'\n'; 32], vec![b' '; size - 32]].concat(),
             TwoByteCharacters => "é".repeat(size / 2).into_bytes(),
+            Words => (0..size).map(|at| if at % 4 == 3 { b' ' } else { b'a' + self.below(25) as u8 }).collect(),
             FewLetters => (0..size).map(|_| b'a' + self.below(5) as u8).collect(),
             BothCases => (0..size).map(|_| b"aZ"[self.below(2)]).collect(),
             _ => (0..size).map(|_| b'a' + self.below(25) as u8).collect(),
@@ -215,10 +129,12 @@ extern "C" fn counted(bench: &Bench, side: usize, rounds: usize) -> u64 {
     black_box(bench.run(SIDES[side], black_box(rounds)))
 }
 
-fn count(bench: &Bench) {
-    for side in 0..2 {
+fn count(bench: &Bench, sides: std::ops::Range<usize>) {
+    for side in sides {
         // what is bound late is bound now, and the heap comes into a state that lasts
-        black_box(bench.run(SIDES[side], FEW));
+        for _ in 0..3 {
+            black_box(bench.run(SIDES[side], FEW));
+        }
         counted(bench, side, FEW);
         counted(bench, side, MANY);
     }
@@ -256,14 +172,19 @@ fn times(bench: &Bench) -> [f64; 2] {
 }
 
 fn main() {
-    let command = std::env::args().nth(1).expect("names, sums, count or times");
+    let command = std::env::args().nth(1).expect("names, sums, count, upstream or times");
+    let wanted: Vec<String> = std::env::args().skip(2).collect();
     for (kind, rows) in [("short", SHORT), ("long", LONG)] {
         for row in rows {
+            if !wanted.is_empty() && !wanted.iter().any(|word| row.0.starts_with(word.as_str())) {
+                continue;
+            }
             let (name, bench) = (row.0, Bench::new(row));
             match command.as_str() {
                 "names" => println!("{kind}\t{name}"),
                 "sums" => check_sums(name, &bench),
-                "count" => count(&bench),
+                "count" => count(&bench, 0..2),
+                "upstream" => count(&bench, 1..2),
                 "times" => {
                     let [ours, upstream] = times(&bench);
                     println!("{name}\t{ours}\t{upstream}");

@@ -1,10 +1,9 @@
-//! The operations over upstream's crate; `ours.rt.in` has the same names over ours.
-//!
-//! The wire form is borsh's of a string by hand, in upstream's steps: the crate borsh is not asked for.
-use smol_str::{SmolStr, SmolStrBuilder, StrExt};
+//! The operations over upstream's crate; the files of `ours` have the same names over ours.
+use borsh::{BorshDeserialize, BorshSerialize};
+use smol_str::{SmolStr, SmolStrBuilder, StrExt, ToSmolStr, format_smolstr};
+use std::collections::HashMap;
 use std::fmt::Write;
-use std::hash::{DefaultHasher, Hash, Hasher};
-use std::io::{self, ErrorKind, Read, Write as _};
+use std::hash::{BuildHasherDefault, DefaultHasher, Hash, Hasher};
 
 /// Two texts of the input, the value of each, and the wire form of the first.
 struct Case {
@@ -23,7 +22,7 @@ fn cases(texts: &[u8], others: &[u8], size: usize) -> Vec<Case> {
     let case = |(text, other): (String, String)| Case {
         value: SmolStr::new(&text),
         other_value: SmolStr::new(&other),
-        form: form_of(&SmolStr::new(&text)).unwrap(),
+        form: form_of(&SmolStr::new(&text)),
         text,
         other,
     };
@@ -64,7 +63,7 @@ fn number(order: std::cmp::Ordering) -> u64 {
 }
 
 #[inline(always)]
-fn hashed<H: Hasher>(value: &SmolStr, mut hasher: H, pick: usize) -> u64 {
+fn hashed<H: Hasher>(value: &(impl Hash + ?Sized), mut hasher: H, pick: usize) -> u64 {
     value.hash(&mut hasher);
     hasher.finish().wrapping_add(pick as u64)
 }
@@ -127,9 +126,23 @@ fn push(text: &str, pick: usize) -> u64 {
 }
 
 #[inline(always)]
-fn with_capacity(text: &str, pick: usize) -> u64 {
+fn finish(text: &str, pick: usize) -> u64 {
     let mut builder = SmolStrBuilder::with_capacity(100);
     builder.push_str(text);
+    seen(&builder.finish(), pick)
+}
+
+#[inline(always)]
+fn extend_chars(text: &str, pick: usize) -> u64 {
+    let mut builder = SmolStrBuilder::new();
+    builder.extend(text.chars());
+    seen(&builder.finish(), pick)
+}
+
+#[inline(always)]
+fn extend_strs(text: &str, pick: usize) -> u64 {
+    let mut builder = SmolStrBuilder::new();
+    builder.extend(text.split(' '));
     seen(&builder.finish(), pick)
 }
 
@@ -142,64 +155,65 @@ fn display(out: &mut String, value: &SmolStr, pick: usize) -> u64 {
     seen(out, pick)
 }
 
+/// A number of eight or nine digits that the text decides.
+#[inline(always)]
+fn number_of(text: &str, pick: usize) -> u64 {
+    u64::from(text.as_bytes().get(pick).copied().unwrap_or(0)).wrapping_mul(1_000_003)
+}
+
+#[inline(always)]
+fn format(text: &str, pick: usize) -> u64 {
+    let number = number_of(text, pick);
+    seen(&format_smolstr!("{text}-{number}"), pick)
+}
+
 /// The wire form, in a `Vec` that begins empty.
 #[inline(always)]
-fn form_of(value: &SmolStr) -> io::Result<Vec<u8>> {
+fn form_of(value: &SmolStr) -> Vec<u8> {
     let mut form = Vec::new();
-    let size = u32::try_from(value.len()).map_err(|_| ErrorKind::InvalidInput)?;
-    form.write_all(&size.to_le_bytes())?;
-    form.write_all(value.as_bytes())?;
-    Ok(form)
+    value.serialize(&mut form).unwrap();
+    form
 }
 
 #[inline(always)]
 fn serialize(value: &SmolStr, pick: usize) -> u64 {
-    match form_of(value) {
-        Ok(form) => u64::from(form.get(pick).copied().unwrap_or(0)).wrapping_add(form.len() as u64),
-        Err(_) => 0,
-    }
-}
-
-/// A body that may be inline goes through a buffer, a longer one into a `Vec` that grows up to the stated size.
-#[inline(always)]
-fn read_value(reader: &mut &[u8]) -> io::Result<SmolStr> {
-    let mut prefix = [0; 4];
-    reader.read_exact(&mut prefix)?;
-    let size = u32::from_le_bytes(prefix) as usize;
-    if size < SmolStr::INLINE_CAP {
-        let mut buffer = [0; SmolStr::INLINE_CAP];
-        reader.read_exact(&mut buffer[..size])?;
-        let text = str::from_utf8(&buffer[..size]).map_err(|e| io::Error::new(ErrorKind::InvalidData, e.to_string()))?;
-        return Ok(SmolStr::new_inline(text));
-    }
-    let mut body = vec![0; size.min(4096)];
-    let mut filled = 0;
-    while filled < size {
-        if filled == body.len() {
-            body.resize(body.len().saturating_mul(2).min(size), 0);
-        }
-        match reader.read(&mut body[filled..])? {
-            0 => return Err(ErrorKind::UnexpectedEof.into()),
-            n => filled += n,
-        }
-    }
-    let text = String::from_utf8(body).map_err(|e| io::Error::new(ErrorKind::InvalidData, e.to_string()))?;
-    Ok(SmolStr::from(text))
+    let form = form_of(value);
+    u64::from(form.get(pick).copied().unwrap_or(0)).wrapping_add(form.len() as u64)
 }
 
 #[inline(always)]
-fn wire_read(form: &[u8], pick: usize) -> u64 {
+fn reader(form: &[u8], pick: usize) -> u64 {
     let mut reader = form;
-    match read_value(&mut reader) {
+    match SmolStr::deserialize_reader(&mut reader) {
         Ok(value) => seen(&value, pick).wrapping_add((form.len() - reader.len()) as u64),
         Err(_) => 0,
     }
 }
 
+#[inline(always)]
+fn to_json(value: &SmolStr, pick: usize) -> u64 {
+    seen(&serde_json::to_string(value).unwrap(), pick)
+}
+
+#[inline(always)]
+fn from_json(json: &str, pick: usize) -> u64 {
+    match serde_json::from_str::<SmolStr>(json) {
+        Ok(value) => seen(&value, pick),
+        Err(_) => 0,
+    }
+}
+
+type Places = HashMap<SmolStr, usize, BuildHasherDefault<DefaultHasher>>;
+
+/// Where each value stands among the cases.
+fn places(all: &[Case]) -> Places {
+    all.iter().enumerate().map(|(place, case)| (case.value.clone(), place)).collect()
+}
+
 /// So many rounds over all cases. Which byte is looked at changes from round to round, and the compiler knows
 /// none of them, so that a text must lie in memory and no two rounds are the same.
 #[inline(never)]
-fn run(cases: &[Case], (rounds, pick): (usize, usize), mut operation: impl FnMut(&Case, usize) -> u64) -> u64 {
+fn run<C>(cases: &[C], (rounds, pick): (usize, usize), mut operation: impl FnMut(&C, usize) -> u64) -> u64 {
     let mut sum = 0u64;
     for turn in 0..rounds {
         for case in cases {
@@ -235,15 +249,36 @@ pub fn bench_upstream(operation: &str, texts: &[u8], others: &[u8], size: usize,
         "from_chars" => run(all, n, |it, at| seen(&it.text.chars().collect::<SmolStr>(), at)),
         "push_str" => run(all, n, |it, at| push_str(it, at)),
         "push" => run(all, n, |it, at| push(&it.text, at)),
-        "with_capacity" => run(all, n, |it, at| with_capacity(&it.text, at)),
+        // its one call for both of ours
+        "finish" | "into_value" => run(all, n, |it, at| finish(&it.text, at)),
+        "from_strs" => run(all, n, |it, at| seen(&it.text.split(' ').collect::<SmolStr>(), at)),
+        "extend_chars" => run(all, n, |it, at| extend_chars(&it.text, at)),
+        "extend_strs" => run(all, n, |it, at| extend_strs(&it.text, at)),
+        "str-eq" => run(all, n, |it, at| told(u64::from(it.text == it.other), at)),
+        "str-cmp" => run(all, n, |it, at| told(number(it.text.cmp(&it.other)), at)),
+        "str-sip" => run(all, n, |it, at| hashed(it.text.as_str(), DefaultHasher::new(), at)),
+        "get" => {
+            let places = places(all);
+            run(all, n, |it, at| told(places[&it.other_value] as u64, at))
+        }
         "display" => run(all, n, |it, at| display(&mut out, &it.value, at)),
         "serialize" => run(all, n, |it, at| serialize(&it.value, at)),
-        "from_wire" => run(all, n, |it, at| wire_read(&it.form, at)),
+        // its reader for our call on a slice too
+        "from_wire" | "reader" => run(all, n, |it, at| reader(&it.form, at)),
+        "to_json" => run(all, n, |it, at| to_json(&it.value, at)),
+        "from_json" => {
+            let jsons: Vec<String> = all.iter().map(|it| serde_json::to_string(&it.value).unwrap()).collect();
+            run(&jsons, n, |it, at| from_json(it, at))
+        }
+        "format" => run(all, n, |it, at| format(&it.text, at)),
+        "number" => run(all, n, |it, at| seen(&number_of(&it.text, at).to_smolstr(), at)),
+        "to_smolstr" => run(all, n, |it, at| seen(&it.text.as_str().to_smolstr(), at)),
         "ascii_lower" => run(all, n, |it, at| seen(&it.text.to_ascii_lowercase_smolstr(), at)),
         "ascii_upper" => run(all, n, |it, at| seen(&it.text.to_ascii_uppercase_smolstr(), at)),
         "lower" => run(all, n, |it, at| seen(&it.text.to_lowercase_smolstr(), at)),
         "upper" => run(all, n, |it, at| seen(&it.text.to_uppercase_smolstr(), at)),
         "replace-a-x" => run(all, n, |it, at| seen(&it.text.replace_smolstr("a", "x"), at)),
+        "replace-a-xyz" => run(all, n, |it, at| seen(&it.text.replace_smolstr("a", "xyz"), at)),
         "replace-ab-c" => run(all, n, |it, at| seen(&it.text.replace_smolstr("ab", "c"), at)),
         "replace-z-x" => run(all, n, |it, at| seen(&it.text.replace_smolstr("z", "x"), at)),
         "replace-zz-x" => run(all, n, |it, at| seen(&it.text.replace_smolstr("zz", "x"), at)),

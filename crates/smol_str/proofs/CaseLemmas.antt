@@ -1,3 +1,4 @@
 pub mod Ascii
 pub mod Lanes
 pub mod Full
+pub mod Letters

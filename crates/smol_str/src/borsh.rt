@@ -22,6 +22,9 @@ use std::alloc::Global;
 use std::io;
 use std::io::{Read, Write};
 
+/// The most bytes of a body that is read into a buffer of its own.
+const MIDDLE: usize = 256;
+
 /// A value that can be written in its wire form.
 ///
 /// `form` is the wire form of a value, and `has_form` whether it has one.
@@ -226,6 +229,30 @@ fn empty_buffer() -> InlineBuffer
     [0; INLINE_CAP]
 }
 
+/// Reads a body that fits a buffer of its own, so that memory is asked for the value alone.
+fn read_middle<R: Read>(alloc: Global, reader: &mut R, size: usize) -> Result<SmolStr, DecodeFault>
+    requires long { INLINE_CAP < size }
+    requires room { size ≤ MIDDLE }
+    ensures ok { IfOk result (HasReadBody (R.remaining reader.old) (R.remaining reader.new) size) }
+    ensures fault { IfErr result (AfterBodyFault (R.remaining reader.old) (R.remaining reader.new) size) }
+{
+    let mut buffer = middle_buffer();
+    let bytes = &mut buffer[..size];
+    if fill(reader, bytes)? < size {
+        return Err(DecodeFault::Ended);
+    }
+    let value = SmolStr::from_utf8(alloc, bytes)?;
+    Ok(value)
+}
+
+/// Room for such a body: a function, so that no goal of its caller shows the zeros.
+#[inline(always)]
+fn middle_buffer() -> [u8; MIDDLE]
+    ensures { length result ≡ MIDDLE }
+{
+    [0; MIDDLE]
+}
+
 /// Reads a longer body by pieces, and tests UTF-8 when all of it is there.
 fn read_long<R: Read>(alloc: Global, reader: &mut R, size: usize) -> Result<SmolStr, DecodeFault>
     requires { INLINE_CAP < size }
@@ -247,6 +274,8 @@ fn read_body<R: Read>(alloc: Global, reader: &mut R, size: usize) -> Result<Smol
 {
     if size <= INLINE_CAP {
         read_short(reader, size)
+    } else if size <= MIDDLE {
+        read_middle(alloc, reader, size)
     } else {
         read_long(alloc, reader, size)
     }

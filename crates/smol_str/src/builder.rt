@@ -146,6 +146,12 @@ impl SmolStrBuilder {
         ensures unchanged { OnErr result (self.new ≡ self.old) }
         ensures refused { OnErr result ((appended self.old (character ∷ [])).kind ≡ OnHeap) }
     {
+        let code = character as u32;
+        if code < 0x80 {
+            // Of one byte, so that no other length is tested for.
+            let byte = [code as u8];
+            return self.push_str(unsafe { str::from_utf8_unchecked(&byte) });
+        }
         let mut buf = [0; 4];
         let text = character.encode_utf8(&mut buf);
         self.push_str(text)

@@ -29,6 +29,7 @@ pub trait Piece: Drop {
 impl Piece for char {
     ghost text = { char_text };
 
+    #[inline(always)]
     fn append_to(&self, builder: &mut SmolStrBuilder) -> Result<(), AllocError> {
         builder.push(*self)
     }
@@ -82,12 +83,14 @@ impl ValueAlloc for Global {
 
     ghost meaning = { λ v. v };
 
+    #[inline(always)]
     fn builder(self) -> SmolStrBuilder {
         SmolStrBuilder::new(self)
     }
 
+    #[inline(always)]
     fn value_of(builder: SmolStrBuilder) -> Result<SmolStr, AllocError> {
-        Ok(builder.finish()?)
+        builder.into_value()
     }
 }
 

@@ -10,6 +10,7 @@ ghost use Rattle.smol_str.specs.Replace.{no_limit, replaced, replaced_all};
 mod bytes;
 mod case;
 mod full;
+mod letters;
 mod replace;
 mod search;
 
@@ -25,7 +26,7 @@ use std::alloc::{AllocError, Global};
 /// Each returns the text that Rust's `str` does in its call of the same beginning, in the place of
 /// that text. A replacement and a text in ASCII case are built in a builder, so a short one takes no
 /// memory, however long the text is that the call reads. Full case takes none for a short ASCII text;
-/// a long text, or one with `Σ` in it, is mapped in memory of its own, also where the result is short.
+/// a text with `Σ` in it is mapped in memory of its own, also where the result is short.
 /// A call that is refused memory returns [`AllocError`] and makes nothing. Case follows the Unicode
 /// of the toolchain, 18.0.
 ///

@@ -122,6 +122,11 @@ lowercase-alone w (c ∷ t) none =
     let rest = lowercase-alone (is_in_word_after w c) t (not_later (0x3A3 ∷ []) c t none) in
     rw (ne_eqb c 0x3A3 (λ e. none ([], t, ap (λ x. x ∷ t) e))) (ap (λ s. to_lowercase c ++ s) rest)
 
+-- a text of which each character is mapped by itself
+pub full-alone : (case : AsciiCase) (t : List ℕ) → IsMappedAlone case t → mapped case t ≡ full_case case t
+full-alone Lower t alone = sym (lowercase-alone false t alone)
+full-alone Upper t alone = refl
+
 -- the front in the case of ASCII, and then the rest
 pub full-parts : (case : AsciiCase) (t r : List ℕ) → front t ++ r ≡ t → IsMappedAlone case r
     → converted case (front t) ++ mapped case r ≡ full_case case t

@@ -220,6 +220,8 @@ fn put_ends<const K: usize>(buf: &mut Packed, start: usize, bytes: &[u8])
     ensures { buf.new ≡ put_at buf.old start bytes.now }
 {
     let rest = bytes.len() - K;
-    buf[start..start + K].copy_from_slice(&bytes[..K]);
-    buf[start + rest..start + bytes.len()].copy_from_slice(&bytes[rest..]);
+    let first = *bytes.first_chunk::<K>().unwrap();
+    let last = *bytes[rest..].first_chunk::<K>().unwrap();
+    buf[start..start + K].copy_from_slice(&first);
+    buf[start + rest..start + bytes.len()].copy_from_slice(&last);
 }

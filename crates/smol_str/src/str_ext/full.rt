@@ -1,5 +1,5 @@
-//! Full case: of an ASCII text that of ASCII; else the ASCII front of a short text by lanes, its rest
-//! by the mapping of each character, and a long text by std's mapping of a whole text.
+//! Full case: of an ASCII text that of ASCII; else the ASCII front of a short text by lanes, and the rest
+//! by the mapping of each character, unless one is mapped by what stands around it.
 ghost use Rattle.std.specs.Prelude.{◌≡◌, ◌<◌, ◌≤◌, [], ◌∷◌, false, length, IfOk, OnOk, OnErr, IsTrue};
 ghost use Rattle.std.specs.Option.{option_to_list};
 ghost use Rattle.std.specs.Str.{chars};
@@ -12,6 +12,7 @@ ghost use Rattle.smol_str.specs.Case.{IsAsciiText};
 ghost use Rattle.smol_str.specs.InCase.{full_case, mapped, IsMappedAlone};
 
 use super::case::{push_front, to_ascii_case_on_heap};
+use super::letters::letter_of;
 use crate::buffer::INLINE_CAP;
 use crate::builder::SmolStrBuilder;
 use crate::kernel::{AsciiCase, next_match};
@@ -39,16 +40,20 @@ pub(super) fn to_full_case(
     short_full_case(alloc, text, case)
 }
 
-/// The same of any text, in a copy of it.
+/// The same of any text.
 #[inline(never)]
 fn long_full_case(alloc: Global, text: &str, case: AsciiCase) -> Result<SmolStr, AllocError>
     ensures { IfOk result (λ v. IsValueOf (full_case case (chars text.now)) v) }
 {
     if text.is_ascii() {
-        to_ascii_case_on_heap(alloc, text, case)
-    } else {
-        whole_full_case(alloc, text, case)
+        return to_ascii_case_on_heap(alloc, text, case);
     }
+    if has_context(text, case) {
+        return whole_full_case(alloc, text, case);
+    }
+    let mut builder = SmolStrBuilder::new(alloc);
+    push_mapped(&mut builder, text, case)?;
+    builder.into_value()
 }
 
 /// The same of a short text, with no memory while the result is short, unless a character has to be
@@ -104,9 +109,26 @@ fn push_mapped(builder: &mut SmolStrBuilder, text: &str, case: AsciiCase) -> Res
     ensures refused { OnErr result ((appended builder.old (mapped case (chars text.now))).kind ≡ OnHeap) }
 {
     for character in text.chars() {
-        push_letters(builder, letters_of(character, case))?;
+        push_one(builder, character, case)?;
     }
     Ok(())
+}
+
+/// Appends what one character is mapped to.
+#[inline(always)]
+fn push_one(
+    builder: &mut SmolStrBuilder,
+    character: char,
+    case: AsciiCase,
+) -> Result<(), AllocError>
+    requires { builder.old ≡ grown builder.old.text }
+    ensures ok { OnOk result (builder.new ≡ appended builder.old (mapped case (character ∷ []))) }
+    ensures refused { OnErr result ((appended builder.old (mapped case (character ∷ []))).kind ≡ OnHeap) }
+{
+    match letter_of(character, case) {
+        Some(letter) => builder.push(letter),
+        None => push_letters(builder, letters_of(character, case)),
+    }
 }
 
 /// What a character is mapped to; std has one type for both cases.

@@ -1,4 +1,4 @@
-use Rattle.smol_str.proofs.Common.{mapped, YieldsList-from_chars, rules}
+use Rattle.smol_str.proofs.Common.{mapped, refl, YieldsList-from_chars, rules}
 use Rattle.smol_str.proofs.TextLemmas.Places.{OnErr-always}
 use Rattle.smol_str.proofs.CaseLemmas.Full.{mapped-append, mapped-nil}
 use Rattle.smol_str.proofs.BuilderLemmas.Push.{draft_of-appended, mapped-start, mapped-more, mapped-refused, mapped-all}
@@ -9,21 +9,21 @@ pub loop-character-init : goal.loop-character-init
 loop-character-init c =
     mapped-start (mapped c.args.case) (mapped-append c.args.case) c.args.builder.now (mapped-nil c.args.case) c.requires
 
-pub push_letters-requires : goal.push_letters-requires
-push_letters-requires c = draft_of-appended _ _ _ c.requires c.loop-character.invariant
+pub push_one-requires : goal.push_one-requires
+push_one-requires c = draft_of-appended _ _ _ c.requires c.loop-character.invariant
 
 pub loop-character-preserved : goal.loop-character-preserved
 loop-character-preserved c = search (rules, mapped-more, mapped-append)
 
-pub returns-in_err-push_letters-clause-refused : goal.returns-in_err-push_letters-clause-refused
-returns-in_err-push_letters-clause-refused c =
+pub returns-in_err-push_one-clause-refused : goal.returns-in_err-push_one-clause-refused
+returns-in_err-push_one-clause-refused c =
     let characters = YieldsList-from_chars c.args.text.now c.utf8.text cc in
     let so_far = YieldsList-so_far characters c.loop-character.yielded _ c.loop-character.yielded_by in
     let turn = YieldsList-turn characters c.loop-character.yielded _ c.loop-character.yielded_by _ _
     c.in-Some.character c.in-Some.is c.next.ensures.steps in
     OnErr-always c.from_residual.result _
     (mapped-refused (mapped c.args.case) (mapped-append c.args.case) _ _ _ _ _ _
-    c.loop-character.invariant c.letters_of.ensures so_far turn.0 turn.1 c.in_err-push_letters.ensures.refused)
+    c.loop-character.invariant refl so_far turn.0 turn.1 c.in_err-push_one.ensures.refused)
 
 pub returns-clause-ok : goal.returns-clause-ok
 returns-clause-ok c =

@@ -1,0 +1,36 @@
+"""A picture of ratios, as SVG: a bar for each operation, the short texts on the left and the others on the right."""
+import html
+
+STEP, TOP, WIDTH, LABEL = 13, 46, 860, 186
+SCALE = 110  # so many pixels are a ratio of 1
+MOST = 2.0
+COLORS = ((1.0, "#2a7f62"), (1.25, "#c9a227"), (float("inf"), "#b5432f"))
+
+
+def bar(left, at, name, ratio):
+    color = next(color for limit, color in COLORS if ratio <= limit)
+    width = min(ratio, MOST) * SCALE
+    return (f'<text x="{left + LABEL - 5}" y="{at + 9}" text-anchor="end">{html.escape(name)}</text>'
+            f'<rect x="{left + LABEL}" y="{at + 1}" width="{width:.1f}" height="{STEP - 3}" fill="{color}"/>'
+            f'<text x="{left + LABEL + width + 3:.1f}" y="{at + 9}">{ratio:.2f}</text>')
+
+
+def half(left, title, bars):
+    lines = [f'<text x="{left + LABEL}" y="{TOP - 8}" font-weight="bold">{title}</text>']
+    lines += [bar(left, TOP + STEP * number, name, ratio) for number, (name, ratio) in enumerate(bars)]
+    x, bottom = left + LABEL + SCALE, TOP + STEP * len(bars)
+    return [*lines, f'<path d="M{x} {TOP - 3}V{bottom}" stroke="#222" stroke-dasharray="3 2"/>']
+
+
+def picture(rows, ratios):
+    """The bars of the ratios of the rows: pairs of a kind and a name."""
+    halves = [[(name, ratios[name]) for kind, name in rows if (kind == "short") == is_short and name in ratios]
+              for is_short in (True, False)]
+    height = TOP + STEP * max(map(len, halves)) + 8
+    lines = [f'<svg xmlns="http://www.w3.org/2000/svg" width="{WIDTH}" height="{height}" viewBox="0 0 {WIDTH} {height}" '
+             'font-family="sans-serif" font-size="10">',
+             f'<rect width="{WIDTH}" height="{height}" fill="#fff"/>',
+             '<text x="8" y="16" font-size="12">Our instructions as parts of those of upstream with link-time optimization '
+             'and our limits; the dashed line is 1</text>',
+             *half(0, "short texts", halves[0]), *half(WIDTH // 2, "other texts", halves[1]), "</svg>", ""]
+    return "\n".join(lines)
