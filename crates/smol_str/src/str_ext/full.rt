@@ -121,7 +121,7 @@ fn push_one(
     character: char,
     case: AsciiCase,
 ) -> Result<(), AllocError>
-    requires { builder.old ≡ grown builder.old.text }
+    requires { builder.old ≡ draft_of builder.old.text }
     ensures ok { OnOk result (builder.new ≡ appended builder.old (mapped case (character ∷ []))) }
     ensures refused { OnErr result ((appended builder.old (mapped case (character ∷ []))).kind ≡ OnHeap) }
 {
