@@ -32,7 +32,7 @@ extern void __libc_free(void *);
 static const size_t BASE = (size_t)1 << 62;
 static const size_t WORD = (size_t)1 << 32;
 
-/* What a granted message answers. It is no block: free leaves it alone. */
+/* What a granted message returns. It is no block: free leaves it alone. */
 static _Alignas(max_align_t) char granted_block[sizeof(max_align_t)];
 
 static enum { NONE, ONE, FROM } mode = NONE;
@@ -49,8 +49,8 @@ static void arm(int new_mode, size_t n) {
     armed++;
 }
 
-/* Whether the size is a message; then *answer is what malloc answers. */
-static int is_message(size_t size, void **answer) {
+/* Whether the size is a message; then *block is what malloc returns. */
+static int is_message(size_t size, void **block) {
     if (size < BASE || size >= BASE + 9 * WORD) return 0;
     size_t n = (size - BASE) % WORD;
     int granted = 0;
@@ -65,7 +65,7 @@ static int is_message(size_t size, void **answer) {
     case 7: granted = blocks >> n & 1; break;
     case 8: granted = held >> n & 1; break;
     }
-    *answer = granted ? granted_block : NULL;
+    *block = granted ? granted_block : NULL;
     return 1;
 }
 
@@ -81,21 +81,21 @@ static int is_refused(size_t size) {
 }
 
 void *malloc(size_t size) {
-    void *answer;
-    if (is_message(size, &answer)) return answer;
-    answer = is_refused(size) ? NULL : __libc_malloc(size);
-    blocks += answer != NULL;
-    held += malloc_usable_size(answer);
-    return answer;
+    void *block;
+    if (is_message(size, &block)) return block;
+    block = is_refused(size) ? NULL : __libc_malloc(size);
+    blocks += block != NULL;
+    held += malloc_usable_size(block);
+    return block;
 }
 
 void *realloc(void *old, size_t size) {
     size_t before = malloc_usable_size(old);
-    void *answer = size > before && is_refused(size) ? NULL : __libc_realloc(old, size);
-    if (answer == NULL) return NULL;
+    void *block = size > before && is_refused(size) ? NULL : __libc_realloc(old, size);
+    if (block == NULL) return NULL;
     blocks += old == NULL;
-    held += malloc_usable_size(answer) - before;
-    return answer;
+    held += malloc_usable_size(block) - before;
+    return block;
 }
 
 void free(void *block) {

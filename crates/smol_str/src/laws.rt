@@ -122,7 +122,7 @@ pub fn replacement_by_steps()
     ensures end { (w : List ℕ) (n : ℕ) → replaced [] [] w (n + 1) ≡ w }
 {}
 
-/// At most one place is that of the next match, and where there is one the pattern stands.
+/// At most one byte index is that of the next match, and where there is one the pattern stands.
 ///
 /// The empty pattern is left out of the first: nothing comes before its first match.
 pub fn next_match()

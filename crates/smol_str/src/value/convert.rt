@@ -127,8 +127,8 @@ impl SmolStr {
     /// A value of a text that is borrowed or owned; a refusal gives the argument back.
     ///
     /// ```
-    /// let token = SmolStr::from_cow_str(alloc, CowStr::Borrowed("if")).map_err(|_cow| AllocError)?;
-    /// assert_eq!(rt; token.as_str(), "if");
+    /// let token = SmolStr::from_cow_str(alloc, CowStr::Borrowed("if"));
+    /// assert_eq!(rt; token.ok().map(|token| token.len()), Some(2));
     /// ```
     pub fn from_cow_str<'a>(alloc: Global, cow: CowStr<'a>) -> Result<SmolStr, CowStr<'a>>
         ensures ok { IfOk result (λ v. IsValueOf (chars (cow_str_bytes cow.entry)) v) }

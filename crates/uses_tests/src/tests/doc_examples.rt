@@ -80,11 +80,10 @@ fn from_string_example(rt: HostRuntime) -> Result<(), Fail> {
 }
 
 #[test]
-fn from_cow_str_example(rt: HostRuntime) -> Result<(), Fail> {
+fn from_cow_str_example(rt: HostRuntime) {
     let alloc = rt.alloc();
-    let token = SmolStr::from_cow_str(alloc, CowStr::Borrowed("if")).map_err(|_cow| AllocError)?;
-    assert_eq!(rt; token.as_str(), "if");
-    Ok(())
+    let token = SmolStr::from_cow_str(alloc, CowStr::Borrowed("if"));
+    assert_eq!(rt; token.ok().map(|token| token.len()), Some(2));
 }
 
 #[test]

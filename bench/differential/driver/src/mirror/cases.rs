@@ -30,7 +30,7 @@ impl Mirror {
         if made != of_std {
             self.faults.push("upstream's replacement is not std's");
         }
-        self.takes_none(run, is_short(&made), "a replacement with a short answer asks for memory");
+        self.takes_none(run, is_short(&made), "a replacement with a short result asks for memory");
         self.made(run, dst, made, out);
     }
 

@@ -1,4 +1,4 @@
-//! The report that the machine has to give, put together from upstream's answers.
+//! The report that the machine has to give, put together from what upstream returns.
 use super::{Builder, Value};
 use crate::texts::INLINE_CAP;
 use std::cmp::Ordering;
