@@ -1,9 +1,9 @@
 """A picture of ratios, as SVG: a bar for each operation, the short texts on the left and the others on the right."""
 import html
 
-STEP, TOP, WIDTH, LABEL = 13, 46, 860, 186
+STEP, TOP, WIDTH, LABEL = 13, 46, 900, 186
 SCALE = 110  # so many pixels are a ratio of 1
-MOST = 2.0
+MOST = 2.0  # a longer bar is cut there
 COLORS = ((1.0, "#2a7f62"), (1.25, "#c9a227"), (float("inf"), "#b5432f"))
 
 
@@ -12,14 +12,14 @@ def bar(left, at, name, ratio):
     width = min(ratio, MOST) * SCALE
     return (f'<text x="{left + LABEL - 5}" y="{at + 9}" text-anchor="end">{html.escape(name)}</text>'
             f'<rect x="{left + LABEL}" y="{at + 1}" width="{width:.1f}" height="{STEP - 3}" fill="{color}"/>'
-            f'<text x="{left + LABEL + width + 3:.1f}" y="{at + 9}">{ratio:.2f}</text>')
+            f'<text x="{left + LABEL + width + 3:.1f}" y="{at + 9}" stroke="#fff" stroke-width="3" paint-order="stroke">{ratio:.2f}</text>')
 
 
 def half(left, title, bars):
     lines = [f'<text x="{left + LABEL}" y="{TOP - 8}" font-weight="bold">{title}</text>']
-    lines += [bar(left, TOP + STEP * number, name, ratio) for number, (name, ratio) in enumerate(bars)]
     x, bottom = left + LABEL + SCALE, TOP + STEP * len(bars)
-    return [*lines, f'<path d="M{x} {TOP - 3}V{bottom}" stroke="#222" stroke-dasharray="3 2"/>']
+    lines.append(f'<path d="M{x} {TOP - 3}V{bottom}" stroke="#222" stroke-dasharray="3 2"/>')
+    return lines + [bar(left, TOP + STEP * number, name, ratio) for number, (name, ratio) in enumerate(bars)]
 
 
 def picture(rows, ratios):

@@ -1,48 +1,53 @@
--- For `first_line`: cutting a text's bytes at their first newline.
-use Rattle.std.proofs.Common.{◌≡◌, ℕ, ◌<◌, List, [], ◌∷◌, ◌++◌, length, take, drop, Some, sym, ap, ◌∙◌, subst, arith}
-use Rattle.std.proofs.Common.{encode_utf8_all, get_or, take-append-drop, false}
+-- For `first_line`: cutting a text at its first newline.
+use Rattle.std.proofs.Common.{◌≡◌, ℕ, ◌<◌, ◌+◌, List, [], ◌∷◌, ◌++◌, length, take, drop, sym, ap, ◌∙◌, arith, encode_utf8_all, false, refl, append_assoc, append-nil}
+use Rattle.std.proofs.lemmas.Bool.{ne_eqb}
 use Rattle.std.proofs.lemmas.List.Elements.{All-nil, All-cons}
 use Rattle.std.specs.Prelude.{All}
-use Rattle.std.specs.Str.{chars, IsUtf8, NonePass, NoCharPasses}
-use Rattle.std.specs.Str.Pattern.{FindsChar}
-use Rattle.std.proofs.lemmas.Str.{chars-nil, chars-append, chars_from_encodes, encodes-chars, IsUtf8-take, IsUtf8-drop}
-use Rattle.std.proofs.lemmas.Str.{IsCharBoundary-before_ascii, chars_past_char}
-use Rattle.smol_tokens_core.specs.Lines.{is_newline, lines}
+use Rattle.std.specs.Str.{chars, IsUtf8}
+use Rattle.std.proofs.lemmas.Str.{chars-nil, chars-encodes, encodes-chars}
+use Rattle.smol_str.specs.Text.{size}
+use Rattle.smol_str.specs.Cut.{Occurs, IsNextMatch}
+use Rattle.smol_str.proofs.CallerLemmas.{chars-take, chars-drop, size-append}
+use Rattle.smol_tokens_core.specs.Lines.{is_newline, newline, lines}
 use Rattle.smol_tokens_core.proofs.PieceLemmas.{lines-nil}
 use Rattle.smol_tokens_core.proofs.LineLemmas.{lines-first, lines-last}
 
-none_passes : (cs : List ℕ) → NonePass is_newline cs → All (λ c. is_newline c ≡ false) cs
-none_passes [] none = All-nil (λ c. is_newline c ≡ false)
-none_passes (c ∷ cs) none = All-cons (λ c. is_newline c ≡ false) c cs none.0 (none_passes cs none.1)
+none_newline : (cs : List ℕ) → ¬ Occurs newline cs → All (λ c. is_newline c ≡ false) cs
+none_newline [] none = All-nil (λ c. is_newline c ≡ false)
+none_newline (c ∷ cs) none =
+    All-cons (λ c. is_newline c ≡ false) c cs (ne_eqb c 10 (λ e. none ([], cs, ap (λ x. x ∷ cs) e)))
+    (none_newline cs (λ o. none (c ∷ o.0, o.1, ap (λ x. c ∷ x) o.2)))
 
-one_line : (cs : List ℕ) → NonePass is_newline cs → 0 < length (encode_utf8_all cs) → lines cs ≡ cs ∷ []
+one_line : (cs : List ℕ) → ¬ Occurs newline cs → 0 < length (encode_utf8_all cs) → lines cs ≡ cs ∷ []
 one_line [] none some = absurd (omega arith)
-one_line (c ∷ cs) none some = lines-last (c ∷ cs) (none_passes (c ∷ cs) none)
+one_line (c ∷ cs) none some = lines-last (c ∷ cs) (none_newline (c ∷ cs) none)
 
--- no character of a text passes, where none of some list of its characters does
-none-chars : (bs : List ℕ) → IsUtf8 bs → NoCharPasses is_newline bs → NonePass is_newline (chars bs)
-none-chars bs u (cs, spells, none) = subst (NonePass is_newline) (chars_from_encodes cs bs u spells) none
+-- the bytes of a newline
+pub chars-newline : chars newline ≡ newline
+unfolding lib.Utf8.encode
+chars-newline = chars-encodes newline refl
 
--- the same of a text's bytes
-pub lines-one : (bs : List ℕ) → IsUtf8 bs → 0 < length bs → NoCharPasses is_newline bs
+one_byte : size newline ≡ 1
+unfolding lib.Utf8.encode
+one_byte = refl
+
+-- a text without a newline, by its bytes
+pub lines-one : (bs : List ℕ) → IsUtf8 bs → 0 < length bs → ¬ Occurs newline (chars bs)
     → lines (chars bs) ≡ chars bs ∷ []
-lines-one bs u some none = one_line (chars bs) (none-chars bs u none) (rw (encodes-chars bs u) some)
+lines-one bs u some none = one_line (chars bs) none (rw (encodes-chars bs u) some)
 
-pub lines-split : (bs front back : List ℕ) (i j : ℕ) → IsUtf8 bs → FindsChar 10 bs (Some (i, j))
-    → front ≡ take i bs → back ≡ drop j bs → i < length bs
+pub lines-split : (bs front back : List ℕ) (i : ℕ) → IsUtf8 bs → IsNextMatch [] (chars bs) newline i
+    → front ≡ take i bs → back ≡ drop (i + 1) bs
     → lines (chars bs) ≡ chars front ∷ lines (chars back)
-lines-split bs front back i j u (none, at) is_front is_back within =
-    let ascii : get_or bs i 0 < 128 = rw (at.byte (omega arith)) (omega arith) in
-    let boundary = IsCharBoundary-before_ascii bs i within ascii in
-    let front_text = IsUtf8-take bs i u boundary in
-    let rest_is : chars (drop i bs) ≡ 10 ∷ chars (drop j bs) =
-    chars_past_char (drop i bs) (drop j bs) 10 (IsUtf8-drop bs i u boundary) at.split in
-    let all : chars bs ≡ chars (take i bs) ++ (10 ∷ chars (drop j bs)) =
-    ap chars (sym (take-append-drop i bs)) ∙ chars-append (take i bs) (drop i bs) front_text
-    ∙ ap (λ l. chars (take i bs) ++ l) rest_is in
-    rw (is_front, is_back, all)
-    (lines-first (chars (take i bs)) (chars (drop j bs))
-    (none_passes (chars (take i bs)) (none-chars (take i bs) front_text none)))
+lines-split bs front back i u at is_front is_back =
+    let a = at.before in
+    let r = at.after in
+    let is_a : chars (take i bs) ≡ a = chars-take bs a (10 ∷ r) i u at.reads at.place in
+    let behind : chars bs ≡ (a ++ newline) ++ r = at.reads ∙ sym (append_assoc a newline r) in
+    let long = size-append a newline in
+    let is_r : chars (drop (i + 1) bs) ≡ r = chars-drop bs (a ++ newline) r (i + 1) u behind (long ∙ ap (λ n. size a + n) one_byte ∙ ap (λ n. n + 1) at.place) in
+    rw (is_front, is_back, is_a, is_r, at.reads)
+    (lines-first a r (none_newline a (λ o. at.first (rw (append-nil a) o))))
 
 pub lines-none : (bs : List ℕ) → length bs ≡ 0 → lines (chars bs) ≡ []
 lines-none [] none = rw chars-nil lines-nil

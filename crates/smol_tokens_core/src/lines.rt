@@ -4,6 +4,7 @@ ghost use Rattle.std.specs.Iterator.{YieldsFirstBy, item_count};
 ghost use Rattle.std.specs.Str.{chars};
 ghost use Rattle.smol_tokens_core.specs.Lines.{lines};
 
+use smol_str::kernel::next_match;
 use std::marker::Model;
 
 /// The first line of a text, without its newline, and what follows it; `None` where there is no
@@ -18,8 +19,8 @@ pub fn first_line(text: &str) -> Option<(&str, &str)>
     if text.is_empty() {
         return None;
     }
-    match text.split_once('\n') {
-        Some(cut) => Some(cut),
+    match next_match(text, 0, "\n") {
+        Some(end) => Some((&text[..end], &text[end + 1..])),
         None => Some((text, "")),
     }
 }

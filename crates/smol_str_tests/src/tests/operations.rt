@@ -212,16 +212,17 @@ fn written_and_read(rt: HostRuntime) -> Result<(), Fail> {
 
 #[test]
 fn read_from_bytes(rt: HostRuntime) -> Result<(), Fail> {
-    let mut form = Vec::new(rt.alloc());
+    let mut forms = Vec::new(rt.alloc());
     for value in values(rt.alloc(), "a")?.iter() {
+        let mut form = Vec::new(rt.alloc());
         value.serialize(&mut form)?;
+        forms.push(form)?;
     }
     let mut total = 0usize;
     for _ in 0..TIMES {
-        let mut rest = form.as_slice();
-        while let Ok((value, taken)) = from_wire(rt.alloc(), rest) {
+        for form in forms.iter() {
+            let (value, _) = from_wire(rt.alloc(), form.as_slice())?;
             total = total.saturating_add(value.len());
-            rest = rest.get(taken..).unwrap_or(&[]);
         }
     }
     check(&rt, total, CHARACTERS);
