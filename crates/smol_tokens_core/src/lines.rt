@@ -36,15 +36,13 @@ impl<'a> Model for Lines<'a> {
 
     ghost Value = { List ℕ };
 
-    ghost use Rattle.std.specs.Str.{chars};
-
-    ghost view = { λ s. chars s.rest.now };
+    ghost view = { λ s. s.rest.now };
 }
 
 impl<'a> Lines<'a> {
     /// All lines of a text.
     pub fn of(text: &'a str) -> Lines<'a>
-        ensures { result ≡ chars text.now }
+        ensures { result ≡ text.now }
     {
         Lines { rest: text }
     }
@@ -53,9 +51,9 @@ impl<'a> Lines<'a> {
 impl<'a> Iterator for Lines<'a> {
     type Item = &'a str;
 
-    ghost next_gives = { YieldsFirstBy (λ line. chars line.now) lines };
+    ghost next_gives = { YieldsFirstBy (λ line. chars line.now) (λ s. lines (chars s)) };
 
-    ghost remaining = { item_count lines };
+    ghost remaining = { item_count (λ s. lines (chars s)) };
 
     fn next(&mut self) -> Option<&'a str> {
         let (line, after) = first_line(self.rest)?;
