@@ -10,4 +10,4 @@ use Rattle.smol_tokens_core.proofs.report.lines_report.Given as goal
 abbrev pub invariant-loop-line : goal.invariant-loop-line
 invariant-loop-line l =
     (string_bytes l.out ≡ encode_utf8_all (flat_map (λ line. value_line (line_text l.mode (chars line.now))) l.yielded))
-    × (lines (chars l.text) ≡ map (λ line. chars line.now) l.yielded ++ lines l.line-iterator)
+    × (lines (chars l.text) ≡ map (λ line. chars line.now) l.yielded ++ lines (chars l.line-iterator))

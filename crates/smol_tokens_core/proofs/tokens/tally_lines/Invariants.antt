@@ -8,4 +8,4 @@ use Rattle.smol_tokens_core.proofs.tokens.tally_lines.Given as goal
 abbrev pub invariant-loop-line : goal.invariant-loop-line
 invariant-loop-line g l =
     let seen = map (λ line. chars line.now) l.yielded in
-    (l.tally ≡ tally (seen_once seen)) × (lines (chars l.text) ≡ seen ++ lines l.line-iterator)
+    (l.tally ≡ tally (seen_once seen)) × (lines (chars l.text) ≡ seen ++ lines (chars l.line-iterator))
