@@ -3,18 +3,9 @@ mod inputs;
 mod things;
 
 use super::same::same;
-use inputs::{
-    Input, Start, Takes, compare, input_of, new_inline, new_inline_in_case, read_builder,
-    read_value, scan,
-};
-use smol_str::{
-    INLINE_CAP, Place, SmolStr, SmolStrBuilder, Step, ToSmolStr, build, finished, format_smolstr,
-};
+use inputs::{Append, Call, OfBuilder, OfOwned, OfText, OfValue, Other, Start, input_of, run};
+use smol_str::{INLINE_CAP, Place, SmolStr};
 use std::alloc::{AllocError, Global};
-use std::borrow::CowStr;
-use std::boxed::BoxedStr;
-use std::fmt::Write;
-use std::rc::RcStr;
 use std::test::Fail;
 use test_support::by_std::{
     AND_CHAR, Asks, BUILT, BUILT_TO_SIZE, BY_CHAR, BY_TEXT, KEPT, NONE, OWNED, PRINTED, SHARED,
@@ -23,173 +14,61 @@ use test_support::by_std::{
 use test_support::held::is_exact;
 use test_support::refuse::{Asked, can_refuse, count_blocks, each_refused, start_counts};
 use test_support::texts::{full_text, joined, long_text, longest_blank, repeated};
-use things::{
-    Thing, appended, built, copied, into_rc_str, into_string, made, made_or, of_cow, place_of,
-    text_of,
-};
+use things::{Thing, place_of, text_of};
 
-/// What stands after a call was refused.
-#[derive(Clone, Copy)]
-enum Left {
-    Nothing,
-    /// What has the text that the call took.
-    Text,
-    /// A builder without text.
-    NoText,
-}
-
-/// A call by its name in messages, what it takes, what is left after a refusal, and what it asks for on a text that
-/// fills a buffer, on the longest blank run, and on a text that is not resident.
-type Row = (
-    &'static str,
-    Takes,
-    Left,
-    &'static [Asks],
-    &'static [Asks],
-    &'static [Asks],
-);
-
-/// Writes a table of calls that take the same, and the function that makes each by its name.
-macro_rules! calls {
-    ($table:ident, $count:literal, make($($arg:ident: $type:ty),+);
-        $($name:literal: $takes:expr, $call:expr, $left:ident, $full:ident, $blank:ident, $heap:ident;)+) => {
-        impl $table {
-            fn rows() -> [Row; $count] {
-                [$(($name, $takes, Left::$left, $full, $blank, $heap)),+]
-            }
-
-            fn make(name: &str, $($arg: $type),+) -> Result<Thing, Thing> {
-                match name {
-                    $($name => $call,)+
-                    _ => Err(Thing::Nothing),
-                }
-            }
-        }
+/// The rows of a table.
+macro_rules! rows {
+    ($($name:literal: $call:expr, $full:ident, $blank:ident, $heap:ident;)+) => {
+        [$(($name, $call, $full, $blank, $heap)),+]
     };
 }
 
-struct OfText;
-
-calls! { OfText, 7, make(alloc: Global, text: &str);
-    "SmolStr::new": Takes::Text, made(SmolStr::new(alloc, text)), Nothing, NONE, NONE, SHARED;
-    "SmolStr::from_str": Takes::Text, made(SmolStr::from_str(alloc, text)), Nothing, NONE, NONE, SHARED;
-    "SmolStr::from_utf8": Takes::Text, made(SmolStr::from_utf8(alloc, text.as_bytes())), Nothing, NONE, NONE, SHARED;
-    "SmolStr::from_utf8_unchecked": Takes::Text, made(SmolStr::from_utf8_unchecked(alloc, text.as_bytes())), Nothing, NONE, NONE, SHARED;
-    "SmolStr::from_cow_str, borrowed": Takes::Text, of_cow(SmolStr::from_cow_str(alloc, CowStr::Borrowed(text))), Nothing, NONE, NONE, SHARED;
-    "ToSmolStr::to_smolstr": Takes::Text, made(text.to_smolstr(alloc)), Nothing, NONE, WITH_ROOM, PRINTED;
-    "format_smolstr!": Takes::Text, made(format_smolstr!(alloc; "{text}")), Nothing, NONE, WITH_ROOM, PRINTED;
-}
-
-struct Other;
-
-calls! { Other, 9, make(alloc: Global, text: &str);
-    "SmolStr::new_inline": Takes::Nothing, Ok(new_inline(text)), Nothing, NONE, NONE, NONE;
-    "SmolStr::new_inline_in_case": Takes::Nothing, Ok(new_inline_in_case(text)), Nothing, NONE, NONE, NONE;
-    "SmolStr::new_static": Takes::Nothing, Ok(Thing::Value(SmolStr::new_static(long_text()))), Nothing, NONE, NONE, NONE;
-    "SmolStr::clone, static": Takes::Nothing, made(SmolStr::new_static(long_text()).clone()), Nothing, NONE, NONE, NONE;
-    "SmolStr::from": Takes::Nothing, Ok(Thing::Value(SmolStr::from('🦀'))), Nothing, NONE, NONE, NONE;
-    "SmolStr::default": Takes::Nothing, Ok(Thing::Value(SmolStr::default())), Nothing, NONE, NONE, NONE;
-    "SmolStrBuilder::new": Takes::Nothing, Ok(Thing::Builder(SmolStrBuilder::new(alloc))), Nothing, NONE, NONE, NONE;
-    "SmolStrBuilder::with_capacity": Takes::Nothing, built(SmolStrBuilder::with_capacity(alloc, text.len())), Nothing, NONE, OWNED, OWNED;
-    "the kernel": Takes::Nothing, scan(text), Nothing, NONE, NONE, NONE;
-}
-
-struct OfOwned;
-
-calls! { OfOwned, 4, make(alloc: Global, owned: String);
-    "SmolStr::from_string_ref": Takes::Owned, made(SmolStr::from_string_ref(alloc, &owned)), Nothing, NONE, NONE, SHARED;
-    "SmolStr::from_string": Takes::Owned, made_or(SmolStr::from_string(alloc, owned).map_err(|s| Thing::Owned(s))), Text, NONE, NONE, SHARED;
-    "SmolStr::from_owned": Takes::Owned, made(SmolStr::from_owned(owned)), Nothing, NONE, NONE, KEPT;
-    "SmolStr::from_cow_str, owned": Takes::Owned, of_cow(SmolStr::from_cow_str(alloc, CowStr::Owned(owned))), Text, NONE, NONE, SHARED;
-}
-
-struct OfBoxed;
-
-calls! { OfBoxed, 1, make(alloc: Global, boxed: BoxedStr);
-    "SmolStr::from_boxed_str": Takes::Boxed, made_or(SmolStr::from_boxed_str(alloc, boxed).map_err(|s| Thing::Boxed(s))), Text, NONE, NONE, SHARED;
-}
-
-struct OfShared;
-
-calls! { OfShared, 1, make(shared: RcStr);
-    "SmolStr::from_rc_str": Takes::Shared, Ok(Thing::Value(SmolStr::from_rc_str(shared))), Nothing, NONE, NONE, NONE;
-}
-
-struct OfValue;
-
-calls! { OfValue, 4, make(alloc: Global, value: SmolStr);
-    "SmolStr::clone": Takes::Value, made(value.clone()), Nothing, NONE, NONE, NONE;
-    "SmolStr::into_string": Takes::Value, into_string(alloc, value), Text, OWNED, OWNED, OWNED;
-    "SmolStr::into_rc_str": Takes::Value, into_rc_str(alloc, value), Text, SHARED, SHARED, NONE;
-    "a value read": Takes::Value, read_value(&value), Nothing, NONE, NONE, NONE;
-}
-
-struct OfPair;
-
-calls! { OfPair, 1, make(value: &SmolStr, string: &String);
-    "comparisons": Takes::Pair, compare(value, string), Nothing, NONE, NONE, NONE;
-}
-
-struct Append;
-
-calls! { Append, 6, make(builder: SmolStrBuilder, text: &str);
-    "SmolStrBuilder::push": Takes::Append(Start::Text), push(builder), Text, AND_CHAR, NONE, NONE;
-    "SmolStrBuilder::push, full": Takes::Append(Start::Full), push(builder), Text, AND_CHAR, BY_CHAR, BY_CHAR;
-    "SmolStrBuilder::push_str": Takes::Append(Start::Text), push_str(builder, text), Text, TWICE, BY_TEXT, BY_TEXT;
-    "SmolStrBuilder::push_str, first": Takes::Append(Start::Empty), push_str(builder, text), NoText, NONE, WITH_ROOM, WITH_ROOM;
-    "SmolStrBuilder::write_str": Takes::Append(Start::Text), write_str(builder, text), Text, TWICE, BY_TEXT, BY_TEXT;
-    "SmolStrBuilder::write_fmt": Takes::Append(Start::Text), write_fmt(builder, text), Text, TWICE, BY_TEXT, BY_TEXT;
-}
-
-fn push(mut builder: SmolStrBuilder) -> Result<Thing, Thing> {
-    appended(builder.push('a'), builder)
-}
-
-fn push_str(mut builder: SmolStrBuilder, text: &str) -> Result<Thing, Thing> {
-    appended(builder.push_str(text), builder)
-}
-
-fn write_str(mut builder: SmolStrBuilder, text: &str) -> Result<Thing, Thing> {
-    appended(builder.write_str(text), builder)
-}
-
-fn write_fmt(mut builder: SmolStrBuilder, text: &str) -> Result<Thing, Thing> {
-    appended(builder.write_fmt(text), builder)
-}
-
-struct OfBuilder;
-
-calls! { OfBuilder, 7, make(builder: SmolStrBuilder);
-    "SmolStrBuilder::clone": Takes::Builder(Start::Text), copied(builder), Text, NONE, OWNED, OWNED;
-    "a builder read": Takes::Builder(Start::Text), read_builder(&builder), Nothing, NONE, NONE, NONE;
-    "SmolStrBuilder::finish": Takes::Builder(Start::Text), made_or(builder.finish().map_err(|b| Thing::Builder(b))), Text, NONE, NONE, SHARED;
-    "SmolStrBuilder::finish, large": Takes::Builder(Start::Large), made_or(builder.finish().map_err(|b| Thing::Builder(b))), Text, NONE, NONE, SHARED;
-    "SmolStr::from_builder": Takes::Builder(Start::Text), made_or(SmolStr::from_builder(builder).map_err(|b| Thing::Builder(b))), Text, NONE, NONE, SHARED;
-    "SmolStrBuilder::into_value": Takes::Builder(Start::Text), made(builder.into_value()), Nothing, NONE, NONE, KEPT;
-    "format::finished": Takes::Builder(Start::Text), made(finished(builder)), Nothing, NONE, NONE, KEPT;
-}
-
-struct OfSteps;
-
-calls! { OfSteps, 2, make(alloc: Global, capacity: usize, steps: &[Step]);
-    "build": Takes::Steps, made(build(alloc, capacity, steps)), Nothing, NONE, WITH_ROOM, BUILT;
-    "build, to size": Takes::StepsToSize, made(build(alloc, capacity, steps)), Nothing, NONE, OWNED, BUILT_TO_SIZE;
-}
-
-fn make(name: &str, alloc: Global, text: &str, input: Input) -> Result<Thing, Thing> {
-    match input {
-        Input::Text => OfText::make(name, alloc, text),
-        Input::Nothing => Other::make(name, alloc, text),
-        Input::Owned(owned) => OfOwned::make(name, alloc, owned),
-        Input::Boxed(boxed) => OfBoxed::make(name, alloc, boxed),
-        Input::Shared(shared) => OfShared::make(name, shared),
-        Input::Value(value) => OfValue::make(name, alloc, value),
-        Input::Pair(value, string) => OfPair::make(name, &value, &string),
-        Input::Append(builder) => Append::make(name, builder, text),
-        Input::Builder(builder) => OfBuilder::make(name, builder),
-        Input::Steps(capacity, steps) => OfSteps::make(name, alloc, capacity, &steps),
-    }
-}
+/// Each call by its name in messages, and what it asks for on a text that fills a buffer, on the longest blank run, and
+/// on a text that is not resident.
+static CALLS: [(&str, Call, &[Asks], &[Asks], &[Asks]); 42] = rows! {
+    "SmolStr::new": Call::Text(OfText::New), NONE, NONE, SHARED;
+    "SmolStr::new_inline": Call::Other(Other::NewInline), NONE, NONE, NONE;
+    "SmolStr::new_inline_in_case": Call::Other(Other::NewInlineInCase), NONE, NONE, NONE;
+    "SmolStr::new_static": Call::Other(Other::NewStatic), NONE, NONE, NONE;
+    "SmolStr::from_str": Call::Text(OfText::FromStr), NONE, NONE, SHARED;
+    "SmolStr::from_string_ref": Call::Owned(OfOwned::FromStringRef), NONE, NONE, SHARED;
+    "SmolStr::from_utf8": Call::Text(OfText::FromUtf8), NONE, NONE, SHARED;
+    "SmolStr::from_utf8_unchecked": Call::Text(OfText::FromUtf8Unchecked), NONE, NONE, SHARED;
+    "SmolStr::from_string": Call::Owned(OfOwned::FromString), NONE, NONE, SHARED;
+    "SmolStr::from_owned": Call::Owned(OfOwned::FromOwned), NONE, NONE, KEPT;
+    "SmolStr::from_boxed_str": Call::FromBoxedStr, NONE, NONE, SHARED;
+    "SmolStr::from_cow_str, borrowed": Call::Text(OfText::FromCowStr), NONE, NONE, SHARED;
+    "SmolStr::from_cow_str, owned": Call::Owned(OfOwned::FromCowStr), NONE, NONE, SHARED;
+    "SmolStr::from_rc_str": Call::FromRcStr, NONE, NONE, NONE;
+    "SmolStr::from": Call::Other(Other::FromChar), NONE, NONE, NONE;
+    "SmolStr::default": Call::Other(Other::Default), NONE, NONE, NONE;
+    "SmolStr::clone": Call::Value(OfValue::Clone), NONE, NONE, NONE;
+    "SmolStr::clone, static": Call::Other(Other::CloneStatic), NONE, NONE, NONE;
+    "SmolStr::into_string": Call::Value(OfValue::IntoString), OWNED, OWNED, OWNED;
+    "SmolStr::into_rc_str": Call::Value(OfValue::IntoRcStr), SHARED, SHARED, NONE;
+    "a value read": Call::Value(OfValue::Read), NONE, NONE, NONE;
+    "comparisons": Call::Compare, NONE, NONE, NONE;
+    "SmolStrBuilder::new": Call::Other(Other::NewBuilder), NONE, NONE, NONE;
+    "SmolStrBuilder::with_capacity": Call::Other(Other::WithCapacity), NONE, OWNED, OWNED;
+    "SmolStrBuilder::push": Call::Append(Start::Text, Append::Push), AND_CHAR, NONE, NONE;
+    "SmolStrBuilder::push_str": Call::Append(Start::Text, Append::PushStr), TWICE, BY_TEXT, BY_TEXT;
+    "SmolStrBuilder::push_str, first": Call::Append(Start::Empty, Append::PushStr), NONE, WITH_ROOM, WITH_ROOM;
+    "SmolStrBuilder::push, full": Call::Append(Start::Full, Append::Push), AND_CHAR, BY_CHAR, BY_CHAR;
+    "SmolStrBuilder::write_str": Call::Append(Start::Text, Append::WriteStr), TWICE, BY_TEXT, BY_TEXT;
+    "SmolStrBuilder::write_fmt": Call::Append(Start::Text, Append::WriteFmt), TWICE, BY_TEXT, BY_TEXT;
+    "SmolStrBuilder::clone": Call::Builder(Start::Text, OfBuilder::Clone), NONE, OWNED, OWNED;
+    "a builder read": Call::Builder(Start::Text, OfBuilder::Read), NONE, NONE, NONE;
+    "the kernel": Call::Other(Other::Kernel), NONE, NONE, NONE;
+    "SmolStrBuilder::finish": Call::Builder(Start::Text, OfBuilder::Finish), NONE, NONE, SHARED;
+    "SmolStrBuilder::finish, large": Call::Builder(Start::Large, OfBuilder::Finish), NONE, NONE, SHARED;
+    "SmolStr::from_builder": Call::Builder(Start::Text, OfBuilder::FromBuilder), NONE, NONE, SHARED;
+    "SmolStrBuilder::into_value": Call::Builder(Start::Text, OfBuilder::IntoValue), NONE, NONE, KEPT;
+    "build": Call::Build, NONE, WITH_ROOM, BUILT;
+    "build, to size": Call::BuildWithCapacity, NONE, OWNED, BUILT_TO_SIZE;
+    "ToSmolStr::to_smolstr": Call::Text(OfText::ToSmolStr), NONE, WITH_ROOM, PRINTED;
+    "format_smolstr!": Call::Text(OfText::FormatSmolstr), NONE, WITH_ROOM, PRINTED;
+    "format::finished": Call::Builder(Start::Text, OfBuilder::Finished), NONE, NONE, KEPT;
+};
 
 /// Texts on which calls are tried, beside those that stand in the program.
 #[derive(Drop)]
@@ -218,56 +97,62 @@ fn requests(rt: HostRuntime) -> Result<(), Fail> {
         &can_refuse(alloc),
         &"blocks are counted",
     );
-    check_rows(alloc, &texts, &OfText::rows())?;
-    check_rows(alloc, &texts, &Other::rows())?;
-    check_rows(alloc, &texts, &OfOwned::rows())?;
-    check_rows(alloc, &texts, &OfBoxed::rows())?;
-    check_rows(alloc, &texts, &OfShared::rows())?;
-    check_rows(alloc, &texts, &OfValue::rows())?;
-    check_rows(alloc, &texts, &OfPair::rows())?;
-    check_rows(alloc, &texts, &Append::rows())?;
-    check_rows(alloc, &texts, &OfBuilder::rows())?;
-    check_rows(alloc, &texts, &OfSteps::rows())
-}
-
-fn check_rows(alloc: Global, texts: &Texts, rows: &[Row]) -> Result<(), Fail> {
-    for row in rows {
-        check_full(alloc, row)?;
-        check_call(alloc, row, "the longest blank", texts.blank.as_str(), row.4)?;
-        check_heap(alloc, texts, row)?;
+    for &(name, call, of_full, of_blank, of_heap) in &CALLS {
+        check_full(alloc, name, call, of_full)?;
+        let blank = (name, "the longest blank");
+        check_call(alloc, blank, call, texts.blank.as_str(), of_blank)?;
+        check_heap(alloc, &texts, name, call, of_heap)?;
     }
     Ok(())
 }
 
 /// A text that fills a buffer, and none where that makes no request.
-fn check_full(alloc: Global, row: &Row) -> Result<(), Fail> {
-    if row.3.is_empty() {
-        check_call(alloc, row, "no text", "", NONE)?;
+fn check_full(alloc: Global, name: &str, call: Call, asks: &[Asks]) -> Result<(), Fail> {
+    if asks.is_empty() {
+        check_call(alloc, (name, "no text"), call, "", NONE)?;
     }
-    check_call(alloc, row, "a full buffer", full_text(), row.3)
+    check_call(alloc, (name, "a full buffer"), call, full_text(), asks)
 }
 
 /// Texts that are not resident.
-fn check_heap(alloc: Global, texts: &Texts, row: &Row) -> Result<(), Fail> {
-    check_call(alloc, row, "a byte too many", long_text(), row.5)?;
-    check_call(alloc, row, "5,000 bytes", texts.long.as_str(), row.5)?;
-    check_call(alloc, row, "2,500 accents", texts.accented.as_str(), row.5)
+fn check_heap(
+    alloc: Global,
+    texts: &Texts,
+    name: &str,
+    call: Call,
+    asks: &[Asks],
+) -> Result<(), Fail> {
+    let accented = texts.accented.as_str();
+    check_call(alloc, (name, "a byte too many"), call, long_text(), asks)?;
+    check_call(
+        alloc,
+        (name, "5,000 bytes"),
+        call,
+        texts.long.as_str(),
+        asks,
+    )?;
+    check_call(alloc, (name, "2,500 accents"), call, accented, asks)
 }
 
 /// With each request refused in turn the call is refused, and what it took comes back; with none refused it asks for
 /// exactly what std's calls ask for.
-fn check_call(alloc: Global, row: &Row, what: &str, text: &str, asks: &[Asks]) -> Result<(), Fail> {
-    let &(call, takes, left, ..) = row;
+fn check_call(
+    alloc: Global,
+    row: (&str, &str),
+    call: Call,
+    text: &str,
+    asks: &[Asks],
+) -> Result<(), Fail> {
     let wanted = asked_by_all(alloc, asks, text)?;
-    let name = name_of(alloc, call, what)?;
+    let name = name_of(alloc, row)?;
     let place = SmolStr::new(alloc, text)?.place();
-    let ample = make(call, alloc, text, input_of(alloc, takes, text)?);
+    let ample = run(alloc, text, input_of(alloc, call, text)?);
     let asked = each_refused(
         alloc,
         name.as_str(),
-        || input_of(alloc, takes, text),
-        |input| make(call, alloc, text, input),
-        |outcome| check_outcome(name.as_str(), text_left(left, text), place, outcome, &ample),
+        || input_of(alloc, call, text),
+        |input| run(alloc, text, input),
+        |answer| check_answer(name.as_str(), call, text, place, answer, &ample),
     )?;
     check_held(alloc, name.as_str(), asked, &ample)?;
     check_asked(name.as_str(), asked, wanted)
@@ -289,9 +174,9 @@ fn check_held(
 }
 
 /// The call and the text, in messages.
-fn name_of(alloc: Global, call: &str, what: &str) -> Result<String, AllocError> {
-    let call = joined(alloc, call, " of ")?;
-    joined(alloc, call.as_str(), what)
+fn name_of(alloc: Global, row: (&str, &str)) -> Result<String, AllocError> {
+    let call = joined(alloc, row.0, " of ")?;
+    joined(alloc, call.as_str(), row.1)
 }
 
 fn check_asked(name: &str, asked: Asked, wanted: Asked) -> Result<(), Fail> {
@@ -302,16 +187,18 @@ fn check_asked(name: &str, asked: Asked, wanted: Asked) -> Result<(), Fail> {
 }
 
 /// After a refusal there is what the call took, and otherwise what it makes with ample memory.
-fn check_outcome(
+fn check_answer(
     name: &str,
-    left: Option<&str>,
+    call: Call,
+    text: &str,
     place: Place,
-    outcome: &Result<Thing, Thing>,
+    answer: &Result<Thing, Thing>,
     ample: &Result<Thing, Thing>,
 ) -> Result<(), Fail> {
-    let is_so = match (outcome, ample) {
+    let is_so = match (answer, ample) {
         (Ok(made), Ok(ample)) => is_same(made, ample),
-        (Err(back), _) => text_of(back) == left && is_where_it_was(back, place),
+        (Err(back), _) => text_of(back) == after_refusal(call, text)
+            && is_where_it_was(back, place),
         _ => false,
     };
     if is_so {
@@ -320,12 +207,18 @@ fn check_outcome(
     Err(Fail::new(format_args!("{name} leaves something else")))
 }
 
-/// The text that stands after a refused call.
-fn text_left(left: Left, text: &str) -> Option<&str> {
-    match left {
-        Left::Nothing => None,
-        Left::Text => Some(text),
-        Left::NoText => Some(""),
+/// The text that stands after a refused call, where it took one.
+fn after_refusal(call: Call, text: &str) -> Option<&str> {
+    match call {
+        Call::Append(Start::Empty, _) => Some(""),
+        Call::Owned(OfOwned::FromString | OfOwned::FromCowStr)
+        | Call::FromBoxedStr
+        | Call::Value(OfValue::IntoString | OfValue::IntoRcStr)
+        | Call::Append(..)
+        | Call::Builder(_, OfBuilder::Clone | OfBuilder::Finish | OfBuilder::FromBuilder) => Some(
+            text,
+        ),
+        _ => None,
     }
 }
 
