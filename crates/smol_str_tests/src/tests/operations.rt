@@ -45,6 +45,81 @@ fn nothing(rt: HostRuntime) -> Result<(), Fail> {
 }
 
 #[test]
+fn made_of_texts(rt: HostRuntime) -> Result<(), Fail> {
+    let (list, mut total) = (texts(rt.alloc(), "a")?, 0usize);
+    for _ in 0..TIMES {
+        for text in list.iter() {
+            total = total.saturating_add(SmolStr::new(rt.alloc(), text.as_str())?.len());
+        }
+    }
+    check(&rt, total, CHARACTERS);
+    Ok(())
+}
+
+#[test]
+fn made_of_bytes(rt: HostRuntime) -> Result<(), Fail> {
+    let (list, mut total) = (texts(rt.alloc(), "é")?, 0usize);
+    for _ in 0..TIMES {
+        for text in list.iter() {
+            let value = SmolStr::from_utf8(rt.alloc(), text.as_bytes())?;
+            total = total.saturating_add(value.len());
+        }
+    }
+    check(&rt, total, CHARACTERS.saturating_mul(2));
+    Ok(())
+}
+
+#[test]
+fn in_ascii_lowercase(rt: HostRuntime) -> Result<(), Fail> {
+    let (list, mut total) = (texts(rt.alloc(), "A")?, 0usize);
+    for _ in 0..TIMES {
+        for text in list.iter() {
+            let lower = text.as_str().to_ascii_lowercase_smolstr(rt.alloc())?;
+            total = total.saturating_add(lower.len());
+        }
+    }
+    check(&rt, total, CHARACTERS);
+    Ok(())
+}
+
+#[test]
+fn replaced_by_a_longer_text(rt: HostRuntime) -> Result<(), Fail> {
+    let (list, mut total) = (texts(rt.alloc(), "a")?, 0usize);
+    for _ in 0..TIMES {
+        for text in list.iter() {
+            let longer = text.as_str().replace_smolstr(rt.alloc(), "a", "bc")?;
+            total = total.saturating_add(longer.len());
+        }
+    }
+    check(&rt, total, CHARACTERS.saturating_mul(2));
+    Ok(())
+}
+
+#[test]
+fn extended_by_texts(rt: HostRuntime) -> Result<(), Fail> {
+    let (list, mut total) = (texts(rt.alloc(), "a")?, 0usize);
+    for _ in 0..TIMES {
+        let mut builder = SmolStrBuilder::new(rt.alloc());
+        builder.extend_strings(list.iter())?;
+        total = total.saturating_add(builder.len());
+    }
+    check(&rt, total, CHARACTERS);
+    Ok(())
+}
+
+#[test]
+fn compared_with_texts(rt: HostRuntime) -> Result<(), Fail> {
+    let (list, mut total) = (values(rt.alloc(), "a")?, 0usize);
+    for _ in 0..TIMES {
+        for value in list.iter() {
+            total = total.saturating_add(usize::from(value.eq_str("aaaaaaaaaa")));
+        }
+    }
+    check(&rt, total, 1);
+    Ok(())
+}
+
+#[test]
 fn collected_from_characters(rt: HostRuntime) -> Result<(), Fail> {
     let (list, mut total) = (texts(rt.alloc(), "é")?, 0usize);
     for _ in 0..TIMES {
