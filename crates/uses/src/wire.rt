@@ -102,8 +102,10 @@ pub fn read_short<R: Read>(
 
 /// The values that bytes begin with, one after another, and what follows them.
 pub fn read_two(alloc: Global, bytes: &[u8]) -> Result<(SmolStr, SmolStr), DecodeFault>
-    ensures { IfOk result (λ two. (rest : List ℕ) ×
+    ensures form { IfOk result (λ two. (rest : List ℕ) ×
         (bytes.now ≡ wire two.0.text ++ (wire two.1.text ++ rest))) }
+    ensures place { IfOk result (λ two.
+        (two.0.place ≡ place_of two.0.text) × (two.1.place ≡ place_of two.1.text)) }
 {
     let (first, rest) = split_wire(alloc, bytes)?;
     let (second, _) = split_wire(alloc, rest)?;
@@ -112,7 +114,9 @@ pub fn read_two(alloc: Global, bytes: &[u8]) -> Result<(SmolStr, SmolStr), Decod
 
 /// A value from a peer that may state any size: nothing is asked for where it states more than `limit`.
 pub fn read_from_peer<R: Read>(alloc: Global, reader: &mut R, limit: usize) -> Option<SmolStr>
-    ensures { IfSome result (λ v. size v.text ≤ limit) }
+    ensures limited { IfSome result (λ v. size v.text ≤ limit) }
+    ensures read { IfSome result (λ v. Consumes (R.remaining reader.old) (R.remaining reader.new) (wire v.text)) }
+    ensures place { IfSome result (λ v. v.place ≡ place_of v.text) }
 {
     match deserialize_limited(alloc, reader, limit) {
         Ok(value) => Some(value),
