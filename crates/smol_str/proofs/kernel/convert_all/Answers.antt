@@ -1,10 +1,7 @@
 use Rattle.smol_str.proofs.Common.{◌∙◌, sym, arith, refl, rules}
-use Rattle.smol_str.proofs.CaseLemmas.Ascii.{IsMapping, letter, converted-map, mapping-start, mapping-more, mapping-rest}
+use Rattle.smol_str.proofs.CaseLemmas.Ascii.{IsMapping, letter, converted-map, mapping-more, mapping-rest}
 use Rattle.smol_str.proofs.kernel.convert_all.Goals.{then-bytes-at-ge8, else-bytes-at-ge8}
 use Rattle.smol_str.proofs.kernel.convert_all.Goals as goal
-
-pub loop-bytes-init : goal.loop-bytes-init
-loop-bytes-init c = mapping-start (letter c.args.case) c.args.bytes.now
 
 pub loop-bytes-preserved : goal.loop-bytes-preserved
 loop-bytes-preserved c = search (rules, mapping-more, converted-map)

@@ -14,6 +14,3 @@ invariant_of-self c =
 
 pub returns : goal.returns
 returns c = search (rules, view-append, len-size)
-
-pub overflow_cast-self : goal.overflow_cast-self
-overflow_cast-self c = omega (arith, len-size _ _ c.self.invariant c.self.view_is, c.requires)

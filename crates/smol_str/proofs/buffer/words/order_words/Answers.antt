@@ -1,4 +1,4 @@
-use Rattle.smol_str.proofs.Common.{◌≡◌, ◌*◌, ◌+◌, ◌∙◌, sym, arith, drop, nat_cmp, slice_cmp, drop_all, PACKED_LEN, WORDS}
+use Rattle.smol_str.proofs.Common.{◌≡◌, ◌*◌, ◌+◌, ◌∙◌, sym, arith}
 use Rattle.smol_str.proofs.BufferLemmas.WordOrder.{order-differ, order-same}
 use Rattle.smol_str.proofs.buffer.words.order_words.Goals as goal
 
@@ -17,15 +17,3 @@ loop-i-preserved c =
     ∙ order-same c.args.left.now c.args.right.now (8 * c.loop-i.i) _ _ c.fits-left c.fits-right
     (omega (arith, c.told-left, c.loop-i-test.true))
     (omega (arith, c.told-right, c.loop-i-test.true)) c.read_ordered-a.ensures c.read_ordered-b.ensures c.if-a-b.false)
-
-pub returns : goal.returns
-returns c =
-    let left = c.args.left.now in
-    let right = c.args.right.now in
-    let end : c.loop-i.i ≡ WORDS = omega (arith, c.loop-i-test.false, c.loop-i.auto.i-end) in
-    let rest : slice_cmp nat_cmp left right ≡ slice_cmp nat_cmp (drop PACKED_LEN left)
-    (drop PACKED_LEN right) = rw end at c.loop-i.invariant in
-    sym (rest ∙ rw (
-      drop_all PACKED_LEN left (omega (arith, c.told-left)),
-      drop_all PACKED_LEN right (omega (arith, c.told-right)),
-    ))

@@ -1,5 +1,5 @@
-use Rattle.smol_str.proofs.Common.{◌≡◌, ◌*◌, ◌+◌, arith, take, PACKED_LEN, WORDS, with_zeros}
-use Rattle.smol_str.proofs.BufferLemmas.Words.{pack-step, all-with_zeros}
+use Rattle.smol_str.proofs.Common.{◌≡◌, ◌*◌, ◌+◌, arith}
+use Rattle.smol_str.proofs.BufferLemmas.Words.{pack-step}
 use Rattle.smol_str.proofs.buffer.words.put_words.Goals as goal
 
 pub loop-i-preserved : goal.loop-i-preserved
@@ -10,10 +10,3 @@ loop-i-preserved c =
     (omega arith) (omega (arith, c.loop-i.invariant.long)) c.loop-i.invariant.front
     c.word_at.ensures c.put_word.ensures in
     record { long = c.put_word.array_long; front = rw next step }
-
-pub returns : goal.returns
-returns c =
-    let bytes = c.args.bytes.now in
-    let end : c.loop-i.i ≡ WORDS = omega (arith, c.loop-i-test.false, c.loop-i.auto.i-end) in
-    let all : take PACKED_LEN c.loop-i.buf ≡ take PACKED_LEN (with_zeros bytes) = rw end at c.loop-i.invariant.front in
-    all-with_zeros c.loop-i.buf bytes c.loop-i.invariant.long c.requires.most all

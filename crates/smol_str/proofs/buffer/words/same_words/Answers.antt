@@ -1,4 +1,4 @@
-use Rattle.smol_str.proofs.Common.{◌≡◌, ◌*◌, ◌+◌, ◌∙◌, arith, take, nat_eq, pointwise, take_all, PACKED_LEN, WORDS}
+use Rattle.smol_str.proofs.Common.{◌≡◌, ◌*◌, ◌+◌, arith}
 use Rattle.smol_str.proofs.BufferLemmas.Words.{same-step}
 use Rattle.smol_str.proofs.buffer.words.same_words.Goals as goal
 
@@ -11,15 +11,3 @@ loop-i-preserved c =
     (same-step left right (8 * c.loop-i.i) c.fits-left c.fits-right
     (omega (arith, c.told-left, c.loop-i-test.true))
     (omega (arith, c.told-right, c.loop-i-test.true)))
-
-pub returns : goal.returns
-returns c =
-    let left = c.args.left.now in
-    let right = c.args.right.now in
-    let end : c.loop-i.i ≡ WORDS = omega (arith, c.loop-i-test.false, c.loop-i.auto.i-end) in
-    let all : c.loop-i.same ≡ pointwise nat_eq (take PACKED_LEN left)
-    (take PACKED_LEN right) = rw end at c.loop-i.invariant in
-    all ∙ rw (
-      take_all PACKED_LEN left (omega (arith, c.told-left)),
-      take_all PACKED_LEN right (omega (arith, c.told-right)),
-    )

@@ -1,5 +1,5 @@
 use Rattle.smol_str.proofs.Common.{◌≡◌, ◌++◌, IsUtf8, string_bytes, chars-append, IsUtf8-string_bytes}
-use Rattle.smol_str.proofs.TextLemmas.Places.{OnErr-always, OnOk-if, chars-of}
+use Rattle.smol_str.proofs.TextLemmas.Places.{OnOk-if, chars-of}
 use Rattle.smol_str.proofs.builder.SmolStrBuilder.push_on_heap.Goals as goal
 
 pub returns-in-Heap-clause-ok : goal.returns-in-Heap-clause-ok
@@ -22,6 +22,3 @@ returns-in_ok-heap-in-Inline-clause-ok c =
       chars-of c.in-Inline.short c.as_str.result.now text c.as_str.ensures.bytes,
       heap,
     )
-
-pub returns-in_err-heap-in-Inline-clause-refused : goal.returns-in_err-heap-in-Inline-clause-refused
-returns-in_err-heap-in-Inline-clause-refused c = OnErr-always c.from_residual.result _ c.requires

@@ -1,17 +1,7 @@
-use Rattle.smol_str.proofs.Common.{◌∙◌, ap, chars, rules}
+use Rattle.smol_str.proofs.Common.{◌∙◌, ap, chars}
 use Rattle.smol_str.proofs.TextLemmas.Places.{OnErr-always}
-use Rattle.smol_str.proofs.CaseLemmas.Full.{front-inside, front-taken, IsUtf8-front, chars-front, front-boundary, front-rest}
+use Rattle.smol_str.proofs.CaseLemmas.Full.{IsUtf8-front, chars-front, front-boundary, front-rest}
 use Rattle.smol_str.proofs.str_ext.case.push_front.Goals as goal
-
-pub slice_bounds-buffer-end : goal.slice_bounds-buffer-end
-slice_bounds-buffer-end c =
-    let made = c.convert_while_ascii-len.ensures in
-    front-inside c.args.case (chars c.args.text.now) _ _ made.bytes made.len
-
-pub slice_bounds-from_utf8_unchecked-end : goal.slice_bounds-from_utf8_unchecked-end
-slice_bounds-from_utf8_unchecked-end c =
-    let made = c.convert_while_ascii-len.ensures in
-    front-taken c.args.case (chars c.args.text.now) _ _ made.bytes made.len
 
 pub from_utf8_unchecked-front-requires : goal.from_utf8_unchecked-front-requires
 from_utf8_unchecked-front-requires c =
@@ -28,12 +18,12 @@ returns-in_err-push_str-clause-refused c =
     OnErr-always c.from_residual.result _
     (rw (ap chars c.from_utf8_unchecked-front.ensures ∙ pushed) at c.in_err-push_str.ensures.refused)
 
-pub returns : goal.returns
-returns c =
+pub returns-clause-ok : goal.returns-clause-ok
+returns-clause-ok c =
     let made = c.convert_while_ascii-len.ensures in
     let pushed = chars-front c.args.case (chars c.args.text.now) _ _ made.bytes made.len in
-    record {
-      ok = rw (ap chars c.from_utf8_unchecked-front.ensures ∙ pushed) at c.in_ok-push_str.ensures.ok;
-      rest = rw c.range_from.ensures.value (front-rest c.args.text.now _ c.utf8.text made.len);
-      refused = search rules;
-    }
+    rw (ap chars c.from_utf8_unchecked-front.ensures ∙ pushed) at c.in_ok-push_str.ensures.ok
+
+pub returns-clause-rest : goal.returns-clause-rest
+returns-clause-rest c =
+    rw c.range_from.ensures.value (front-rest c.args.text.now _ c.utf8.text c.convert_while_ascii-len.ensures.len)

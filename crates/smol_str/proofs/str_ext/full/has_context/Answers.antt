@@ -1,11 +1,8 @@
-use Rattle.smol_str.proofs.Common.{refl, [], arith, chars, nat_tests, IsCharBoundary-start}
+use Rattle.smol_str.proofs.Common.{refl, [], arith, chars, nat_tests}
 use Rattle.smol_str.proofs.CutLemmas.Replacing.{chars-empty}
 use Rattle.smol_str.proofs.CutLemmas.Match.{some_char}
 use Rattle.smol_str.proofs.CaseLemmas.Full.{none-found, alone-nil, alone-lower}
 use Rattle.smol_str.proofs.str_ext.full.has_context.Goals as goal
-
-pub next_match-requires-clause-boundary : goal.next_match-requires-clause-boundary
-next_match-requires-clause-boundary c = λ _. IsCharBoundary-start c.args.text.now c.utf8.text
 
 pub returns-then-not-is_empty-clause-alone : goal.returns-then-not-is_empty-clause-alone
 returns-then-not-is_empty-clause-alone c = λ no.

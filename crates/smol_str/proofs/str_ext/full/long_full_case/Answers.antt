@@ -1,4 +1,4 @@
-use Rattle.smol_str.proofs.Common.{chars, refl, ap, rules}
+use Rattle.smol_str.proofs.Common.{chars, ap, rules}
 use Rattle.smol_str.proofs.CaseLemmas.Ascii.{IsAscii-chars}
 use Rattle.smol_str.proofs.CaseLemmas.Full.{full-ascii, full-alone}
 use Rattle.smol_str.proofs.str_ext.full.long_full_case.Goals as goal
@@ -8,9 +8,6 @@ returns-then-is_ascii c =
     let text = c.args.text.now in
     let ascii = (IsAscii-chars text c.utf8.text).0 c.if-is_ascii.ensures.cases in
     rw (full-ascii c.args.case (chars text) ascii) c.to_ascii_case_on_heap.ensures
-
-pub push_mapped-requires : goal.push_mapped-requires
-push_mapped-requires c = rw c.new-builder.ensures refl
 
 pub returns : goal.returns
 returns c =

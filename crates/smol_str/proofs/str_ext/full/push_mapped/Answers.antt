@@ -1,13 +1,9 @@
 use Rattle.smol_str.proofs.Common.{mapped, refl, YieldsList-from_chars, rules}
 use Rattle.smol_str.proofs.TextLemmas.Places.{OnErr-always}
-use Rattle.smol_str.proofs.CaseLemmas.Full.{mapped-append, mapped-nil}
-use Rattle.smol_str.proofs.BuilderLemmas.Push.{draft_of-appended, mapped-start, mapped-more, mapped-refused, mapped-all}
+use Rattle.smol_str.proofs.CaseLemmas.Full.{mapped-append}
+use Rattle.smol_str.proofs.BuilderLemmas.Push.{draft_of-appended, mapped-more, mapped-refused, mapped-all}
 use Rattle.std.proofs.lemmas.Iterator.Consumers.{YieldsList-so_far, YieldsList-turn, YieldsList-end}
 use Rattle.smol_str.proofs.str_ext.full.push_mapped.Goals as goal
-
-pub loop-character-init : goal.loop-character-init
-loop-character-init c =
-    mapped-start (mapped c.args.case) (mapped-append c.args.case) c.args.builder.now (mapped-nil c.args.case) c.requires
 
 pub push_one-requires : goal.push_one-requires
 push_one-requires c = draft_of-appended _ _ _ c.requires c.loop-character.invariant

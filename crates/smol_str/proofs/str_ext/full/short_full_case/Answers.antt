@@ -1,12 +1,7 @@
-use Rattle.smol_str.proofs.Common.{refl, inl, chars, on_err_weaker, rules}
+use Rattle.smol_str.proofs.Common.{inl, chars, on_err_weaker, rules}
 use Rattle.smol_str.proofs.TextLemmas.Places.{OnErr-always}
-use Rattle.smol_str.proofs.BuilderLemmas.Push.{draft_of-appended}
 use Rattle.smol_str.proofs.CaseLemmas.Full.{front-heap, converted-heap, rest-none, short-text, short-refused, full-long}
 use Rattle.smol_str.proofs.str_ext.full.short_full_case.Goals as goal
-
-pub push_mapped-requires : goal.push_mapped-requires
-push_mapped-requires c =
-    draft_of-appended c.new-builder.result _ _ (rw c.new-builder.ensures refl) c.in_ok-rest.ensures.ok
 
 pub returns-in_err-rest-clause-refused : goal.returns-in_err-rest-clause-refused
 returns-in_err-rest-clause-refused c =
