@@ -31,8 +31,6 @@ use Rattle.smol_str.proofs.BuilderLemmas.Collect.{joined-chars, joined-drained, 
 use Rattle.smol_str.specs.Wire.{prefix_size}
 use Rattle.smol_str.proofs.WireLemmas.Wire.{length-wire, prefix_size-wire, wire-apart, Holds-one, Holds-whole, body-Holds, Holds-written, wire-held, length-Holds}
 use Rattle.std.proofs.Common.{◌^◌, ◌∷◌, All, append_assoc, nat_eq, if◌then◌else◌}
-use Rattle.std.specs.Bool.{one_answer}
-use Rattle.std.specs.Cmp.Lexicographic.{bytes_decides}
 use Rattle.std.specs.Int.{to_le_bytes}
 use Rattle.std.specs.Str.{bytes_eq}
 use Rattle.std.proofs.lemmas.List.{flat_map_more}
@@ -104,10 +102,7 @@ kind_with-same OnHeap t short = refl
 
 -- appending nothing changes nothing; the premise is the clause `short` of a builder's `as_str`
 pub appended-nothing : (b : Draft) → (b.kind ≡ InBuffer → IsShort b.text) → appended b [] ≡ b
-appended-nothing b short =
-    let whole = append-nil b.text in
-    let kinds = ap (kind_with b.kind) whole ∙ kind_with-same b.kind b.text short in
-    (λ i. record { text = whole i; kind = kinds i })
+appended-nothing b short = search (rules, arith, append-nil, kind_with-same)
 
 pub ruleset builders = (texts, appended-twice, appended-nothing, OnHeap-long)
 
@@ -181,12 +176,7 @@ text-set false v old = refl
 
 -- a `&str` stands for the keys of its text
 pub stands_for-text : (bs : List ℕ) (key : Meaning) → IsUtf8 bs → stands_for bs key ≡ bytes_eq (chars bs) key.text
-stands_for-text bs key u =
-    let spelt = bytes_decides bs (encode_utf8_all key.text) in
-    let back = encodes-chars bs u in
-    one_answer (stands_for bs key) (bytes_eq (chars bs) key.text)
-    (λ h. encodes_same (chars bs) key.text (back ∙ spelt.0 h), λ e. spelt.1 (sym back ∙ ap encode_utf8_all e))
-    (bytes_decides (chars bs) key.text)
+stands_for-text bs key u = search (rules, arith, encodes-chars, encodes_same)
 
 -- ---- collecting
 
@@ -446,17 +436,12 @@ module _ (b more t x : List ℕ) (sized : HasWire t) (scalars : IsTrue (all_scal
 -- a count before them, as four bytes
 pub count-apart : (m n : ℕ) (x y : List ℕ) → m < 2 ^ 32 → n < 2 ^ 32
     → to_le_bytes w32 m ++ x ≡ to_le_bytes w32 n ++ y → (m ≡ n) × (x ≡ y)
-count-apart m n x y h k e = (
-  sym (from_le_bytes-to_le_bytes_4 m h) ∙ ap (λ l. from_le_bytes w32 (take 4 l)) e ∙ from_le_bytes-to_le_bytes_4 n k,
-  ap (drop 4) e,
-)
+count-apart m n x y h k e = search (rules, arith, from_le_bytes-to_le_bytes_4)
 
 first-apart : (s t : List ℕ) (ss ts : List (List ℕ)) (x y : List ℕ) → HasWire s → HasWire t
     → flat_map wire (s ∷ ss) ++ x ≡ flat_map wire (t ∷ ts) ++ y
     → (s ≡ t) × (flat_map wire ss ++ x ≡ flat_map wire ts ++ y)
-first-apart s t ss ts x y h k e =
-    wire-apart s t (flat_map wire ss ++ x) (flat_map wire ts ++ y) h k
-    (sym (append_assoc (wire s) (flat_map wire ss) x) ∙ e ∙ append_assoc (wire t) (flat_map wire ts) y)
+first-apart s t ss ts x y h k e = search (rules, arith, wire-apart, append_assoc)
 
 -- as many forms: of the same texts
 pub forms-apart : (ss ts : List (List ℕ)) (x y : List ℕ) → All HasWire ss → All HasWire ts → length ss ≡ length ts
@@ -489,8 +474,7 @@ forms-next (s ∷ ss) (t ∷ ts) x y h k scalars l e =
 -- one form more
 pub forms-more : (ts : List (List ℕ)) (t x : List ℕ)
     → flat_map wire ts ++ (wire t ++ x) ≡ flat_map wire (ts ++ t ∷ []) ++ x
-forms-more ts t x =
-    sym (append_assoc (flat_map wire ts) (wire t) x) ∙ ap (λ l. l ++ x) (flat_map_more wire [] ts t)
+forms-more ts t x = grind (arith, common_steps, append_assoc, flat_map_more)
 
 -- a loop that reads a list by `split_wire`, where its number was read first: the bytes are that number, the forms of the
 -- i texts so far, and the rest
@@ -504,29 +488,15 @@ module _ (bytes : List ℕ) (count : ℕ) (ts : List (List ℕ)) (rest : List �
   -- the step
   pub one_read : (us : List (List ℕ)) (t after : List ℕ) → rest ≡ wire t ++ after → HasWire t → us ≡ ts ++ t ∷ []
       → AreRead bytes count us after (i + 1)
-  one_read us t after is fits more =
-      let behind = ap (λ l. flat_map wire ts ++ l) is ∙ forms-more ts t after in
-      rw more (record {
-        number = length-append ts (t ∷ []) ∙ ap (λ n. n + 1) read.number;
-        sized = All-push HasWire ts t read.sized fits;
-        form = read.form ∙ ap (λ l. to_le_bytes w32 count ++ l) behind;
-      })
+  one_read us t after is fits more = grind (arith, common_steps, forms-more, length-append, All-push)
 
   -- the end
   pub all_read : count ≤ i → i ≤ count → bytes ≡ (to_le_bytes w32 (length ts) ++ flat_map wire ts) ++ rest
-  all_read up down =
-      let n : count ≡ length ts = omega (arith, read.number) in
-      read.form ∙ (λ j. to_le_bytes w32 (n j) ++ (flat_map wire ts ++ rest))
+  all_read up down = search (rules, arith)
 
   -- a list that the bytes begin with, or they and more, has one text more
   pub next_form : count < 2 ^ 32 → i < count → (us : List (List ℕ)) (more x : List ℕ) → length us < 2 ^ 32
       → All HasWire us → All (λ t. IsTrue (all_scalars t)) us
       → bytes ++ more ≡ (to_le_bytes w32 (length us) ++ flat_map wire us) ++ x
       → (t after : List ℕ) × HasWire t × IsTrue (all_scalars t) × (rest ++ more ≡ wire t ++ after)
-  next_form few below us more x can sized scalars e =
-      let so_far = flat_map wire ts in
-      let form : bytes ++ more ≡ to_le_bytes w32 count ++ (so_far ++ (rest ++ more)) =
-      ap (λ l. l ++ more) read.form ∙ ap (λ l. to_le_bytes w32 count ++ l) (append_assoc so_far rest more) in
-      let parts = count-apart count (length us) (so_far ++ (rest ++ more)) (flat_map wire us ++ x) few can
-      (sym form ∙ e) in
-      forms-next ts us (rest ++ more) x read.sized sized scalars (omega (arith, below, read.number, parts.0)) parts.1
+  next_form few below us more x can sized scalars e = search (rules, arith, append_assoc, count-apart, forms-next)

@@ -26,9 +26,7 @@ pub IsJsonOf-IsValueOf : (t : List ℕ) (v : Meaning) → IsValueOf t v → IsJs
 IsJsonOf-IsValueOf t v h = record { text = ap json_value (sym h.text); place = h.place ∙ ap place_of (sym h.text) }
 
 pub IsValueOf-IsJsonOf : (t : List ℕ) (v : Meaning) → IsJsonOf (json_value t) v → IsValueOf t v
-IsValueOf-IsJsonOf t v h =
-    let text = json_value-same v.text t (sym h.text) in
-    record { text = text; place = h.place ∙ ap place_of text }
+IsValueOf-IsJsonOf t v h = search (rules, arith, json_value-same)
 
 -- a value of what bytes read as, where that is the JSON value of t
 pub IsValueOf-read : {E : Type 0} (r : Result Meaning E) (d : json.Data) (bs t : List ℕ) → read bs ≡ Some d →

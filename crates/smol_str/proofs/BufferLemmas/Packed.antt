@@ -1,5 +1,5 @@
 -- For `InlineText` and equality: a short text in its buffer, with its length behind it.
-use Rattle.smol_str.proofs.Common.{◌≡◌, ℕ, ◌+◌, ◌-◌, ◌≤◌, List, [], ◌∷◌, ◌++◌, length, take, drop, set, get_or, replicate, sym, ◌∙◌, ap, arith, encode_utf8_all, append_assoc, length-append, refl, nat_eq, ◌↔◌, Bool, IsTrue, chars, IsUtf8, pointwise, bytes_decides, encodes-chars, encodes_same, chars-append, IsUtf8-append, drop-drop, drop-replicate, take_at, drop_at, get_or_at, set_at, length-replicate, drop-append-le, INLINE_CAP, size, IsShort, IsPacked, HaveOneBuffer, padded, packed, unpacked, put_at, common_steps}
+use Rattle.smol_str.proofs.Common.{◌≡◌, ℕ, ◌+◌, ◌-◌, ◌≤◌, List, [], ◌∷◌, ◌++◌, length, take, drop, set, get_or, replicate, sym, ◌∙◌, ap, arith, encode_utf8_all, append_assoc, length-append, refl, nat_eq, ◌↔◌, Bool, IsTrue, chars, IsUtf8, pointwise, bytes_decides, encodes-chars, encodes_same, chars-append, IsUtf8-append, drop-drop, drop-replicate, take_at, drop_at, get_or_at, set_at, length-replicate, drop-append-le, INLINE_CAP, size, IsShort, IsPacked, HaveOneBuffer, padded, packed, unpacked, put_at, common_steps, rules}
 
 pub length-padded : (bytes : List ℕ) → length bytes ≤ INLINE_CAP → length (padded bytes) ≡ INLINE_CAP
 length-padded bytes h = omega (arith, length-append {A = ℕ}, length-replicate {A = ℕ} (INLINE_CAP - length bytes) 0)
@@ -19,14 +19,11 @@ front-packed : (bytes : List ℕ) → take (length bytes) (packed bytes) ≡ byt
 front-packed bytes = ap (take (length bytes)) (packed-behind bytes) ∙ take_at bytes (behind bytes) (length bytes) refl
 
 pub unpacked-packed : (all bytes : List ℕ) → length bytes ≤ INLINE_CAP → all ≡ packed bytes → unpacked all ≡ bytes
-unpacked-packed all bytes h e = ap unpacked e ∙ ap (λ n. take n (packed bytes)) (last-packed bytes h)
-    ∙ front-packed bytes
+unpacked-packed all bytes h e = search (rules, arith, last-packed, front-packed)
 
 pub IsPacked-packed : (all bytes : List ℕ) → IsUtf8 bytes → length bytes ≤ INLINE_CAP → all ≡ packed bytes →
     IsPacked all
-IsPacked-packed all bytes u h e =
-    let b = unpacked-packed all bytes h e in
-    record { utf8 = rw b u; within = rw b h; reads = rw b e }
+IsPacked-packed all bytes u h e = search (rules, arith, unpacked-packed)
 
 -- the length is the size of the text
 pub len-bytes : (all : List ℕ) → IsPacked all → get_or all INLINE_CAP 0 ≡ length (unpacked all)
@@ -103,10 +100,7 @@ padded-same s t e h =
     encodes_same s t (sym left ∙ ap (take (size s)) h ∙ right)
 
 pub HaveOneBuffer-same : (s t : List ℕ) → (s ≡ t) ↔ HaveOneBuffer s t
-HaveOneBuffer-same s t = (
-  (λ e. record { size = ap size e; bytes = ap (λ u. padded (encode_utf8_all u)) e }),
-  (λ h. padded-same s t h.size h.bytes),
-)
+HaveOneBuffer-same s t = search (rules, arith, padded-same)
 
 -- a test for equal texts tests the buffers
 pub test-HaveOneBuffer : (b : Bool) (s t : List ℕ) → IsTrue b ↔ (s ≡ t) → IsTrue b ↔ HaveOneBuffer s t

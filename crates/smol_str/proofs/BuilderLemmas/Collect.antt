@@ -1,17 +1,17 @@
 -- For collecting, extending and building by steps: items drawn and appended one after another.
-use Rattle.std.proofs.Common.{true, ◌≡◌, ℕ, List, [], ◌∷◌, ◌++◌, map, length, take, drop, Option, Result, Ok, Err, IfOk, OnOk, refl, sym, ap, ◌∙◌, subst}
+use Rattle.std.proofs.Common.{true, ◌≡◌, ℕ, List, [], ◌∷◌, ◌++◌, map, length, take, drop, Option, Result, Ok, Err, IfOk, OnOk, refl, sym, ap, ◌∙◌, subst, arith, rules}
 use Rattle.std.specs.Iterator.{Drains, DrainsIf}
 use Rattle.std.specs.Iterator.Runs.{WholeRun}
 use Rattle.std.proofs.iter.Next.{Yields-more}
 use Rattle.std.proofs.iter.runs.Made.{run}
-use Rattle.std.proofs.lemmas.Grind.{flat_map-append}
+use Rattle.std.proofs.lemmas.Grind.{flat_map-append, common_steps}
 use Rattle.std.proofs.lemmas.Iterator.{YieldsList, items_from_drains}
 use Rattle.std.proofs.lemmas.Iterator.Consumers.{YieldsList-so_far}
 use Rattle.std.proofs.lemmas.List.{append-nil}
 use Rattle.std.proofs.lemmas.List.Folds.{flat_map-map}
 use Rattle.smol_str.specs.Text.{IsShort}
 use Rattle.smol_str.specs.Meaning.{Meaning, IsValueOf}
-use Rattle.smol_str.specs.Draft.{Draft, InBuffer, OnHeap, empty_draft, kind_with, appended}
+use Rattle.smol_str.specs.Draft.{Draft, InBuffer, OnHeap, empty_draft, appended}
 use Rattle.smol_str.specs.Joined.{joined, char_text}
 use Rattle.smol_str.specs.Collect.{AppendedAll, StoppedAt, Collected, Outgrown, OutgrownAfter, IsValueOfRun, AppendsRun}
 use Rattle.smol_str.proofs.TextLemmas.Lists.{flat_map-parts}
@@ -35,9 +35,7 @@ joined-last f xs x = flat_map-append f xs (x ∷ []) ∙ ap (λ t. joined f xs +
 -- after one item more
 pub appended-last : {A : Type 0} (f : A → List ℕ) (old now new : Draft) (xs : List A) (x : A)
     → now ≡ appended old (joined f xs) → new ≡ appended now (f x) → new ≡ appended old (joined f (xs ++ x ∷ []))
-appended-last f old now new xs x h a =
-    a ∙ ap (λ b. appended b (f x)) h ∙ appended-twice old (joined f xs) (f x)
-    ∙ ap (appended old) (sym (joined-last f xs x))
+appended-last f old now new xs x h a = search (rules, arith, appended-twice, joined-last)
 
 module _ {S A : Type 0} (f : A → List ℕ) (steps : S → Option A → S → Type 0) (s : S) where
   -- where a builder stops, items came with which it would be on the heap
@@ -74,8 +72,7 @@ module _ {S A : Type 0} (steps : S → Option A → S → Type 0) (s : S) (f : A
     runs-appended (Err e) old new h = tt
 
 appended-heap : (b : Draft) (t u : List ℕ) → (appended b t).kind ≡ OnHeap → (appended b (t ++ u)).kind ≡ OnHeap
-appended-heap b t u heap =
-    sym (ap (λ d. d.kind) (appended-twice b t u)) ∙ ap (λ k. kind_with k ((b.text ++ t) ++ u)) heap
+appended-heap b t u heap = grind (arith, common_steps, appended-twice)
 
 DrainsIf-drained : {S A : Type 0} (steps : S → Option A → S → Type 0) (s : S) (xs : List A)
     → Drains steps s xs → DrainsIf steps (Unit {0}) s xs

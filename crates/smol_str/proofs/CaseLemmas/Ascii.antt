@@ -1,5 +1,5 @@
 -- For ASCII case, in texts, bytes and short texts as they are packed; and for what else maps ASCII characters alone.
-use Rattle.smol_str.proofs.Common.{◌≡◌, ℕ, ◌+◌, ◌<◌, List, [], ◌∷◌, ◌++◌, Bool, true, false, cond, map, refl, ap, ◌∙◌, arith, length-append, All, to_ascii_lowercase, to_ascii_uppercase, is_ascii, len_utf8, IsAsciiUppercase, IsAsciiLowercase, encode_utf8_all, encode, lt-ltb, le-ltb, ltb-true, ltb-false, cases_lt, nat_tests, length-encode, All-nil, All-cons, All-head, All-tail, size, lower, upper, front, IsAsciiText, BeginsPastAscii, lowercase_is, uppercase_is, All-map, All-from_get_or, get_or, common_steps, rules, ◌↔◌, IsTrue, MatchBool, zero, suc, ◌-◌, ◌≤◌, length, take, drop, sym, subst, take-add, length-take-le, drop-cons, length-drop, take-append-drop, IsUtf8, IsCharBoundary, IsAscii, IsNotAscii, chars, slice_range, Each1, map-append, take_all, length-map, IsAscii-append, IsAscii-take, IsAscii-drop, IsUtf8-from_ascii, IsUtf8-drop, IsCharBoundary-from_take, chars-append, chars-IsAscii, encodes-chars, IsAscii-nil, IsAscii-cons, IsAscii-map, All-from_ascii, lowercase_ascii, uppercase_ascii, AsciiCase, Lower, Upper, converted, IsAsciiFront, IsAscii-from_all, encodes-IsAscii, append_assoc, append-nil, ◌/◌, ◌&&◌, set, replicate, inl, inr, put_chunk, put_chunk_is, next, scalar, scalars, take_at, drop_at, drop_all, set_at, chars-encodes, scalars-chars, INLINE_CAP, IsPacked, packed, padded, unpacked, and_parts, All-replicate, IsAscii-push, ⊎_elim}
+use Rattle.smol_str.proofs.Common.{◌≡◌, ℕ, ◌+◌, ◌<◌, List, [], ◌∷◌, ◌++◌, Bool, true, false, cond, map, refl, ap, ◌∙◌, arith, length-append, All, to_ascii_lowercase, to_ascii_uppercase, is_ascii, len_utf8, IsAsciiUppercase, IsAsciiLowercase, encode_utf8_all, encode, lt-ltb, le-ltb, ltb-true, ltb-false, cases_lt, nat_tests, length-encode, All-nil, All-cons, All-head, All-tail, size, lower, upper, front, IsAsciiText, BeginsPastAscii, lowercase_is, uppercase_is, All-map, All-from_get_or, get_or, common_steps, rules, ◌↔◌, IsTrue, MatchBool, zero, suc, ◌-◌, ◌≤◌, length, take, drop, sym, subst, take-add, length-take-le, drop-cons, length-drop, take-append-drop, IsUtf8, IsCharBoundary, IsAscii, IsNotAscii, chars, slice_range, Each1, map-append, take_all, length-map, IsAscii-append, IsAscii-take, IsAscii-drop, IsUtf8-from_ascii, IsUtf8-drop, IsCharBoundary-from_take, chars-append, chars-IsAscii, encodes-chars, IsAscii-nil, IsAscii-cons, IsAscii-map, All-from_ascii, lowercase_ascii, uppercase_ascii, AsciiCase, Lower, Upper, converted, IsAsciiFront, IsAscii-from_all, encodes-IsAscii, append_assoc, append-nil, ◌/◌, ◌&&◌, set, replicate, put_chunk, put_chunk_is, next, scalar, scalars, take_at, drop_at, drop_all, set_at, chars-encodes, scalars-chars, INLINE_CAP, IsPacked, packed, padded, unpacked, and_parts, All-replicate, IsAscii-push, ⊎_elim}
 use Rattle.std.proofs.lemmas.List.Sums.{take_while-cons}
 use Rattle.smol_str.proofs.TextLemmas.Utf8.{Form, one, two, three, four, form, is_one}
 use Rattle.smol_str.proofs.BufferLemmas.Packed.{length-padded, len-bytes, IsPacked-packed, unpacked-packed}
@@ -130,8 +130,7 @@ pub high-lanes : (bytes : List ℕ) (at n : ℕ) (lanes : List ℕ) → lanes �
 high-lanes bytes at n lanes is high part = let no : true ≡ false = high.1 (subst IsAscii (sym is) part) in absurd (cc)
 
 pub not-ascii : (bytes : List ℕ) (at n : ℕ) → ¬ (IsAscii (take n (drop at bytes))) → IsTrue false ↔ IsAscii bytes
-not-ascii bytes at n high =
-    ((λ no. absurd (cc)), (λ ascii. absurd (high (IsAscii-take (drop at bytes) n (IsAscii-drop bytes at ascii)))))
+not-ascii bytes at n high = grind (arith, common_steps, IsAscii-take, IsAscii-drop)
 
 -- bytes are ASCII exactly where their characters are
 pub IsAscii-chars : (bs : List ℕ) → IsUtf8 bs → IsAscii bs ↔ IsAsciiText (chars bs)
@@ -262,19 +261,12 @@ module _ (f : ℕ → ℕ) (old bytes : List ℕ) (at : ℕ) (h : IsMapping f ol
   mapping-byte x room e = grind (arith, common_steps, mapping-more, take_one, set_is)
 
   pub mapping-end : length bytes ≤ at → bytes ≡ map f old
-  mapping-end ended =
-      let none : drop at bytes ≡ [] = drop_all at bytes ended in
-      sym (take-append-drop at bytes) ∙ ap (λ s. take at bytes ++ s) none
-      ∙ sym (ap (λ s. take at bytes ++ map f s) none) ∙ h.maps
+  mapping-end ended = search (rules, arith, drop_all, take-append-drop)
 
   -- the rest of the bytes, all at once
   pub mapping-rest : (k : ℕ) (new : List ℕ) → k ≡ length bytes - at → new ≡ map f (take k (drop at bytes))
       → take at bytes ++ (new ++ drop k (drop at bytes)) ≡ map f old
-  mapping-rest k new e is =
-      let long : length (drop at bytes) ≤ k = omega (arith, e, length-drop at bytes) in
-      (λ i. take at bytes ++ ((is ∙ ap (map f) (take_all k (drop at bytes) long)) i
-      ++ (drop_all k (drop at bytes) long) i))
-      ∙ ap (λ w. take at bytes ++ w) (append-nil (map f (drop at bytes))) ∙ h.maps
+  mapping-rest k new e is = search (rules, arith, length-drop, take_all, drop_all, append-nil)
 
 -- ---- bytes and characters
 
@@ -310,11 +302,7 @@ module _ (f : ℕ → ℕ) (m : MovesAscii f) where
   encodes-map (c ∷ t) = search (rules, encode-map, form, map-append, encodes-map t)
 
   scalar-map : (c : ℕ) → scalar c ≡ true → scalar (f c) ≡ true
-  scalar-map c h =
-      elim (cases_lt c 128) [
-        | inl l ↦ scalar_below (f c) (m.low c l)
-        | inr g ↦ ap scalar (m.others c g) ∙ h
-      ]
+  scalar-map c h = search (rules, arith, scalar_below)
 
   scalars-map : (t : List ℕ) → scalars t ≡ true → scalars (map f t) ≡ true
   scalars-map [] h = refl

@@ -168,13 +168,7 @@ long-refused bs u l h = omega (arith, h.1, size-chars bs u)
 pub letters-listed : (s : CaseChanged) (a b c : Option ℕ)
     → case_mapping_first s ≡ a → case_mapping_second s ≡ b → case_mapping_third s ≡ c
     → case_mapping_chars s ≡ option_to_list a ++ (option_to_list b ++ option_to_list c)
-letters-listed s a b c p q r =
-    rw (← p, ← q, ← r) (listed s)
-  where
-    listed : (m : CaseChanged) → case_mapping_chars m
-        ≡ option_to_list (case_mapping_first m) ++
-        (option_to_list (case_mapping_second m) ++ option_to_list (case_mapping_third m))
-    listed m = grind arith
+letters-listed s a b c p q r = search (rules, arith)
 
 pub mapped-append : (case : AsciiCase) (a b : List ℕ) → mapped case (a ++ b) ≡ mapped case a ++ mapped case b
 mapped-append Lower a b = flat_map-append to_lowercase a b
@@ -195,8 +189,7 @@ sigma = chars-encodes (0x3A3 ∷ []) refl
 
 pub alone-lower : (case : AsciiCase) (t : List ℕ) → case ≡ Lower → ¬ Occurs (chars (0xCE ∷ 0xA3 ∷ [])) t
     → IsMappedAlone case t
-alone-lower case t is none =
-    rw is (subst (λ (p : List ℕ). ¬ Occurs p t) sigma none)
+alone-lower case t is none = search (rules, arith, sigma)
 
 pub none-found : (r : Option ℕ) (b : Bool) → b ≡ is_some r → b ≡ false → r ≡ None
 none-found None b e f = refl

@@ -20,10 +20,7 @@ either_low false y c h k = k
 
 -- ASCII goes to ASCII
 pub each-moves : (x y : ℕ) → x < 128 → y < 128 → MovesAscii (λ c. if nat_eq c x then y else c)
-each-moves x y low small = record {
-  low = λ c h. either_low (nat_eq c x) y c small h;
-  others = λ c h. sym (each-kept x y c (λ e. omega arith));
-}
+each-moves x y low small = omega (arith, either_low, each-kept)
 
 module _ (x y : ℕ) (low : x < 128) (small : y < 128) (bs : List ℕ) (u : IsUtf8 bs) where
   pub IsUtf8-each : IsUtf8 (each_replaced x y bs)

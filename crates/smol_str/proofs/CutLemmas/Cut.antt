@@ -152,22 +152,10 @@ IsCutAt-step t p q r n (s ∷ ss) e none h = record {
 }
 
 pub IsCutAt-limit_zero : (t p : List ℕ) → IsCutAt t p 0 (t ∷ [])
-IsCutAt-limit_zero t p = record {
-  some = omega arith;
-  limited = omega arith;
-  joined = joined_one p t;
-  first = All-nil (IsFirstAfter p);
-  complete = λ l. absurd (omega arith);
-}
+IsCutAt-limit_zero t p = search (rules, arith, joined_one, All-nil)
 
 pub IsCutAt-unmatched : (t p : List ℕ) (n : ℕ) → ¬ Occurs p t → IsCutAt t p n (t ∷ [])
-IsCutAt-unmatched t p n none = record {
-  some = omega arith;
-  limited = omega arith;
-  joined = joined_one p t;
-  first = All-nil (IsFirstAfter p);
-  complete = λ l. none;
-}
+IsCutAt-unmatched t p n none = search (rules, arith, joined_one, All-nil)
 
 -- an occurrence begins here or later
 pub occurs_cases : (p : List ℕ) (c : ℕ) (t a r : List ℕ) → c ∷ t ≡ a ++ (p ++ r) →

@@ -24,14 +24,7 @@ one_byte hay nd one (Some at) f = (
 -- no needle is found whose first byte is not
 pub none_first : (hay nd : List ℕ) → 0 < length nd → (r : Option ℕ) → r ≡ None
     → (f : Option ℕ) → f ≡ None → IsFirstByte (is_byte (get_or nd 0 0)) hay f → FindsNeedle hay nd 0 r
-none_first hay nd some r none f e first =
-    let same = λ (k : ℕ) (o : OccursAt hay nd k).
-    ap (λ m. get_or hay m 0) (sym (k_zero k)) ∙ o.reads 0 some in
-    let nowhere = rw e at first in
-    rw none (λ k low high o. nowhere k low (omega (arith, o.fits, some)) ((Decides-eqb _ _).1 (same k o)))
-  where
-    k_zero : (k : ℕ) → k + 0 ≡ k
-    k_zero k = omega arith
+none_first hay nd some r none f e first = search (rules, arith, Decides-eqb)
 
 -- characters that stand have bytes that stand
 chars_stand : (b p a r : List ℕ) → b ≡ a ++ (p ++ r) → OccursAt (encode_utf8_all b) (encode_utf8_all p) (size a)

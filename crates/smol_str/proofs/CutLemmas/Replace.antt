@@ -35,13 +35,7 @@ few_pieces p (q ∷ r ∷ rs) some =
 
 raised_at : (t p : List ℕ) (m n : ℕ) (pieces : List (List ℕ)) → length pieces < m + 1 → length pieces - 1 ≤ n →
     IsCutAt t p m pieces → IsCutAt t p n pieces
-raised_at t p m n pieces few enough h = record {
-  some = h.some;
-  limited = omega (arith, h.some);
-  joined = h.joined;
-  first = h.first;
-  complete = λ l. h.complete few;
-}
+raised_at t p m n pieces few enough h = search (rules, arith)
 
 -- the whole cut is the cut at each limit that it keeps
 pub whole_cut : (t p : List ℕ) (n : ℕ) → match_count t p ≤ n → IsCut t p n (cut t p (no_limit t))

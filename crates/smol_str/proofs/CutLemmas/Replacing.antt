@@ -86,26 +86,12 @@ module _ (bs nd w : List ℕ) (n m : ℕ) (b : Draft) (i j : ℕ) (h : IsReplaci
 
 -- nothing is replaced in a text without a match
 pub replacing-nothing : (t p w : List ℕ) (n : ℕ) (b : Draft) → b ≡ draft_of [] → ¬ Occurs p t → IsReplacing t p w n 0 b 0
-replacing-nothing t p w n b empty none = record {
-  done = [];
-  rest = t;
-  parts = refl;
-  at = refl;
-  draft = empty ∙ ap draft_of (sym (ap (λ (d : Draft). d.text) empty));
-  text = ap (λ (d : Draft). d.text ++ replaced t p w 0) empty ∙ replaced-none t p w ∙ sym (replaced-unmatched t p w n none);
-}
+replacing-nothing t p w n b empty none = search (rules, arith, replaced-none, replaced-unmatched)
 
 -- no match is left, or none is wanted
 pub replacing-unmatched : (t p w : List ℕ) (n m : ℕ) (b : Draft) (i : ℕ) (h : IsReplacing t p w n m b i)
     → ¬ Occurs p h.rest → IsReplacing t p w n 0 b i
-replacing-unmatched t p w n m b i h none = record {
-  done = h.done;
-  rest = h.rest;
-  parts = h.parts;
-  at = h.at;
-  draft = h.draft;
-  text = ap (λ x. b.text ++ x) (replaced-none h.rest p w ∙ sym (replaced-unmatched h.rest p w m none)) ∙ h.text;
-}
+replacing-unmatched t p w n m b i h none = search (rules, arith, replaced-none, replaced-unmatched)
 
 -- in the text t, at the empty pattern, the next character is c
 module _ (t w : List ℕ) (n m l : ℕ) (b : Draft) (i : ℕ) (h : IsReplacing t [] w n m b i) (next : m ≡ l + 1) where
@@ -141,8 +127,7 @@ first_case (c ∷ s) = (s, refl)
 
 pub first_char : (b : List ℕ) (r : Option ℕ) → r ≡ slice_get b 0
     → MatchOption r (b ≡ []) (λ c. (s : List ℕ) × (b ≡ c ∷ s))
-first_char b r e = subst (λ (o : Option ℕ). MatchOption o (b ≡ []) (λ c. (s : List ℕ) × (b ≡ c ∷ s))) (sym e)
-    (first_case b)
+first_char b r e = search (rules, arith, first_case)
 
 pub taken-inside : (bs p w : List ℕ) (n m : ℕ) (b : Draft) (i : ℕ) (h : IsReplacing (chars bs) p w n m b i) (c : ℕ)
     (r : List ℕ) → h.rest ≡ c ∷ r → IsUtf8 bs → i + len_utf8 c ≤ length bs

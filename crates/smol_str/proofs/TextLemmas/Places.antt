@@ -127,8 +127,7 @@ IsUtf8-rc_str_bytes s = IsUtf8-string_bytes s.text.value
 -- a text equals the text of some bytes exactly where its bytes equal them
 pub bytes_eq-chars : (t bs : List ℕ) → IsUtf8 bs →
     pointwise nat_eq (encode_utf8_all t) bs ≡ pointwise nat_eq t (chars bs)
-bytes_eq-chars t bs u = ap (pointwise nat_eq (encode_utf8_all t)) (sym (encodes-chars bs u))
-    ∙ bytes_eq-texts t (chars bs)
+bytes_eq-chars t bs u = search (rules, arith, encodes-chars, bytes_eq-texts)
 
 pub chars-one : (c : ℕ) (bs : List ℕ) → IsUtf8 bs → bs ≡ encode_utf8 c → chars bs ≡ c ∷ []
 chars-one c bs u e = chars-of (c ∷ []) bs u (e ∙ sym (append-nil (encode_utf8 c)))

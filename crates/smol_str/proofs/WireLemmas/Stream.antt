@@ -1,6 +1,6 @@
 -- A beginning of what is written in two parts: for `serialize`, which writes a size and then a text. And what is gone
 -- where a reader failed: for `stream`.
-use Rattle.smol_str.proofs.Common.{◌≡◌, subst, Err, Result, err_from_is_err_and, ℕ, ◌+◌, ◌<◌, ◌≤◌, length, List, ◌++◌, Option, sym, ap, ◌∙◌, arith, append_assoc, length-append, Appends, Appends-trans, Consumes, Consumes-trans}
+use Rattle.smol_str.proofs.Common.{◌≡◌, Result, err_from_is_err_and, ℕ, ◌+◌, ◌<◌, ◌≤◌, length, List, ◌++◌, Option, sym, ap, ◌∙◌, arith, append_assoc, length-append, Appends, Appends-trans, Consumes, Consumes-trans, rules}
 use Rattle.std.specs.Io.KnownBytes.{Keeps}
 use Rattle.std.proofs.KnownBytes.{Consumes-kept}
 use Rattle.smol_str.specs.Stream.{AppendsBeginning, StopsBelow, ConsumesSome, AfterStreamFault}
@@ -42,20 +42,14 @@ StopsBelow-after a b c bytes room n consumed (more, short, then) within =
 -- a reader that lost some bytes, and then some more
 pub ConsumesSome-after : (a b c : Option (List ℕ)) (bytes more : List ℕ) (n : ℕ) → Consumes a b bytes
     → Consumes b c more → 0 < length more → length bytes + length more ≤ n → ConsumesSome a c n
-ConsumesSome-after a b c bytes more n consumed then some within =
-    let long = length-append bytes more in
-    (bytes ++ more, omega (arith, long), omega (arith, long), Consumes-trans a b c bytes more consumed then)
+ConsumesSome-after a b c bytes more n consumed then some within = search (rules, arith, length-append, Consumes-trans)
 
 -- reading up to a limit, which the reader's failure ended, or want of memory
 module _ {T : Type 0} (limit : ℕ) (a b : Option (List ℕ)) (r : Result T ReadFault) where
   pub AfterStreamFault-failed : (e : Error) → IsErrAnd r (λ fault. fault ≡ Io e) → StopsBelow a b limit
       → IfErr r (AfterStreamFault limit a b)
-  AfterStreamFault-failed e failed stops =
-      let (fault, is_err, is) = err_from_is_err_and r failed in
-      subst (λ r. IfErr r (AfterStreamFault limit a b)) (sym (is_err ∙ ap Err is)) stops
+  AfterStreamFault-failed e failed stops = search (rules, arith, err_from_is_err_and)
 
   pub AfterStreamFault-refused : IsErrAnd r (λ fault. fault ≡ OutOfMemory) → ConsumesSome a b limit
       → IfErr r (AfterStreamFault limit a b)
-  AfterStreamFault-refused failed some =
-      let (fault, is_err, is) = err_from_is_err_and r failed in
-      subst (λ r. IfErr r (AfterStreamFault limit a b)) (sym (is_err ∙ ap Err is)) some
+  AfterStreamFault-refused failed some = search (rules, arith, err_from_is_err_and)

@@ -55,10 +55,7 @@ body-Holds b t n h =
 
 -- a form, and what follows it
 pub Holds-written : (t x : List ℕ) → HasWire t → IsTrue (all_scalars t) → Holds (wire t ++ x) t (size t + 4)
-Holds-written t x h s =
-    let long = length-wire t in
-    let more = length-append (wire t) x in
-    record { scalars = s; sized = h; within = omega arith; reads = take_at (wire t) x (size t + 4) long }
+Holds-written t x h s = search (rules, arith, length-wire, length-append, take_at)
 
 -- numbers that are bytes, whatever is read past their end
 small_at : (b : List ℕ) → All (λ c. c < 2 ^ 8) b → (i : ℕ) → get_or b i 0 < 256
