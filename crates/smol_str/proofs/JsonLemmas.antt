@@ -1,5 +1,5 @@
 -- JSON strings, for module `json`.
-use Rattle.smol_str.proofs.Common.{String, Global, string_bytes, rules, ◌≡◌, ℕ, ◌<◌, List, [], ◌∷◌, length, None, Some, Result, Ok, Err, IfOk, refl, sym, ap, ◌∙◌, chars, encodes-chars, encodes_same, IsUtf8-string_bytes, place_of, Meaning, IsValueOf, common_steps, arith}
+use Rattle.smol_str.proofs.Common.{String, Global, string_bytes, rules, ◌≡◌, ℕ, ◌<◌, List, [], ◌∷◌, length, None, Some, Result, Ok, Err, refl, sym, ap, ◌∙◌, chars, encodes-chars, encodes_same, IsUtf8-string_bytes, place_of, Meaning, IsValueOf, common_steps, arith}
 use Rattle.std.specs.Result.{IfErr}
 use Rattle.serde_json.specs.Data as json
 use Rattle.serde_json.specs.Read.{read}
@@ -24,15 +24,6 @@ json_value-same s t e = encodes_same s t cc
 
 pub IsJsonOf-IsValueOf : (t : List ℕ) (v : Meaning) → IsValueOf t v → IsJsonOf (json_value t) v
 IsJsonOf-IsValueOf t v h = record { text = ap json_value (sym h.text); place = h.place ∙ ap place_of (sym h.text) }
-
-pub IsValueOf-IsJsonOf : (t : List ℕ) (v : Meaning) → IsJsonOf (json_value t) v → IsValueOf t v
-IsValueOf-IsJsonOf t v h = search (rules, arith, json_value-same)
-
--- a value of what bytes read as, where that is the JSON value of t
-pub IsValueOf-read : {E : Type 0} (r : Result Meaning E) (d : json.Data) (bs t : List ℕ) → read bs ≡ Some d →
-    IfOk r (IsJsonOf d) → read bs ≡ Some (json_value t) → IfOk r (λ v. IsValueOf t v)
-IsValueOf-read (Ok v) d bs t e h f = let same : d ≡ json_value t = cc in IsValueOf-IsJsonOf t v (rw same at h)
-IsValueOf-read (Err x) d bs t e h f = tt
 
 -- no bytes are no JSON text
 read-nil : read [] ≡ None

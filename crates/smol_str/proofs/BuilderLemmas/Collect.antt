@@ -11,12 +11,12 @@ use Rattle.std.proofs.lemmas.List.{append-nil}
 use Rattle.std.proofs.lemmas.List.Folds.{flat_map-map}
 use Rattle.smol_str.specs.Text.{IsShort}
 use Rattle.smol_str.specs.Meaning.{Meaning, IsValueOf}
-use Rattle.smol_str.specs.Draft.{Draft, InBuffer, OnHeap, empty_draft, appended}
+use Rattle.smol_str.specs.Draft.{Draft, OnHeap, appended}
 use Rattle.smol_str.specs.Joined.{joined, char_text}
 use Rattle.smol_str.specs.Collect.{AppendedAll, StoppedAt, Collected, Outgrown, OutgrownAfter, IsValueOfRun, AppendsRun}
 use Rattle.smol_str.proofs.TextLemmas.Lists.{flat_map-parts}
 use Rattle.smol_str.proofs.TextLemmas.Places.{IsShort-front}
-use Rattle.smol_str.proofs.BuilderLemmas.Draft.{appended-twice, OnHeap-long}
+use Rattle.smol_str.proofs.BuilderLemmas.Draft.{appended-twice}
 
 -- the texts of characters, one after another, are the characters
 pub joined-chars : (xs : List ℕ) → joined char_text xs ≡ xs
@@ -45,10 +45,6 @@ module _ {S A : Type 0} (f : A → List ℕ) (steps : S → Option A → S → T
       let last = appended-last f old new (appended new (f x)) xs x is refl in
       let kind = sym (ap (λ b. b.kind) last) ∙ heap in
       (all, rest, Yields-more steps s xs run.0 x rest run.1 run.2, kind)
-
-  -- and where it was empty, their texts are not short
-  pub Outgrown-empty : OutgrownAfter f steps s (empty_draft InBuffer) → Outgrown f steps s
-  Outgrown-empty (xs, rest, came, heap) = (xs, rest, came, OnHeap-long (joined f xs) heap)
 
 -- what holds of the items that an iterator gave to its end, holds of a whole run
 WholeRun-DrainsIf-drained : {S A : Type 0} (steps : S → Option A → S → Type 0) (s : S) (xs : List A) (Q : List A → Type 0)

@@ -1,5 +1,5 @@
 -- For the loops of `str_ext`: what is appended to a builder, and a text mapped character by character.
-use Rattle.smol_str.proofs.Common.{◌≡◌, ℕ, ◌+◌, ◌<◌, List, [], ◌∷◌, ◌++◌, length, map, get_or, take, drop, sym, ap, ◌∙◌, append-nil, take-append-drop, arith, take_more, map-id, IsShort, Draft, OnHeap, kind_with, draft_of, appended, common_steps, rules}
+use Rattle.smol_str.proofs.Common.{◌≡◌, ℕ, ◌+◌, ◌<◌, List, [], ◌∷◌, ◌++◌, length, map, get_or, take, drop, sym, ap, ◌∙◌, take-append-drop, arith, take_more, map-id, IsShort, Draft, OnHeap, kind_with, draft_of, appended, common_steps}
 use Rattle.smol_str.proofs.BuilderLemmas.Draft.{kind_for-append, why_heap, appended-twice}
 
 -- a builder that a front outgrows is outgrown by the whole
@@ -18,9 +18,6 @@ draft_of-heap t u h = grind (arith, common_steps, why_heap, appended-draft_of)
 pub draft_of-appended : (old e : Draft) (v : List ℕ) → old ≡ draft_of old.text → e ≡ appended old v → e ≡ draft_of e.text
 draft_of-appended old e v is put = grind (arith, common_steps, appended-draft_of)
 
-pub appended-none : (old : Draft) → old ≡ draft_of old.text → appended old [] ≡ old
-appended-none old is = search (rules, appended-draft_of, append-nil)
-
 -- three texts appended, one after another
 module _ (old b d : Draft) (u v w all : List ℕ) (reads : all ≡ u ++ (v ++ w)) where
   pub appended-thrice : b ≡ appended old u → d ≡ appended b v → appended d w ≡ appended old all
@@ -34,8 +31,6 @@ module _ (old b d : Draft) (u v w all : List ℕ) (reads : all ≡ u ++ (v ++ w)
 
 -- what f makes of a text is what it makes of the text's parts
 module _ (f : List ℕ → List ℕ) (parts : (a b : List ℕ) → f (a ++ b) ≡ f a ++ f b) where
-  pub mapped-start : (old : Draft) → f [] ≡ [] → old ≡ draft_of old.text → old ≡ appended old (f [])
-  mapped-start old none is = sym (ap (appended old) none ∙ appended-none old is)
 
   pub mapped-more : (old b e : Draft) (ys v : List ℕ) (c : ℕ) → b ≡ appended old (f ys) → v ≡ f (c ∷ [])
       → e ≡ appended b v

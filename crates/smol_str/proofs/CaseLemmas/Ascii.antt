@@ -1,5 +1,5 @@
 -- For ASCII case, in texts, bytes and short texts as they are packed; and for what else maps ASCII characters alone.
-use Rattle.smol_str.proofs.Common.{◌≡◌, ℕ, ◌+◌, ◌<◌, List, [], ◌∷◌, ◌++◌, Bool, true, false, cond, map, refl, ap, ◌∙◌, arith, length-append, All, to_ascii_lowercase, to_ascii_uppercase, is_ascii, len_utf8, IsAsciiUppercase, IsAsciiLowercase, encode_utf8_all, encode, lt-ltb, le-ltb, ltb-true, ltb-false, cases_lt, nat_tests, length-encode, All-nil, All-cons, All-head, All-tail, size, lower, upper, front, IsAsciiText, BeginsPastAscii, lowercase_is, uppercase_is, All-map, All-from_get_or, get_or, common_steps, rules, ◌↔◌, IsTrue, MatchBool, zero, suc, ◌-◌, ◌≤◌, length, take, drop, sym, subst, take-add, length-take-le, drop-cons, length-drop, take-append-drop, IsUtf8, IsCharBoundary, IsAscii, IsNotAscii, chars, slice_range, Each1, map-append, take_all, length-map, IsAscii-append, IsAscii-take, IsAscii-drop, IsUtf8-from_ascii, IsUtf8-drop, IsCharBoundary-from_take, chars-append, chars-IsAscii, encodes-chars, IsAscii-nil, IsAscii-cons, IsAscii-map, All-from_ascii, lowercase_ascii, uppercase_ascii, AsciiCase, Lower, Upper, converted, IsAsciiFront, IsAscii-from_all, encodes-IsAscii, append_assoc, append-nil, ◌/◌, ◌&&◌, set, replicate, put_chunk, put_chunk_is, next, scalar, scalars, take_at, drop_at, drop_all, set_at, chars-encodes, scalars-chars, INLINE_CAP, IsPacked, packed, padded, unpacked, and_parts, All-replicate, IsAscii-push, ⊎_elim}
+use Rattle.smol_str.proofs.Common.{◌≡◌, ℕ, ◌+◌, ◌<◌, List, [], ◌∷◌, ◌++◌, Bool, true, false, cond, map, refl, ap, ◌∙◌, arith, length-append, All, to_ascii_lowercase, to_ascii_uppercase, is_ascii, len_utf8, IsAsciiUppercase, IsAsciiLowercase, encode_utf8_all, encode, lt-ltb, le-ltb, ltb-true, ltb-false, cases_lt, nat_tests, length-encode, All-nil, All-cons, All-head, All-tail, size, lower, upper, front, IsAsciiText, BeginsPastAscii, lowercase_is, uppercase_is, All-map, All-from_get_or, get_or, common_steps, rules, ◌↔◌, IsTrue, MatchBool, zero, suc, ◌-◌, ◌≤◌, length, take, drop, sym, subst, take-add, length-take-le, length-drop, take-append-drop, IsUtf8, IsCharBoundary, IsAscii, IsNotAscii, chars, slice_range, Each1, map-append, take_all, length-map, IsAscii-append, IsAscii-take, IsAscii-drop, IsUtf8-from_ascii, IsUtf8-drop, IsCharBoundary-from_take, chars-append, chars-IsAscii, encodes-chars, IsAscii-nil, IsAscii-cons, IsAscii-map, All-from_ascii, lowercase_ascii, uppercase_ascii, AsciiCase, Lower, Upper, converted, IsAsciiFront, IsAscii-from_all, encodes-IsAscii, append_assoc, append-nil, ◌/◌, ◌&&◌, set, replicate, put_chunk, put_chunk_is, next, scalar, scalars, take_at, drop_at, drop_all, set_at, chars-encodes, scalars-chars, INLINE_CAP, IsPacked, packed, padded, unpacked, and_parts, All-replicate, IsAscii-push, ⊎_elim}
 use Rattle.std.proofs.lemmas.List.Sums.{take_while-cons}
 use Rattle.smol_str.proofs.TextLemmas.Utf8.{Form, one, two, three, four, form, is_one}
 use Rattle.smol_str.proofs.BufferLemmas.Packed.{length-padded, len-bytes, IsPacked-packed, unpacked-packed}
@@ -146,9 +146,6 @@ pub ascii-told : (b : Bool) (bytes : List ℕ) → MatchBool b (IsAscii bytes) (
 ascii-told true bytes told ascii = refl
 ascii-told false bytes told ascii = absurd (omega (arith, told.1, ascii told.0))
 
-pub take_one : (xs : List ℕ) (i d : ℕ) → i < length xs → take 1 (drop i xs) ≡ get_or xs i d ∷ []
-take_one xs i d l = rw (drop-cons xs i d l)
-
 -- a character whose bytes begin past ASCII
 from_encode_past : (c : ℕ) (bs : List ℕ) → Form c → 128 ≤ get_or (encode c ++ bs) 0 0 → 128 ≤ c
 from_encode_past c bs (one h e) l = subst (λ (xs : List ℕ). 128 ≤ get_or (xs ++ bs) 0 0) e l
@@ -212,18 +209,6 @@ pub record IsMapping (f : ℕ → ℕ) (old bytes : List ℕ) (at : ℕ) : Type 
   pub inside : at ≤ length bytes
   pub maps : take at bytes ++ map f (drop at bytes) ≡ map f old
 
-pub mapping-start : (f : ℕ → ℕ) (old : List ℕ) → IsMapping f old old 0
-mapping-start f old = record { inside = omega arith; maps = refl }
-
-set_is : (xs : List ℕ) (i x : ℕ) → set xs i x ≡ put_chunk i xs (x ∷ [])
-set_is [] i x = refl
-set_is (y ∷ ys) zero x = put_none ys x
-  where
-    put_none : (zs : List ℕ) (w : ℕ) → w ∷ zs ≡ w ∷ put_chunk zero zs []
-    put_none [] w = refl
-    put_none (z ∷ zs) w = refl
-set_is (y ∷ ys) (suc i) x = ap (λ zs. y ∷ zs) (set_is ys i x)
-
 module _ (f : ℕ → ℕ) (old bytes : List ℕ) (at : ℕ) (h : IsMapping f old bytes at) where
   -- n bytes more
   pub mapping-more : (n : ℕ) (new v : List ℕ) → at + n ≤ length bytes → v ≡ map f (take n (drop at bytes))
@@ -255,13 +240,6 @@ module _ (f : ℕ → ℕ) (old bytes : List ℕ) (at : ℕ) (h : IsMapping f ol
             ∙ ap (map f) (take-append-drop n (drop at bytes)))
             ∙ h.maps;
       }
-
-  -- one byte more
-  pub mapping-byte : (x : ℕ) → at < length bytes → x ≡ f (get_or bytes at 0) → IsMapping f old (set bytes at x) (at + 1)
-  mapping-byte x room e = grind (arith, common_steps, mapping-more, take_one, set_is)
-
-  pub mapping-end : length bytes ≤ at → bytes ≡ map f old
-  mapping-end ended = search (rules, arith, drop_all, take-append-drop)
 
   -- the rest of the bytes, all at once
   pub mapping-rest : (k : ℕ) (new : List ℕ) → k ≡ length bytes - at → new ≡ map f (take k (drop at bytes))

@@ -1,5 +1,5 @@
 -- For `str_ext::case` and `str_ext::full`: the ASCII front of a text and the rest of it, in a case.
-use Rattle.smol_str.proofs.Common.{◌≡◌, ℕ, ◌≤◌, List, [], ◌++◌, length, take, drop, sym, ap, ◌∙◌, arith, length-take-le, length-append, IsUtf8, IsAscii, IsCharBoundary, chars, encode_utf8_all, take_at, IsUtf8-from_ascii, chars-IsAscii, encodes-IsAscii, IsAscii-from_all, AsciiCase, Lower, Upper, size, IsShort, padded, front, converted, Draft, OnHeap, draft_of, appended, common_steps, rules, suc, ◌<◌, ◌∷◌, Bool, false, Option, None, Some, Result, IfOk, flat_map, refl, subst, append-nil, ne_eqb, to_ascii_lowercase, to_ascii_uppercase, chars-encodes, encodes_same, IsAscii-cons, IsAscii-nil, INLINE_CAP, Meaning, IsValueOf, place_of, Occurs, lower, upper, lowercased, uppercased, IsAsciiText, HasSigma, full_case, mapped, IsMappedAlone, IfOk-weaker}
+use Rattle.smol_str.proofs.Common.{◌≡◌, ℕ, List, [], ◌++◌, length, take, drop, sym, ap, ◌∙◌, arith, length-append, IsUtf8, IsAscii, IsCharBoundary, chars, encode_utf8_all, take_at, IsUtf8-from_ascii, chars-IsAscii, encodes-IsAscii, IsAscii-from_all, AsciiCase, Lower, Upper, size, IsShort, padded, front, converted, Draft, OnHeap, draft_of, appended, common_steps, rules, suc, ◌<◌, ◌∷◌, Bool, false, Option, None, Some, Result, IfOk, flat_map, refl, subst, append-nil, ne_eqb, to_ascii_lowercase, to_ascii_uppercase, chars-encodes, encodes_same, IsAscii-cons, IsAscii-nil, INLINE_CAP, Meaning, IsValueOf, Occurs, lower, upper, lowercased, uppercased, IsAsciiText, HasSigma, full_case, mapped, IsMappedAlone, IfOk-weaker}
 use Rattle.smol_str.proofs.CaseLemmas.Ascii.{front-parts, size-lower, size-upper, front-append, converted-append, length-converted, IsAscii-converted}
 use Rattle.smol_str.proofs.BuilderLemmas.Push.{draft_of-heap, appended-heap}
 use Rattle.smol_str.proofs.TextLemmas.Split.{boundary-parts, chars-drop}
@@ -31,12 +31,6 @@ module _ (case : AsciiCase) (t buffer : List ℕ) (len : ℕ) (is : buffer
     ≡ padded (encode_utf8_all (converted case (front t)))) (long : len ≡ length (front t)) where
   pub take-front : take len buffer ≡ converted case (front t)
   take-front = grind (arith, common_steps, encodes-IsAscii, IsAscii-converted, IsAscii-front, length-converted, take_at)
-
-  pub front-inside : len ≤ length buffer
-  front-inside = grind (arith, common_steps, length-append, encodes-IsAscii, IsAscii-converted, IsAscii-front, length-converted)
-
-  pub front-taken : len ≡ length (take len buffer)
-  front-taken = sym (length-take-le len buffer front-inside)
 
   pub IsUtf8-front : IsUtf8 (take len buffer)
   IsUtf8-front = search (rules, take-front, IsUtf8-from_ascii, IsAscii-converted, IsAscii-front)
@@ -174,10 +168,6 @@ pub mapped-append : (case : AsciiCase) (a b : List ℕ) → mapped case (a ++ b)
 mapped-append Lower a b = flat_map-append to_lowercase a b
 mapped-append Upper a b = flat_map-append to_uppercase a b
 
-pub mapped-nil : (case : AsciiCase) → mapped case [] ≡ []
-mapped-nil Lower = refl
-mapped-nil Upper = refl
-
 -- no text without characters has a character that is mapped by what stands around it
 pub alone-nil : (case : AsciiCase) → IsMappedAlone case []
 alone-nil Lower = λ o. omega (arith, ap length o.2, length-append o.0 (0x3A3 ∷ o.1))
@@ -216,8 +206,3 @@ module _ {E : Type 0} (r : Result Meaning E) (case : AsciiCase) (t : List ℕ) w
   pub ok-front : IfOk r (λ v. IsValueOf (full_case case t) v)
       → IfOk r (λ v. (m : List ℕ) × (v.text ≡ converted case (front t) ++ m))
   ok-front h = IfOk-weaker r _ _ (λ v g. let k = full-front case t in (k.0, g.text ∙ k.1)) h
-
--- a value of a text has the place of its own text
-pub ok-place : {E : Type 0} (r : Result Meaning E) (t : List ℕ) → IfOk r (λ v. IsValueOf t v)
-    → IfOk r (λ v. v.place ≡ place_of v.text)
-ok-place r t h = IfOk-weaker r _ _ (λ v g. g.place ∙ ap place_of (sym g.text)) h

@@ -8,9 +8,6 @@ use Rattle.smol_str.proofs.TextLemmas.Lists.{head_same}
 
 -- ---- one character: what stays and what is replaced
 
-pub each-taken : (x y b : ℕ) → b ≡ x → y ≡ (if nat_eq b x then y else b)
-each-taken x y b e = rw ((Decides-eqb b x).1 e) refl
-
 pub each-kept : (x y b : ℕ) → ¬ (b ≡ x) → b ≡ (if nat_eq b x then y else b)
 each-kept x y b differs = rw (ne_eqb b x differs) refl
 

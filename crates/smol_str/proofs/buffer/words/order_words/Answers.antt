@@ -1,14 +1,9 @@
-use Rattle.smol_str.proofs.Common.{◌≡◌, ◌*◌, ◌+◌, ◌∙◌, sym, arith}
+use Rattle.smol_str.proofs.Common.{◌≡◌, ◌*◌, ◌+◌, ◌∙◌, arith, rules}
 use Rattle.smol_str.proofs.BufferLemmas.WordOrder.{order-differ, order-same}
 use Rattle.smol_str.proofs.buffer.words.order_words.Goals as goal
 
 pub returns-then-a-b : goal.returns-then-a-b
-returns-then-a-b c =
-    c.cmp.ensures
-    ∙ sym (c.loop-i.invariant
-    ∙ order-differ c.args.left.now c.args.right.now (8 * c.loop-i.i) _ _ c.fits-left c.fits-right
-    (omega (arith, c.told-left, c.loop-i-test.true))
-    (omega (arith, c.told-right, c.loop-i-test.true)) c.read_ordered-a.ensures c.read_ordered-b.ensures c.if-a-b.true)
+returns-then-a-b c = search (rules, arith, order-differ)
 
 pub loop-i-preserved : goal.loop-i-preserved
 loop-i-preserved c =

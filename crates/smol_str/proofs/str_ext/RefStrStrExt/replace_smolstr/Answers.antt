@@ -1,13 +1,10 @@
-use Rattle.smol_str.proofs.Common.{arith, chars, cut, no_limit}
+use Rattle.smol_str.proofs.Common.{arith, chars, cut, no_limit, rules}
 use Rattle.smol_str.proofs.CutLemmas.Cut.{IsCut-cut}
 use Rattle.smol_str.proofs.CutLemmas.Replacing.{joined-text, replaced-unlimited}
 use Rattle.smol_str.proofs.str_ext.RefStrStrExt.replace_smolstr.Goals as goal
 
 pub returns-clause-ok : goal.returns-clause-ok
-returns-clause-ok c =
-    let all = replaced-unlimited c.args.self.now.now (chars c.args.from.now) (chars c.args.to.now) c.type_inv.self
-    18446744073709551615 (omega arith) in
-    rw all at c.replace.ensures.ok
+returns-clause-ok c = search (rules, arith, replaced-unlimited)
 
 pub returns-clause-cut : goal.returns-clause-cut
 returns-clause-cut c =
@@ -21,7 +18,4 @@ returns-clause-text c = λ pieces h.
     joined-text c.replace.result t (chars c.args.from.now) _ (no_limit t) pieces h (returns-clause-ok c)
 
 pub returns-clause-refused : goal.returns-clause-refused
-returns-clause-refused c =
-    let all = replaced-unlimited c.args.self.now.now (chars c.args.from.now) (chars c.args.to.now) c.type_inv.self
-    18446744073709551615 (omega arith) in
-    rw all at c.replace.ensures.refused
+returns-clause-refused c = search (rules, arith, replaced-unlimited)

@@ -1,4 +1,4 @@
-use Rattle.smol_str.proofs.Common.{chars, cut}
+use Rattle.smol_str.proofs.Common.{chars, cut, arith, rules}
 use Rattle.smol_str.proofs.CutLemmas.Cut.{IsCut-cut, IsCut-unique}
 use Rattle.smol_str.proofs.CutLemmas.Replacing.{joined-text}
 use Rattle.smol_str.proofs.str_ext.RefStrStrExt.replacen_smolstr.Goals as goal
@@ -10,9 +10,7 @@ returns-clause-cut c =
     (cut t p c.args.count, IsCut-cut t p c.args.count)
 
 pub returns-clause-text : goal.returns-clause-text
-returns-clause-text c = λ pieces h.
-    let t = chars c.args.self.now.now in
-    joined-text c.replace.result t (chars c.args.from.now) _ c.args.count pieces h c.replace.ensures.ok
+returns-clause-text c = search (rules, arith, joined-text)
 
 pub returns-clause-one_cut : goal.returns-clause-one_cut
 returns-clause-one_cut c = IsCut-unique (chars c.args.self.now.now) (chars c.args.from.now) c.args.count

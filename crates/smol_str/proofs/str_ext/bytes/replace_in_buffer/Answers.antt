@@ -1,3 +1,4 @@
+use Rattle.std.proofs.Common.{arith, rules}
 use Rattle.smol_str.proofs.CutLemmas.Bytes.{IsUtf8-each, chars-each}
 use Rattle.smol_str.proofs.str_ext.bytes.replace_in_buffer.Goals as goal
 
@@ -7,12 +8,4 @@ from_utf8_unchecked-requires c =
     (IsUtf8-each _ _ c.requires.ascii_from c.requires.ascii_to c.args.text.now c.utf8.text)
 
 pub returns : goal.returns
-returns c =
-    let same = chars-each _ _ c.requires.ascii_from c.requires.ascii_to c.args.text.now c.utf8.text in
-    rw (
-      c.from_utf8_unchecked.ensures,
-      c.replace_each.ensures,
-      c.copy_from_slice.ensures.after,
-      c.as_bytes.ensures.value,
-      same,
-    ) at c.new_inline.ensures
+returns c = search (rules, arith, chars-each)

@@ -1,4 +1,4 @@
-use Rattle.smol_str.proofs.Common.{◌≡◌, ◌∙◌, ap, length, drop, rules, chars, string_bytes, each_replaced}
+use Rattle.smol_str.proofs.Common.{◌≡◌, length, drop, rules, arith}
 use Rattle.smol_str.proofs.CutLemmas.Bytes.{IsUtf8-each, chars-each, whole-each}
 use Rattle.smol_str.proofs.str_ext.bytes.replace_on_heap.Goals as goal
 
@@ -12,13 +12,4 @@ from_utf8_unchecked-requires c =
     rw read (IsUtf8-each _ _ c.requires.ascii_from c.requires.ascii_to c.args.text.now c.utf8.text)
 
 pub returns : goal.returns
-returns c =
-    let text : c.deref_mut.result.now ≡ c.args.text.now = search rules in
-    let long : c.in_ok-bytes.bytes.len ≡ length c.args.text.now = search rules in
-    let new = c.replace_each.new.bytes in
-    let read = whole-each c.args.from c.args.to c.args.text.now new (drop (length new) c.in_ok-bytes.bytes.items)
-    c.in_ok-bytes.bytes.len (rw text at c.replace_each.ensures) long in
-    let whole : string_bytes c.from_utf8_unchecked.result ≡ each_replaced c.args.from c.args.to c.args.text.now =
-    ap (λ v. v.items) c.from_utf8_unchecked.ensures.value ∙ read in
-    let same = chars-each _ _ c.requires.ascii_from c.requires.ascii_to c.args.text.now c.utf8.text in
-    rw (ap chars whole ∙ same) at c.from_owned.ensures.ok
+returns c = search (rules, arith, whole-each, chars-each)

@@ -1,4 +1,4 @@
-use Rattle.smol_str.proofs.Common.{chars, ap, rules}
+use Rattle.smol_str.proofs.Common.{chars, rules, arith}
 use Rattle.smol_str.proofs.CaseLemmas.Ascii.{IsAscii-chars}
 use Rattle.smol_str.proofs.CaseLemmas.Full.{full-ascii, full-alone}
 use Rattle.smol_str.proofs.str_ext.full.long_full_case.Goals as goal
@@ -10,7 +10,4 @@ returns-then-is_ascii c =
     rw (full-ascii c.args.case (chars text) ascii) c.to_ascii_case_on_heap.ensures
 
 pub returns : goal.returns
-returns c =
-    let alone = c.has_context.ensures.alone c.if-has_context.false in
-    let text = ap (λ d. d.text) (c.in_ok-push_mapped.ensures.ok) in
-    search (rules, full-alone)
+returns c = search (rules, arith, full-alone)
