@@ -1,5 +1,5 @@
 -- What stands where an input was not read, or where there is no report on it.
-use Rattle.std.proofs.Common.{◌≡◌, ℕ, List, Option, Some, None, Result, Ok, Err, inl, inr, refl, sym, ap, ◌∙◌, subst, IsUtf8}
+use Rattle.std.proofs.Common.{◌≡◌, ℕ, List, Option, Some, None, Result, Ok, Err, inl, inr, refl, subst, IsUtf8, arith, rules}
 use Rattle.std.specs.Prelude.{IfSome}
 use Rattle.std.specs.Result.{IsErrAnd, IfErr, OnErr}
 use Rattle.std.specs.Str.{chars}
@@ -64,9 +64,7 @@ after-no_report_on_text mode bytes (Io e) utf8 none = absurd none
 -- memory was refused
 pub no_report-refused : {T : Type 0} (r : Result T RunFault) (mode : Mode) (t : List ℕ)
     → IsErrAnd r (λ fault. fault ≡ OutOfMemory) → WantsMemory mode t → IfErr r (HasNoReport mode t)
-no_report-refused r mode t refused wants =
-    let (fault, is_err, is) = err_from_is_err_and r refused in
-    subst (λ r. IfErr r (HasNoReport mode t)) (sym (is_err ∙ ap Err is)) wants
+no_report-refused r mode t refused wants = search (rules, arith, err_from_is_err_and)
 
 -- what holds anyway
 pub OnErr-from : {T E : Type 0} (P : Type 0) (r : Result T E) → P → OnErr r P

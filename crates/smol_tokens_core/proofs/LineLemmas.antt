@@ -1,8 +1,8 @@
 -- For the laws of lines and for the first line: what the lines of a text are, and how they give the text back.
-use Rattle.std.proofs.Common.{◌≡◌, ◌≢◌, ℕ, ◌<◌, ◌==◌, List, [], ◌∷◌, ◌++◌, Bool, true, false, cond, ◌⊎◌, inl, inr}
-use Rattle.std.proofs.Common.{⊎_elim, length, refl, sym, ap, ◌∙◌, subst, arith, append_assoc, append-nil}
+use Rattle.std.proofs.Common.{◌≡◌, ◌≢◌, ℕ, ◌<◌, ◌==◌, List, [], ◌∷◌, ◌++◌, Bool, true, false, cond, ◌⊎◌, inl, inr, rules}
+use Rattle.std.proofs.Common.{length, refl, sym, ap, ◌∙◌, arith, append_assoc, append-nil}
 use Rattle.std.specs.Prelude.{All}
-use Rattle.std.specs.List.{onto_first, slice_split}
+use Rattle.std.specs.List.{onto_first}
 use Rattle.std.proofs.lemmas.Bool.{eqb-false, ne_eqb}
 use Rattle.std.proofs.lemmas.List.Elements.{All-nil, All-cons, All-weaker, All-head, All-tail}
 use Rattle.std.proofs.lemmas.List.Splits.{slice_split_at, slice_split_none, length-slice_split}
@@ -19,10 +19,7 @@ before q (r ∷ rs) some = refl
 
 -- what stands before the first newline is the first line
 pub lines-first : (q t : List ℕ) → All (λ c. is_newline c ≡ false) q → lines (q ++ 10 ∷ t) ≡ q ∷ lines t
-lines-first q t none =
-    let count = length-slice_split is_newline t in
-    lines-pieces (q ++ 10 ∷ t) ∙ ap without_empty_last (slice_split_at is_newline q 10 t none refl)
-    ∙ before q (slice_split is_newline t) (omega arith) ∙ ap (λ ls. q ∷ ls) (sym (lines-pieces t))
+lines-first q t none = search (rules, arith, length-slice_split, lines-pieces, slice_split_at, before)
 
 -- without a newline the text is the one line, if it is not empty
 pub lines-last : (q : List ℕ) → All (λ c. is_newline c ≡ false) q → lines q ≡ without_empty_last (q ∷ [])
@@ -61,15 +58,7 @@ GivesBack p qs t = (joined_by p qs ≡ t) ⊎ (joined_by p qs ++ p ≡ t)
 
 joined_step : (p q r : List ℕ) (rs ss : List (List ℕ)) → GivesBack p (r ∷ ss) (joined_by p (r ∷ rs))
     → GivesBack p (q ∷ r ∷ ss) (joined_by p (q ∷ r ∷ rs))
-joined_step p q r rs ss h =
-    let all = joined_more p q r rs in
-    let kept = joined_more p q r ss in
-    ⊎_elim
-    (λ e. inl (kept ∙ ap (λ s. q ++ (p ++ s)) e ∙ sym all))
-    (λ e. inr (ap (λ s. s ++ p) kept ∙ append_assoc q (p ++ joined_by p (r ∷ ss)) p
-    ∙ ap (λ s. q ++ s) (append_assoc p (joined_by p (r ∷ ss)) p)
-    ∙ ap (λ s. q ++ (p ++ s)) e ∙ sym all))
-    h
+joined_step p q r rs ss h = search (rules, arith, joined_more, append_assoc)
 
 joined_kept : (p : List ℕ) (qs : List (List ℕ)) → GivesBack p (without_empty_last qs) (joined_by p qs)
 joined_kept p [] = inl refl
@@ -81,7 +70,4 @@ joined_kept p (q ∷ (c ∷ r) ∷ []) = inl refl
 joined_kept p (q ∷ r ∷ s ∷ ss) = joined_step p q r (s ∷ ss) (without_empty_last (s ∷ ss)) (joined_kept p (r ∷ s ∷ ss))
 
 pub joined-lines : (t : List ℕ) → (joined_by newline (lines t) ≡ t) ⊎ (joined_by newline (lines t) ++ newline ≡ t)
-joined-lines t =
-    rw (lines-pieces t)
-    (subst (λ s. GivesBack newline (without_empty_last (slice_split is_newline t)) s) (joined-pieces t)
-    (joined_kept newline (slice_split is_newline t)))
+joined-lines t = search (rules, arith, lines-pieces, joined-pieces, joined_kept)

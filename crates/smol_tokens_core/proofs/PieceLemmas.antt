@@ -1,5 +1,5 @@
 -- For the laws of lines: std's `split` at newlines gives the unlimited cut, and so the lines from the left.
-use Rattle.std.proofs.Common.{◌≡◌, ◌≢◌, ℕ, ◌+◌, ◌-◌, ◌≤◌, ◌==◌, List, [], ◌∷◌, ◌++◌, Bool, true, false, cond}
+use Rattle.std.proofs.Common.{◌≡◌, ◌≢◌, ℕ, ◌+◌, ◌-◌, ◌≤◌, ◌==◌, List, [], ◌∷◌, ◌++◌, Bool, true, false, cond, rules}
 use Rattle.std.proofs.Common.{length, refl, sym, ap, ◌∙◌, subst, arith, length-append}
 use Rattle.std.specs.List.{onto_first, slice_split}
 use Rattle.std.proofs.lemmas.Bool.{eqb-true, eqb-false, ne_eqb}
@@ -89,9 +89,7 @@ pub lines-nil : lines [] ≡ []
 lines-nil = lines-pieces []
 
 pub lines-cons : (c : ℕ) (t : List ℕ) → lines (c ∷ t) ≡ cond (c == 10) ([] ∷ lines t) (onto_first c (lines t))
-lines-cons c t =
-    lines-pieces (c ∷ t) ∙ from_tail c (pieces_of t) (is_pieces t (length t) (omega arith)).some (c == 10)
-    ∙ ap (λ ls. cond (c == 10) ([] ∷ ls) (onto_first c ls)) (sym (lines-pieces t))
+lines-cons c t = search (rules, arith, lines-pieces, from_tail, is_pieces)
 
 pub lines-newline : (t : List ℕ) → lines (10 ∷ t) ≡ [] ∷ lines t
 lines-newline t = lines-cons 10 t

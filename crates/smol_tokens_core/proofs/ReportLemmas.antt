@@ -1,5 +1,5 @@
 -- For the reports: the bytes of report lines and of count lines, one after another.
-use Rattle.std.proofs.Common.{◌≡◌, ℕ, ◌+◌, ◌<◌, ◌^◌, List, [], ◌∷◌, ◌++◌, Some, take, refl, sym, ap, ◌∙◌}
+use Rattle.std.proofs.Common.{◌≡◌, ℕ, ◌+◌, ◌<◌, ◌^◌, List, [], ◌∷◌, ◌++◌, Some, take, refl, sym, ap, ◌∙◌, arith, rules}
 use Rattle.std.proofs.Common.{codes, encode_utf8_all}
 use Rattle.std.specs.Fmt.{decimal}
 use Rattle.std.specs.List.{flat_map}
@@ -45,11 +45,7 @@ report_line-value t v is = rw (is.text, is.place) refl
 pub report-last : {A : Type 0} (f : A → List ℕ) (items : List A) (x : A) (out new : List ℕ)
     → out ≡ encode_utf8_all (flat_map f items) → new ≡ out ++ encode_utf8_all (f x)
     → new ≡ encode_utf8_all (flat_map f (items ++ x ∷ []))
-report-last f items x out new so_far is =
-    let more : flat_map f (items ++ x ∷ []) ≡ flat_map f items ++ f x =
-    flat_map-append f items (x ∷ []) ∙ ap (λ t. flat_map f items ++ t) (append-nil (f x)) in
-    is ∙ ap (λ bytes. bytes ++ encode_utf8_all (f x)) so_far ∙ sym (encodes-append (flat_map f items) (f x))
-    ∙ ap encode_utf8_all (sym more)
+report-last f items x out new so_far is = search (rules, arith, flat_map-append, append-nil, encodes-append)
 
 -- the same, where the items are taken by their places
 pub report-next : {A : Type 0} (f : A → List ℕ) (items : List A) (i : ℕ) (x : A) (out new : List ℕ)

@@ -1,5 +1,5 @@
 -- For the lemmas of tallies: each text of a list once, in order of first sight.
-use Rattle.std.proofs.Common.{◌≡◌, ◌≢◌, ℕ, List, [], ◌∷◌, ◌++◌, true, false, refl, sym, ap, ◌∙◌, arith}
+use Rattle.std.proofs.Common.{◌≡◌, ◌≢◌, ℕ, List, [], ◌∷◌, ◌++◌, true, false, refl, sym, ap, ◌∙◌, arith, rules}
 use Rattle.std.specs.Prelude.{not, All}
 use Rattle.std.specs.List.{AllPairs}
 use Rattle.std.proofs.lemmas.Bool.{false≢true}
@@ -45,10 +45,7 @@ without-append : (t : List ℕ) (us vs : List (List ℕ)) → without t (us ++ v
 without-append t us vs = filter-append (λ u. not (is_same t u)) us vs
 
 pub All-without : (t : List ℕ) (us : List (List ℕ)) → All (λ u. is_same t u ≡ false) (without t us)
-All-without t us =
-    All-weaker (λ u. not (is_same t u) ≡ true) (λ u. is_same t u ≡ false)
-    (λ u h. by_same t u (λ e. absurd (false≢true (sym (ap not e) ∙ h))) (λ e. e))
-    (without t us) (filter_passes (λ u. not (is_same t u)) us)
+All-without t us = search (rules, arith, All-weaker, by_same, false≢true, filter_passes)
 
 -- the first sights of a list without a text
 sights_without : (x : List ℕ) (ys : List (List ℕ)) → first_sights (without x ys) ≡ without x (first_sights ys)

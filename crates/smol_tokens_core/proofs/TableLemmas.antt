@@ -1,5 +1,5 @@
 -- For the laws of tallies by steps: a list in which no token stands twice is its tally, and takes one more entry.
-use Rattle.std.proofs.Common.{◌≡◌, ◌≢◌, ℕ, ◌+◌, suc, List, [], ◌∷◌, ◌++◌, Bool, true, false, cond, Some, unwrap_or}
+use Rattle.std.proofs.Common.{◌≡◌, ◌≢◌, ℕ, ◌+◌, suc, List, [], ◌∷◌, ◌++◌, Bool, true, false, cond, Some, unwrap_or, rules}
 use Rattle.std.proofs.Common.{refl, sym, ap, ◌∙◌, subst, arith, append-nil}
 use Rattle.std.specs.Prelude.{not, All}
 use Rattle.std.specs.List.{AllPairs}
@@ -63,10 +63,7 @@ put_kept k t (e ∷ es) v d h =
 
 drop_last : (t k : List ℕ) (es : List (List ℕ × ℕ)) (v : ℕ) → k ≡ t → IsNew k es
     → without_token k (es ++ (t, v) ∷ []) ≡ es
-drop_last t k es v same h =
-    filter-append (λ e. not (is_same k e.0)) es ((t, v) ∷ [])
-    ∙ ap (λ s. s ++ without_token k ((t, v) ∷ [])) (new_kept k es h)
-    ∙ ap (λ b. es ++ cond (not b) ((t, v) ∷ []) []) (ap (is_same k) (sym same) ∙ is_same_itself k) ∙ append-nil es
+drop_last t k es v same h = search (rules, arith, filter-append, without_token, new_kept, is_same_itself, append-nil)
 
 -- the number that a table has for a token, and 0 where it has none
 abbrev had : List ℕ → List (List ℕ × ℕ) → ℕ

@@ -1,5 +1,5 @@
 -- For the laws of tallies: sums of times, and the tally of a tally and more.
-use Rattle.std.proofs.Common.{◌≡◌, ◌≢◌, ℕ, ◌+◌, List, [], ◌∷◌, ◌++◌, true, false, cond, ◌⊎◌, inl, inr, ⊎_elim}
+use Rattle.std.proofs.Common.{◌≡◌, ◌≢◌, ℕ, ◌+◌, List, [], ◌∷◌, ◌++◌, true, false, cond, ◌⊎◌, inl, inr, ⊎_elim, rules}
 use Rattle.std.proofs.Common.{map, refl, sym, ap, ◌∙◌, subst, arith}
 use Rattle.std.specs.Prelude.{not, filter, All}
 use Rattle.std.specs.List.{AllPairs}
@@ -83,14 +83,7 @@ tokens_tally es = firsts-paired (λ u. times_of u es) (first_sights (tokens es))
 -- a tally of a tally and more
 pub tally-again : (es fs : List (List ℕ × ℕ)) → tally (tally es ++ fs) ≡ tally (es ++ fs)
 tally-again es fs =
-    let counts : (t : List ℕ) → times_of t (tally es ++ fs) ≡ times_of t (es ++ fs) = λ t.
-    times-append t (tally es) fs ∙ ap (λ n. n + times_of t fs) (times_of-tally t es) ∙ sym (times-append t es fs) in
-    let sights : first_sights (tokens (tally es ++ fs)) ≡ first_sights (tokens (es ++ fs)) =
-    ap first_sights (map-append (λ e. e.0) (tally es) fs ∙ ap (λ s. s ++ tokens fs) (tokens_tally es))
-    ∙ sights_again (tokens es) (tokens fs) ∙ ap first_sights (sym (map-append (λ e. e.0) es fs)) in
-    paired_agree (λ t. times_of t (tally es ++ fs)) (λ t. times_of t (es ++ fs))
-    (first_sights (tokens (tally es ++ fs))) (λ k d l. counts _)
-    ∙ ap (paired (λ t. times_of t (es ++ fs))) sights
+    search (rules, arith, times-append, times_of-tally, map-append, tokens_tally, sights_again, paired_agree, paired)
 
 -- no token stands twice
 pub once-tally : (es : List (List ℕ × ℕ)) → AllPairs (λ s t. s ≢ t) (tokens (tally es))

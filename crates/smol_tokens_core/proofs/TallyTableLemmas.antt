@@ -1,5 +1,5 @@
 -- For `Tally`: a table by values, seen as pairs of texts and counts.
-use Rattle.std.proofs.Common.{◌≡◌, ℕ, ◌+◌, List, [], ◌∷◌, ◌++◌, Bool, true, false, cond, Option, Some, unwrap_or}
+use Rattle.std.proofs.Common.{◌≡◌, ℕ, ◌+◌, List, [], ◌∷◌, ◌++◌, Bool, true, false, cond, Option, Some, unwrap_or, arith, rules}
 use Rattle.std.proofs.Common.{refl, sym, ap, ◌∙◌}
 use Rattle.std.specs.Map.{lookup, set_value}
 use Rattle.std.proofs.lemmas.Slice.Eq.{bytes_eq-Decides}
@@ -39,10 +39,7 @@ lookup-once t pairs once =
 -- one insert takes up one pair more
 pub insert-once : (pairs : List (List ℕ × ℕ)) (t : List ℕ) (times n : ℕ) → HasEachOnce pairs →
     n ≡ times_of t pairs + times → insert_entry is_same pairs t n ≡ tally (pairs ++ (t, times) ∷ [])
-insert-once pairs t times n once is =
-    ap (insert_entry is_same pairs t) is
-    ∙ ap (λ es. insert_entry is_same es t (times_of t pairs + times)) (sym (tally-table pairs once))
-    ∙ sym (tally-added pairs t times)
+insert-once pairs t times n once is = search (rules, arith, tally-table, tally-added)
 
 pub HasEachOnce-tally : (pairs more : List (List ℕ × ℕ)) → more ≡ tally pairs → HasEachOnce more
 HasEachOnce-tally pairs more is = rw is (once-tally pairs)
@@ -91,13 +88,7 @@ pub added : (pairs : List (List ℕ × ℕ)) (es new : List (Meaning × ℕ)) (t
     → by_text es ≡ pairs → HasEachOnce pairs → n ≡ times_of token.text pairs + times
     → new ≡ insert_entry is_text_of es token n
     → (by_text new ≡ tally (pairs ++ (token.text, times) ∷ [])) × (lookup (is_same token.text) (by_text new) ≡ Some n)
-added pairs es new token times n is once sum after =
-    let t = token.text in
-    let entered : by_text new ≡ insert_entry is_same pairs t n =
-    ap by_text after ∙ insert-by_text es token n ∙ ap (λ ps. insert_entry is_same ps t n) is in (
-      entered ∙ insert-once pairs t times n once sum,
-      ap (lookup (is_same t)) entered ∙ lookup-insert pairs t n,
-    )
+added pairs es new token times n is once sum after = search (rules, arith, insert-by_text, insert-once, lookup-insert)
 
 -- the same, where the count is written at the token that is there
 pub counted-again : (pairs : List (List ℕ × ℕ)) (es new : List (Meaning × ℕ)) (token : Meaning) (times n more : ℕ)
@@ -114,5 +105,4 @@ counted-again pairs es new token times n more is once there sum after =
 pub same-count : (pairs : List (List ℕ × ℕ)) (es new : List (Meaning × ℕ)) (token : Meaning) (n : ℕ)
     → by_text es ≡ pairs → lookup (is_text_of token) es ≡ Some n → new ≡ set_value (is_text_of token) es n
     → by_text new ≡ pairs
-same-count pairs es new token n is there after =
-    ap by_text (after ∙ set_value_same (is_text_of token) es n there) ∙ is
+same-count pairs es new token n is there after = search (rules, arith, set_value_same)

@@ -1,5 +1,5 @@
 -- For `tally_lines`: lines counted one after another, and what a count that is full says of all lines.
-use Rattle.std.proofs.Common.{◌≡◌, ℕ, ◌+◌, ◌<◌, length, inr, List, [], ◌∷◌, ◌++◌, cond, map, refl, sym, ap, ◌∙◌, arith}
+use Rattle.std.proofs.Common.{◌≡◌, ℕ, ◌+◌, ◌<◌, length, inr, List, [], ◌∷◌, ◌++◌, cond, map, refl, sym, ap, ◌∙◌, arith, rules}
 use Rattle.std.specs.Prelude.{count_by}
 use Rattle.std.proofs.lemmas.List.{map-append, append_assoc, length-append}
 use Rattle.std.proofs.lemmas.List.Sums.{sum_by-cons, sum_by-append}
@@ -27,15 +27,11 @@ times_of-seen_once t (u ∷ us) =
 pub tally-seen : {A : Type 0} (f : A → List ℕ) (seen : List A) (x : A) (t : List ℕ) (old new : List (List ℕ × ℕ))
     → old ≡ tally (seen_once (map f seen)) → t ≡ f x → new ≡ tally (old ++ (t, 1) ∷ [])
     → new ≡ tally (seen_once (map f (seen ++ x ∷ [])))
-tally-seen f seen x t old new so_far same added =
-    added ∙ (λ i. tally (so_far i ++ (same i, 1) ∷ [])) ∙ tally-again (seen_once (map f seen)) ((f x, 1) ∷ [])
-    ∙ ap tally (sym (ap seen_once (map-append f seen (x ∷ [])) ∙ map-append (λ t. (t, 1)) (map f seen) (f x ∷ [])))
+tally-seen f seen x t old new so_far same added = search (rules, arith, tally-again, map-append)
 
 pub lines-seen : {A : Type 0} (f : A → List ℕ) (seen : List A) (x : A) (all left rest : List (List ℕ))
     → all ≡ map f seen ++ left → left ≡ f x ∷ rest → all ≡ map f (seen ++ x ∷ []) ++ rest
-lines-seen f seen x all left rest is next =
-    is ∙ ap (λ us. map f seen ++ us) next
-    ∙ sym (ap (λ us. us ++ rest) (map-append f seen (x ∷ [])) ∙ append_assoc (map f seen) (f x ∷ []) rest)
+lines-seen f seen x all left rest is next = search (rules, arith, map-append, append_assoc)
 
 -- a text that has a line is not empty
 pub some_text : (t : List ℕ) (seen left rest : List (List ℕ)) (line : List ℕ) → lines t ≡ seen ++ left
