@@ -30,7 +30,7 @@ use Rattle.smol_str.proofs.BuilderLemmas.Draft.{kind_with-short}
 use Rattle.smol_str.proofs.BuilderLemmas.Collect.{joined-chars, joined-drained, not_short-outgrown}
 use Rattle.smol_str.specs.Wire.{prefix_size}
 use Rattle.smol_str.proofs.WireLemmas.Wire.{length-wire, prefix_size-wire, wire-apart, Holds-one, Holds-whole, body-Holds, Holds-written, wire-held, length-Holds}
-use Rattle.std.proofs.Common.{◌^◌, ◌∷◌, All, append_assoc, nat_eq, if◌then◌else◌}
+use Rattle.std.proofs.Common.{◌^◌, ◌∷◌, All, append_assoc, if◌then◌else◌}
 use Rattle.std.specs.Int.{to_le_bytes}
 use Rattle.std.specs.Str.{bytes_eq}
 use Rattle.std.proofs.lemmas.List.{flat_map_more}
@@ -150,10 +150,8 @@ pub each_replaced-short : {T E : Type 0} (r : Result T E) (bs : List ℕ) (x y :
     → OnErr r (¬ (IsShort (replaced_all (chars bs) (chars (x ∷ [])) (chars (y ∷ []))))) → IsUtf8 bs → x < 128 → y < 128
     → OnErr r (¬ (IsShort (chars bs)))
 each_replaced-short (Ok v) bs x y long u low small = tt
-each_replaced-short (Err e) bs x y long u low small = λ short.
-    let each = ap size (replaced_each x y low small (chars bs)) in
-    let sizes = size-mapped (λ c. if nat_eq c x then y else c) (each-moves x y low small) bs u in
-    long (omega (arith, each, sizes, size-chars bs u, short))
+each_replaced-short (Err e) bs x y long u low small =
+    search (rules, arith, replaced_each, size-mapped, each-moves, size-chars)
 
 pub ruleset replacing = (each_replaced-value, each_replaced-refused, each_replaced-short)
 
@@ -186,8 +184,7 @@ module _ {S A B : Type 0} {steps : S → Option A → S → Type 0} {s : S} (h :
   pub collected : {E : Type 0} (m : Meaning → Meaning) (r : Result Meaning E)
       → IfOk r (Collected (λ x. h (v x)) steps s m) → ((y : Meaning) → m y ≡ y) → YieldsList steps v s all
       → IfOk r (λ y. IsValueOf (joined h all) y)
-  collected m (Ok y) (xs, d, is) same gives =
-      subst (IsValueOf (joined h all)) (same y) (subst (λ t. IsValueOf t (m y)) (joined-drained h v xs all d gives) is)
+  collected m (Ok y) (xs, d, is) same gives = search (rules, arith, joined-drained)
   collected m (Err e) is same gives = tt
 
   pub refused : {T E : Type 0} (r : Result T E)
@@ -459,13 +456,7 @@ pub forms-next : (ss ts : List (List ℕ)) (x y : List ℕ) → All HasWire ss �
     → All (λ t. IsTrue (all_scalars t)) ts → length ss < length ts → flat_map wire ss ++ x ≡ flat_map wire ts ++ y
     → (t after : List ℕ) × HasWire t × IsTrue (all_scalars t) × (x ≡ wire t ++ after)
 forms-next ss [] x y h k scalars l e = absurd (omega (arith, l))
-forms-next [] (t ∷ ts) x y h k scalars l e = (
-  t,
-  flat_map wire ts ++ y,
-  All-head HasWire t ts k,
-  All-head (λ t. IsTrue (all_scalars t)) t ts scalars,
-  e ∙ append_assoc (wire t) (flat_map wire ts) y,
-)
+forms-next [] (t ∷ ts) x y h k scalars l e = search (rules, arith, All-head, append_assoc)
 forms-next (s ∷ ss) (t ∷ ts) x y h k scalars l e =
     forms-next ss ts x y (All-tail HasWire s ss h) (All-tail HasWire t ts k)
     (All-tail (λ t. IsTrue (all_scalars t)) t ts scalars) (omega (arith, l))

@@ -1,5 +1,5 @@
 -- For ASCII case, in texts, bytes and short texts as they are packed; and for what else maps ASCII characters alone.
-use Rattle.smol_str.proofs.Common.{◌≡◌, ℕ, ◌+◌, ◌<◌, List, [], ◌∷◌, ◌++◌, Bool, true, false, cond, map, refl, ap, ◌∙◌, arith, length-append, All, to_ascii_lowercase, to_ascii_uppercase, is_ascii, len_utf8, IsAsciiUppercase, IsAsciiLowercase, encode_utf8_all, encode, lt-ltb, le-ltb, ltb-true, ltb-false, cases_lt, nat_tests, length-encode, All-nil, All-cons, All-head, All-tail, size, lower, upper, front, IsAsciiText, BeginsPastAscii, lowercase_is, uppercase_is, All-map, All-from_get_or, get_or, common_steps, rules, ◌↔◌, IsTrue, MatchBool, zero, suc, ◌-◌, ◌≤◌, length, take, drop, sym, subst, take-add, length-take-le, length-drop, take-append-drop, IsUtf8, IsCharBoundary, IsAscii, IsNotAscii, chars, slice_range, Each1, map-append, take_all, length-map, IsAscii-append, IsAscii-take, IsAscii-drop, IsUtf8-from_ascii, IsUtf8-drop, IsCharBoundary-from_take, chars-append, chars-IsAscii, encodes-chars, IsAscii-nil, IsAscii-cons, IsAscii-map, All-from_ascii, lowercase_ascii, uppercase_ascii, AsciiCase, Lower, Upper, converted, IsAsciiFront, IsAscii-from_all, encodes-IsAscii, append_assoc, append-nil, ◌/◌, ◌&&◌, set, replicate, put_chunk, put_chunk_is, next, scalar, scalars, take_at, drop_at, drop_all, set_at, chars-encodes, scalars-chars, INLINE_CAP, IsPacked, packed, padded, unpacked, and_parts, All-replicate, IsAscii-push, ⊎_elim}
+use Rattle.smol_str.proofs.Common.{◌≡◌, ℕ, ◌+◌, ◌<◌, List, [], ◌∷◌, ◌++◌, Bool, true, false, cond, map, refl, ap, ◌∙◌, arith, length-append, All, to_ascii_lowercase, to_ascii_uppercase, is_ascii, len_utf8, IsAsciiUppercase, IsAsciiLowercase, encode_utf8_all, encode, lt-ltb, le-ltb, ltb-true, ltb-false, cases_lt, nat_tests, length-encode, All-nil, All-cons, All-head, All-tail, size, lower, upper, front, IsAsciiText, BeginsPastAscii, lowercase_is, uppercase_is, All-map, All-from_get_or, get_or, common_steps, rules, ◌↔◌, IsTrue, MatchBool, zero, suc, ◌-◌, ◌≤◌, length, take, drop, sym, subst, take-add, length-take-le, length-drop, take-append-drop, IsUtf8, IsCharBoundary, IsAscii, IsNotAscii, chars, slice_range, Each1, map-append, take_all, length-map, IsAscii-append, IsAscii-take, IsAscii-drop, IsUtf8-from_ascii, IsUtf8-drop, IsCharBoundary-from_take, chars-append, chars-IsAscii, encodes-chars, IsAscii-nil, IsAscii-cons, IsAscii-map, All-from_ascii, lowercase_ascii, uppercase_ascii, AsciiCase, Lower, Upper, converted, IsAsciiFront, IsAscii-from_all, encodes-IsAscii, append_assoc, append-nil, ◌&&◌, set, replicate, put_chunk, put_chunk_is, scalar, scalars, take_at, drop_at, drop_all, set_at, chars-encodes, scalars-chars, INLINE_CAP, IsPacked, packed, padded, unpacked, and_parts, All-replicate, IsAscii-push, ⊎_elim}
 use Rattle.std.proofs.lemmas.List.Sums.{take_while-cons}
 use Rattle.smol_str.proofs.TextLemmas.Utf8.{Form, one, two, three, four, form, is_one}
 use Rattle.smol_str.proofs.BufferLemmas.Packed.{length-padded, len-bytes, IsPacked-packed, unpacked-packed}
@@ -36,16 +36,7 @@ uppercase_none c h = grind (arith, nat_tests)
 -- what holds of each character holds of the text
 size-map : (f : ℕ → ℕ) → ((c : ℕ) → len_utf8 (f c) ≡ len_utf8 c) → (t : List ℕ) → size (map f t) ≡ size t
 size-map f same [] = refl
-size-map f same (c ∷ t) =
-    omega (
-      arith,
-      size-map f same t,
-      same c,
-      length-encode c,
-      length-encode (f c),
-      length-append (encode c) (encode_utf8_all t),
-      length-append (encode (f c)) (encode_utf8_all (map f t)),
-    )
+size-map f same (c ∷ t) = search (rules, arith, length-encode, length-append, size-map f same t)
 
 pub map-map : (f g h : ℕ → ℕ) → ((c : ℕ) → f (g c) ≡ h c) → (t : List ℕ) → map f (map g t) ≡ map h t
 map-map f g h same [] = refl
@@ -259,21 +250,9 @@ scalar_below y small = grind (arith, nat_tests)
 module _ (f : ℕ → ℕ) (m : MovesAscii f) where
   encode-map : (c : ℕ) → Form c → encode (f c) ≡ map f (encode c)
   encode-map c (one h e) = is_one (f c) (m.low c h) ∙ ap (map f) (sym e)
-  encode-map c (two l h e) =
-      ap encode (m.others c l) ∙ e
-      ∙ sym (λ i. (m.others (192 + c / 64) (omega arith) i) ∷ (m.others (next c) (omega arith) i) ∷ [])
-      ∙ ap (map f) (sym e)
-  encode-map c (three l h e) =
-      ap encode (m.others c (omega arith)) ∙ e
-      ∙ sym (λ i. (m.others (224 + c / 64 / 64) (omega arith) i) ∷ (m.others (next (c / 64)) (omega arith) i)
-      ∷ (m.others (next c) (omega arith) i) ∷ [])
-      ∙ ap (map f) (sym e)
-  encode-map c (four l e) =
-      ap encode (m.others c (omega arith)) ∙ e
-      ∙ sym (λ i. (m.others (240 + c / 64 / 64 / 64) (omega arith) i)
-      ∷ (m.others (next (c / 64 / 64)) (omega arith) i) ∷ (m.others (next (c / 64)) (omega arith) i)
-      ∷ (m.others (next c) (omega arith) i) ∷ [])
-      ∙ ap (map f) (sym e)
+  encode-map c (two l h e) = search (rules, arith)
+  encode-map c (three l h e) = search (rules, arith)
+  encode-map c (four l e) = search (rules, arith)
 
   encodes-map : (t : List ℕ) → encode_utf8_all (map f t) ≡ map f (encode_utf8_all t)
   encodes-map [] = refl

@@ -148,8 +148,7 @@ full-ascii case t h = ascii_same case t (IsAscii-from_all t h)
 -- the rest of an ASCII text is empty
 pub rest-none : (t r : List ℕ) → front t ++ r ≡ t → IsAsciiText t → r ≡ []
 rest-none t [] e h = refl
-rest-none t (c ∷ r) e h =
-    absurd (omega (arith, ap length e, ap length (front-whole t h), length-append (front t) (c ∷ r)))
+rest-none t (c ∷ r) e h = grind (arith, common_steps, front-whole, length-append)
 
 -- an ASCII text whose full case outgrows the buffer is not short
 pub full-long : (case : AsciiCase) (t : List ℕ) → ¬ (IsShort (full_case case t)) → ¬ (IsAsciiText t × IsShort t)

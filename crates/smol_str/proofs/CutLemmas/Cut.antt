@@ -108,21 +108,9 @@ pub IsCutAt-unique : (xs ys : List (List ℕ)) (t p : List ℕ) (n : ℕ) → 0 
 IsCutAt-unique [] ys t p n some h k = absurd (omega (arith, h.some))
 IsCutAt-unique (q ∷ []) [] t p n some h k = absurd (omega (arith, k.some))
 IsCutAt-unique (q ∷ []) (q' ∷ []) t p n some h k = search (rules, joined_one)
-IsCutAt-unique (q ∷ []) (q' ∷ r' ∷ rs') t p n some h k =
-    absurd (h.complete (omega (arith, k.limited)) (
-      q',
-      joined_by p (r' ∷ rs'),
-      sym (joined_one p q) ∙ h.joined
-          ∙ sym k.joined ∙ joined_more p q' r' rs',
-    ))
+IsCutAt-unique (q ∷ []) (q' ∷ r' ∷ rs') t p n some h k = search (rules, arith, joined_one, joined_more)
 IsCutAt-unique (q ∷ r ∷ rs) [] t p n some h k = absurd (omega (arith, k.some))
-IsCutAt-unique (q ∷ r ∷ rs) (q' ∷ []) t p n some h k =
-    absurd (k.complete (omega (arith, h.limited)) (
-      q,
-      joined_by p (r ∷ rs),
-      sym (joined_one p q') ∙ k.joined
-          ∙ sym h.joined ∙ joined_more p q r rs,
-    ))
+IsCutAt-unique (q ∷ r ∷ rs) (q' ∷ []) t p n some h k = search (rules, arith, joined_one, joined_more)
 IsCutAt-unique (q ∷ r ∷ rs) (q' ∷ r' ∷ rs') t p n some h k =
     let whole : q ++ (p ++ joined_by p (r ∷ rs)) ≡ q' ++ (p ++ joined_by p (r' ∷ rs')) =
     sym (joined_more p q r rs) ∙ h.joined ∙ sym k.joined ∙ joined_more p q' r' rs' in
@@ -187,8 +175,7 @@ first_step : (p : List ℕ) (c : ℕ) (t : List ℕ) → 0 < length p → (b : B
     → MatchOption o (¬ Occurs p t) (First p t) →
     MatchOption (found_here p c t b o) (¬ Occurs p (c ∷ t)) (First p (c ∷ t))
 first_step p c t some true e o h = (starts_with-true p (c ∷ t) e, too_long p some)
-first_step p c t some false e None h =
-    λ o. ⊎_elim (λ x. starts_with-false p (c ∷ t) x.0 e x.1) h (occurs_cases p c t o.0 o.1 o.2)
+first_step p c t some false e None h = search (rules, arith, starts_with-false, occurs_cases)
 first_step p c t some false e (Some m) h = (
   ap (λ s. c ∷ s) h.0,
   λ o. ⊎_elim
@@ -275,16 +262,8 @@ spelled_spell (suc n) [] = All-nil One
 spelled_spell (suc n) (c ∷ t) = spelled_more c (spell n t) (spelled_spell n t)
 
 pub IsCutBetween-cut : (n : ℕ) (t : List ℕ) → IsCutBetween t n (cut_between n t)
-IsCutBetween-cut zero t = record {
-  count = omega arith;
-  joined = append-nil t;
-  spelled = λ l. absurd (omega arith);
-}
-IsCutBetween-cut (suc n) t = record {
-  count = omega (arith, length_spell n t);
-  joined = concat_spell n t;
-  spelled = λ l. (refl, spelled_spell n t);
-}
+IsCutBetween-cut zero t = search (rules, arith, append-nil)
+IsCutBetween-cut (suc n) t = search (rules, arith, length_spell, concat_spell, spelled_spell)
 
 pub IsCut-cut : (t p : List ℕ) (n : ℕ) → IsCut t p n (cut t p n)
 IsCut-cut t [] n = IsCutBetween-cut n t

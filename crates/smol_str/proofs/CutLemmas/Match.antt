@@ -12,14 +12,7 @@ use Rattle.smol_str.proofs.TextLemmas.Split.{boundary-parts, drop-parts}
 pub one_byte : (hay nd : List ℕ) → length nd ≡ 1 → (r : Option ℕ) → IsFirstByte (is_byte (get_or nd 0 0)) hay r
     → FindsNeedle hay nd 0 r
 one_byte hay nd one None f = λ k low high o. f k low (omega (arith, o.fits)) (byte-OccursAt hay nd one k o)
-one_byte hay nd one (Some at) f = (
-  record {
-    low = omega arith;
-    high = omega (arith, f.0.high);
-    before = λ k low high o. f.0.before k low high (byte-OccursAt hay nd one k o);
-  },
-  OccursAt-byte hay nd one at f.0.high f.1,
-)
+one_byte hay nd one (Some at) f = grind (arith, common_steps, byte-OccursAt, OccursAt-byte)
 
 -- no needle is found whose first byte is not
 pub none_first : (hay nd : List ℕ) → 0 < length nd → (r : Option ℕ) → r ≡ None

@@ -39,13 +39,7 @@ raised_at t p m n pieces few enough h = search (rules, arith)
 
 -- the whole cut is the cut at each limit that it keeps
 pub whole_cut : (t p : List ℕ) (n : ℕ) → match_count t p ≤ n → IsCut t p n (cut t p (no_limit t))
-whole_cut t [] n enough =
-    let h = IsCutBetween-cut (no_limit t) t in
-    record {
-      count = omega (arith, h.count);
-      joined = h.joined;
-      spelled = λ l. h.spelled (omega arith);
-    }
+whole_cut t [] n enough = search (rules, arith, IsCutBetween-cut)
 whole_cut t (c ∷ p) n enough =
     let h = IsCutAt-cut (no_limit t) (c ∷ p) t (omega arith) in
     raised_at t (c ∷ p) (no_limit t) n (cut_at (no_limit t) (c ∷ p) t)
@@ -148,8 +142,7 @@ match_count-limit t p = omega (arith, length-cut t p (no_limit t))
 
 -- the empty pattern, a character at a time
 taken_between : (c : ℕ) (t w : List ℕ) (n : ℕ) → replaced (c ∷ t) [] w (suc n) ≡ w ++ (c ∷ replaced t [] w n)
-taken_between c t w zero = joined_more w [] (c ∷ t) [] ∙ ap (λ s. w ++ s) (joined_one w (c ∷ t))
-    ∙ ap (λ s. w ++ (c ∷ s)) (sym (joined_one w t))
+taken_between c t w zero = search (rules, arith, joined_more, joined_one)
 taken_between c t w (suc m) = search (rules, length_spell, joined_more, joined_front)
 
 taken_end : (w : List ℕ) (n : ℕ) → replaced [] [] w (suc n) ≡ w

@@ -1,6 +1,6 @@
 -- For the law of self-synchronisation: where the bytes of a text that is not empty stand in the bytes of a text,
 -- its characters stand. It holds of every two lists of numbers.
-use Rattle.smol_str.proofs.Common.{◌≡◌, ℕ, ◌+◌, ◌≤◌, ◌<◌, ◌/◌, List, [], ◌∷◌, ◌++◌, ◌⊎◌, inl, inr, ⊎_elim, length, refl, sym, ap, ◌∙◌, arith, append_assoc, encode, encodes, next, cons_from_encodes, encodes-append, StandsAt}
+use Rattle.smol_str.proofs.Common.{◌≡◌, ℕ, ◌≤◌, ◌<◌, List, [], ◌∷◌, ◌++◌, ◌⊎◌, inl, length, refl, sym, ap, ◌∙◌, arith, append_assoc, encode, encodes, cons_from_encodes, encodes-append, StandsAt, rules}
 use Rattle.smol_str.proofs.TextLemmas.Lists.{head_same, tail_same}
 use Rattle.smol_str.proofs.TextLemmas.Utf8.{Form, one, two, three, four, form}
 
@@ -31,29 +31,9 @@ record LeadAndRest (c : ℕ) : Type 0 where
 
 lead_and_rest-form : (c : ℕ) → Form c → LeadAndRest c
 lead_and_rest-form c (one a e) = record { lead = c; rest = []; reads = e; leads = inl a; follows = tt }
-lead_and_rest-form c (two a b e) =
-    record {
-      lead = 192 + c / 64;
-      rest = next c ∷ [];
-      reads = e;
-      leads = inr (omega arith);
-      follows =
-          ((omega arith, omega arith), tt);
-    }
-lead_and_rest-form c (three a b e) = record {
-  lead = 224 + c / 64 / 64;
-  rest = next (c / 64) ∷ next c ∷ [];
-  reads = e;
-  leads = inr (omega arith);
-  follows = ((omega arith, omega arith), ((omega arith, omega arith), tt));
-}
-lead_and_rest-form c (four a e) = record {
-  lead = 240 + c / 64 / 64 / 64;
-  rest = next (c / 64 / 64) ∷ next (c / 64) ∷ next c ∷ [];
-  reads = e;
-  leads = inr (omega arith);
-  follows = ((omega arith, omega arith), ((omega arith, omega arith), ((omega arith, omega arith), tt)));
-}
+lead_and_rest-form c (two a b e) = search (rules, arith)
+lead_and_rest-form c (three a b e) = search (rules, arith)
+lead_and_rest-form c (four a e) = search (rules, arith)
 
 lead_and_rest : (c : ℕ) → LeadAndRest c
 lead_and_rest c = lead_and_rest-form c (form c)
@@ -62,9 +42,7 @@ lead_and_rest c = lead_and_rest-form c (form c)
 follows-apart : (s rest u : List ℕ) (b : ℕ) (v : List ℕ) → Follows s → Leads b → s ++ rest ≡ u ++ (b ∷ v) →
     (w : List ℕ) × (u ≡ s ++ w) × (rest ≡ w ++ (b ∷ v))
 follows-apart [] rest u b v f l e = (u, refl, e)
-follows-apart (x ∷ s) rest [] b v f l e =
-    let same : x ≡ b = head_same x b (s ++ rest) v e in
-    absurd (⊎_elim (λ k. omega (arith, f.0.0)) (λ k. omega (arith, f.0.1)) l)
+follows-apart (x ∷ s) rest [] b v f l e = search (rules, arith, head_same)
 follows-apart (x ∷ s) rest (d ∷ u) b v f l e =
     let h = follows-apart s rest u b v f.1 l (tail_same x d (s ++ rest) (u ++ (b ∷ v)) e) in
     (h.0, ap (λ k. k ∷ u) (sym (head_same x d (s ++ rest) (u ++ (b ∷ v)) e)) ∙ ap (λ z. x ∷ z) h.1, h.2)

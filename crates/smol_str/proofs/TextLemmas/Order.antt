@@ -49,14 +49,11 @@ less_forms : (c d : ℕ) (xs ys : List ℕ) → c < d → Form c → Form d →
     slice_cmp nat_cmp (encode c ++ xs) (encode d ++ ys) ≡ Less
 less_forms c d xs ys h (one a e) (one b f) = rw (e, f) (less_head c d xs ys h)
 less_forms c d xs ys h (one a e) (two b b' f) = rw (e, f) (less_head c (192 + d / 64) xs (next d ∷ ys) (omega arith))
-less_forms c d xs ys h (one a e) (three b b' f) =
-    rw (e, f) (less_head c (224 + d / 64 / 64) xs (next (d / 64) ∷ next d ∷ ys) (omega arith))
-less_forms c d xs ys h (one a e) (four b f) =
-    rw (e, f) (less_head c (240 + d / 64 / 64 / 64) xs (next (d / 64 / 64) ∷ next (d / 64) ∷ next d ∷ ys) (omega arith))
+less_forms c d xs ys h (one a e) (three b b' f) = search (rules, arith, less_head)
+less_forms c d xs ys h (one a e) (four b f) = search (rules, arith, less_head)
 less_forms c d xs ys h (two a a' e) (one b f) = absurd (omega arith)
 less_forms c d xs ys h (two a a' e) (two b b' f) = rw (e, f) (digits2 192 c d xs ys h)
-less_forms c d xs ys h (two a a' e) (three b b' f) =
-    rw (e, f) (less_head (192 + c / 64) (224 + d / 64 / 64) (next c ∷ xs) (next (d / 64) ∷ next d ∷ ys) (omega arith))
+less_forms c d xs ys h (two a a' e) (three b b' f) = search (rules, arith, less_head)
 less_forms c d xs ys h (two a a' e) (four b f) = search (rules, less_head)
 less_forms c d xs ys h (three a a' e) (one b f) = absurd (omega arith)
 less_forms c d xs ys h (three a a' e) (two b b' f) = absurd (omega arith)

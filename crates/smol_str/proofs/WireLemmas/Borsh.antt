@@ -127,10 +127,7 @@ module _ (n : ℕ) (fits : n < 2 ^ 32) where
       → IfSome a (λ b. (4 ≤ length b) × (INLINE_CAP < prefix_size b))
   long-of_body None b p h = tt
   long-of_body (Some x) None p h = absurd p
-  long-of_body (Some x) (Some y) p h =
-      let says : prefix_size x ≡ n = ap prefix_size p ∙ prefix_size-front y in
-      let long : length x ≡ 4 + length y = ap length p ∙ length_front y in
-      (omega arith, omega arith)
+  long-of_body (Some x) (Some y) p h = search (rules, arith, prefix_size-front, length_front)
 
   pub AfterDecodeFault-of_body : (a b c : Option (List ℕ)) (fault : DecodeFault) → Consumes a b (to_le_bytes w32 n)
       → AfterBodyFault b c n fault → AfterDecodeFault a c fault
@@ -148,11 +145,7 @@ module _ (n : ℕ) (fits : n < 2 ^ 32) where
       → AfterLimitedFault limit a b TooLong
   AfterLimitedFault-above None b limit p h = tt
   AfterLimitedFault-above (Some x) None limit p h = absurd p
-  AfterLimitedFault-above (Some x) (Some y) limit p h =
-      let says : prefix_size x ≡ n = ap prefix_size p ∙ prefix_size-front y in
-      let long : length x ≡ 4 + length y = ap length p ∙ length_front y in
-      let front : take 4 x ≡ to_le_bytes w32 n = ap (take 4) p ∙ take_at (to_le_bytes w32 n) y 4 refl in
-      (omega arith, omega arith, p ∙ ap (λ l. l ++ y) (sym front))
+  AfterLimitedFault-above (Some x) (Some y) limit p h = search (rules, arith, prefix_size-front, length_front, take_at)
 
   -- and with one that is not
   states_within : (a b : Option (List ℕ)) (limit : ℕ) → Consumes a b (to_le_bytes w32 n) → n ≤ limit
@@ -163,14 +156,12 @@ module _ (n : ℕ) (fits : n < 2 ^ 32) where
 
   AfterLimitedFault-of_fault : (a b c : Option (List ℕ)) (limit : ℕ) (fault : DecodeFault)
       → Consumes a b (to_le_bytes w32 n) → n ≤ limit → AfterBodyFault b c n fault → AfterLimitedFault limit a c (Decode fault)
-  AfterLimitedFault-of_fault a b c limit Ended p l h =
-      (AfterDecodeFault-of_body a b c Ended p h, states_within a b limit p l)
+  AfterLimitedFault-of_fault a b c limit Ended p l h = search (rules, arith, AfterDecodeFault-of_body, states_within)
   AfterLimitedFault-of_fault a b c limit (NotUtf8 e) p l h =
       (AfterDecodeFault-of_body a b c (NotUtf8 e) p h, states_within a b limit p l)
   AfterLimitedFault-of_fault a b c limit OutOfMemory p l h =
       (AfterDecodeFault-of_body a b c OutOfMemory p h, states_within a b limit p l)
-  AfterLimitedFault-of_fault a b c limit (Io e) p l h =
-      early-of_body (StatesAtMost limit) (λ r _. let says = prefix_size-front r in omega (arith, says)) a b c p h
+  AfterLimitedFault-of_fault a b c limit (Io e) p l h = search (rules, arith, early-of_body, prefix_size-front)
 
   pub AfterLimitedFault-of_body : {T : Type 0} (r : Result T LimitedFault) (a b c : Option (List ℕ)) (limit : ℕ)
       (fault : DecodeFault) → IsErrAnd r (λ f. f ≡ Decode fault) → Consumes a b (to_le_bytes w32 n) → n ≤ limit
