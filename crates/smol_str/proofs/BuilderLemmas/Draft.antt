@@ -32,7 +32,7 @@ short_front t u h = grind (arith, common_steps, is_short-true, size-append)
 
 -- the kind after an append is that of the whole text
 pub kind_for-append : (n : ℕ) (t u : List ℕ) → kind_with (kind_for n t) (t ++ u) ≡ kind_for n (t ++ u)
-kind_for-append n t u = search (rules, append_case, nat_le, short_front)
+kind_for-append n t u = search (rules, append_case, short_front)
 
 heap_case : (fits is : Bool) → cond (fits && is) InBuffer OnHeap ≡ OnHeap → (fits ≡ false) ⊎ (is ≡ false)
 heap_case true true h = cc

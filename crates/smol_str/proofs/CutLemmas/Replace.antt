@@ -1,7 +1,7 @@
 -- For the laws of replacement: what replacing makes of a text.
 use Rattle.smol_str.proofs.Common.{◌≡◌, ℕ, ◌+◌, ◌-◌, ◌<◌, ◌≤◌, zero, suc, min, List, [], ◌∷◌, ◌++◌, Option, Some, None, false, option_map, unwrap_or, length, refl, sym, ap, ◌∙◌, arith, length-append, append-nil, ⊎_elim, cases_lt, nat_eq, concat, starts_with, Occurs, IsFirstAfter, joined_by, IsCutAt, IsCut, first_match, cut, cut_at, cut_between, no_limit, match_count, replaced, replaced_all, rules}
 use Rattle.std.proofs.lemmas.List.Concat.{concat_is}
-use Rattle.smol_str.proofs.CutLemmas.Cut.{joined_one, joined_more, IsCut-cut, IsCutAt-cut, IsCutBetween-cut, IsCut-unique, IsCutAt-step, IsCutAt-unmatched, starts_with-nowhere, length_spell}
+use Rattle.smol_str.proofs.CutLemmas.Cut.{joined_one, joined_more, IsCut-cut, IsCutAt-cut, IsCutBetween-cut, IsCut-unique, IsCutAt-step, IsCutAt-unmatched, starts_with-nowhere}
 
 joined_front : (p q : List ℕ) (pieces : List (List ℕ)) → 1 ≤ length pieces
     → joined_by p (q ∷ pieces) ≡ q ++ (p ++ joined_by p pieces)
@@ -143,7 +143,7 @@ match_count-limit t p = omega (arith, length-cut t p (no_limit t))
 -- the empty pattern, a character at a time
 taken_between : (c : ℕ) (t w : List ℕ) (n : ℕ) → replaced (c ∷ t) [] w (suc n) ≡ w ++ (c ∷ replaced t [] w n)
 taken_between c t w zero = search (rules, arith, joined_more, joined_one)
-taken_between c t w (suc m) = search (rules, length_spell, joined_more, joined_front)
+taken_between c t w (suc m) = search (rules, joined_more)
 
 taken_end : (w : List ℕ) (n : ℕ) → replaced [] [] w (suc n) ≡ w
 taken_end w zero = joined_more w [] [] [] ∙ append-nil w

@@ -121,13 +121,10 @@ module _ (t w : List ℕ) (n m l : ℕ) (b : Draft) (i : ℕ) (h : IsReplacing t
     end-refused = replacing-refused t [] w n m 0 b i h [] [] w reads end-made
 
 -- the first character of a list
-first_case : (b : List ℕ) → MatchOption (slice_get b 0) (b ≡ []) (λ c. (s : List ℕ) × (b ≡ c ∷ s))
-first_case [] = refl
-first_case (c ∷ s) = (s, refl)
-
 pub first_char : (b : List ℕ) (r : Option ℕ) → r ≡ slice_get b 0
     → MatchOption r (b ≡ []) (λ c. (s : List ℕ) × (b ≡ c ∷ s))
-first_char b r e = search (rules, arith, first_case)
+first_char [] r e = rw e refl
+first_char (c ∷ s) r e = rw e (s, refl)
 
 pub taken-inside : (bs p w : List ℕ) (n m : ℕ) (b : Draft) (i : ℕ) (h : IsReplacing (chars bs) p w n m b i) (c : ℕ)
     (r : List ℕ) → h.rest ≡ c ∷ r → IsUtf8 bs → i + len_utf8 c ≤ length bs
