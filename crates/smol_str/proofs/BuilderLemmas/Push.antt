@@ -31,7 +31,6 @@ module _ (old b d : Draft) (u v w all : List ℕ) (reads : all ≡ u ++ (v ++ w)
 
 -- what f makes of a text is what it makes of the text's parts
 module _ (f : List ℕ → List ℕ) (parts : (a b : List ℕ) → f (a ++ b) ≡ f a ++ f b) where
-
   pub mapped-more : (old b e : Draft) (ys v : List ℕ) (c : ℕ) → b ≡ appended old (f ys) → v ≡ f (c ∷ [])
       → e ≡ appended b v
       → e ≡ appended old (f (ys ++ c ∷ []))
