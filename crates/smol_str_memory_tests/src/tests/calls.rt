@@ -1,74 +1,20 @@
-//! Every call: what it asks the heap for, what stands where that is refused, and that all is freed.
+//! Every call of values and builders, as `table` has them: what it asks the heap for, what stands where that is refused,
+//! and that all is freed.
 mod inputs;
+mod table;
 mod things;
 
 use super::same::same;
-use inputs::{Append, Call, OfBuilder, OfOwned, OfText, OfValue, Other, Start, input_of, run};
+use inputs::{input_of, run};
 use smol_str::{INLINE_CAP, Place, SmolStr};
 use std::alloc::{AllocError, Global};
 use std::test::Fail;
-use test_support::by_std::{
-    AND_CHAR, Asks, BUILT, BUILT_TO_SIZE, BY_CHAR, BY_TEXT, KEPT, NONE, OWNED, PRINTED, SHARED,
-    TWICE, WITH_ROOM, asked_by_all, is_asked,
-};
+use table::{Row, Stands, TABLES};
+use test_support::by_std::{Asks, NONE, asked_by_all, is_asked};
 use test_support::held::is_exact;
 use test_support::refuse::{Asked, can_refuse, count_blocks, each_refused, start_counts};
 use test_support::texts::{full_text, joined, long_text, longest_blank, repeated};
 use things::{Thing, place_of, text_of};
-
-/// The rows of a table.
-macro_rules! rows {
-    ($($name:literal: $call:expr, $full:ident, $blank:ident, $heap:ident;)+) => {
-        [$(($name, $call, $full, $blank, $heap)),+]
-    };
-}
-
-/// Each call by its name in messages, and what it asks for on a text that fills a buffer, on the longest blank run, and
-/// on a text that is not resident.
-static CALLS: [(&str, Call, &[Asks], &[Asks], &[Asks]); 42] = rows! {
-    "SmolStr::new": Call::Text(OfText::New), NONE, NONE, SHARED;
-    "SmolStr::new_inline": Call::Other(Other::NewInline), NONE, NONE, NONE;
-    "SmolStr::new_inline_in_case": Call::Other(Other::NewInlineInCase), NONE, NONE, NONE;
-    "SmolStr::new_static": Call::Other(Other::NewStatic), NONE, NONE, NONE;
-    "SmolStr::from_str": Call::Text(OfText::FromStr), NONE, NONE, SHARED;
-    "SmolStr::from_string_ref": Call::Owned(OfOwned::FromStringRef), NONE, NONE, SHARED;
-    "SmolStr::from_utf8": Call::Text(OfText::FromUtf8), NONE, NONE, SHARED;
-    "SmolStr::from_utf8_unchecked": Call::Text(OfText::FromUtf8Unchecked), NONE, NONE, SHARED;
-    "SmolStr::from_string": Call::Owned(OfOwned::FromString), NONE, NONE, SHARED;
-    "SmolStr::from_owned": Call::Owned(OfOwned::FromOwned), NONE, NONE, KEPT;
-    "SmolStr::from_boxed_str": Call::FromBoxedStr, NONE, NONE, SHARED;
-    "SmolStr::from_cow_str, borrowed": Call::Text(OfText::FromCowStr), NONE, NONE, SHARED;
-    "SmolStr::from_cow_str, owned": Call::Owned(OfOwned::FromCowStr), NONE, NONE, SHARED;
-    "SmolStr::from_rc_str": Call::FromRcStr, NONE, NONE, NONE;
-    "SmolStr::from": Call::Other(Other::FromChar), NONE, NONE, NONE;
-    "SmolStr::default": Call::Other(Other::Default), NONE, NONE, NONE;
-    "SmolStr::clone": Call::Value(OfValue::Clone), NONE, NONE, NONE;
-    "SmolStr::clone, static": Call::Other(Other::CloneStatic), NONE, NONE, NONE;
-    "SmolStr::into_string": Call::Value(OfValue::IntoString), OWNED, OWNED, OWNED;
-    "SmolStr::into_rc_str": Call::Value(OfValue::IntoRcStr), SHARED, SHARED, NONE;
-    "a value read": Call::Value(OfValue::Read), NONE, NONE, NONE;
-    "comparisons": Call::Compare, NONE, NONE, NONE;
-    "SmolStrBuilder::new": Call::Other(Other::NewBuilder), NONE, NONE, NONE;
-    "SmolStrBuilder::with_capacity": Call::Other(Other::WithCapacity), NONE, OWNED, OWNED;
-    "SmolStrBuilder::push": Call::Append(Start::Text, Append::Push), AND_CHAR, NONE, NONE;
-    "SmolStrBuilder::push_str": Call::Append(Start::Text, Append::PushStr), TWICE, BY_TEXT, BY_TEXT;
-    "SmolStrBuilder::push_str, first": Call::Append(Start::Empty, Append::PushStr), NONE, WITH_ROOM, WITH_ROOM;
-    "SmolStrBuilder::push, full": Call::Append(Start::Full, Append::Push), AND_CHAR, BY_CHAR, BY_CHAR;
-    "SmolStrBuilder::write_str": Call::Append(Start::Text, Append::WriteStr), TWICE, BY_TEXT, BY_TEXT;
-    "SmolStrBuilder::write_fmt": Call::Append(Start::Text, Append::WriteFmt), TWICE, BY_TEXT, BY_TEXT;
-    "SmolStrBuilder::clone": Call::Builder(Start::Text, OfBuilder::Clone), NONE, OWNED, OWNED;
-    "a builder read": Call::Builder(Start::Text, OfBuilder::Read), NONE, NONE, NONE;
-    "the kernel": Call::Other(Other::Kernel), NONE, NONE, NONE;
-    "SmolStrBuilder::finish": Call::Builder(Start::Text, OfBuilder::Finish), NONE, NONE, SHARED;
-    "SmolStrBuilder::finish, large": Call::Builder(Start::Large, OfBuilder::Finish), NONE, NONE, SHARED;
-    "SmolStr::from_builder": Call::Builder(Start::Text, OfBuilder::FromBuilder), NONE, NONE, SHARED;
-    "SmolStrBuilder::into_value": Call::Builder(Start::Text, OfBuilder::IntoValue), NONE, NONE, KEPT;
-    "build": Call::Build, NONE, WITH_ROOM, BUILT;
-    "build, to size": Call::BuildWithCapacity, NONE, OWNED, BUILT_TO_SIZE;
-    "ToSmolStr::to_smolstr": Call::Text(OfText::ToSmolStr), NONE, WITH_ROOM, PRINTED;
-    "format_smolstr!": Call::Text(OfText::FormatSmolstr), NONE, WITH_ROOM, PRINTED;
-    "format::finished": Call::Builder(Start::Text, OfBuilder::Finished), NONE, NONE, KEPT;
-};
 
 /// Texts on which calls are tried, beside those that stand in the program.
 #[derive(Drop)]
@@ -97,86 +43,108 @@ fn requests(rt: HostRuntime) -> Result<(), Fail> {
         &can_refuse(alloc),
         &"blocks are counted",
     );
-    for &(name, call, of_full, of_blank, of_heap) in &CALLS {
-        check_full(alloc, name, call, of_full)?;
-        let blank = (name, "the longest blank");
-        check_call(alloc, blank, call, texts.blank.as_str(), of_blank)?;
-        check_heap(alloc, &texts, name, call, of_heap)?;
+    for rows in &TABLES {
+        for row in *rows {
+            check_row(alloc, &texts, *row)?;
+        }
     }
     Ok(())
 }
 
-/// A text that fills a buffer, and none where that makes no request.
-fn check_full(alloc: Global, name: &str, call: Call, asks: &[Asks]) -> Result<(), Fail> {
-    if asks.is_empty() {
-        check_call(alloc, (name, "no text"), call, "", NONE)?;
+/// No text, where a full buffer makes no request; a text that fills a buffer; a blank run; and texts that are not
+/// resident.
+fn check_row(alloc: Global, texts: &Texts, row: Row) -> Result<(), Fail> {
+    if row.of_full.is_empty() {
+        check_call(alloc, row, "no text", "", NONE)?;
     }
-    check_call(alloc, (name, "a full buffer"), call, full_text(), asks)
-}
-
-/// Texts that are not resident.
-fn check_heap(
-    alloc: Global,
-    texts: &Texts,
-    name: &str,
-    call: Call,
-    asks: &[Asks],
-) -> Result<(), Fail> {
-    let accented = texts.accented.as_str();
-    check_call(alloc, (name, "a byte too many"), call, long_text(), asks)?;
+    check_call(alloc, row, "a full buffer", full_text(), row.of_full)?;
     check_call(
         alloc,
-        (name, "5,000 bytes"),
-        call,
-        texts.long.as_str(),
-        asks,
+        row,
+        "the longest blank",
+        texts.blank.as_str(),
+        row.of_blank,
     )?;
-    check_call(alloc, (name, "2,500 accents"), call, accented, asks)
+    check_call(alloc, row, "a byte too many", long_text(), row.of_heap)?;
+    check_call(alloc, row, "5,000 bytes", texts.long.as_str(), row.of_heap)?;
+    check_call(
+        alloc,
+        row,
+        "2,500 accents",
+        texts.accented.as_str(),
+        row.of_heap,
+    )
+}
+
+/// What a call makes with ample memory.
+#[derive(Drop)]
+struct Ample {
+    is_made: bool,
+    is_value: bool,
+    text: Option<String>,
+    place: Option<Place>,
 }
 
 /// With each request refused in turn the call is refused, and what it took comes back; with none refused it asks for
 /// exactly what std's calls ask for.
-fn check_call(
-    alloc: Global,
-    row: (&str, &str),
-    call: Call,
-    text: &str,
-    asks: &[Asks],
-) -> Result<(), Fail> {
-    let wanted = asked_by_all(alloc, asks, text)?;
-    let name = name_of(alloc, row)?;
-    let place = SmolStr::new(alloc, text)?.place();
-    let ample = run(alloc, text, input_of(alloc, call, text)?);
-    let asked = each_refused(
-        alloc,
-        name.as_str(),
-        || input_of(alloc, call, text),
-        |input| run(alloc, text, input),
-        |answer| check_answer(name.as_str(), call, text, place, answer, &ample),
-    )?;
+fn check_call(alloc: Global, row: Row, shape: &str, text: &str, asks: &[Asks]) -> Result<(), Fail> {
+    let name = name_of(alloc, row.name, shape)?;
+    let ample = ample_of(alloc, row, text)?;
+    let asked = asked_of(alloc, row, name.as_str(), text, &ample)?;
     check_held(alloc, name.as_str(), asked, &ample)?;
-    check_asked(name.as_str(), asked, wanted)
-}
-
-/// A value keeps its text and no more.
-fn check_held(
-    alloc: Global,
-    name: &str,
-    asked: Asked,
-    ample: &Result<Thing, Thing>,
-) -> Result<(), Fail> {
-    match ample {
-        Ok(Thing::Value(value)) if !is_exact(alloc, asked.held, value)? => Err(Fail::new(
-            format_args!("{name} keeps {} bytes", asked.held),
-        )),
-        _ => Ok(()),
-    }
+    check_asked(name.as_str(), asked, asked_by_all(alloc, asks, text)?)
 }
 
 /// The call and the text, in messages.
-fn name_of(alloc: Global, row: (&str, &str)) -> Result<String, AllocError> {
-    let call = joined(alloc, row.0, " of ")?;
-    joined(alloc, call.as_str(), row.1)
+fn name_of(alloc: Global, call: &str, shape: &str) -> Result<String, AllocError> {
+    let call = joined(alloc, call, " of ")?;
+    joined(alloc, call.as_str(), shape)
+}
+
+fn ample_of(alloc: Global, row: Row, text: &str) -> Result<Ample, Fail> {
+    let answer = run(alloc, row, text, input_of(alloc, row.takes, text)?);
+    let thing = match &answer {
+        Ok(made) => made,
+        Err(back) => back,
+    };
+    let text = match text_of(thing) {
+        Some(text) => Some(String::from_str(alloc, text)?),
+        None => None,
+    };
+    Ok(Ample {
+        is_made: answer.is_ok(),
+        is_value: matches!(thing, Thing::Value(_)),
+        text,
+        place: place_of(thing),
+    })
+}
+
+fn asked_of(alloc: Global, row: Row, name: &str, text: &str, ample: &Ample) -> Result<Asked, Fail> {
+    let place = SmolStr::new(alloc, text)?.place();
+    each_refused(
+        alloc,
+        name,
+        || input_of(alloc, row.takes, text),
+        |input| run(alloc, row, text, input),
+        |answer| check_answer(name, row.stands, text, place, answer, ample),
+    )
+}
+
+/// A value keeps its text and no more.
+fn check_held(alloc: Global, name: &str, asked: Asked, ample: &Ample) -> Result<(), Fail> {
+    if !ample.is_made || !ample.is_value || keeps_its_text(alloc, asked.held, ample)? {
+        return Ok(());
+    }
+    Err(Fail::new(format_args!("{name} keeps {} bytes", asked.held)))
+}
+
+fn keeps_its_text(alloc: Global, held: u32, ample: &Ample) -> Result<bool, AllocError> {
+    match (&ample.text, ample.place) {
+        (Some(text), Some(Place::Heap)) => {
+            is_exact(alloc, held, &SmolStr::new(alloc, text.as_str())?)
+        }
+        _ => Ok(held == 0),
+    }
 }
 
 fn check_asked(name: &str, asked: Asked, wanted: Asked) -> Result<(), Fail> {
@@ -189,17 +157,16 @@ fn check_asked(name: &str, asked: Asked, wanted: Asked) -> Result<(), Fail> {
 /// After a refusal there is what the call took, and otherwise what it makes with ample memory.
 fn check_answer(
     name: &str,
-    call: Call,
+    stands: Stands,
     text: &str,
     place: Place,
     answer: &Result<Thing, Thing>,
-    ample: &Result<Thing, Thing>,
+    ample: &Ample,
 ) -> Result<(), Fail> {
-    let is_so = match (answer, ample) {
-        (Ok(made), Ok(ample)) => is_same(made, ample),
-        (Err(back), _) => text_of(back) == after_refusal(call, text)
+    let is_so = match answer {
+        Ok(made) => ample.is_made && is_same(made, ample),
+        Err(back) => text_of(back) == text_that_stands(stands, text)
             && is_where_it_was(back, place),
-        _ => false,
     };
     if is_so {
         return Ok(());
@@ -207,18 +174,11 @@ fn check_answer(
     Err(Fail::new(format_args!("{name} leaves something else")))
 }
 
-/// The text that stands after a refused call, where it took one.
-fn after_refusal(call: Call, text: &str) -> Option<&str> {
-    match call {
-        Call::Append(Start::Empty, _) => Some(""),
-        Call::Owned(OfOwned::FromString | OfOwned::FromCowStr)
-        | Call::FromBoxedStr
-        | Call::Value(OfValue::IntoString | OfValue::IntoRcStr)
-        | Call::Append(..)
-        | Call::Builder(_, OfBuilder::Clone | OfBuilder::Finish | OfBuilder::FromBuilder) => Some(
-            text,
-        ),
-        _ => None,
+fn text_that_stands(stands: Stands, text: &str) -> Option<&str> {
+    match stands {
+        Stands::Nothing => None,
+        Stands::Text => Some(text),
+        Stands::Empty => Some(""),
     }
 }
 
@@ -233,7 +193,12 @@ fn is_where_it_was(thing: &Thing, place: Place) -> bool {
     }
 }
 
-/// Whether the two have one text, in one place.
-fn is_same(made: &Thing, ample: &Thing) -> bool {
-    text_of(made) == text_of(ample) && place_of(made) == place_of(ample)
+/// Whether it has the text that is made with ample memory, in the same place.
+fn is_same(made: &Thing, ample: &Ample) -> bool {
+    let is_text = match (text_of(made), &ample.text) {
+        (Some(text), Some(wanted)) => text == wanted.as_str(),
+        (None, None) => true,
+        _ => false,
+    };
+    is_text && place_of(made) == ample.place
 }

@@ -1,5 +1,5 @@
-//! The calls that take no memory: one line a call, by its name, with every request refused. `.ci/listed` sees that each
-//! call which promises that has a line.
+//! The calls that take no memory and have no row with `NONE` in `calls/table.rt`: one line a call, by its name, with every
+//! request refused.
 use super::same::holds;
 use serde_json::Value;
 use smol_str::borsh::{
@@ -9,20 +9,18 @@ use smol_str::json::from_value;
 use smol_str::kernel::{AsciiCase, convert_while_ascii, next_match};
 use smol_str::stream::{fill, write_steps};
 use smol_str::{
-    INLINE_CAP, Piece, Place, SmolStr, SmolStrBuilder, Step, StrExt, ToSmolStr, ValueAlloc, build,
-    finished, format_smolstr,
+    INLINE_CAP, Piece, Place, SmolStr, SmolStrBuilder, StrExt, ToSmolStr, ValueAlloc,
+    format_smolstr,
 };
 use std::alloc::Global;
-use std::borrow::CowStr;
 use std::cmp::Ordering;
 use std::fmt::Write;
 use std::hash::{DefaultHasher, Hash};
 use std::process::Abort;
-use std::rc::RcStr;
 use std::test::Fail;
 use test_support::builders::builder_of;
 use test_support::refuse::{end_refusals, refuse_all};
-use test_support::texts::{full_text, long_blank, long_text, longest_blank, repeated};
+use test_support::texts::{full_text, long_text, longest_blank, repeated};
 
 /// Makes each call, by its name, and refuses every request meanwhile.
 macro_rules! free {
@@ -41,79 +39,13 @@ fn check_free(rt: &impl Abort, rows: &[(&str, bool)], was_refused: bool) {
 }
 
 #[test]
-fn whole_text(rt: HostRuntime) -> Result<(), Fail> {
+fn json(rt: HostRuntime) -> Result<(), Fail> {
     let blank = longest_blank(rt.alloc())?;
     for text in ["", full_text(), blank.as_str()] {
-        copied_text(&rt, rt.alloc(), text);
-        borrowed_text(&rt, rt.alloc(), text)?;
-        owned_text(&rt, rt.alloc(), text)?;
-    }
-    Ok(())
-}
-
-fn copied_text(rt: &impl Abort, alloc: Global, text: &str) {
-    free! { rt, alloc;
-        "SmolStr::new": SmolStr::new(alloc, text).is_ok();
-        "SmolStr::from_str": SmolStr::from_str(alloc, text).is_ok();
-        "SmolStr::from_utf8": SmolStr::from_utf8(alloc, text.as_bytes()).is_ok();
-        "SmolStr::from_utf8_unchecked": SmolStr::from_utf8_unchecked(alloc, text.as_bytes()).is_ok();
-        "SmolStr::from_cow_str": SmolStr::from_cow_str(alloc, CowStr::Borrowed(text)).is_ok();
-    }
-}
-
-fn borrowed_text(rt: &impl Abort, alloc: Global, text: &str) -> Result<(), Fail> {
-    let owned = String::from_str(alloc, text)?;
-    let json = Value::String(String::from_str(alloc, text)?);
-    free! { rt, alloc;
-        "SmolStr::from_string_ref": SmolStr::from_string_ref(alloc, &owned).is_ok();
-        "json::from_value": from_value(alloc, &json).is_ok();
-    }
-    Ok(())
-}
-
-fn owned_text(rt: &impl Abort, alloc: Global, text: &str) -> Result<(), Fail> {
-    let owned = String::from_str(alloc, text)?;
-    let kept = String::from_str(alloc, text)?;
-    let boxed = String::from_str(alloc, text)?.into_boxed_str();
-    free! { rt, alloc;
-        "SmolStr::from_string": SmolStr::from_string(alloc, owned).is_ok();
-        "SmolStr::from_owned": SmolStr::from_owned(kept).is_ok();
-        "SmolStr::from_boxed_str": SmolStr::from_boxed_str(alloc, boxed).is_ok();
-    }
-    Ok(())
-}
-
-#[test]
-fn any_text(rt: HostRuntime) -> Result<(), Fail> {
-    for text in ["", full_text(), long_text()] {
-        pinned_and_shared(&rt, rt.alloc(), text)?;
-    }
-    inline_and_heap(&rt, rt.alloc())
-}
-
-fn pinned_and_shared(rt: &impl Abort, alloc: Global, text: &'static str) -> Result<(), Fail> {
-    let shared = RcStr::from_str(alloc, text)?;
-    let pinned = SmolStr::new_static(text);
-    free! { rt, alloc;
-        "SmolStr::new_static": SmolStr::new_static(text).place() == Place::Static;
-        "SmolStr::from_rc_str": SmolStr::from_rc_str(shared).eq_str(text);
-        "SmolStr::clone": pinned.clone().is_ok();
-    }
-    Ok(())
-}
-
-fn inline_and_heap(rt: &impl Abort, alloc: Global) -> Result<(), Fail> {
-    let full = full_text();
-    let inline = SmolStr::new(alloc, full)?;
-    let heap = SmolStr::new(alloc, long_text())?;
-    free! { rt, alloc;
-        "SmolStr::new_inline": full.len() <= INLINE_CAP && SmolStr::new_inline(full).eq_str(full);
-        "SmolStr::new_inline_in_case": SmolStr::new_inline_in_case("IF", AsciiCase::Lower).eq_str("if");
-        "SmolStr::from": SmolStr::from('🦀').eq_str("🦀");
-        "SmolStr::default": SmolStr::default().is_empty();
-        "SmolStr::clone": inline.clone().is_ok();
-        "SmolStr::into_rc_str": heap.into_rc_str(alloc).is_ok();
-        "SmolStr::into_string": SmolStr::default().into_string(alloc).is_ok();
+        let json = Value::String(String::from_str(rt.alloc(), text)?);
+        free! { &rt, rt.alloc();
+            "json::from_value": from_value(rt.alloc(), &json).is_ok();
+        }
     }
     Ok(())
 }
@@ -157,23 +89,15 @@ fn values_compared(rt: HostRuntime) -> Result<(), Fail> {
 }
 
 #[test]
-fn builders_made(rt: HostRuntime) -> Result<(), Fail> {
+fn empty(rt: HostRuntime) {
     let alloc = rt.alloc();
-    let steps = [
-        Step::PushStr(String::from_str(alloc, "ab")?),
-        Step::Push('c'),
-    ];
     free! { &rt, alloc;
-        "SmolStrBuilder::new": SmolStrBuilder::new(alloc).is_empty();
+        "SmolStr::into_string": SmolStr::default().into_string(alloc).is_ok();
         "ValueAlloc::builder": alloc.builder().is_empty();
-        "SmolStrBuilder::with_capacity": SmolStrBuilder::with_capacity(alloc, INLINE_CAP).is_ok();
         "SmolStrBuilder::push": SmolStrBuilder::new(alloc).push('🦀').is_ok();
-        "SmolStrBuilder::push_str": SmolStrBuilder::new(alloc).push_str(full_text()).is_ok();
         "SmolStrBuilder::write_str": SmolStrBuilder::new(alloc).write_str(full_text()).is_ok();
         "SmolStrBuilder::write_fmt": SmolStrBuilder::new(alloc).write_fmt(full_text()).is_ok();
-        "build": build(alloc, INLINE_CAP, &steps).is_ok();
     }
-    Ok(())
 }
 
 #[test]
@@ -182,7 +106,6 @@ fn builders(rt: HostRuntime) -> Result<(), Fail> {
     let builder = builder_of(alloc, 0, full_text())?;
     let large = builder_of(alloc, 100, full_text())?;
     free! { &rt, alloc;
-        "SmolStrBuilder::clone": builder.clone().is_ok();
         "SmolStrBuilder::as_str": builder.as_str() == full_text();
         "SmolStrBuilder::len": builder.len() == INLINE_CAP;
         "SmolStrBuilder::is_empty": !builder.is_empty();
@@ -193,19 +116,11 @@ fn builders(rt: HostRuntime) -> Result<(), Fail> {
 }
 
 #[test]
-fn builders_finished(rt: HostRuntime) -> Result<(), Fail> {
+fn collected(rt: HostRuntime) -> Result<(), Fail> {
     let alloc = rt.alloc();
-    let blank = builder_of(alloc, 100, long_blank())?;
-    let large = builder_of(alloc, 100, full_text())?;
-    let other = builder_of(alloc, 100, full_text())?;
-    let own = builder_of(alloc, 100, full_text())?;
-    let collected = builder_of(alloc, 100, full_text())?;
+    let builder = builder_of(alloc, 100, full_text())?;
     free! { &rt, alloc;
-        "SmolStrBuilder::finish": large.finish().is_ok();
-        "SmolStrBuilder::into_value": own.into_value().is_ok();
-        "SmolStr::from_builder": SmolStr::from_builder(blank).is_ok();
-        "format::finished": finished(other).is_ok();
-        "ValueAlloc::value_of": Global::value_of(collected).is_ok();
+        "ValueAlloc::value_of": Global::value_of(builder).is_ok();
     }
     Ok(())
 }
