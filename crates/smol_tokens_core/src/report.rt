@@ -4,6 +4,7 @@ ghost use Rattle.std.specs.Str.{chars, IsUtf8};
 ghost use Rattle.std.specs.String.{string_bytes};
 ghost use Rattle.smol_str.specs.Text.{size};
 ghost use Rattle.smol_str.specs.Meaning.{IsValueOf};
+ghost use Rattle.smol_str.specs.declared.value.place.Place.TheVariants.{Inline};
 ghost use Rattle.smol_tokens_core.specs.Report.{place_word, report_line, line_text, lines_report, join_report, report};
 ghost use Rattle.smol_tokens_core.specs.ReportFaults.{HasNoReport, AfterInputFault};
 
@@ -11,9 +12,12 @@ use crate::fault::RunFault;
 use crate::lines::Lines;
 use crate::mode::Mode;
 use crate::tokens::count_lines;
-use smol_str::{FormatError, Place, SmolStr, StrExt, format_smolstr};
+use smol_str::{FormatError, INLINE_CAP, Place, SmolStr, StrExt, format_smolstr};
 use std::alloc::{AllocError, Global};
 use std::hash::BuildHasher;
+
+/// The bytes of an inline text's report line beside the text: `inline`, two digits, two spaces and a newline.
+const BESIDE_TEXT: usize = 11;
 
 /// The whole report on an input, where its bytes are a text.
 ///
@@ -92,16 +96,17 @@ fn join(alloc: Global, text: &str) -> Result<String, AllocError>
 
 /// Appends the report line of a value.
 ///
-/// That of a text on the heap is printed into the report: as a value of its own it would be one more copy of a long
-/// text.
+/// One that is short itself is made as a value first, which takes no memory; any other is printed into the report: as a
+/// value it would be one more copy.
 fn push_line(alloc: Global, out: &mut String, value: &SmolStr) -> Result<(), AllocError>
     ensures { OnOk result (string_bytes out.new ≡ string_bytes out.old
         ++ encode_utf8_all (report_line value.now.place (size value.now.text) value.now.text)) }
 {
-    if value.is_heap_allocated() {
-        print_line(out, value)
-    } else {
-        push_formatted(alloc, out, value)
+    match value.place() {
+        Place::Inline if value.len().saturating_add(BESIDE_TEXT) <= INLINE_CAP => push_inline(
+            alloc, out, value,
+        ),
+        _ => print_line(out, value),
     }
 }
 
@@ -114,14 +119,13 @@ fn print_line(out: &mut String, value: &SmolStr) -> Result<(), AllocError>
     write!(out, "{place} {size} {value}\n")
 }
 
-/// The same, as a value first, which takes no memory where the line is short.
-fn push_formatted(alloc: Global, out: &mut String, value: &SmolStr) -> Result<(), AllocError>
+/// The same of an inline value, as a value first.
+fn push_inline(alloc: Global, out: &mut String, value: &SmolStr) -> Result<(), AllocError>
     ensures { OnOk result (string_bytes out.new ≡ string_bytes out.old
-        ++ encode_utf8_all (report_line value.now.place (size value.now.text) value.now.text)) }
+        ++ encode_utf8_all (report_line Inline (size value.now.text) value.now.text)) }
 {
-    let place = place_word(value.place());
     let size = value.len();
-    match format_smolstr!(alloc; "{place} {size} {value}\n") {
+    match format_smolstr!(alloc; "inline {size} {value}\n") {
         Ok(line) => out.push_str(line.as_str()),
         Err(FormatError) => Err(AllocError),
     }
