@@ -13,9 +13,7 @@ returns-clause-cut c =
     (cut t p (no_limit t), IsCut-cut t p (no_limit t))
 
 pub returns-clause-text : goal.returns-clause-text
-returns-clause-text c = λ pieces h.
-    let t = chars c.args.self.now.now in
-    joined-text c.replace.result t (chars c.args.from.now) _ (no_limit t) pieces h (returns-clause-ok c)
+returns-clause-text c = search (rules, arith, replaced-unlimited, joined-text)
 
 pub returns-clause-refused : goal.returns-clause-refused
 returns-clause-refused c = search (rules, arith, replaced-unlimited)
