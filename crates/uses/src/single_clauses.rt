@@ -1,40 +1,34 @@
 //! Callers that need single clauses of the library, one or two each: what no other caller here would miss.
-ghost use Rattle.std.specs.Prelude.{◌≡◌, ◌↔◌, ◌<◌, ◌≤◌, ◌++◌, ◌⊎◌, ℕ, List, [], length, IfOk, IfErr, IfSome, IsSome, OnOk, OnErr, IsTrue, Some, encode_utf8_all};
-ghost use Rattle.std.specs.Str.{chars, IsCharBoundary};
+ghost use Rattle.std.specs.Prelude.{◌≡◌, ◌↔◌, ◌<◌, ◌++◌, ◌⊎◌, ℕ, List, length, IfOk, IfErr, IfSome, IsSome, OnOk, OnErr, IsTrue, Some, encode_utf8_all};
+ghost use Rattle.std.specs.Str.{chars, all_scalars, IsCharBoundary};
 ghost use Rattle.std.specs.String.{string_bytes};
 ghost use Rattle.std.specs.Ordering.{nat_cmp};
 ghost use Rattle.std.specs.Cmp.Lexicographic.{slice_cmp};
-ghost use Rattle.std.specs.Fmt.{AppendsText};
 ghost use Rattle.std.specs.Io.KnownBytes.{Consumes, IsAtEnd};
 ghost use Rattle.std.specs.Iterator.{IsFinite};
 ghost use Rattle.smol_str.specs.Text.{size, IsShort, IsResident, place_of};
-ghost use Rattle.smol_str.specs.Buffer.{padded};
+ghost use Rattle.smol_str.specs.Buffer.{HaveOneBuffer, padded};
 ghost use Rattle.smol_str.specs.Meaning.{IsValueOf};
-ghost use Rattle.smol_str.specs.Draft.{InBuffer, OnHeap, appended};
+ghost use Rattle.smol_str.specs.Draft.{OnHeap, appended};
 ghost use Rattle.smol_str.specs.Joined.{joined, joined_strs, joined_string_refs, char_text, str_text, string_text, string_ref_text};
 ghost use Rattle.smol_str.specs.Collect.{AppendedAll, Collected, StoppedAt, IsValueOfRun, AppendsRun};
 ghost use Rattle.smol_str.specs.Case.{lower, upper, front, IsAsciiText};
-ghost use Rattle.smol_str.specs.Cut.{IsCut, IsNextMatch, Occurs, joined_by};
+ghost use Rattle.smol_str.specs.Cut.{IsCut, IsNextMatch, StandsAt, joined_by};
 ghost use Rattle.smol_str.specs.Replace.{no_limit};
 ghost use Rattle.smol_str.specs.Json.{IsJsonText};
 
 use smol_str::json::{JsonFault, from_json};
 use smol_str::kernel::next_match;
 use smol_str::stream::{ReadFault, read_all};
-use smol_str::{InlineBuffer, Place, SmolStr, SmolStrBuilder, StrExt, ToSmolStr, ValueAlloc};
+use smol_str::{
+    FormatError, InlineBuffer, Place, SmolStr, SmolStrBuilder, StrExt, ToSmolStr, ValueAlloc,
+};
 use std::alloc::{AllocError, Global};
 use std::boxed::BoxedStr;
 use std::cmp::Ordering;
 use std::fmt;
 use std::io::Read;
 use std::rc::RcStr;
-
-/// The bytes of a value's text.
-pub fn text_bytes(value: &SmolStr) -> &[u8]
-    ensures { result.now ≡ encode_utf8_all value.now.text }
-{
-    value.as_str().as_bytes()
-}
 
 /// Whether a value and a builder have no bytes.
 pub fn have_no_bytes(value: &SmolStr, builder: &SmolStrBuilder) -> (bool, bool)
@@ -75,46 +69,26 @@ pub fn whole_buffer_so_far(builder: &SmolStrBuilder) -> Option<&InlineBuffer>
     builder.inline_buffer()
 }
 
-/// The text of a builder, which is short where it lies in the buffer.
-#[tactic(auto, using(smol_str::proofs::CallerLemmas::texts))]
+/// The text of a builder, whose characters are Unicode scalar values.
 pub fn text_so_far(builder: &SmolStrBuilder) -> &str
-    ensures text { chars result.now ≡ builder.now.text }
-    ensures short { builder.now.kind ≡ InBuffer → IsShort builder.now.text }
+    ensures { IsTrue (all_scalars builder.now.text) }
 {
     builder.as_str()
 }
 
-/// The bytes of a builder's text.
-pub fn bytes_of_builder(builder: &SmolStrBuilder) -> &[u8]
-    ensures { result.now ≡ encode_utf8_all builder.now.text }
+/// A clone of a value by the trait, which a resident text is never refused.
+pub fn cloned_by_trait(value: &SmolStr) -> Result<SmolStr, AllocError>
+    ensures { OnErr result (¬ (IsResident value.now.text)) }
 {
-    builder.as_str().as_bytes()
+    Clone::clone(value)
 }
 
-/// A clone of a value, and when there may be none.
-pub fn cloned(value: &SmolStr) -> Result<SmolStr, AllocError>
-    ensures refused { OnErr result (value.now.place ≡ Place.Heap) }
-    ensures not_resident { OnErr result (¬ (IsResident value.now.text)) }
+/// Whether two inline values have equal buffers, by the method itself: `==` says what its trait does.
+pub fn have_one_buffer(left: &SmolStr, right: &SmolStr) -> bool
+    ensures { left.now.place ≡ Place.Inline → right.now.place ≡ Place.Inline →
+        IsTrue result ↔ HaveOneBuffer left.now.text right.now.text }
 {
-    value.clone()
-}
-
-/// The same of a builder.
-pub fn cloned_builder(builder: &SmolStrBuilder) -> Result<SmolStrBuilder, AllocError>
-    ensures { OnErr result (builder.now.kind ≡ OnHeap) }
-{
-    builder.clone()
-}
-
-/// Lists of values and of builders are cloned by the trait.
-pub fn cloned_by_trait(
-    value: &Option<SmolStr>,
-    builder: &Option<SmolStrBuilder>,
-) -> Result<(Option<SmolStr>, Option<SmolStrBuilder>), AllocError>
-    ensures value { IfOk result (λ copies. copies.0 ≡ value.now) }
-    ensures builder { IfOk result (λ copies. copies.1 ≡ builder.now) }
-{
-    Ok((value.clone()?, builder.clone()?))
+    left.eq(right)
 }
 
 /// What owns a text comes back where memory is refused.
@@ -201,18 +175,6 @@ pub fn push_strings_until<'a, I: Iterator<Item = &'a String>>(
     builder.extend_strings(texts)
 }
 
-/// A value of all characters of an iterator.
-pub fn all_chars<A: ValueAlloc, I: Iterator<Item = char>>(
-    alloc: A,
-    characters: I,
-) -> Result<A::Value, AllocError>
-    requires can { I.can_next characters }
-    requires ends { IsFinite (I.remaining characters) }
-    ensures { IfOk result (IsValueOfRun I.next_gives characters (λ items. items) A.meaning) }
-{
-    SmolStr::from_chars(alloc, characters)
-}
-
 /// A value of all `String`s of an iterator, which are handed over.
 pub fn all_strings<A: ValueAlloc, I: Iterator<Item = String>>(
     alloc: A,
@@ -247,21 +209,11 @@ pub fn print_text(builder: &mut SmolStrBuilder, text: &str) -> fmt::Result
     fmt::Write::write_str(builder, text)
 }
 
-/// What a value prints, after a builder's text.
-pub fn print_after<D: fmt::Display + Drop>(builder: &mut SmolStrBuilder, value: D) -> fmt::Result
-    ensures text { OnOk result
-        (IfSome (D.output value) (λ bytes. builder.new ≡ appended builder.old (chars bytes))) }
-    ensures bytes { OnOk result
-        (AppendsText (encode_utf8_all builder.old.text) (encode_utf8_all builder.new.text) (D.output value)) }
-{
-    builder.write_fmt(value)
-}
-
 /// What any type prints, in the place of that text.
 pub fn printed_in_its_place<T: fmt::Display>(
     alloc: Global,
     value: &T,
-) -> Result<SmolStr, smol_str::FormatError>
+) -> Result<SmolStr, FormatError>
     ensures text { IfOk result (λ v. IfSome (T.output value.now) (λ bytes. IsValueOf (chars bytes) v)) }
     ensures place { IfOk result (λ v. v.place ≡ place_of v.text) }
 {
@@ -281,18 +233,10 @@ pub fn match_after(text: &str, from: usize, pattern: &str) -> Option<usize>
     requires not_empty { 0 < length pattern.now }
     ensures found { (a b : List ℕ) → chars text.now ≡ a ++ b → size a ≡ from →
         (i : ℕ) → (result ≡ Some i) ↔ IsNextMatch a b (chars pattern.now) i }
+    ensures synchronised { (x y : List ℕ) → text.now ≡ x ++ (pattern.now ++ y) →
+        StandsAt (chars pattern.now) (chars text.now) (length x) }
 {
     next_match(text, from, pattern)
-}
-
-/// Whether a pattern stands at or after a byte index.
-pub fn occurs_after(text: &str, from: usize, pattern: &str) -> bool
-    requires boundary { 0 < from → IsCharBoundary text.now from }
-    requires not_empty { 0 < length pattern.now }
-    ensures { (a b : List ℕ) → chars text.now ≡ a ++ b → size a ≡ from →
-        IsTrue result → ¬ (¬ (Occurs (chars pattern.now) b)) }
-{
-    next_match(text, from, pattern).is_some()
 }
 
 /// A text cut at the first so many matches, and joined by another.
