@@ -1,8 +1,9 @@
 -- A beginning of what is written in two parts: for `serialize`, which writes a size and then a text. And what is gone
 -- where a reader failed: for `stream`.
-use Rattle.smol_str.proofs.Common.{◌≡◌, Result, err_from_is_err_and, ℕ, ◌+◌, ◌<◌, ◌≤◌, length, List, ◌++◌, Option, sym, ap, ◌∙◌, arith, append_assoc, length-append, Appends, Appends-trans, Consumes, Consumes-trans, rules}
+use Rattle.smol_str.proofs.Common.{◌≡◌, Result, err_from_is_err_and, ℕ, ◌+◌, ◌<◌, ◌≤◌, length, List, ◌++◌, Option, sym, ap, ◌∙◌, arith, append_assoc, length-append, Appends, Appends-trans, Consumes, Consumes-trans, rules, take, subst}
 use Rattle.std.specs.Io.KnownBytes.{Keeps}
 use Rattle.std.proofs.KnownBytes.{Consumes-kept}
+use Rattle.std.proofs.lemmas.List.{take_all}
 use Rattle.smol_str.specs.Stream.{AppendsBeginning, StopsBelow, ConsumesSome, AfterStreamFault}
 use Rattle.std.specs.declared.io.Error.{Error}
 use Rattle.std.specs.Result.{IsErrAnd, IfErr}
@@ -53,3 +54,8 @@ module _ {T : Type 0} (limit : ℕ) (a b : Option (List ℕ)) (r : Result T Read
   pub AfterStreamFault-refused : IsErrAnd r (λ fault. fault ≡ OutOfMemory) → ConsumesSome a b limit
       → IfErr r (AfterStreamFault limit a b)
   AfterStreamFault-refused failed some = search (rules, arith, err_from_is_err_and)
+
+-- a reader lost what fills a buffer
+pub Consumes-full : (a b : Option (List ℕ)) (n : ℕ) (buffer : List ℕ) → Consumes a b (take n buffer) → length buffer ≤ n
+    → Consumes a b buffer
+Consumes-full a b n buffer consumed full = subst (Consumes a b) (take_all n buffer full) consumed

@@ -11,3 +11,6 @@ pub returns-in_err-append_to-clause-refused : goal.returns-in_err-append_to-clau
 returns-in_err-append_to-clause-refused g c =
     let stopped : StoppedAt g.P.Piece.text g.I.Iterator.next_gives c.args.iter c.args.builder.now c.append_to.new.builder = search rules in
     OnErr-always c.from_residual.result _ (OutgrownAfter-stopped g.P.Piece.text g.I.Iterator.next_gives c.args.iter _ _ stopped)
+
+pub returns-clause-ok : goal.returns-clause-ok
+returns-clause-ok g c = (c.loop-piece.yielded, (c.next.new.self, search rules), c.loop-piece.invariant)
