@@ -1,11 +1,8 @@
 //! Tests of what no clause says: outside values, and memory refused.
 
-mod built;
 mod compare;
 mod convert;
 mod kernel;
-mod keys;
-mod large;
 mod long_texts;
 mod operations;
 mod places;

@@ -143,10 +143,14 @@ fn texts_as_a_string(rt: HostRuntime) -> Result<(), Fail> {
     row!(&rt, alloc; "   né"; "{value:>5}");
     row!(&rt, alloc; "né**"; "{value:*<4}");
     row!(&rt, alloc; "  né  "; "{value:^6}");
-    row!(&rt, alloc; "éééa"; "{:é>4}", "a");
-    row!(&rt, alloc; "ab"; "{:.2}", "abc");
-    row!(&rt, alloc; "   a|"; "{:>4.1}|", "abc");
-    row!(&rt, alloc; "a                        b"; "a{:24}b", "");
+    assert_parts_of_texts(&rt, alloc)
+}
+
+fn assert_parts_of_texts(rt: &impl Abort, alloc: Global) -> Result<(), Fail> {
+    row!(rt, alloc; "éééa"; "{:é>4}", "a");
+    row!(rt, alloc; "ab"; "{:.2}", "abc");
+    row!(rt, alloc; "   a|"; "{:>4.1}|", "abc");
+    row!(rt, alloc; "a                        b"; "a{:24}b", "");
     Ok(())
 }
 
@@ -157,10 +161,14 @@ fn numbers_as_a_string(rt: HostRuntime) -> Result<(), Fail> {
     row!(&rt, alloc; "-0042"; "{:05}", -42i32);
     row!(&rt, alloc; "+7"; "{:+}", 7u8);
     row!(&rt, alloc; "42  |"; "{:<4}|", 42u16);
-    row!(&rt, alloc; "0xff"; "{:#x}", 255u8);
-    row!(&rt, alloc; "00000101"; "{:08b}", 5u8);
-    row!(&rt, alloc; "{true}"; "{{{}}}", true);
-    row!(&rt, alloc; "\"a\\n\""; "{:?}", "a\n");
+    assert_bases(&rt, alloc)
+}
+
+fn assert_bases(rt: &impl Abort, alloc: Global) -> Result<(), Fail> {
+    row!(rt, alloc; "0xff"; "{:#x}", 255u8);
+    row!(rt, alloc; "00000101"; "{:08b}", 5u8);
+    row!(rt, alloc; "{true}"; "{{{}}}", true);
+    row!(rt, alloc; "\"a\\n\""; "{:?}", "a\n");
     Ok(())
 }
 

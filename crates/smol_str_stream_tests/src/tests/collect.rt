@@ -84,17 +84,43 @@ fn items_of<'p, 's>(
     lower: usize,
 ) -> Result<Items<'p, 's>, AllocError> {
     match call {
-        Call::FromChars | Call::ExtendChars => {
-            Ok(Items::Chars(with_hint(chars_of(alloc, pieces)?, lower)))
-        }
-        Call::FromStrs | Call::ExtendStrs => {
-            Ok(Items::Strs(with_hint(pieces.iter().copied().collect(alloc)?, lower)))
-        }
-        Call::FromStrings => Ok(Items::Strings(with_hint(strings_of(alloc, pieces)?, lower))),
-        Call::FromStringRefs | Call::ExtendStrings => {
-            Ok(Items::StringRefs(with_hint(strings.iter().collect(alloc)?, lower)))
-        }
+        Call::FromChars | Call::ExtendChars => char_items(alloc, pieces, lower),
+        Call::FromStrs | Call::ExtendStrs => str_items(alloc, pieces, lower),
+        Call::FromStrings => string_items(alloc, pieces, lower),
+        Call::FromStringRefs | Call::ExtendStrings => string_ref_items(alloc, strings, lower),
     }
+}
+
+fn char_items<'p, 's>(
+    alloc: Global,
+    pieces: &[&'p str],
+    lower: usize,
+) -> Result<Items<'p, 's>, AllocError> {
+    Ok(Items::Chars(with_hint(chars_of(alloc, pieces)?, lower)))
+}
+
+fn str_items<'p, 's>(
+    alloc: Global,
+    pieces: &[&'p str],
+    lower: usize,
+) -> Result<Items<'p, 's>, AllocError> {
+    Ok(Items::Strs(with_hint(pieces.iter().copied().collect(alloc)?, lower)))
+}
+
+fn string_items<'p, 's>(
+    alloc: Global,
+    pieces: &[&'p str],
+    lower: usize,
+) -> Result<Items<'p, 's>, AllocError> {
+    Ok(Items::Strings(with_hint(strings_of(alloc, pieces)?, lower)))
+}
+
+fn string_ref_items<'p, 's>(
+    alloc: Global,
+    strings: &'s [String],
+    lower: usize,
+) -> Result<Items<'p, 's>, AllocError> {
+    Ok(Items::StringRefs(with_hint(strings.iter().collect(alloc)?, lower)))
 }
 
 fn chars_of(alloc: Global, pieces: &[&str]) -> Result<Vec<char>, AllocError> {
@@ -457,17 +483,34 @@ fn assert_requests(
 ) -> Result<(), Fail> {
     let whole = joined(alloc, pieces)?;
     let value = SmolStr::new(alloc, whole.as_str())?;
+    let makes_requests = needs_memory && can_refuse(alloc);
     for call in CALLS {
-        let asked = if extends(call) {
-            extended_refused(alloc, call, pieces, whole.as_str())?
-        } else {
-            made_refused(alloc, call, pieces, whole.as_str())?
-        };
-        let makes_requests = needs_memory && can_refuse(alloc);
-        same(rt, &(asked.requests > 0), &makes_requests, &call);
-        holds(rt, is_exact(alloc, asked.held, &value)?, &call);
+        assert_asked(rt, alloc, call, pieces, &value, makes_requests)?;
     }
     Ok(())
+}
+
+/// A call makes requests or none, and what it makes holds its text and no more.
+fn assert_asked(
+    rt: &impl Abort,
+    alloc: Global,
+    call: Call,
+    pieces: &[&str; 2],
+    value: &SmolStr,
+    makes_requests: bool,
+) -> Result<(), Fail> {
+    let asked = asked_by(alloc, call, pieces, value.as_str())?;
+    same(rt, &(asked.requests > 0), &makes_requests, &call);
+    holds(rt, is_exact(alloc, asked.held, value)?, &call);
+    Ok(())
+}
+
+fn asked_by(alloc: Global, call: Call, pieces: &[&str; 2], whole: &str) -> Result<Asked, Fail> {
+    if extends(call) {
+        extended_refused(alloc, call, pieces, whole)
+    } else {
+        made_refused(alloc, call, pieces, whole)
+    }
 }
 
 fn joined(alloc: Global, pieces: &[&str; 2]) -> Result<String, AllocError> {

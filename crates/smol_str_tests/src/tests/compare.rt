@@ -1,5 +1,4 @@
 //! Equality, order and hashes.
-use super::built::value_of;
 use super::same::{holds, same, same_place};
 use smol_str::borsh::from_wire;
 use smol_str::{INLINE_CAP, Place, SmolStr, Step, StrExt, build};
@@ -182,7 +181,11 @@ fn add_constructed(alloc: Global, values: &mut Vec<SmolStr>) -> Result<(), Fail>
 fn add_converted(alloc: Global, values: &mut Vec<SmolStr>) -> Result<(), Fail> {
     add(values, Some(from_wire(alloc, b"\x02\0\0\0ab")?.0))?;
     add(values, "xb".replace_smolstr(alloc, "x", "a").ok())?;
-    add(values, value_of(builder_of(alloc, 100, "ab")?).ok())?;
+    add_built(alloc, values)
+}
+
+fn add_built(alloc: Global, values: &mut Vec<SmolStr>) -> Result<(), Fail> {
+    add(values, builder_of(alloc, 100, "ab")?.finish().ok())?;
     add(
         values,
         build(alloc, 0, &[Step::Push('a'), Step::Push('b')]).ok(),

@@ -8,7 +8,7 @@ use std::alloc::{AllocError, Global};
 use std::process::Abort;
 use std::test::Fail;
 use test_support::builders::builder_of;
-use test_support::refuse::{can_refuse, each_refused, end_refusals, refuse_all};
+use test_support::refuse::{Asked, can_refuse, each_refused, end_refusals, refuse_all};
 use test_support::texts::{repeated, repeated_and};
 
 /// What a row appends.
@@ -131,11 +131,20 @@ fn test_builder_push(rt: HostRuntime) -> Result<(), Fail> {
 #[test]
 fn every_capacity(rt: HostRuntime) -> Result<(), Fail> {
     for capacity in [0, INLINE_CAP, INLINE_CAP + 1, 100] {
-        for row in rows() {
-            let builder = SmolStrBuilder::with_capacity(rt.alloc(), capacity)?;
-            assert_pieces(&rt, rt.alloc(), builder, row)?;
-            assert_steps_at(&rt, rt.alloc(), capacity, row)?;
-        }
+        assert_rows_at(&rt, rt.alloc(), capacity)?;
+    }
+    Ok(())
+}
+
+fn assert_rows_at(rt: &impl Abort, alloc: Global, capacity: usize) -> Result<(), Fail> {
+    for row in rows() {
+        assert_pieces(
+            rt,
+            alloc,
+            SmolStrBuilder::with_capacity(alloc, capacity)?,
+            row,
+        )?;
+        assert_steps_at(rt, alloc, capacity, row)?;
     }
     Ok(())
 }
@@ -191,16 +200,20 @@ fn steps_refused(rt: HostRuntime) -> Result<(), Fail> {
     let alloc = rt.alloc();
     let whole = repeated_and(alloc, "a", INLINE_CAP, "bc")?;
     for pieces in &LEAVING {
-        let asked = each_refused(
-            alloc,
-            "build",
-            || Ok(steps_of(alloc, *pieces)?),
-            |steps| build(alloc, 0, &steps),
-            |made| check_built(made, whole.as_str()),
-        )?;
+        let asked = build_refused(alloc, pieces, whole.as_str())?;
         same(&rt, &(asked.requests > 0), &can_refuse(alloc), &"requests");
     }
     Ok(())
+}
+
+fn build_refused(alloc: Global, pieces: &[Piece], whole: &str) -> Result<Asked, Fail> {
+    each_refused(
+        alloc,
+        "build",
+        || Ok(steps_of(alloc, pieces)?),
+        |steps| build(alloc, 0, &steps),
+        |made| check_built(made, whole),
+    )
 }
 
 fn check_built(made: &Result<SmolStr, AllocError>, whole: &str) -> Result<(), Fail> {
@@ -215,15 +228,19 @@ fn check_built(made: &Result<SmolStr, AllocError>, whole: &str) -> Result<(), Fa
 fn refused_at_the_boundary(rt: HostRuntime) -> Result<(), Fail> {
     let alloc = rt.alloc();
     let text = repeated(alloc, "a", INLINE_CAP - 1)?;
-    let asked = each_refused(
-        alloc,
-        "push_str of two bytes where one is left",
-        || Ok(builder_of(alloc, 0, text.as_str())?),
-        |builder| append_two_bytes(builder),
-        |answer| assert_at_boundary(&rt, alloc, text.as_str(), answer),
-    )?;
+    let asked = push_refused(&rt, alloc, text.as_str())?;
     same(&rt, &(asked.requests > 0), &can_refuse(alloc), &"requests");
     Ok(())
+}
+
+fn push_refused(rt: &impl Abort, alloc: Global, text: &str) -> Result<Asked, Fail> {
+    each_refused(
+        alloc,
+        "push_str of two bytes where one is left",
+        || Ok(builder_of(alloc, 0, text)?),
+        |builder| append_two_bytes(builder),
+        |answer| assert_at_boundary(rt, alloc, text, answer),
+    )
 }
 
 /// A builder that is refused the two bytes comes back.
@@ -360,7 +377,7 @@ fn of_characters(alloc: Global, text: &str) -> Result<SmolStrBuilder, AllocError
 }
 
 /// The value of a builder.
-pub fn value_of(builder: SmolStrBuilder) -> Result<SmolStr, AllocError> {
+fn value_of(builder: SmolStrBuilder) -> Result<SmolStr, AllocError> {
     Ok(builder.finish()?)
 }
 
@@ -375,9 +392,13 @@ fn steps_of(alloc: Global, pieces: &[Piece]) -> Result<Vec<Step>, AllocError> {
 fn step_of(alloc: Global, piece: Piece) -> Result<Step, AllocError> {
     match piece {
         Piece::Char(character) => Ok(Step::Push(character)),
-        Piece::Text(text) => Ok(Step::PushStr(String::from_str(alloc, text)?)),
-        Piece::Times(text, times) => Ok(Step::PushStr(repeated(alloc, text, times)?)),
+        Piece::Text(text) => step_of_text(alloc, text, 1),
+        Piece::Times(text, times) => step_of_text(alloc, text, times),
     }
+}
+
+fn step_of_text(alloc: Global, text: &str, times: usize) -> Result<Step, AllocError> {
+    Ok(Step::PushStr(repeated(alloc, text, times)?))
 }
 
 /// The builder has the text, and finishes to its value.
