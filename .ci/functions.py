@@ -44,6 +44,16 @@ class Functions:
             at += 1
         return names
 
+    def proved(self):
+        """The names of all functions but those of traits, which have no proof."""
+        found = set()
+        for file in self.files:
+            lines, is_trait = file.read_text(encoding="utf-8").split("\n"), False
+            for line, name in zip(lines, self.named(file.relative_to(self.crate))):
+                is_trait = line.startswith(("pub trait ", "trait ")) or is_trait and line != "}"
+                found |= {name} if name and not is_trait else set()
+        return found
+
     def beside(self, path):
         """The lines of each function of a file that another function can stand beside, by its name: from its first
         attribute to its last line. Those of impls of traits, and of traits, are not among them."""
