@@ -2,7 +2,7 @@
 ghost use Rattle.std.specs.Prelude.{◌≡◌, IfOk};
 ghost use Rattle.std.specs.Str.{chars};
 
-use super::same::{holds, same, same_place, same_text, same_value};
+use super::same::{holds, ok, same, same_place, same_text, same_value};
 use smol_str::{INLINE_CAP, Place, SmolStr, SmolStrBuilder, Step, build};
 use std::alloc::{AllocError, Global};
 use std::process::Abort;
@@ -111,63 +111,53 @@ fn rows() -> &'static [Row] {
 }
 
 #[test]
-fn test_builder_push_str(rt: HostRuntime) -> Result<(), Fail> {
+fn test_builder_push_str(rt: HostRuntime) {
     for row in rows() {
-        assert_pieces(&rt, rt.alloc(), SmolStrBuilder::new(rt.alloc()), row)?;
+        assert_pieces(&rt, rt.alloc(), SmolStrBuilder::new(rt.alloc()), row);
     }
-    Ok(())
 }
 
 #[test]
-fn test_builder_push(rt: HostRuntime) -> Result<(), Fail> {
+fn test_builder_push(rt: HostRuntime) {
     for row in rows() {
-        let text = text_of(rt.alloc(), row)?;
-        let builder = of_characters(rt.alloc(), text.as_str())?;
-        assert_finishes(&rt, builder, text.as_str(), row.2)?;
+        let text = ok(&rt, text_of(rt.alloc(), row));
+        let builder = ok(&rt, of_characters(rt.alloc(), text.as_str()));
+        assert_finishes(&rt, builder, text.as_str(), row.2);
     }
-    Ok(())
 }
 
 #[test]
-fn every_capacity(rt: HostRuntime) -> Result<(), Fail> {
+fn every_capacity(rt: HostRuntime) {
     for capacity in [0, INLINE_CAP, INLINE_CAP + 1, 100] {
-        assert_rows_at(&rt, rt.alloc(), capacity)?;
+        assert_rows_at(&rt, rt.alloc(), capacity);
     }
-    Ok(())
 }
 
-fn assert_rows_at(rt: &impl Abort, alloc: Global, capacity: usize) -> Result<(), Fail> {
+fn assert_rows_at(rt: &impl Abort, alloc: Global, capacity: usize) {
     for row in rows() {
         assert_pieces(
             rt,
             alloc,
-            SmolStrBuilder::with_capacity(alloc, capacity)?,
+            ok(rt, SmolStrBuilder::with_capacity(alloc, capacity)),
             row,
-        )?;
-        assert_steps_at(rt, alloc, capacity, row)?;
+        );
+        assert_steps_at(rt, alloc, capacity, row);
     }
-    Ok(())
 }
 
-fn assert_pieces(
-    rt: &impl Abort,
-    alloc: Global,
-    mut builder: SmolStrBuilder,
-    row: &Row,
-) -> Result<(), Fail> {
+fn assert_pieces(rt: &impl Abort, alloc: Global, mut builder: SmolStrBuilder, row: &Row) {
     for piece in row.0 {
-        append(alloc, &mut builder, *piece)?;
+        ok(rt, append(alloc, &mut builder, *piece));
     }
-    let text = text_of(alloc, row)?;
+    let text = ok(rt, text_of(alloc, row));
     assert_finishes(rt, builder, text.as_str(), row.2)
 }
 
-fn assert_steps_at(rt: &impl Abort, alloc: Global, capacity: usize, row: &Row) -> Result<(), Fail> {
-    let text = text_of(alloc, row)?;
-    let steps = steps_of(alloc, row.0)?;
-    let value = build(alloc, capacity, &steps)?;
+fn assert_steps_at(rt: &impl Abort, alloc: Global, capacity: usize, row: &Row) {
+    let text = ok(rt, text_of(alloc, row));
+    let steps = ok(rt, steps_of(alloc, row.0));
+    let value = ok(rt, build(alloc, capacity, &steps));
     same_value(rt, &value, text.as_str(), row.2, &capacity);
-    Ok(())
 }
 
 /// A full buffer, a step of each kind that leaves it, and one of each kind behind that.
@@ -239,7 +229,10 @@ fn push_refused(rt: &impl Abort, alloc: Global, text: &str) -> Result<Asked, Fai
         "push_str of two bytes where one is left",
         || Ok(builder_of(alloc, 0, text)?),
         |builder| append_two_bytes(builder),
-        |answer| assert_at_boundary(rt, alloc, text, answer),
+        |answer| {
+            assert_at_boundary(rt, alloc, text, answer);
+            Ok(())
+        },
     )
 }
 
@@ -256,48 +249,31 @@ fn assert_at_boundary(
     alloc: Global,
     text: &str,
     answer: &Result<SmolStrBuilder, SmolStrBuilder>,
-) -> Result<(), Fail> {
+) {
     match answer {
         Ok(builder) => assert_two_bytes_more(rt, alloc, text, builder),
         Err(back) => assert_comes_back(rt, alloc, text, back),
     }
 }
 
-fn assert_two_bytes_more(
-    rt: &impl Abort,
-    alloc: Global,
-    text: &str,
-    builder: &SmolStrBuilder,
-) -> Result<(), Fail> {
-    let whole = repeated_and(alloc, text, 1, "bc")?;
+fn assert_two_bytes_more(rt: &impl Abort, alloc: Global, text: &str, builder: &SmolStrBuilder) {
+    let whole = ok(rt, repeated_and(alloc, text, 1, "bc"));
     same_text(rt, builder.as_str(), whole.as_str(), &"two bytes more");
     holds(rt, builder.inline_buffer().is_none(), &whole);
-    Ok(())
 }
 
-fn assert_comes_back(
-    rt: &impl Abort,
-    alloc: Global,
-    text: &str,
-    back: &SmolStrBuilder,
-) -> Result<(), Fail> {
+fn assert_comes_back(rt: &impl Abort, alloc: Global, text: &str, back: &SmolStrBuilder) {
     same_text(rt, back.as_str(), text, &"a builder that came back");
     holds(rt, back.inline_buffer().is_some(), &text);
     refuse_all(alloc);
-    let value = with_a_byte_more(back)?;
+    let value = ok(rt, with_a_byte_more(back));
     holds(rt, !end_refusals(alloc), &"a byte more takes no memory");
     assert_a_byte_more(rt, alloc, &value, text)
 }
 
-fn assert_a_byte_more(
-    rt: &impl Abort,
-    alloc: Global,
-    value: &SmolStr,
-    text: &str,
-) -> Result<(), Fail> {
-    let whole = repeated_and(alloc, text, 1, "d")?;
+fn assert_a_byte_more(rt: &impl Abort, alloc: Global, value: &SmolStr, text: &str) {
+    let whole = ok(rt, repeated_and(alloc, text, 1, "d"));
     same_value(rt, value, whole.as_str(), Place::Inline, &"a byte more");
-    Ok(())
 }
 
 fn with_a_byte_more(builder: &SmolStrBuilder) -> Result<SmolStr, AllocError> {
@@ -324,15 +300,14 @@ fn is_made(alloc: Global, capacity: usize) -> bool {
 }
 
 #[test]
-fn equal_texts(rt: HostRuntime) -> Result<(), Fail> {
+fn equal_texts(rt: HostRuntime) {
     for row in rows() {
-        let text = text_of(rt.alloc(), row)?;
-        let (one, other) = made_twice(rt.alloc(), text.as_str())?;
+        let text = ok(&rt, text_of(rt.alloc(), row));
+        let (one, other) = ok(&rt, made_twice(rt.alloc(), text.as_str()));
         holds(&rt, one == other, &text);
         same_place(&rt, &one, row.2, &text);
         same_place(&rt, &other, row.2, &text);
     }
-    Ok(())
 }
 
 /// The values of a builder without and of one with capacity.
@@ -402,16 +377,10 @@ fn step_of_text(alloc: Global, text: &str, times: usize) -> Result<Step, AllocEr
 }
 
 /// The builder has the text, and finishes to its value.
-fn assert_finishes(
-    rt: &impl Abort,
-    builder: SmolStrBuilder,
-    text: &str,
-    place: Place,
-) -> Result<(), Fail> {
+fn assert_finishes(rt: &impl Abort, builder: SmolStrBuilder, text: &str, place: Place) {
     same_text(rt, builder.as_str(), text, &"a builder");
     same(rt, &builder.len(), &text.len(), &text);
     same(rt, &builder.is_empty(), &text.is_empty(), &text);
-    let value = value_of(builder)?;
+    let value = ok(rt, value_of(builder));
     same_value(rt, &value, text, place, &"a builder's value");
-    Ok(())
 }

@@ -1,10 +1,9 @@
 //! Values in containers.
-use super::same::{holds, same, same_place, same_text};
+use super::same::{holds, ok, same, same_place, same_text};
 use smol_str::{Place, SmolStr};
-use std::alloc::Global;
+use std::alloc::{AllocError, Global};
 use std::collections::{BTreeMap, HashMap};
 use std::process::Abort;
-use std::test::Fail;
 use test_support::builders::builder_of;
 use test_support::texts::long_text;
 
@@ -13,8 +12,8 @@ fn texts() -> [&'static str; 6] {
 }
 
 #[test]
-fn keys_of_maps(rt: HostRuntime) -> Result<(), Fail> {
-    let map = hashed(rt.alloc())?;
+fn keys_of_maps(rt: HostRuntime) {
+    let map = ok(&rt, hashed(rt.alloc()));
     same(&rt, &map.len(), &texts().len(), &"entries");
     for (place, text) in texts().iter().enumerate() {
         let key = SmolStr::new_static(text);
@@ -22,22 +21,20 @@ fn keys_of_maps(rt: HostRuntime) -> Result<(), Fail> {
     }
     let missing = map.get(&SmolStr::new_inline("aa"));
     holds(&rt, missing.is_none(), &"aa");
-    Ok(())
 }
 
 #[test]
-fn keys_of_sorted_maps(rt: HostRuntime) -> Result<(), Fail> {
-    let map = sorted(rt.alloc())?;
+fn keys_of_sorted_maps(rt: HostRuntime) {
+    let map = ok(&rt, sorted(rt.alloc()));
     same(&rt, &map.len(), &texts().len(), &"entries");
     for (place, text) in texts().iter().enumerate() {
         let key = SmolStr::new_static(text);
         same(&rt, &map.get(&key).copied(), &Some(place), &key);
     }
-    Ok(())
 }
 
 /// The texts' places in a map.
-fn hashed(alloc: Global) -> Result<HashMap<SmolStr, usize>, Fail> {
+fn hashed(alloc: Global) -> Result<HashMap<SmolStr, usize>, AllocError> {
     let mut map = HashMap::new(alloc);
     for (place, text) in texts().iter().enumerate() {
         map.insert(SmolStr::new(alloc, text)?, place)?;
@@ -46,7 +43,7 @@ fn hashed(alloc: Global) -> Result<HashMap<SmolStr, usize>, Fail> {
 }
 
 /// The same in a sorted map.
-fn sorted(alloc: Global) -> Result<BTreeMap<SmolStr, usize>, Fail> {
+fn sorted(alloc: Global) -> Result<BTreeMap<SmolStr, usize>, AllocError> {
     let mut map = BTreeMap::new(alloc);
     for (place, text) in texts().iter().enumerate() {
         map.insert(SmolStr::new(alloc, text)?, place)?;
@@ -55,20 +52,21 @@ fn sorted(alloc: Global) -> Result<BTreeMap<SmolStr, usize>, Fail> {
 }
 
 #[test]
-fn test_search_in_hashmap(rt: HostRuntime) -> Result<(), Fail> {
+fn test_search_in_hashmap(rt: HostRuntime) {
     let mut map = HashMap::new(rt.alloc());
-    map.insert(SmolStr::new(rt.alloc(), "aaa")?, 17)?;
+    ok(
+        &rt,
+        map.insert(ok(&rt, SmolStr::new(rt.alloc(), "aaa")), 17),
+    );
     let found = map.get(&SmolStr::new_inline("aaa")).copied();
     same(&rt, &found, &Some(17), &"aaa");
-    Ok(())
 }
 
 #[test]
-fn clones_of_containers(rt: HostRuntime) -> Result<(), Fail> {
-    let values = values_of(rt.alloc())?;
-    let copies = values.clone()?;
+fn clones_of_containers(rt: HostRuntime) {
+    let values = ok(&rt, values_of(rt.alloc()));
+    let copies = ok(&rt, values.clone());
     assert_copies(&rt, copies.as_slice(), values.as_slice());
-    Ok(())
 }
 
 fn assert_copies(rt: &impl Abort, copies: &[SmolStr], values: &[SmolStr]) {
@@ -79,7 +77,7 @@ fn assert_copies(rt: &impl Abort, copies: &[SmolStr], values: &[SmolStr]) {
     }
 }
 
-fn values_of(alloc: Global) -> Result<Vec<SmolStr>, Fail> {
+fn values_of(alloc: Global) -> Result<Vec<SmolStr>, AllocError> {
     let mut values = Vec::new(alloc);
     for text in texts() {
         values.push(SmolStr::new(alloc, text)?)?;
@@ -90,23 +88,21 @@ fn values_of(alloc: Global) -> Result<Vec<SmolStr>, Fail> {
 
 // A builder on the heap, too.
 #[test]
-fn clones_of_lists_of_builders(rt: HostRuntime) -> Result<(), Fail> {
+fn clones_of_lists_of_builders(rt: HostRuntime) {
     let mut builders = Vec::new(rt.alloc());
     for text in texts() {
-        builders.push(builder_of(rt.alloc(), 0, text)?)?;
+        ok(&rt, builders.push(ok(&rt, builder_of(rt.alloc(), 0, text))));
     }
-    let copies = builders.clone()?;
+    let copies = ok(&rt, builders.clone());
     same(&rt, &copies.len(), &builders.len(), &"builders");
     for (copy, builder) in copies.iter().zip(builders.iter()) {
         same_text(&rt, copy.as_str(), builder.as_str(), &"builders");
     }
-    Ok(())
 }
 
 #[test]
-fn clone_of_an_option(rt: HostRuntime) -> Result<(), Fail> {
-    let copy = Some(SmolStr::new_static("ab")).clone()?;
+fn clone_of_an_option(rt: HostRuntime) {
+    let copy = ok(&rt, Some(SmolStr::new_static("ab")).clone());
     let place = copy.map(|value| value.place());
     same(&rt, &place, &Some(Place::Static), &"ab");
-    Ok(())
 }

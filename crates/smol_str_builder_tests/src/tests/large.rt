@@ -1,9 +1,8 @@
 //! Large capacities.
-use super::same::{holds, same, same_place, same_text};
+use super::same::{holds, ok, same, same_place, same_text};
 use smol_str::{INLINE_CAP, Place, SmolStrBuilder, Step, build};
 use std::alloc::Global;
 use std::process::Abort;
-use std::test::Fail;
 use test_support::builders::builder_of;
 use test_support::refuse::{can_refuse, end_refusals, refuse_all};
 use test_support::texts::{repeated, repeated_and};
@@ -12,73 +11,58 @@ const CAPACITIES: [usize; 4] = [INLINE_CAP, 200, 5000, 2_097_153];
 
 // All of a capacity is asked for at once.
 #[test]
-fn appends_within_the_capacity(rt: HostRuntime) -> Result<(), Fail> {
+fn appends_within_the_capacity(rt: HostRuntime) {
     for capacity in CAPACITIES {
-        let builder = SmolStrBuilder::with_capacity(rt.alloc(), capacity)?;
-        let text = repeated(rt.alloc(), "a", capacity)?;
-        assert_appends(&rt, rt.alloc(), builder, text.as_str())?;
+        let builder = ok(&rt, SmolStrBuilder::with_capacity(rt.alloc(), capacity));
+        let text = ok(&rt, repeated(rt.alloc(), "a", capacity));
+        assert_appends(&rt, rt.alloc(), builder, text.as_str());
     }
-    Ok(())
 }
 
 #[test]
-fn pushes_within_the_capacity(rt: HostRuntime) -> Result<(), Fail> {
+fn pushes_within_the_capacity(rt: HostRuntime) {
     for capacity in CAPACITIES {
-        let builder = SmolStrBuilder::with_capacity(rt.alloc(), capacity)?;
-        let text = repeated(rt.alloc(), "a", capacity)?;
-        assert_pushes(&rt, rt.alloc(), builder, text.as_str())?;
+        let builder = ok(&rt, SmolStrBuilder::with_capacity(rt.alloc(), capacity));
+        let text = ok(&rt, repeated(rt.alloc(), "a", capacity));
+        assert_pushes(&rt, rt.alloc(), builder, text.as_str());
     }
-    Ok(())
 }
 
 /// The text is appended to what the builder has without a request for memory.
-fn assert_appends(
-    rt: &impl Abort,
-    alloc: Global,
-    mut builder: SmolStrBuilder,
-    text: &str,
-) -> Result<(), Fail> {
-    let whole = repeated_and(alloc, builder.as_str(), 1, text)?;
+fn assert_appends(rt: &impl Abort, alloc: Global, mut builder: SmolStrBuilder, text: &str) {
+    let whole = ok(rt, repeated_and(alloc, builder.as_str(), 1, text));
     refuse_all(alloc);
-    builder.push_str(text)?;
+    ok(rt, builder.push_str(text));
     holds(rt, !end_refusals(alloc), &text.len());
     same_text(rt, builder.as_str(), whole.as_str(), &text.len());
-    Ok(())
 }
 
-fn assert_pushes(
-    rt: &impl Abort,
-    alloc: Global,
-    mut builder: SmolStrBuilder,
-    text: &str,
-) -> Result<(), Fail> {
+fn assert_pushes(rt: &impl Abort, alloc: Global, mut builder: SmolStrBuilder, text: &str) {
     refuse_all(alloc);
     for character in text.chars() {
-        builder.push(character)?;
+        ok(rt, builder.push(character));
     }
     holds(rt, !end_refusals(alloc), &text.len());
     same_text(rt, builder.as_str(), text, &text.len());
-    Ok(())
 }
 
 #[test]
-fn builds_of_large_capacity(rt: HostRuntime) -> Result<(), Fail> {
+fn builds_of_large_capacity(rt: HostRuntime) {
     let alloc = rt.alloc();
     for capacity in CAPACITIES {
-        let step = Step::PushStr(repeated(alloc, "a", capacity)?);
-        let value = build(alloc, capacity, &[step, Step::Push('b')])?;
+        let step = Step::PushStr(ok(&rt, repeated(alloc, "a", capacity)));
+        let value = ok(&rt, build(alloc, capacity, &[step, Step::Push('b')]));
         same(&rt, &value.len(), &capacity.wrapping_add(1), &capacity);
         same_place(&rt, &value, Place::Heap, &capacity);
     }
-    Ok(())
 }
 
 // The builder that comes back is the same one, with its room.
 #[test]
-fn refused_finish_keeps_the_capacity(rt: HostRuntime) -> Result<(), Fail> {
+fn refused_finish_keeps_the_capacity(rt: HostRuntime) {
     let alloc = rt.alloc();
-    let text = repeated(alloc, "a", 100)?;
-    let builder = builder_of(alloc, 200, text.as_str())?;
+    let text = ok(&rt, repeated(alloc, "a", 100));
+    let builder = ok(&rt, builder_of(alloc, 200, text.as_str()));
     refuse_all(alloc);
     let answer = builder.finish();
     let was_refused = end_refusals(alloc);
@@ -87,11 +71,10 @@ fn refused_finish_keeps_the_capacity(rt: HostRuntime) -> Result<(), Fail> {
         Ok(value) => {
             holds(&rt, !was_refused, &"a value");
             same(&rt, &value.len(), &100, &"a value");
-            Ok(())
         }
         Err(back) => {
             holds(&rt, was_refused, &"a builder");
-            assert_appends(&rt, alloc, back, text.as_str())
+            assert_appends(&rt, alloc, back, text.as_str());
         }
     }
 }

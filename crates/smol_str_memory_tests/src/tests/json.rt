@@ -1,5 +1,5 @@
 //! JSON strings: texts, refusals, and memory refused.
-use super::same::{holds, same, same_place, same_text, same_value};
+use super::same::{holds, ok, same, same_place, same_text, same_value};
 use serde_json::Value;
 use smol_str::json::{JsonFault, from_json, from_value, to_json, to_value};
 use smol_str::{INLINE_CAP, Place, SmolStr};
@@ -32,7 +32,7 @@ fn answer_of(outcome: &Result<SmolStr, JsonFault>) -> Answer {
 }
 
 #[test]
-fn written(rt: HostRuntime) -> Result<(), Fail> {
+fn written(rt: HostRuntime) {
     for (text, json) in [
         ("Hello, World", "\"Hello, World\""),
         ("", "\"\""),
@@ -42,19 +42,17 @@ fn written(rt: HostRuntime) -> Result<(), Fail> {
         ("\u{0}\u{1f}", "\"\\u0000\\u001f\""),
         ("é🦀\u{2028}/", "\"é🦀\u{2028}/\""),
     ] {
-        check_written(&rt, rt.alloc(), text, json)?;
+        check_written(&rt, rt.alloc(), text, json);
     }
-    Ok(())
 }
 
-fn check_written(rt: &impl Abort, alloc: Global, text: &str, json: &str) -> Result<(), Fail> {
-    let value = SmolStr::new(alloc, text)?;
-    same_text(rt, to_json(alloc, &value)?.as_str(), json, &text);
-    Ok(())
+fn check_written(rt: &impl Abort, alloc: Global, text: &str, json: &str) {
+    let value = ok(rt, SmolStr::new(alloc, text));
+    same_text(rt, ok(rt, to_json(alloc, &value)).as_str(), json, &text);
 }
 
 #[test]
-fn read(rt: HostRuntime) -> Result<(), Fail> {
+fn read(rt: HostRuntime) {
     for (json, text) in [
         ("\"Hello, World\"", "Hello, World"),
         (" \t\n\r\"ab\" ", "ab"),
@@ -64,14 +62,13 @@ fn read(rt: HostRuntime) -> Result<(), Fail> {
         ("\"\\u2028\"", "\u{2028}"),
         ("\"\\u0000\\b\\f\\n\\r\\t\"", "\u{0}\u{8}\u{c}\n\r\t"),
     ] {
-        let value = from_json(rt.alloc(), json).ok().ok_or("no value")?;
+        let value = ok(&rt, from_json(rt.alloc(), json).ok().ok_or("no value"));
         same_value(&rt, &value, text, Place::Inline, &json);
     }
-    Ok(())
 }
 
 #[test]
-fn not_read(rt: HostRuntime) -> Result<(), Fail> {
+fn not_read(rt: HostRuntime) {
     let alloc = rt.alloc();
     for (json, answer) in [
         ("12", Answer::NotString),
@@ -103,7 +100,7 @@ fn not_read(rt: HostRuntime) -> Result<(), Fail> {
     ] {
         check_not_read(&rt, alloc, json, answer);
     }
-    check_nested(&rt, alloc, 127, Answer::NotString)?;
+    check_nested(&rt, alloc, 127, Answer::NotString);
     check_nested(&rt, alloc, 128, Answer::Json)
 }
 
@@ -113,50 +110,41 @@ fn check_not_read(rt: &impl Abort, alloc: Global, json: &str, answer: Answer) {
 
 // Longer than each buffer: a list, a string without its end, and one with half a surrogate pair at its end.
 #[test]
-fn long_not_read(rt: HostRuntime) -> Result<(), Fail> {
+fn long_not_read(rt: HostRuntime) {
     let alloc = rt.alloc();
     for size in ABOVE_BUFFERS {
-        let letters = repeated(alloc, "a", size)?;
+        let letters = ok(&rt, repeated(alloc, "a", size));
         let text = letters.as_str();
-        check_parts(&rt, alloc, ("[\"", text, "\"]"), Answer::NotString)?;
-        check_parts(&rt, alloc, ("\"", text, ""), Answer::Json)?;
-        check_parts(&rt, alloc, ("\"", text, "\\ud800\""), Answer::Json)?;
+        check_parts(&rt, alloc, ("[\"", text, "\"]"), Answer::NotString);
+        check_parts(&rt, alloc, ("\"", text, ""), Answer::Json);
+        check_parts(&rt, alloc, ("\"", text, "\\ud800\""), Answer::Json);
     }
-    Ok(())
 }
 
-fn check_parts(
-    rt: &impl Abort,
-    alloc: Global,
-    parts: (&str, &str, &str),
-    answer: Answer,
-) -> Result<(), Fail> {
-    let mut json = joined(alloc, parts.0, parts.1)?;
-    json.push_str(parts.2)?;
+fn check_parts(rt: &impl Abort, alloc: Global, parts: (&str, &str, &str), answer: Answer) {
+    let mut json = ok(rt, joined(alloc, parts.0, parts.1));
+    ok(rt, json.push_str(parts.2));
     let found = answer_of(&from_json(alloc, json.as_str()));
     same(rt, &found, &answer, &(parts.0, parts.1.len(), parts.2));
-    Ok(())
 }
 
 /// So many lists in one another.
-fn check_nested(rt: &impl Abort, alloc: Global, depth: usize, answer: Answer) -> Result<(), Fail> {
-    let closed = repeated(alloc, "]", depth)?;
-    let nested = repeated_and(alloc, "[", depth, closed.as_str())?;
+fn check_nested(rt: &impl Abort, alloc: Global, depth: usize, answer: Answer) {
+    let closed = ok(rt, repeated(alloc, "]", depth));
+    let nested = ok(rt, repeated_and(alloc, "[", depth, closed.as_str()));
     check_not_read(rt, alloc, nested.as_str(), answer);
-    Ok(())
 }
 
 #[test]
-fn test_serde(rt: HostRuntime) -> Result<(), Fail> {
-    let value = SmolStr::new(rt.alloc(), "Hello, World")?;
-    check_there_and_back(&rt, rt.alloc(), &value)?;
+fn test_serde(rt: HostRuntime) {
+    let value = ok(&rt, SmolStr::new(rt.alloc(), "Hello, World"));
+    check_there_and_back(&rt, rt.alloc(), &value);
     same_text(
         &rt,
-        to_json(rt.alloc(), &value)?.as_str(),
+        ok(&rt, to_json(rt.alloc(), &value)).as_str(),
         "\"Hello, World\"",
         &"test_serde",
     );
-    Ok(())
 }
 
 // Every character is written so that it is read again.
@@ -166,16 +154,15 @@ fn each_character_there_and_back(rt: HostRuntime) -> Result<(), Fail> {
         let Some(character) = char::from_u32(number) else {
             return Err("a surrogate".into());
         };
-        check_there_and_back(&rt, rt.alloc(), &SmolStr::from(character))?;
+        check_there_and_back(&rt, rt.alloc(), &SmolStr::from(character));
     }
     Ok(())
 }
 
-fn check_there_and_back(rt: &impl Abort, alloc: Global, value: &SmolStr) -> Result<(), Fail> {
-    let json = to_json(alloc, value)?;
-    let back = from_json(alloc, json.as_str()).ok().ok_or("no value")?;
+fn check_there_and_back(rt: &impl Abort, alloc: Global, value: &SmolStr) {
+    let json = ok(rt, to_json(alloc, value));
+    let back = ok(rt, from_json(alloc, json.as_str()).ok().ok_or("no value"));
     holds(rt, back == *value, value);
-    Ok(())
 }
 
 /// A call under test.

@@ -1,5 +1,5 @@
 //! Case and replacement with memory refused: no value, or the one with ample memory.
-use super::same::{holds, same, same_place};
+use super::same::{holds, ok, same, same_place};
 use smol_str::{Place, SmolStr, StrExt};
 use std::alloc::{AllocError, Global};
 use std::process::Abort;
@@ -118,7 +118,7 @@ fn check_made(name: &str, made: &Result<SmolStr, AllocError>, ample: &SmolStr) -
 
 // Not only Ok, but with no request at all, however long the text.
 #[test]
-fn no_request_for_a_short_answer(rt: HostRuntime) -> Result<(), Fail> {
+fn no_request_for_a_short_answer(rt: HostRuntime) {
     let alloc = rt.alloc();
     for &(name, call) in &CALLS {
         let text = match call {
@@ -126,39 +126,32 @@ fn no_request_for_a_short_answer(rt: HostRuntime) -> Result<(), Fail> {
             Call::Replace("", _) => "ab",
             _ => full_text(),
         };
-        check_no_request(&rt, alloc, name, call, text)?;
+        check_no_request(&rt, alloc, name, call, text);
     }
-    let long = repeated(alloc, "a", 10_000)?;
+    let long = ok(&rt, repeated(alloc, "a", 10_000));
     check_no_request(
         &rt,
         alloc,
         "a removed",
         Call::Replace("a", ""),
         long.as_str(),
-    )?;
+    );
     check_no_request(
         &rt,
         alloc,
         "aaaa removed",
         Call::Replace("aaaa", ""),
         long.as_str(),
-    )?;
-    check_no_request(&rt, alloc, "aa by b", Call::Replace("aa", "b"), long_text())?;
-    check_no_request(&rt, alloc, "capitals", Call::Upper, "aßΔC")?;
+    );
+    check_no_request(&rt, alloc, "aa by b", Call::Replace("aa", "b"), long_text());
+    check_no_request(&rt, alloc, "capitals", Call::Upper, "aßΔC");
     check_no_request(&rt, alloc, "small letters", Call::Lower, "aßΔC")
 }
 
-fn check_no_request(
-    rt: &impl Abort,
-    alloc: Global,
-    name: &str,
-    call: Call,
-    text: &str,
-) -> Result<(), Fail> {
+fn check_no_request(rt: &impl Abort, alloc: Global, name: &str, call: Call, text: &str) {
     refuse_all(alloc);
     let made = answer(alloc, call, text);
     let was_refused = end_refusals(alloc);
     holds(rt, !was_refused, &name);
-    same_place(rt, &made?, Place::Inline, &name);
-    Ok(())
+    same_place(rt, &ok(rt, made), Place::Inline, &name);
 }

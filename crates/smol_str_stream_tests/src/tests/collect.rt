@@ -3,7 +3,7 @@ ghost use Rattle.std.specs.Prelude.{◌≡◌, ◌+◌, length};
 ghost use Rattle.std.specs.Iterator.{at_most, YieldsFirst};
 ghost use Rattle.std.specs.Vec.Iter.{into_iter_items};
 
-use super::same::{holds, same, same_place, same_text, same_value};
+use super::same::{holds, ok, same, same_place, same_text, same_value};
 use smol_str::{BLANK_NEWLINES, INLINE_CAP, Place, SmolStr, SmolStrBuilder};
 use std::alloc::{AllocError, Global};
 use std::process::Abort;
@@ -192,8 +192,8 @@ fn finished(
 }
 
 #[test]
-fn test_from_char_iterator(rt: HostRuntime) -> Result<(), Fail> {
-    let many = repeated(rt.alloc(), "a", 93)?;
+fn test_from_char_iterator(rt: HostRuntime) {
+    let many = ok(&rt, repeated(rt.alloc(), "a", 93));
     for (text, len, place) in [
         ("if", 2, Place::Inline),
         ("for", 3, Place::Inline),
@@ -207,9 +207,8 @@ fn test_from_char_iterator(rt: HostRuntime) -> Result<(), Fail> {
         ("表ポあA鷗ŒéＢ逍Üßªąñ丂㐀𠀀", 43, Place::Heap),
         (many.as_str(), 93, Place::Heap),
     ] {
-        assert_collected(&rt, rt.alloc(), text, len, place)?;
+        assert_collected(&rt, rt.alloc(), text, len, place);
     }
-    Ok(())
 }
 
 /// What fills a buffer behind characters of three bytes, and what is more than fits there.
@@ -218,11 +217,11 @@ const FILL: [&str; 3] = ["", "a", "aa"];
 const MORE: [&str; 3] = ["é", "aé", "aaé"];
 
 #[test]
-fn characters(rt: HostRuntime) -> Result<(), Fail> {
+fn characters(rt: HostRuntime) {
     let alloc = rt.alloc();
-    assert_collected(&rt, alloc, "                        ", 24, Place::Inline)?;
-    assert_collected(&rt, alloc, long_blank(), INLINE_CAP + 1, Place::Static)?;
-    assert_wide(&rt, alloc, FILL[INLINE_CAP % 3], INLINE_CAP, Place::Inline)?;
+    assert_collected(&rt, alloc, "                        ", 24, Place::Inline);
+    assert_collected(&rt, alloc, long_blank(), INLINE_CAP + 1, Place::Static);
+    assert_wide(&rt, alloc, FILL[INLINE_CAP % 3], INLINE_CAP, Place::Inline);
     assert_wide(
         &rt,
         alloc,
@@ -232,67 +231,53 @@ fn characters(rt: HostRuntime) -> Result<(), Fail> {
     )
 }
 
-fn assert_wide(
-    rt: &impl Abort,
-    alloc: Global,
-    end: &str,
-    len: usize,
-    place: Place,
-) -> Result<(), Fail> {
-    let text = repeated_and(alloc, "ア", INLINE_CAP / 3, end)?;
+fn assert_wide(rt: &impl Abort, alloc: Global, end: &str, len: usize, place: Place) {
+    let text = ok(rt, repeated_and(alloc, "ア", INLINE_CAP / 3, end));
     assert_collected(rt, alloc, text.as_str(), len, place)
 }
 
-fn assert_collected(
-    rt: &impl Abort,
-    alloc: Global,
-    text: &str,
-    len: usize,
-    place: Place,
-) -> Result<(), Fail> {
-    let value = SmolStr::from_chars(alloc, text.chars())?;
+fn assert_collected(rt: &impl Abort, alloc: Global, text: &str, len: usize, place: Place) {
+    let value = ok(rt, SmolStr::from_chars(alloc, text.chars()));
     same_value(rt, &value, text, place, &text);
     same(rt, &value.len(), &len, &text);
-    Ok(())
 }
 
 #[test]
-fn pieces(rt: HostRuntime) -> Result<(), Fail> {
+fn pieces(rt: HostRuntime) {
     for (newlines, place) in [
         (INLINE_CAP, Place::Static),
         (BLANK_NEWLINES, Place::Static),
         (23, Place::Inline),
         (32, Place::Inline),
     ] {
-        assert_blank(&rt, rt.alloc(), newlines, place)?;
+        assert_blank(&rt, rt.alloc(), newlines, place);
     }
-    Ok(())
 }
 
-fn assert_blank(rt: &impl Abort, alloc: Global, newlines: usize, place: Place) -> Result<(), Fail> {
-    let first = repeated(alloc, "\n", newlines)?;
-    let blank = SmolStr::from_strs(alloc, [first.as_str(), " "].into_iter())?;
+fn assert_blank(rt: &impl Abort, alloc: Global, newlines: usize, place: Place) {
+    let first = ok(rt, repeated(alloc, "\n", newlines));
+    let blank = ok(
+        rt,
+        SmolStr::from_strs(alloc, [first.as_str(), " "].into_iter()),
+    );
     same(rt, &blank.len(), &newlines.saturating_add(1), &newlines);
     same_place(rt, &blank, place, &newlines);
-    Ok(())
 }
 
 #[test]
-fn no_pieces(rt: HostRuntime) -> Result<(), Fail> {
+fn no_pieces(rt: HostRuntime) {
     let none: Vec<String> = Vec::new(rt.alloc());
-    let empty = SmolStr::from_strings(rt.alloc(), none.into_iter())?;
+    let empty = ok(&rt, SmolStr::from_strings(rt.alloc(), none.into_iter()));
     same_value(&rt, &empty, "", Place::Inline, &"no pieces");
-    Ok(())
 }
 
 #[test]
-fn owned_and_borrowed_pieces(rt: HostRuntime) -> Result<(), Fail> {
-    let borrowed = of_borrowed(rt.alloc(), &["if", "", "x"])?;
+fn owned_and_borrowed_pieces(rt: HostRuntime) {
+    let borrowed = ok(&rt, of_borrowed(rt.alloc(), &["if", "", "x"]));
     same_value(&rt, &borrowed, "ifx", Place::Inline, &"borrowed");
-    let owned = of_owned(rt.alloc(), &["if", "", "x"])?;
+    let owned = ok(&rt, of_owned(rt.alloc(), &["if", "", "x"]));
     same_value(&rt, &owned, "ifx", Place::Inline, &"owned");
     same(&rt, &borrowed, &owned, &"both");
-    Ok(())
 }
 
 fn of_borrowed(alloc: Global, pieces: &[&str]) -> Result<SmolStr, AllocError> {
@@ -305,23 +290,18 @@ fn of_owned(alloc: Global, pieces: &[&str]) -> Result<SmolStr, AllocError> {
 }
 
 #[test]
-fn ordinary_iterators(rt: HostRuntime) -> Result<(), Fail> {
+fn ordinary_iterators(rt: HostRuntime) {
     let alloc = rt.alloc();
     let values = [SmolStr::from('a'), SmolStr::default(), SmolStr::from('é')];
-    assert_text(&rt, of_values(alloc, &values), "aé")?;
-    assert_text(&rt, of_both(alloc, "ab", "é"), "abé")?;
-    assert_text(&rt, without_text(alloc, "a, b, é", ", "), "abé")?;
-    assert_text(&rt, without(alloc, "béa", 'b'), "éa")?;
+    assert_text(&rt, of_values(alloc, &values), "aé");
+    assert_text(&rt, of_both(alloc, "ab", "é"), "abé");
+    assert_text(&rt, without_text(alloc, "a, b, é", ", "), "abé");
+    assert_text(&rt, without(alloc, "béa", 'b'), "éa");
     assert_text(&rt, of_copies(alloc, &["a", "", "é"]), "aé")
 }
 
-fn assert_text(
-    rt: &impl Abort,
-    answer: Result<SmolStr, AllocError>,
-    text: &str,
-) -> Result<(), Fail> {
-    same_value(rt, &answer?, text, Place::Inline, &text);
-    Ok(())
+fn assert_text(rt: &impl Abort, answer: Result<SmolStr, AllocError>, text: &str) {
+    same_value(rt, &ok(rt, answer), text, Place::Inline, &text);
 }
 
 fn of_values(alloc: Global, values: &[SmolStr]) -> Result<SmolStr, AllocError> {
@@ -346,23 +326,21 @@ fn of_copies(alloc: Global, parts: &[&str]) -> Result<SmolStr, AllocError> {
 
 // Upstream's have pieces at random: here piece i, counted from 1, is `é` i mod 5 times.
 #[test]
-fn from_string_iter(rt: HostRuntime) -> Result<(), Fail> {
+fn from_string_iter(rt: HostRuntime) {
     for count in 1..100 {
-        let pieces = first_pieces(rt.alloc(), count)?;
-        let value = SmolStr::from_strings(rt.alloc(), pieces.into_iter())?;
-        assert_joined(&rt, rt.alloc(), &value, count)?;
+        let pieces = ok(&rt, first_pieces(rt.alloc(), count));
+        let value = ok(&rt, SmolStr::from_strings(rt.alloc(), pieces.into_iter()));
+        assert_joined(&rt, rt.alloc(), &value, count);
     }
-    Ok(())
 }
 
 #[test]
-fn from_str_iter(rt: HostRuntime) -> Result<(), Fail> {
+fn from_str_iter(rt: HostRuntime) {
     for count in 1..100 {
-        let pieces = first_pieces(rt.alloc(), count)?;
-        let value = SmolStr::from_string_refs(rt.alloc(), pieces.iter())?;
-        assert_joined(&rt, rt.alloc(), &value, count)?;
+        let pieces = ok(&rt, first_pieces(rt.alloc(), count));
+        let value = ok(&rt, SmolStr::from_string_refs(rt.alloc(), pieces.iter()));
+        assert_joined(&rt, rt.alloc(), &value, count);
     }
-    Ok(())
 }
 
 fn first_pieces(alloc: Global, count: usize) -> Result<Vec<String>, AllocError> {
@@ -381,13 +359,8 @@ fn first_letters(count: usize) -> usize {
     letters
 }
 
-fn assert_joined(
-    rt: &impl Abort,
-    alloc: Global,
-    value: &SmolStr,
-    count: usize,
-) -> Result<(), Fail> {
-    let text = repeated(alloc, "é", first_letters(count))?;
+fn assert_joined(rt: &impl Abort, alloc: Global, value: &SmolStr, count: usize) {
+    let text = ok(rt, repeated(alloc, "é", first_letters(count)));
     let place = if text.len() > INLINE_CAP {
         Place::Heap
     } else {
@@ -395,28 +368,28 @@ fn assert_joined(
     };
     same_value(rt, value, text.as_str(), place, &count);
     holds(rt, !value.is_empty(), &count);
-    Ok(())
 }
 
 #[test]
-fn from_buf_and_chars_size_hinted_heap(rt: HostRuntime) -> Result<(), Fail> {
-    let mut builder = builder_of(rt.alloc(), 0, "abcdefghijklmnopqr")?;
-    builder.extend_chars("_0x1x2x3x4x5x6x7x8x9x10x11x12x13".chars())?;
+fn from_buf_and_chars_size_hinted_heap(rt: HostRuntime) {
+    let mut builder = ok(&rt, builder_of(rt.alloc(), 0, "abcdefghijklmnopqr"));
+    ok(
+        &rt,
+        builder.extend_chars("_0x1x2x3x4x5x6x7x8x9x10x11x12x13".chars()),
+    );
     let text = "abcdefghijklmnopqr_0x1x2x3x4x5x6x7x8x9x10x11x12x13";
     same_text(&rt, builder.as_str(), text, &"builder");
-    let value = builder.finish().ok().ok_or("refused")?;
+    let value = ok(&rt, builder.finish().ok().ok_or("refused"));
     same_value(&rt, &value, text, Place::Heap, &"value");
-    Ok(())
 }
 
 #[test]
-fn test_bad_size_hint_char_iter(rt: HostRuntime) -> Result<(), Fail> {
-    let collected = of_chars(rt.alloc(), &["testing"], 1024)?;
+fn test_bad_size_hint_char_iter(rt: HostRuntime) {
+    let collected = ok(&rt, of_chars(rt.alloc(), &["testing"], 1024));
     same_value(&rt, &collected, "testing", Place::Inline, &"collected");
-    let new = SmolStr::new(rt.alloc(), "testing")?;
+    let new = ok(&rt, SmolStr::new(rt.alloc(), "testing"));
     same_place(&rt, &new, Place::Inline, &"new");
     same(&rt, &new, &collected, &"both");
-    Ok(())
 }
 
 fn of_chars(alloc: Global, pieces: &[&str], lower: usize) -> Result<SmolStr, AllocError> {
@@ -425,23 +398,17 @@ fn of_chars(alloc: Global, pieces: &[&str], lower: usize) -> Result<SmolStr, All
 
 // Hints reserve nothing: the largest would be refused.
 #[test]
-fn hints(rt: HostRuntime) -> Result<(), Fail> {
+fn hints(rt: HostRuntime) {
     for lower in [1024, usize::MAX, 0] {
         let pieces = ["tes", "", "ting"];
-        assert_hinted(&rt, rt.alloc(), &pieces, lower, "testing", Place::Inline)?;
-        assert_hinted_letters(&rt, rt.alloc(), INLINE_CAP + 1, lower)?;
-        assert_hinted_letters(&rt, rt.alloc(), 70_000, lower)?;
+        assert_hinted(&rt, rt.alloc(), &pieces, lower, "testing", Place::Inline);
+        assert_hinted_letters(&rt, rt.alloc(), INLINE_CAP + 1, lower);
+        assert_hinted_letters(&rt, rt.alloc(), 70_000, lower);
     }
-    Ok(())
 }
 
-fn assert_hinted_letters(
-    rt: &impl Abort,
-    alloc: Global,
-    letters: usize,
-    lower: usize,
-) -> Result<(), Fail> {
-    let text = repeated(alloc, "a", letters)?;
+fn assert_hinted_letters(rt: &impl Abort, alloc: Global, letters: usize, lower: usize) {
+    let text = ok(rt, repeated(alloc, "a", letters));
     let pieces = ["", text.as_str(), ""];
     assert_hinted(rt, alloc, &pieces, lower, text.as_str(), Place::Heap)
 }
@@ -453,16 +420,15 @@ fn assert_hinted(
     lower: usize,
     text: &str,
     place: Place,
-) -> Result<(), Fail> {
-    let strings = strings_of(alloc, pieces)?;
+) {
+    let strings = ok(rt, strings_of(alloc, pieces));
     for call in CALLS {
-        let items = items_of(alloc, call, pieces, strings.as_slice(), lower)?;
+        let items = ok(rt, items_of(alloc, call, pieces, strings.as_slice(), lower));
         match value_of(alloc, call, items) {
             Ok(value) => same_value(rt, &value, text, place, &(call, lower)),
             Err(_) => holds(rt, false, &(call, lower)),
         }
     }
-    Ok(())
 }
 
 #[test]
@@ -630,13 +596,13 @@ fn check(is_right: bool, call: Call, text: &str) -> Result<(), Fail> {
 
 // Where two bytes are left, the third text is refused, and those before it stay.
 #[test]
-fn extending_refused(rt: HostRuntime) -> Result<(), Fail> {
-    let start = repeated(rt.alloc(), "a", INLINE_CAP - 2)?;
+fn extending_refused(rt: HostRuntime) {
+    let start = ok(&rt, repeated(rt.alloc(), "a", INLINE_CAP - 2));
     assert_stops(&rt, rt.alloc(), start.as_str())
 }
 
-fn assert_stops(rt: &impl Abort, alloc: Global, start: &str) -> Result<(), Fail> {
-    let mut builder = builder_of(alloc, 0, start)?;
+fn assert_stops(rt: &impl Abort, alloc: Global, start: &str) {
+    let mut builder = ok(rt, builder_of(alloc, 0, start));
     refuse_all(alloc);
     let gave_up = builder
         .extend_strs(["b", "c", "de", "f"].into_iter())
@@ -646,7 +612,6 @@ fn assert_stops(rt: &impl Abort, alloc: Global, start: &str) -> Result<(), Fail>
     if gave_up {
         assert_stopped(rt, &builder, start);
     }
-    Ok(())
 }
 
 fn assert_stopped(rt: &impl Abort, builder: &SmolStrBuilder, start: &str) {
@@ -660,15 +625,19 @@ fn assert_stopped(rt: &impl Abort, builder: &SmolStrBuilder, start: &str) {
 }
 
 #[test]
-fn builders_compared(rt: HostRuntime) -> Result<(), Fail> {
+fn builders_compared(rt: HostRuntime) {
     same(
         &rt,
-        &compared(rt.alloc(), "ab", "ab")?,
+        &ok(&rt, compared(rt.alloc(), "ab", "ab")),
         &(true, false),
         &"ab",
     );
-    same(&rt, &compared(rt.alloc(), "ab", "b")?, &(false, true), &"b");
-    Ok(())
+    same(
+        &rt,
+        &ok(&rt, compared(rt.alloc(), "ab", "b")),
+        &(false, true),
+        &"b",
+    );
 }
 
 /// Whether a builder on the heap equals one that is inline, and whether it differs.
@@ -679,27 +648,25 @@ fn compared(alloc: Global, one: &str, other: &str) -> Result<(bool, bool), Alloc
 }
 
 #[test]
-fn builders_cloned(rt: HostRuntime) -> Result<(), Fail> {
-    let heap = builder_of(rt.alloc(), 100, "ab")?;
-    assert_copied(&rt, &heap)?;
+fn builders_cloned(rt: HostRuntime) {
+    let heap = ok(&rt, builder_of(rt.alloc(), 100, "ab"));
+    assert_copied(&rt, &heap);
     same_text(&rt, heap.as_str(), "ab", &"heap");
-    Ok(())
 }
 
-fn assert_copied(rt: &impl Abort, heap: &SmolStrBuilder) -> Result<(), Fail> {
-    let mut copy = heap.clone()?;
+fn assert_copied(rt: &impl Abort, heap: &SmolStrBuilder) {
+    let mut copy = ok(rt, heap.clone());
     holds(rt, copy == *heap, &"ab");
-    copy.push('c')?;
+    ok(rt, copy.push('c'));
     holds(rt, copy.inline_buffer().is_none(), &"abc");
     same_text(rt, copy.as_str(), "abc", &"copy");
-    Ok(())
 }
 
 // Only a clone of a builder on the heap takes memory.
 #[test]
-fn builders_cloned_refused(rt: HostRuntime) -> Result<(), Fail> {
+fn builders_cloned_refused(rt: HostRuntime) {
     for (capacity, needs_memory) in [(0, false), (100, true)] {
-        let builder = builder_of(rt.alloc(), capacity, "ab")?;
+        let builder = ok(&rt, builder_of(rt.alloc(), capacity, "ab"));
         refuse_all(rt.alloc());
         let copy = builder.clone();
         let was_refused = end_refusals(rt.alloc());
@@ -714,5 +681,4 @@ fn builders_cloned_refused(rt: HostRuntime) -> Result<(), Fail> {
             Err(_) => holds(&rt, was_refused, &capacity),
         }
     }
-    Ok(())
 }

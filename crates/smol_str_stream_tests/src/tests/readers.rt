@@ -1,5 +1,5 @@
 //! Each call that reads, over readers of every step, which end after each byte and fail at each call.
-use super::same::{holds, same};
+use super::same::{holds, ok, same};
 use super::wire::{LETTERS, ROWS, form_of};
 use super::wire_faults::{Kind, kind_of, kind_of_limited};
 use smol_str::SmolStr;
@@ -8,7 +8,6 @@ use smol_str::stream::{PIECE, ReadFault, fill, read_all, read_up_to};
 use std::alloc::{AllocError, Global};
 use std::io::ErrorKind;
 use std::process::Abort;
-use std::test::Fail;
 use test_support::streams::{READ_ERRORS, STEPS, Trickle, is_tried, trickle_of};
 
 /// A call that reads.
@@ -116,15 +115,14 @@ fn assert_buffers(rt: &impl Abort, call: Call, reader: &Trickle<'_>, size: usize
 type Row = (Call, usize, usize, usize);
 
 #[test]
-fn end_after_each_byte(rt: HostRuntime) -> Result<(), Fail> {
-    for form in forms(rt.alloc())?.iter() {
+fn end_after_each_byte(rt: HostRuntime) {
+    for form in ok(&rt, forms(rt.alloc())).iter() {
         for &call in &CALLS {
             for step in STEPS {
                 assert_ends(&rt, rt.alloc(), call, form.as_slice(), step);
             }
         }
     }
-    Ok(())
 }
 
 fn assert_ends(rt: &impl Abort, alloc: Global, call: Call, form: &[u8], step: usize) {
@@ -150,15 +148,14 @@ fn assert_end(rt: &impl Abort, alloc: Global, call: Call, front: &[u8], size: us
 }
 
 #[test]
-fn fails_at_each_call(rt: HostRuntime) -> Result<(), Fail> {
-    for form in forms(rt.alloc())?.iter() {
+fn fails_at_each_call(rt: HostRuntime) {
+    for form in ok(&rt, forms(rt.alloc())).iter() {
         for &call in &CALLS {
             for step in STEPS {
                 assert_fails(&rt, rt.alloc(), call, form.as_slice(), step);
             }
         }
     }
-    Ok(())
 }
 
 /// The call gives up at once; a failure after its last read is not met.

@@ -1,11 +1,10 @@
 //! Wire forms, written and read again by readers and writers of every step.
-use super::same::{holds, same, same_place, same_text, same_value};
+use super::same::{holds, ok, same, same_place, same_text, same_value};
 use smol_str::borsh::{BorshDeserialize, BorshSerialize, from_wire, length_prefix};
 use smol_str::stream::PIECE;
 use smol_str::{INLINE_CAP, Place, SmolStr};
 use std::alloc::{AllocError, Global};
 use std::process::Abort;
-use std::test::Fail;
 use test_support::streams::{Failure, STEPS, Trickle, empty_drip, trickle_of};
 use test_support::texts::repeated;
 
@@ -60,40 +59,31 @@ pub fn letters(alloc: Global, size: u32, count: u32) -> Result<Vec<u8>, AllocErr
 }
 
 #[test]
-fn written(rt: HostRuntime) -> Result<(), Fail> {
+fn written(rt: HostRuntime) {
     for row in &ROWS {
-        assert_written(&rt, rt.alloc(), *row)?;
+        assert_written(&rt, rt.alloc(), *row);
     }
-    Ok(())
 }
 
-fn assert_written(rt: &impl Abort, alloc: Global, row: Row) -> Result<(), Fail> {
-    let form = form_of(alloc, row)?;
-    let value = value_of(alloc, row)?;
+fn assert_written(rt: &impl Abort, alloc: Global, row: Row) {
+    let form = ok(rt, form_of(alloc, row));
+    let value = ok(rt, value_of(alloc, row));
     for step in STEPS {
-        assert_steps(rt, alloc, &value, form.as_slice(), step)?;
+        assert_steps(rt, alloc, &value, form.as_slice(), step);
     }
     assert_form(rt, alloc, &value, form.as_slice())
 }
 
-fn assert_steps(
-    rt: &impl Abort,
-    alloc: Global,
-    value: &SmolStr,
-    form: &[u8],
-    step: usize,
-) -> Result<(), Fail> {
+fn assert_steps(rt: &impl Abort, alloc: Global, value: &SmolStr, form: &[u8], step: usize) {
     let mut writer = empty_drip(alloc, step, 0, Failure::TakesNone);
-    value.serialize(&mut writer)?;
+    ok(rt, value.serialize(&mut writer));
     same(rt, &writer.taken.as_slice(), &form, &(value, step));
-    Ok(())
 }
 
-fn assert_form(rt: &impl Abort, alloc: Global, value: &SmolStr, form: &[u8]) -> Result<(), Fail> {
+fn assert_form(rt: &impl Abort, alloc: Global, value: &SmolStr, form: &[u8]) {
     let mut all = Vec::new(alloc);
-    value.serialize(&mut all)?;
+    ok(rt, value.serialize(&mut all));
     same(rt, &all.as_slice(), &form, value);
-    Ok(())
 }
 
 fn value_of(alloc: Global, row: Row) -> Result<SmolStr, AllocError> {
@@ -102,18 +92,17 @@ fn value_of(alloc: Global, row: Row) -> Result<SmolStr, AllocError> {
 
 // Two bytes follow each form; they are left.
 #[test]
-fn read_again(rt: HostRuntime) -> Result<(), Fail> {
+fn read_again(rt: HostRuntime) {
     for row in &ROWS {
-        assert_read_again(&rt, rt.alloc(), *row)?;
+        assert_read_again(&rt, rt.alloc(), *row);
     }
-    Ok(())
 }
 
-fn assert_read_again(rt: &impl Abort, alloc: Global, row: Row) -> Result<(), Fail> {
-    let text = text_of(alloc, row)?;
-    let mut bytes = form_of(alloc, row)?;
-    bytes.extend_from_slice(b"a\xff")?;
-    assert_found(rt, alloc, bytes.as_slice(), text.as_str(), row.4)?;
+fn assert_read_again(rt: &impl Abort, alloc: Global, row: Row) {
+    let text = ok(rt, text_of(alloc, row));
+    let mut bytes = ok(rt, form_of(alloc, row));
+    ok(rt, bytes.extend_from_slice(b"a\xff"));
+    assert_found(rt, alloc, bytes.as_slice(), text.as_str(), row.4);
     for step in STEPS {
         assert_read(
             rt,
@@ -123,23 +112,15 @@ fn assert_read_again(rt: &impl Abort, alloc: Global, row: Row) -> Result<(), Fai
             text.as_str(),
             row.4,
             b"a\xff",
-        )?;
+        );
     }
-    Ok(())
 }
 
 /// The bytes begin with a form of the text, which two bytes follow.
-fn assert_found(
-    rt: &impl Abort,
-    alloc: Global,
-    bytes: &[u8],
-    text: &str,
-    place: Place,
-) -> Result<(), Fail> {
-    let (value, taken) = from_wire(alloc, bytes)?;
+fn assert_found(rt: &impl Abort, alloc: Global, bytes: &[u8], text: &str, place: Place) {
+    let (value, taken) = ok(rt, from_wire(alloc, bytes));
     same_value(rt, &value, text, place, &taken);
     same(rt, &taken.saturating_add(2), &bytes.len(), &value);
-    Ok(())
 }
 
 /// A reader of `step` bytes a call gives the text, by buffers that are within a piece, and has the rest left.
@@ -151,9 +132,9 @@ fn assert_read(
     text: &str,
     place: Place,
     rest: &[u8],
-) -> Result<(), Fail> {
+) {
     let mut reader = trickle_of(bytes, step, 0);
-    let value = SmolStr::deserialize_reader(alloc, &mut reader)?;
+    let value = ok(rt, SmolStr::deserialize_reader(alloc, &mut reader));
     same_value(rt, &value, text, place, &step);
     same(rt, &reader.rest, &rest, &(&value, step));
     holds(
@@ -161,88 +142,70 @@ fn assert_read(
         reader.least >= 1 && reader.most <= PIECE,
         &(&value, step),
     );
-    Ok(())
 }
 
 #[test]
-fn borsh_serialize_stack(rt: HostRuntime) -> Result<(), Fail> {
+fn borsh_serialize_stack(rt: HostRuntime) {
     assert_equal_again(&rt, rt.alloc(), OF_12)
 }
 
 #[test]
-fn borsh_serialize_heap(rt: HostRuntime) -> Result<(), Fail> {
+fn borsh_serialize_heap(rt: HostRuntime) {
     assert_equal_again(&rt, rt.alloc(), OF_132)
 }
 
-fn assert_equal_again(rt: &impl Abort, alloc: Global, row: Row) -> Result<(), Fail> {
-    let value = value_of(alloc, row)?;
-    let form = form_of(alloc, row)?;
-    assert_form(rt, alloc, &value, form.as_slice())?;
-    let (again, _) = from_wire(alloc, form.as_slice())?;
+fn assert_equal_again(rt: &impl Abort, alloc: Global, row: Row) {
+    let value = ok(rt, value_of(alloc, row));
+    let form = ok(rt, form_of(alloc, row));
+    assert_form(rt, alloc, &value, form.as_slice());
+    let (again, _) = ok(rt, from_wire(alloc, form.as_slice()));
     same(rt, &again, &value, &"again");
     same_place(rt, &again, row.4, &"again");
-    Ok(())
 }
 
 // A pinned value is written as any other, and what is read is where its text belongs.
 #[test]
-fn pinned(rt: HostRuntime) -> Result<(), Fail> {
+fn pinned(rt: HostRuntime) {
     let value = SmolStr::new_static("ab");
-    assert_form(&rt, rt.alloc(), &value, b"\x02\0\0\0ab")?;
-    let (again, _) = from_wire(rt.alloc(), b"\x02\0\0\0ab")?;
+    assert_form(&rt, rt.alloc(), &value, b"\x02\0\0\0ab");
+    let (again, _) = ok(&rt, from_wire(rt.alloc(), b"\x02\0\0\0ab"));
     same_place(&rt, &again, Place::Inline, &"again");
     same(&rt, &again, &value, &"again");
-    Ok(())
 }
 
 #[test]
-fn one_after_another(rt: HostRuntime) -> Result<(), Fail> {
+fn one_after_another(rt: HostRuntime) {
     let mut reader = trickle_of(b"\x01\0\0\0a\0\0\0\0", 2, 0);
-    assert_next(&rt, rt.alloc(), &mut reader, "a")?;
-    assert_next(&rt, rt.alloc(), &mut reader, "")?;
+    assert_next(&rt, rt.alloc(), &mut reader, "a");
+    assert_next(&rt, rt.alloc(), &mut reader, "");
     holds(&rt, reader.rest.is_empty(), &"the rest");
-    Ok(())
 }
 
-fn assert_next(
-    rt: &impl Abort,
-    alloc: Global,
-    reader: &mut Trickle<'_>,
-    text: &str,
-) -> Result<(), Fail> {
-    let value = SmolStr::deserialize_reader(alloc, reader)?;
+fn assert_next(rt: &impl Abort, alloc: Global, reader: &mut Trickle<'_>, text: &str) {
+    let value = ok(rt, SmolStr::deserialize_reader(alloc, reader));
     same_text(rt, value.as_str(), text, &text);
-    Ok(())
 }
 
 // Characters of three bytes, so that pieces end within one.
 #[test]
-fn characters_across_pieces(rt: HostRuntime) -> Result<(), Fail> {
+fn characters_across_pieces(rt: HostRuntime) {
     for step in [1, 7, PIECE - 1, PIECE, PIECE + 1] {
-        assert_long(&rt, rt.alloc(), [0x98, 0x3a, 0, 0], "€", step)?;
+        assert_long(&rt, rt.alloc(), [0x98, 0x3a, 0, 0], "€", step);
     }
-    Ok(())
 }
 
 #[test]
-fn long_body(rt: HostRuntime) -> Result<(), Fail> {
+fn long_body(rt: HostRuntime) {
     for step in [1, usize::MAX] {
-        assert_long(&rt, rt.alloc(), [0x88, 0x13, 0, 0], "a", step)?;
+        assert_long(&rt, rt.alloc(), [0x88, 0x13, 0, 0], "a", step);
     }
-    Ok(())
 }
 
 /// A text of 5,000 characters, which has this size.
-fn assert_long(
-    rt: &impl Abort,
-    alloc: Global,
-    size: [u8; 4],
-    character: &str,
-    step: usize,
-) -> Result<(), Fail> {
-    let text = repeated(alloc, character, 5000)?;
-    let mut form = Vec::from_slice(alloc, &size)?;
-    form.extend_from_slice(text.as_bytes())?;
+fn assert_long(rt: &impl Abort, alloc: Global, size: [u8; 4], character: &str, step: usize) {
+    let text = ok(rt, repeated(alloc, character, 5000));
+    let mut form = ok(rt, Vec::from_slice(alloc, &size));
+    ok(rt, form.extend_from_slice(text.as_bytes()));
     assert_read(
         rt,
         alloc,

@@ -1,5 +1,5 @@
 //! Bytes that hold no wire form.
-use super::same::same;
+use super::same::{ok, same};
 use super::wire::{ROWS, form_of, letters};
 use smol_str::borsh::{
     BorshDeserialize, DecodeFault, LimitedFault, deserialize_limited, from_wire, split_wire,
@@ -8,7 +8,6 @@ use smol_str::{INLINE_CAP, SmolStr};
 use std::alloc::Global;
 use std::io::ErrorKind;
 use std::process::Abort;
-use std::test::Fail;
 use test_support::streams::{STEPS, trickle_of};
 use test_support::texts::ABOVE_BUFFERS;
 
@@ -71,39 +70,36 @@ fn borsh_non_utf8_stack(rt: HostRuntime) {
 
 // Upstream's bytes are fewer than a value has room for here, so there are longer ones too, whose last is not UTF-8.
 #[test]
-fn borsh_non_utf8_heap(rt: HostRuntime) -> Result<(), Fail> {
+fn borsh_non_utf8_heap(rt: HostRuntime) {
     assert_refused(&rt, rt.alloc(), NOISE, Kind::NotUtf8, 0);
     for size in [INLINE_CAP as u32 + 1, 64] {
-        let mut bytes = letters(rt.alloc(), size, size.saturating_sub(1))?;
-        bytes.push(0xff)?;
+        let mut bytes = ok(&rt, letters(rt.alloc(), size, size.saturating_sub(1)));
+        ok(&rt, bytes.push(0xff));
         assert_refused(&rt, rt.alloc(), bytes.as_slice(), Kind::NotUtf8, 0);
     }
-    Ok(())
 }
 
 // Each form of the table, cut after every byte.
 #[test]
-fn cut_short(rt: HostRuntime) -> Result<(), Fail> {
+fn cut_short(rt: HostRuntime) {
     for row in &ROWS {
-        let form = form_of(rt.alloc(), *row)?;
+        let form = ok(&rt, form_of(rt.alloc(), *row));
         for end in 0..form.len() {
             assert_refused(&rt, rt.alloc(), &form[..end], Kind::Ended, 0);
         }
     }
-    Ok(())
 }
 
 // Above each buffer, the fault is told as itself: the last byte of a body is not there, or is not UTF-8.
 #[test]
-fn long_bodies(rt: HostRuntime) -> Result<(), Fail> {
+fn long_bodies(rt: HostRuntime) {
     for size in ABOVE_BUFFERS {
         let count = size.saturating_sub(1) as u32;
-        let mut bytes = letters(rt.alloc(), size as u32, count)?;
+        let mut bytes = ok(&rt, letters(rt.alloc(), size as u32, count));
         assert_long_refused(&rt, rt.alloc(), bytes.as_slice(), Kind::Ended);
-        bytes.push(0xff)?;
+        ok(&rt, bytes.push(0xff));
         assert_long_refused(&rt, rt.alloc(), bytes.as_slice(), Kind::NotUtf8);
     }
-    Ok(())
 }
 
 /// Each call returns this fault, and a reader that gives all it is asked for has nothing left.

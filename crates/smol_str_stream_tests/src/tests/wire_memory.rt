@@ -1,6 +1,6 @@
 //! Wire forms with memory refused, and with memory counted.
 use super::readers::kind_of_read;
-use super::same::{holds, same, same_value};
+use super::same::{holds, ok, same, same_value};
 use super::wire::{ROWS, Row, form_of, letters, text_of};
 use super::wire_faults::{Kind, kind_of, kind_of_limited};
 use smol_str::borsh::{
@@ -196,17 +196,17 @@ fn short_by_the_limit_of_39(rt: HostRuntime) -> Result<(), Fail> {
     let (value, taken) = from_wire(rt.alloc(), form)?;
     same_value(&rt, &value, text, Place::Inline, &text);
     same(&rt, &taken, &28, &text);
-    assert_full_text_made(&rt, rt.alloc())
+    assert_full_text_made(&rt, rt.alloc());
+    Ok(())
 }
 
-fn assert_full_text_made(rt: &impl Abort, alloc: Global) -> Result<(), Fail> {
+fn assert_full_text_made(rt: &impl Abort, alloc: Global) {
     refuse_all(alloc);
     let made = SmolStr::new(alloc, full_text());
     holds(rt, !end_refusals(alloc), &"refusals");
-    let value = made?;
+    let value = ok(rt, made);
     same_value(rt, &value, full_text(), Place::Inline, &"full text");
     same(rt, &value.len(), &39, &"full text");
-    Ok(())
 }
 
 // Resident text is found in bytes without memory, short text by a reader too.
@@ -240,24 +240,22 @@ fn assert_no_request(
 }
 
 #[test]
-fn serialize_asks_for_nothing(rt: HostRuntime) -> Result<(), Fail> {
+fn serialize_asks_for_nothing(rt: HostRuntime) {
     for row in &ROWS {
-        let text = text_of(rt.alloc(), *row)?;
-        let form = form_of(rt.alloc(), *row)?;
-        assert_written(&rt, rt.alloc(), text.as_str(), form.as_slice())?;
+        let text = ok(&rt, text_of(rt.alloc(), *row));
+        let form = ok(&rt, form_of(rt.alloc(), *row));
+        assert_written(&rt, rt.alloc(), text.as_str(), form.as_slice());
     }
-    Ok(())
 }
 
-fn assert_written(rt: &impl Abort, alloc: Global, text: &str, form: &[u8]) -> Result<(), Fail> {
-    let value = SmolStr::new(alloc, text)?;
-    let mut out = Vec::with_capacity(alloc, form.len())?;
+fn assert_written(rt: &impl Abort, alloc: Global, text: &str, form: &[u8]) {
+    let value = ok(rt, SmolStr::new(alloc, text));
+    let mut out = ok(rt, Vec::with_capacity(alloc, form.len()));
     refuse_all(alloc);
     let is_written = value.serialize(&mut out).is_ok();
     let was_refused = end_refusals(alloc);
     holds(rt, is_written && !was_refused, &text);
     same(rt, &out.as_slice(), &form, &text);
-    Ok(())
 }
 
 // Neither the stated size nor the buffer of a piece asks for memory.
@@ -304,8 +302,8 @@ fn assert_too_long(rt: &impl Abort, alloc: Global, size: u32, limit: usize) {
 }
 
 #[test]
-fn largest_size_and_much_of_a_body(rt: HostRuntime) -> Result<(), Fail> {
-    let bytes = letters(rt.alloc(), u32::MAX, 10_000_000)?;
+fn largest_size_and_much_of_a_body(rt: HostRuntime) {
+    let bytes = ok(&rt, letters(rt.alloc(), u32::MAX, 10_000_000));
     let mut reader = trickle_of(bytes.as_slice(), usize::MAX, 0);
     start_counts(rt.alloc());
     let answer = SmolStr::deserialize_reader(rt.alloc(), &mut reader);
@@ -313,5 +311,4 @@ fn largest_size_and_much_of_a_body(rt: HostRuntime) -> Result<(), Fail> {
     holds(&rt, asked <= MOST_BYTES, &asked);
     holds(&rt, matches!(answer, Err(DecodeFault::Ended)), &"the fault");
     holds(&rt, reader.rest.is_empty(), &"the rest");
-    Ok(())
 }

@@ -1,5 +1,5 @@
 //! Equality, order and hashes.
-use super::same::{holds, same, same_place};
+use super::same::{holds, ok, same, same_place};
 use smol_str::borsh::from_wire;
 use smol_str::{INLINE_CAP, Place, SmolStr, Step, StrExt, build};
 use std::alloc::Global;
@@ -22,12 +22,11 @@ static ORDERS: [(&str, &str, Ordering); 7] = [
 ];
 
 #[test]
-fn orders(rt: HostRuntime) -> Result<(), Fail> {
+fn orders(rt: HostRuntime) {
     for &(left, right, order) in &ORDERS {
-        assert_orders(&rt, rt.alloc(), (left, right), order)?;
-        assert_order_to_pinned(&rt, rt.alloc(), left, right, order)?;
+        assert_orders(&rt, rt.alloc(), (left, right), order);
+        assert_order_to_pinned(&rt, rt.alloc(), left, right, order);
     }
-    Ok(())
 }
 
 #[test]
@@ -38,23 +37,18 @@ fn order_of_a_pinned_value(rt: HostRuntime) {
 
 // Texts that differ in their last byte, and not before it.
 #[test]
-fn orders_of_long_texts(rt: HostRuntime) -> Result<(), Fail> {
+fn orders_of_long_texts(rt: HostRuntime) {
     let alloc = rt.alloc();
     let text = long_text();
-    let other = repeated_and(alloc, "a", INLINE_CAP, "b")?;
-    assert_orders(&rt, alloc, (text, other.as_str()), Ordering::Less)?;
-    assert_order_to_pinned(&rt, alloc, other.as_str(), text, Ordering::Greater)?;
-    assert_orders(&rt, alloc, (text, text), Ordering::Equal)?;
+    let other = ok(&rt, repeated_and(alloc, "a", INLINE_CAP, "b"));
+    assert_orders(&rt, alloc, (text, other.as_str()), Ordering::Less);
+    assert_order_to_pinned(&rt, alloc, other.as_str(), text, Ordering::Greater);
+    assert_orders(&rt, alloc, (text, text), Ordering::Equal);
     assert_order_to_pinned(&rt, alloc, text, text, Ordering::Equal)
 }
 
-fn assert_orders(
-    rt: &impl Abort,
-    alloc: Global,
-    texts: (&str, &str),
-    order: Ordering,
-) -> Result<(), Fail> {
-    assert_order_of_values(rt, alloc, texts, order)?;
+fn assert_orders(rt: &impl Abort, alloc: Global, texts: (&str, &str), order: Ordering) {
+    assert_order_of_values(rt, alloc, texts, order);
     assert_order_of_texts(rt, alloc, texts, order)
 }
 
@@ -65,34 +59,21 @@ fn assert_order_to_pinned(
     left: &str,
     right: &'static str,
     order: Ordering,
-) -> Result<(), Fail> {
-    let value = SmolStr::new(alloc, left)?;
+) {
+    let value = ok(rt, SmolStr::new(alloc, left));
     assert_order(rt, &value, &SmolStr::new_static(right), order);
-    Ok(())
 }
 
-fn assert_order_of_values(
-    rt: &impl Abort,
-    alloc: Global,
-    texts: (&str, &str),
-    order: Ordering,
-) -> Result<(), Fail> {
-    let value = SmolStr::new(alloc, texts.0)?;
-    let other = SmolStr::new(alloc, texts.1)?;
+fn assert_order_of_values(rt: &impl Abort, alloc: Global, texts: (&str, &str), order: Ordering) {
+    let value = ok(rt, SmolStr::new(alloc, texts.0));
+    let other = ok(rt, SmolStr::new(alloc, texts.1));
     assert_order(rt, &value, &other, order);
-    Ok(())
 }
 
-fn assert_order_of_texts(
-    rt: &impl Abort,
-    alloc: Global,
-    texts: (&str, &str),
-    order: Ordering,
-) -> Result<(), Fail> {
-    let value = SmolStr::new(alloc, texts.0)?;
-    let owned = String::from_str(alloc, texts.1)?;
+fn assert_order_of_texts(rt: &impl Abort, alloc: Global, texts: (&str, &str), order: Ordering) {
+    let value = ok(rt, SmolStr::new(alloc, texts.0));
+    let owned = ok(rt, String::from_str(alloc, texts.1));
     assert_order_of_text(rt, &value, &owned, order);
-    Ok(())
 }
 
 fn assert_order(rt: &impl Abort, value: &SmolStr, other: &SmolStr, order: Ordering) {
@@ -122,7 +103,7 @@ fn hash_of<T: Hash>(value: &T) -> u64 {
 // A pinned value is static whatever its text, and so is its clone. Equal texts have equal hashes in
 // every place, that of std's `str`.
 #[test]
-fn pinned_and_new(rt: HostRuntime) -> Result<(), Fail> {
+fn pinned_and_new(rt: HostRuntime) {
     let rows = [
         ("", Place::Inline),
         ("ab", Place::Inline),
@@ -130,14 +111,13 @@ fn pinned_and_new(rt: HostRuntime) -> Result<(), Fail> {
         (long_text(), Place::Heap),
     ];
     for (text, place) in rows {
-        let value = SmolStr::new(rt.alloc(), text)?;
+        let value = ok(&rt, SmolStr::new(rt.alloc(), text));
         same_place(&rt, &value, place, &text);
-        assert_pinned_equals(&rt, text, &value)?;
+        assert_pinned_equals(&rt, text, &value);
     }
-    Ok(())
 }
 
-fn assert_pinned_equals(rt: &impl Abort, text: &'static str, value: &SmolStr) -> Result<(), Fail> {
+fn assert_pinned_equals(rt: &impl Abort, text: &'static str, value: &SmolStr) {
     let pinned = SmolStr::new_static(text);
     holds(rt, pinned.eq_str(text), &text);
     holds(rt, *value == pinned, &text);
@@ -146,11 +126,10 @@ fn assert_pinned_equals(rt: &impl Abort, text: &'static str, value: &SmolStr) ->
     assert_static(rt, &pinned, text)
 }
 
-fn assert_static(rt: &impl Abort, pinned: &SmolStr, text: &str) -> Result<(), Fail> {
+fn assert_static(rt: &impl Abort, pinned: &SmolStr, text: &str) {
     same_place(rt, pinned, Place::Static, &text);
-    let copy = pinned.clone()?;
+    let copy = ok(rt, pinned.clone());
     same_place(rt, &copy, Place::Static, &text);
-    Ok(())
 }
 
 /// The hash is that of the text.

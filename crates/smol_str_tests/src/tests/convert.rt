@@ -1,5 +1,5 @@
 //! Values from other texts, and back.
-use super::same::{holds, same, same_place, same_text, same_value};
+use super::same::{holds, ok, same, same_place, same_text, same_value};
 use smol_str::{FromUtf8Fault, INLINE_CAP, Place, SmolStr};
 use std::alloc::Global;
 use std::borrow::CowStr;
@@ -31,50 +31,47 @@ fn bytes(rt: HostRuntime) {
 
 // However long the text before it is, the byte that is not UTF-8 is told, and where.
 #[test]
-fn long_bytes(rt: HostRuntime) -> Result<(), Fail> {
+fn long_bytes(rt: HostRuntime) {
     for size in ABOVE_BUFFERS {
-        let mut bytes = repeated(rt.alloc(), "a", size)?.into_bytes();
-        bytes.push(0xff)?;
+        let mut bytes = ok(&rt, repeated(rt.alloc(), "a", size)).into_bytes();
+        ok(&rt, bytes.push(0xff));
         let valid = match SmolStr::from_utf8(rt.alloc(), bytes.as_slice()) {
             Err(FromUtf8Fault::NotUtf8(error)) => Some(error.valid_up_to()),
             _ => None,
         };
         same(&rt, &valid, &Some(size), &"from_utf8");
     }
-    Ok(())
 }
 
 #[test]
-fn bytes_of_texts(rt: HostRuntime) -> Result<(), Fail> {
+fn bytes_of_texts(rt: HostRuntime) {
     let value = SmolStr::from_utf8(rt.alloc(), b"\xc3\xa9").ok();
-    assert_made(&rt, rt.alloc(), value, ("é", Place::Inline), "from_utf8")?;
+    assert_made(&rt, rt.alloc(), value, ("é", Place::Inline), "from_utf8");
     let value = SmolStr::from_utf8_unchecked(rt.alloc(), "é€".as_bytes()).ok();
     assert_made(&rt, rt.alloc(), value, ("é€", Place::Inline), "unchecked")
 }
 
 #[test]
-fn conversions(rt: HostRuntime) -> Result<(), Fail> {
-    assert_into_string(&rt, rt.alloc(), "Hello, World!")?;
+fn conversions(rt: HostRuntime) {
+    assert_into_string(&rt, rt.alloc(), "Hello, World!");
     assert_into_rc_str(&rt, rt.alloc(), "Hello, World!")
 }
 
-fn assert_into_string(rt: &impl Abort, alloc: Global, text: &str) -> Result<(), Fail> {
-    let value = SmolStr::new(alloc, text)?;
-    let back = value.into_string(alloc).ok().ok_or("refused")?;
+fn assert_into_string(rt: &impl Abort, alloc: Global, text: &str) {
+    let value = ok(rt, SmolStr::new(alloc, text));
+    let back = ok(rt, value.into_string(alloc).ok().ok_or("refused"));
     same_text(rt, back.as_str(), text, &"into_string");
-    Ok(())
 }
 
-fn assert_into_rc_str(rt: &impl Abort, alloc: Global, text: &str) -> Result<(), Fail> {
-    let value = SmolStr::from_rc_str(RcStr::from_str(alloc, text)?);
-    let back = value.into_rc_str(alloc).ok().ok_or("refused")?;
+fn assert_into_rc_str(rt: &impl Abort, alloc: Global, text: &str) {
+    let value = SmolStr::from_rc_str(ok(rt, RcStr::from_str(alloc, text)));
+    let back = ok(rt, value.into_rc_str(alloc).ok().ok_or("refused"));
     same_text(rt, back.as_str(), text, &"into_rc_str");
-    Ok(())
 }
 
 // Each call that takes a text makes the value that `new` makes, and none gives up.
 #[test]
-fn every_way_in(rt: HostRuntime) -> Result<(), Fail> {
+fn every_way_in(rt: HostRuntime) {
     let rows = [
         ("ab", 1, Place::Inline),
         (" ", INLINE_CAP + 1, Place::Static),
@@ -85,56 +82,55 @@ fn every_way_in(rt: HostRuntime) -> Result<(), Fail> {
         ("é", 35_000, Place::Heap),
     ];
     for (piece, times, place) in rows {
-        let text = repeated(rt.alloc(), piece, times)?;
-        assert_every_way(&rt, rt.alloc(), (text.as_str(), place))?;
+        let text = ok(&rt, repeated(rt.alloc(), piece, times));
+        assert_every_way(&rt, rt.alloc(), (text.as_str(), place));
     }
-    Ok(())
 }
 
-fn assert_every_way(rt: &impl Abort, alloc: Global, wanted: (&str, Place)) -> Result<(), Fail> {
-    assert_from_text(rt, alloc, wanted)?;
-    assert_from_bytes(rt, alloc, wanted)?;
-    assert_from_string(rt, alloc, wanted)?;
-    assert_from_cow_str(rt, alloc, wanted)?;
+fn assert_every_way(rt: &impl Abort, alloc: Global, wanted: (&str, Place)) {
+    assert_from_text(rt, alloc, wanted);
+    assert_from_bytes(rt, alloc, wanted);
+    assert_from_string(rt, alloc, wanted);
+    assert_from_cow_str(rt, alloc, wanted);
     assert_from_shared(rt, alloc, wanted)
 }
 
-fn assert_from_text(rt: &impl Abort, alloc: Global, wanted: (&str, Place)) -> Result<(), Fail> {
+fn assert_from_text(rt: &impl Abort, alloc: Global, wanted: (&str, Place)) {
     let value = SmolStr::new(alloc, wanted.0).ok();
-    assert_made(rt, alloc, value, wanted, "new")?;
+    assert_made(rt, alloc, value, wanted, "new");
     let value = SmolStr::from_str(alloc, wanted.0).ok();
     assert_made(rt, alloc, value, wanted, "from_str")
 }
 
-fn assert_from_bytes(rt: &impl Abort, alloc: Global, wanted: (&str, Place)) -> Result<(), Fail> {
+fn assert_from_bytes(rt: &impl Abort, alloc: Global, wanted: (&str, Place)) {
     let bytes = wanted.0.as_bytes();
     let value = SmolStr::from_utf8(alloc, bytes).ok();
-    assert_made(rt, alloc, value, wanted, "from_utf8")?;
+    assert_made(rt, alloc, value, wanted, "from_utf8");
     let value = SmolStr::from_utf8_unchecked(alloc, bytes).ok();
     assert_made(rt, alloc, value, wanted, "from_utf8_unchecked")
 }
 
-fn assert_from_string(rt: &impl Abort, alloc: Global, wanted: (&str, Place)) -> Result<(), Fail> {
-    let text = String::from_str(alloc, wanted.0)?;
+fn assert_from_string(rt: &impl Abort, alloc: Global, wanted: (&str, Place)) {
+    let text = ok(rt, String::from_str(alloc, wanted.0));
     let value = SmolStr::from_string_ref(alloc, &text).ok();
-    assert_made(rt, alloc, value, wanted, "from_string_ref")?;
+    assert_made(rt, alloc, value, wanted, "from_string_ref");
     let value = SmolStr::from_string(alloc, text).ok();
     assert_made(rt, alloc, value, wanted, "from_string")
 }
 
-fn assert_from_cow_str(rt: &impl Abort, alloc: Global, wanted: (&str, Place)) -> Result<(), Fail> {
+fn assert_from_cow_str(rt: &impl Abort, alloc: Global, wanted: (&str, Place)) {
     let value = SmolStr::from_cow_str(alloc, CowStr::Borrowed(wanted.0)).ok();
-    assert_made(rt, alloc, value, wanted, "from_cow_str, borrowed")?;
-    let text = String::from_str(alloc, wanted.0)?;
+    assert_made(rt, alloc, value, wanted, "from_cow_str, borrowed");
+    let text = ok(rt, String::from_str(alloc, wanted.0));
     let value = SmolStr::from_cow_str(alloc, CowStr::Owned(text)).ok();
     assert_made(rt, alloc, value, wanted, "from_cow_str, owned")
 }
 
-fn assert_from_shared(rt: &impl Abort, alloc: Global, wanted: (&str, Place)) -> Result<(), Fail> {
-    let boxed = String::from_str(alloc, wanted.0)?.into_boxed_str();
+fn assert_from_shared(rt: &impl Abort, alloc: Global, wanted: (&str, Place)) {
+    let boxed = ok(rt, String::from_str(alloc, wanted.0)).into_boxed_str();
     let value = SmolStr::from_boxed_str(alloc, boxed).ok();
-    assert_made(rt, alloc, value, wanted, "from_boxed_str")?;
-    let shared = RcStr::from_str(alloc, wanted.0)?;
+    assert_made(rt, alloc, value, wanted, "from_boxed_str");
+    let shared = ok(rt, RcStr::from_str(alloc, wanted.0));
     let value = SmolStr::from_rc_str(shared);
     assert_made(rt, alloc, Some(value), wanted, "from_rc_str")
 }
@@ -146,50 +142,42 @@ fn assert_made(
     made: Option<SmolStr>,
     wanted: (&str, Place),
     way: &'static str,
-) -> Result<(), Fail> {
-    let value = made.ok_or(way)?;
+) {
+    let value = ok(rt, made.ok_or(way));
     let (text, place) = wanted;
     same_value(rt, &value, text, place, &way);
-    assert_prints(rt, alloc, &value, text)?;
+    assert_prints(rt, alloc, &value, text);
     assert_prints_quoted(rt, alloc, &value, text)
 }
 
-fn assert_prints(rt: &impl Abort, alloc: Global, value: &SmolStr, text: &str) -> Result<(), Fail> {
-    let printed = format!(in alloc; "{value}")?;
+fn assert_prints(rt: &impl Abort, alloc: Global, value: &SmolStr, text: &str) {
+    let printed = ok(rt, format!(in alloc; "{value}"));
     same_text(rt, printed.as_str(), text, &"printed");
-    Ok(())
 }
 
-fn assert_prints_quoted(
-    rt: &impl Abort,
-    alloc: Global,
-    value: &SmolStr,
-    text: &str,
-) -> Result<(), Fail> {
-    let printed = format!(in alloc; "{value:?}")?;
-    let quoted = format!(in alloc; "\"{text}\"")?;
+fn assert_prints_quoted(rt: &impl Abort, alloc: Global, value: &SmolStr, text: &str) {
+    let printed = ok(rt, format!(in alloc; "{value:?}"));
+    let quoted = ok(rt, format!(in alloc; "\"{text}\""));
     same_text(
         rt,
         printed.as_str(),
         quoted.as_str(),
         &"printed for debugging",
     );
-    Ok(())
 }
 
 // A text that is not resident is kept as it was handed in, and handed out again.
 #[test]
-fn keeps_a_shared_text(rt: HostRuntime) -> Result<(), Fail> {
-    let shared = RcStr::from_str(rt.alloc(), long_text())?;
-    let value = SmolStr::from_rc_str(shared.clone()?);
+fn keeps_a_shared_text(rt: HostRuntime) {
+    let shared = ok(&rt, RcStr::from_str(rt.alloc(), long_text()));
+    let value = SmolStr::from_rc_str(ok(&rt, shared.clone()));
     same_place(&rt, &value, Place::Heap, &"the long text");
-    let back = value.into_rc_str(rt.alloc()).ok().ok_or("refused")?;
+    let back = ok(&rt, value.into_rc_str(rt.alloc()).ok().ok_or("refused"));
     holds(&rt, RcStr::ptr_eq(&back, &shared), &"it takes no memory");
-    Ok(())
 }
 
 #[test]
-fn places_of_shared_texts(rt: HostRuntime) -> Result<(), Fail> {
+fn places_of_shared_texts(rt: HostRuntime) {
     let rows = [
         ("ab", Place::Inline),
         ("aaaaaaaaaaaaaaaaaaaaaaaa", Place::Inline),
@@ -197,10 +185,9 @@ fn places_of_shared_texts(rt: HostRuntime) -> Result<(), Fail> {
         (long_blank(), Place::Static),
     ];
     for (text, place) in rows {
-        let value = SmolStr::from_rc_str(RcStr::from_str(rt.alloc(), text)?);
+        let value = SmolStr::from_rc_str(ok(&rt, RcStr::from_str(rt.alloc(), text)));
         same_value(&rt, &value, text, place, &"from_rc_str");
     }
-    Ok(())
 }
 
 #[test]
@@ -249,24 +236,27 @@ fn assert_keeps(rt: &impl Abort, alloc: Global, shared: &RcStr) -> Result<(), Fa
         "into_string",
         || Ok(SmolStr::from_rc_str(shared.clone()?)),
         |value| value.into_string(alloc),
-        |answer| assert_shares(rt, alloc, shared, answer),
+        |answer| {
+            assert_shares(rt, alloc, shared, answer);
+            Ok(())
+        },
     )?;
     same(rt, &(asked.requests > 0), &can_refuse(alloc), &"requests");
     Ok(())
 }
 
-fn assert_shares(
-    rt: &impl Abort,
-    alloc: Global,
-    shared: &RcStr,
-    answer: &Result<String, SmolStr>,
-) -> Result<(), Fail> {
+fn assert_shares(rt: &impl Abort, alloc: Global, shared: &RcStr, answer: &Result<String, SmolStr>) {
     match answer {
         Ok(string) => same_text(rt, string.as_str(), shared.as_str(), &"a string"),
         Err(back) => {
-            let back = back.clone()?.into_rc_str(alloc).ok().ok_or("refused")?;
+            let back = ok(
+                rt,
+                ok(rt, back.clone())
+                    .into_rc_str(alloc)
+                    .ok()
+                    .ok_or("refused"),
+            );
             holds(rt, RcStr::ptr_eq(&back, shared), &"the shared text");
         }
     }
-    Ok(())
 }

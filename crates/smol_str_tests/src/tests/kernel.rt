@@ -1,5 +1,5 @@
 //! The loops over bytes, against outside rows, a plain map and std's search.
-use super::same::same;
+use super::same::{ok, same};
 use smol_str::kernel::{AsciiCase, convert_while_ascii, next_match};
 use smol_str::{INLINE_CAP, InlineBuffer, SmolStr};
 use std::alloc::Global;
@@ -194,25 +194,26 @@ static MATCHES: [(&str, usize, &str, Option<usize>); 9] = [
 ];
 
 #[test]
-fn matches(rt: HostRuntime) -> Result<(), Fail> {
+fn matches(rt: HostRuntime) {
     for &(text, from, pattern, wanted) in &MATCHES {
-        let found = found_from(text, from, pattern).ok_or("a place inside a character")?;
+        let found = ok(
+            &rt,
+            found_from(text, from, pattern).ok_or("a place inside a character"),
+        );
         same(&rt, &found, &wanted, &(pattern, text, from));
     }
-    Ok(())
 }
 
 // Every place of every small text, with every small pattern.
 #[test]
-fn matches_as_std_finds(rt: HostRuntime) -> Result<(), Fail> {
-    let texts = small_texts(rt.alloc(), 5)?;
-    let patterns = small_texts(rt.alloc(), 3)?;
+fn matches_as_std_finds(rt: HostRuntime) {
+    let texts = ok(&rt, small_texts(rt.alloc(), 5));
+    let patterns = ok(&rt, small_texts(rt.alloc(), 3));
     for text in &texts {
         for pattern in &patterns {
             assert_found(&rt, text.as_str(), pattern.as_str());
         }
     }
-    Ok(())
 }
 
 fn assert_found(rt: &impl Abort, text: &str, pattern: &str) {

@@ -1,5 +1,5 @@
 //! Where texts are kept.
-use super::same::{holds, same, same_place, same_text, same_value};
+use super::same::{holds, ok, same, same_place, same_text, same_value};
 use smol_str::{
     BLANK_NEWLINES, BLANK_SPACES, INLINE_CAP, InlineBuffer, Place, SmolStr, SmolStrBuilder,
 };
@@ -45,24 +45,22 @@ static BLANKS: [(usize, usize, usize, Place); 17] = [
 ];
 
 #[test]
-fn new_places(rt: HostRuntime) -> Result<(), Fail> {
+fn new_places(rt: HostRuntime) {
     for &(piece, times, end, place) in &PLACES {
-        let text = repeated_and(rt.alloc(), piece, times, end)?;
-        let value = SmolStr::new(rt.alloc(), text.as_str())?;
+        let text = ok(&rt, repeated_and(rt.alloc(), piece, times, end));
+        let value = ok(&rt, SmolStr::new(rt.alloc(), text.as_str()));
         same_value(&rt, &value, text.as_str(), place, &([piece, end], times));
     }
-    Ok(())
 }
 
 #[test]
-fn blank_places(rt: HostRuntime) -> Result<(), Fail> {
+fn blank_places(rt: HostRuntime) {
     for &(newlines, spaces, more, place) in &BLANKS {
-        let text = blank(rt.alloc(), newlines, spaces, more)?;
-        let value = SmolStr::new(rt.alloc(), text.as_str())?;
+        let text = ok(&rt, blank(rt.alloc(), newlines, spaces, more));
+        let value = ok(&rt, SmolStr::new(rt.alloc(), text.as_str()));
         let row = (newlines, spaces, more);
         same_value(&rt, &value, text.as_str(), place, &row);
     }
-    Ok(())
 }
 
 fn blank(
@@ -77,7 +75,7 @@ fn blank(
 }
 
 #[test]
-fn const_fn_ctor(rt: HostRuntime) -> Result<(), Fail> {
+fn const_fn_ctor(rt: HostRuntime) {
     let texts = [
         "",
         "A",
@@ -87,11 +85,10 @@ fn const_fn_ctor(rt: HostRuntime) -> Result<(), Fail> {
         full_text(),
     ];
     for text in texts {
-        let value = inline(text).ok_or("a text too long")?;
-        assert_equals_new(&rt, rt.alloc(), &value, text)?;
+        let value = ok(&rt, inline(text).ok_or("a text too long"));
+        assert_equals_new(&rt, rt.alloc(), &value, text);
         same_place(&rt, &value, Place::Inline, &text);
     }
-    Ok(())
 }
 
 /// The call, where its condition is kept.
@@ -102,19 +99,13 @@ fn inline(text: &str) -> Option<SmolStr> {
     Some(SmolStr::new_inline(text))
 }
 
-fn assert_equals_new(
-    rt: &impl Abort,
-    alloc: Global,
-    value: &SmolStr,
-    text: &str,
-) -> Result<(), Fail> {
-    let made = SmolStr::new(alloc, text)?;
+fn assert_equals_new(rt: &impl Abort, alloc: Global, value: &SmolStr, text: &str) {
+    let made = ok(rt, SmolStr::new(alloc, text));
     holds(rt, *value == made, &text);
-    Ok(())
 }
 
 #[test]
-fn default_value(rt: HostRuntime) -> Result<(), Fail> {
+fn default_value(rt: HostRuntime) {
     let value = SmolStr::default();
     same_value(&rt, &value, "", Place::Inline, &"default");
     assert_equals_new(&rt, rt.alloc(), &value, "")
@@ -177,21 +168,19 @@ fn size_of_a_value(rt: HostRuntime) {
 
 // The text's bytes, and zeros: of a value and of a builder that are inline, and of no other.
 #[test]
-fn inline_buffers(rt: HostRuntime) -> Result<(), Fail> {
-    let value = SmolStr::new(rt.alloc(), "ab")?;
+fn inline_buffers(rt: HostRuntime) {
+    let value = ok(&rt, SmolStr::new(rt.alloc(), "ab"));
     assert_holds_ab(&rt, value.inline_buffer());
-    let builder = builder_of(rt.alloc(), 0, "ab")?;
+    let builder = ok(&rt, builder_of(rt.alloc(), 0, "ab"));
     assert_holds_ab(&rt, builder.inline_buffer());
-    Ok(())
 }
 
 #[test]
-fn no_inline_buffers(rt: HostRuntime) -> Result<(), Fail> {
+fn no_inline_buffers(rt: HostRuntime) {
     assert_no_buffer(&rt, SmolStr::new_static("ab"));
-    assert_no_buffer(&rt, SmolStr::new(rt.alloc(), long_text())?);
-    let large = builder_of(rt.alloc(), 100, "ab")?;
+    assert_no_buffer(&rt, ok(&rt, SmolStr::new(rt.alloc(), long_text())));
+    let large = ok(&rt, builder_of(rt.alloc(), 100, "ab"));
     holds(&rt, large.inline_buffer().is_none(), &"a large builder");
-    Ok(())
 }
 
 fn assert_no_buffer(rt: &impl Abort, value: SmolStr) {

@@ -1,9 +1,8 @@
 //! Replacement, against outside rows and std's own.
-use super::same::{same_text, same_value};
+use super::same::{ok, same_text, same_value};
 use smol_str::{INLINE_CAP, Place, StrExt};
 use std::alloc::{AllocError, Global};
 use std::process::Abort;
-use std::test::Fail;
 use test_support::texts::{repeated, repeated_and, small_texts};
 
 /// A text, a pattern, what stands in its place, at most how often, and the result.
@@ -39,13 +38,13 @@ pub static ROWS: [Row; 19] = [
 ];
 
 #[test]
-fn rows(rt: HostRuntime) -> Result<(), Fail> {
+fn rows(rt: HostRuntime) {
     assert_rows(&rt, rt.alloc(), &ROWS)
 }
 
-pub fn assert_rows(rt: &impl Abort, alloc: Global, rows: &[Row]) -> Result<(), Fail> {
+pub fn assert_rows(rt: &impl Abort, alloc: Global, rows: &[Row]) {
     for &(text, from, to, count, wanted) in rows {
-        let value = text.replacen_smolstr(alloc, from, to, count)?;
+        let value = ok(rt, text.replacen_smolstr(alloc, from, to, count));
         same_value(
             rt,
             &value,
@@ -54,18 +53,16 @@ pub fn assert_rows(rt: &impl Abort, alloc: Global, rows: &[Row]) -> Result<(), F
             &([from, to, text], count),
         );
     }
-    Ok(())
 }
 
 #[test]
-fn rows_without_a_limit(rt: HostRuntime) -> Result<(), Fail> {
+fn rows_without_a_limit(rt: HostRuntime) {
     for &(text, from, to, count, wanted) in &ROWS {
         if count == usize::MAX {
-            let value = text.replace_smolstr(rt.alloc(), from, to)?;
+            let value = ok(&rt, text.replace_smolstr(rt.alloc(), from, to));
             same_value(&rt, &value, wanted, Place::Inline, &[from, to, text]);
         }
     }
-    Ok(())
 }
 
 /// A text so many times, a pattern, what stands in its place, at most how often, the result as two
@@ -147,20 +144,18 @@ static LONG: [LongRow; 7] = [
 ];
 
 #[test]
-fn long_rows(rt: HostRuntime) -> Result<(), Fail> {
+fn long_rows(rt: HostRuntime) {
     for row in &LONG {
-        assert_long_row(&rt, rt.alloc(), row)?;
+        assert_long_row(&rt, rt.alloc(), row);
     }
-    Ok(())
 }
 
-fn assert_long_row(rt: &impl Abort, alloc: Global, row: &LongRow) -> Result<(), Fail> {
+fn assert_long_row(rt: &impl Abort, alloc: Global, row: &LongRow) {
     let (text, from, to, count, front, end, place) = *row;
-    let text = repeated(alloc, text.0, text.1)?;
-    let wanted = joined(alloc, front, end)?;
-    let value = text.as_str().replacen_smolstr(alloc, from, to, count)?;
+    let text = ok(rt, repeated(alloc, text.0, text.1));
+    let wanted = ok(rt, joined(alloc, front, end));
+    let value = ok(rt, text.as_str().replacen_smolstr(alloc, from, to, count));
     same_value(rt, &value, wanted.as_str(), place, &([from, to], count));
-    Ok(())
 }
 
 /// Two texts so many times, one after the other.
@@ -178,87 +173,72 @@ fn case<'a>(text: &'a str, from: &'a str, turn: usize) -> [&'a str; 3] {
 }
 
 /// Every small text and pattern at two limits, a quarter of a million cases: enough for one test.
-fn assert_at_limits(rt: &impl Abort, alloc: Global, limits: [usize; 2]) -> Result<(), Fail> {
-    let texts = small_texts(alloc, 7)?;
-    let patterns = small_texts(alloc, 3)?;
+fn assert_at_limits(rt: &impl Abort, alloc: Global, limits: [usize; 2]) {
+    let texts = ok(rt, small_texts(alloc, 7));
+    let patterns = ok(rt, small_texts(alloc, 3));
     for (i, text) in texts.iter().enumerate() {
         for (j, pattern) in patterns.iter().enumerate() {
             let row = (text.as_str(), pattern.as_str(), i.wrapping_add(j));
-            assert_replaced(rt, alloc, row, limits)?;
+            assert_replaced(rt, alloc, row, limits);
         }
     }
-    Ok(())
 }
 
-fn assert_replaced(
-    rt: &impl Abort,
-    alloc: Global,
-    row: (&str, &str, usize),
-    limits: [usize; 2],
-) -> Result<(), Fail> {
+fn assert_replaced(rt: &impl Abort, alloc: Global, row: (&str, &str, usize), limits: [usize; 2]) {
     let (text, from, turn) = row;
     for count in limits {
         let texts = case(text, from, turn.wrapping_add(count));
-        assert_replaced_at(rt, alloc, texts, count)?;
+        assert_replaced_at(rt, alloc, texts, count);
     }
-    Ok(())
 }
 
-fn assert_replaced_at(
-    rt: &impl Abort,
-    alloc: Global,
-    texts: [&str; 3],
-    count: usize,
-) -> Result<(), Fail> {
+fn assert_replaced_at(rt: &impl Abort, alloc: Global, texts: [&str; 3], count: usize) {
     let [text, from, to] = texts;
-    let value = text.replacen_smolstr(alloc, from, to, count)?;
-    let wanted = text.replacen(alloc, from, to, count)?;
+    let value = ok(rt, text.replacen_smolstr(alloc, from, to, count));
+    let wanted = ok(rt, text.replacen(alloc, from, to, count));
     same_text(rt, value.as_str(), wanted.as_str(), &(texts, count));
-    Ok(())
 }
 
 #[test]
-fn replaces_as_std_does_at_0_and_1(rt: HostRuntime) -> Result<(), Fail> {
+fn replaces_as_std_does_at_0_and_1(rt: HostRuntime) {
     assert_at_limits(&rt, rt.alloc(), [0, 1])
 }
 
 #[test]
-fn replaces_as_std_does_at_2_and_3(rt: HostRuntime) -> Result<(), Fail> {
+fn replaces_as_std_does_at_2_and_3(rt: HostRuntime) {
     assert_at_limits(&rt, rt.alloc(), [2, 3])
 }
 
 #[test]
-fn replaces_as_std_does_at_4_and_5(rt: HostRuntime) -> Result<(), Fail> {
+fn replaces_as_std_does_at_4_and_5(rt: HostRuntime) {
     assert_at_limits(&rt, rt.alloc(), [4, 5])
 }
 
 #[test]
-fn replaces_as_std_does_at_6_and_7(rt: HostRuntime) -> Result<(), Fail> {
+fn replaces_as_std_does_at_6_and_7(rt: HostRuntime) {
     assert_at_limits(&rt, rt.alloc(), [6, 7])
 }
 
 #[test]
-fn replaces_as_std_does_at_8_and_9(rt: HostRuntime) -> Result<(), Fail> {
+fn replaces_as_std_does_at_8_and_9(rt: HostRuntime) {
     assert_at_limits(&rt, rt.alloc(), [8, 9])
 }
 
 #[test]
-fn replaces_all_as_std_does(rt: HostRuntime) -> Result<(), Fail> {
-    let texts = small_texts(rt.alloc(), 7)?;
-    let patterns = small_texts(rt.alloc(), 3)?;
+fn replaces_all_as_std_does(rt: HostRuntime) {
+    let texts = ok(&rt, small_texts(rt.alloc(), 7));
+    let patterns = ok(&rt, small_texts(rt.alloc(), 3));
     for (i, text) in texts.iter().enumerate() {
         for (j, pattern) in patterns.iter().enumerate() {
             let texts = case(text.as_str(), pattern.as_str(), i.wrapping_add(j));
-            assert_all_replaced(&rt, rt.alloc(), texts)?;
+            assert_all_replaced(&rt, rt.alloc(), texts);
         }
     }
-    Ok(())
 }
 
-fn assert_all_replaced(rt: &impl Abort, alloc: Global, texts: [&str; 3]) -> Result<(), Fail> {
+fn assert_all_replaced(rt: &impl Abort, alloc: Global, texts: [&str; 3]) {
     let [text, from, to] = texts;
-    let value = text.replace_smolstr(alloc, from, to)?;
-    let wanted = text.replace(alloc, from, to)?;
+    let value = ok(rt, text.replace_smolstr(alloc, from, to));
+    let wanted = ok(rt, text.replace(alloc, from, to));
     same_text(rt, value.as_str(), wanted.as_str(), &texts);
-    Ok(())
 }

@@ -1,10 +1,9 @@
 //! Case, against outside rows and std's own mappings, which only tests see printed.
 use super::replace::{self, assert_rows};
-use super::same::{holds, same, same_place, same_text, same_value};
+use super::same::{holds, ok, same, same_place, same_text, same_value};
 use smol_str::{INLINE_CAP, Place, SmolStr, StrExt};
 use std::alloc::{AllocError, Global};
 use std::process::Abort;
-use std::test::Fail;
 use test_support::texts::{long_blank, long_capitals, long_text, repeated};
 
 /// A case call.
@@ -67,62 +66,58 @@ static ROWS: [(Call, &str, &str, Place); 15] = [
 
 // Upstream's rows are among these.
 #[test]
-fn test_str_ext(rt: HostRuntime) -> Result<(), Fail> {
+fn test_str_ext(rt: HostRuntime) {
     for &(call, text, wanted, place) in &ROWS {
-        let value = answer(rt.alloc(), call, text)?;
+        let value = ok(&rt, answer(rt.alloc(), call, text));
         same_value(&rt, &value, wanted, place, &(call, text));
     }
     assert_rows(&rt, rt.alloc(), &replace::ROWS[..4])
 }
 
 #[test]
-fn long_rows(rt: HostRuntime) -> Result<(), Fail> {
+fn long_rows(rt: HostRuntime) {
     let rows = [
         (Call::AsciiLower, long_capitals(), long_text(), Place::Heap),
         (Call::AsciiUpper, long_blank(), long_blank(), Place::Static),
         (Call::Lower, long_blank(), long_blank(), Place::Static),
     ];
     for (call, text, wanted, place) in rows {
-        let value = answer(rt.alloc(), call, text)?;
+        let value = ok(&rt, answer(rt.alloc(), call, text));
         same_value(&rt, &value, wanted, place, &(call, text));
     }
-    Ok(())
 }
 
 // A short text can become longer than the buffer, and a long one shorter.
 #[test]
-fn sizes_that_grow(rt: HostRuntime) -> Result<(), Fail> {
-    let text = repeated(rt.alloc(), "ΐ", INLINE_CAP / 2)?;
-    let value = text.as_str().to_uppercase_smolstr(rt.alloc())?;
+fn sizes_that_grow(rt: HostRuntime) {
+    let text = ok(&rt, repeated(rt.alloc(), "ΐ", INLINE_CAP / 2));
+    let value = ok(&rt, text.as_str().to_uppercase_smolstr(rt.alloc()));
     same_place(&rt, &value, Place::Heap, &"longer");
     same(&rt, &value.len(), &(6 * (INLINE_CAP / 2)), &"longer");
-    Ok(())
 }
 
 #[test]
-fn sizes_that_shrink(rt: HostRuntime) -> Result<(), Fail> {
-    let text = repeated(rt.alloc(), "K", INLINE_CAP / 3 + 1)?;
-    let value = text.as_str().to_lowercase_smolstr(rt.alloc())?;
+fn sizes_that_shrink(rt: HostRuntime) {
+    let text = ok(&rt, repeated(rt.alloc(), "K", INLINE_CAP / 3 + 1));
+    let value = ok(&rt, text.as_str().to_lowercase_smolstr(rt.alloc()));
     same_place(&rt, &value, Place::Inline, &"shorter");
     same(&rt, &value.len(), &(INLINE_CAP / 3 + 1), &"shorter");
-    Ok(())
 }
 
 // Each character that has a mapping: alone, between letters, and behind a text that is not short.
 #[test]
-fn maps_as_std_does(rt: HostRuntime) -> Result<(), Fail> {
-    let long = repeated(rt.alloc(), "A", INLINE_CAP)?;
+fn maps_as_std_does(rt: HostRuntime) {
+    let long = ok(&rt, repeated(rt.alloc(), "A", INLINE_CAP));
     let mut mapped = 0u32;
     for number in 0x80..0x2FFFFu32 {
         if let Some(character) = char::from_u32(number) {
             if has_mapping(character) {
-                assert_mappings(&rt, rt.alloc(), character, long.as_str())?;
+                assert_mappings(&rt, rt.alloc(), character, long.as_str());
                 mapped = mapped.saturating_add(1);
             }
         }
     }
     holds(&rt, mapped > 2500, &mapped);
-    Ok(())
 }
 
 fn has_mapping(character: char) -> bool {
@@ -131,12 +126,7 @@ fn has_mapping(character: char) -> bool {
     lower != Some(character) || upper != Some(character)
 }
 
-fn assert_mappings(
-    rt: &impl Abort,
-    alloc: Global,
-    character: char,
-    long: &str,
-) -> Result<(), Fail> {
+fn assert_mappings(rt: &impl Abort, alloc: Global, character: char, long: &str) {
     let rows = [
         ("", ""),
         ("a", ""),
@@ -146,11 +136,10 @@ fn assert_mappings(
         (long, "a"),
     ];
     for (before, after) in rows {
-        let text = around(alloc, before, character, after)?;
-        assert_lowercase(rt, alloc, text.as_str())?;
-        assert_uppercase(rt, alloc, text.as_str())?;
+        let text = ok(rt, around(alloc, before, character, after));
+        assert_lowercase(rt, alloc, text.as_str());
+        assert_uppercase(rt, alloc, text.as_str());
     }
-    Ok(())
 }
 
 /// The character, with these texts before and after it.
@@ -161,16 +150,14 @@ fn around(alloc: Global, before: &str, character: char, after: &str) -> Result<S
     Ok(text)
 }
 
-fn assert_lowercase(rt: &impl Abort, alloc: Global, text: &str) -> Result<(), Fail> {
-    let value = text.to_lowercase_smolstr(alloc)?;
-    let wanted = text.to_lowercase(alloc)?;
+fn assert_lowercase(rt: &impl Abort, alloc: Global, text: &str) {
+    let value = ok(rt, text.to_lowercase_smolstr(alloc));
+    let wanted = ok(rt, text.to_lowercase(alloc));
     same_text(rt, value.as_str(), wanted.as_str(), &text);
-    Ok(())
 }
 
-fn assert_uppercase(rt: &impl Abort, alloc: Global, text: &str) -> Result<(), Fail> {
-    let value = text.to_uppercase_smolstr(alloc)?;
-    let wanted = text.to_uppercase(alloc)?;
+fn assert_uppercase(rt: &impl Abort, alloc: Global, text: &str) {
+    let value = ok(rt, text.to_uppercase_smolstr(alloc));
+    let wanted = ok(rt, text.to_uppercase(alloc));
     same_text(rt, value.as_str(), wanted.as_str(), &text);
-    Ok(())
 }

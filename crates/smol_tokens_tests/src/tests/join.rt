@@ -4,14 +4,13 @@ ghost use Rattle.std.specs.Str.{chars};
 ghost use Rattle.smol_tokens_core.specs.Report.{report};
 
 use super::rows::answer;
-use super::same::{holds, same_bytes};
+use super::same::{holds, ok, same_bytes};
 use smol_str::INLINE_CAP;
 use smol_tokens_core::fault::RunFault;
 use smol_tokens_core::mode::Mode;
 use smol_tokens_core::run::run;
 use std::alloc::{AllocError, Global};
 use std::process::Abort;
-use std::test::Fail;
 use test_support::state::fixed_state;
 use test_support::texts::{full_text, long_blank, long_text, repeated};
 
@@ -45,44 +44,36 @@ static REPORTS: [(&[u8], &[u8]); 6] = [
 ];
 
 #[test]
-fn reports(rt: HostRuntime) -> Result<(), Fail> {
+fn reports(rt: HostRuntime) {
     for &(input, wanted) in &REPORTS {
-        let out = joined(rt.alloc(), input)?;
+        let out = ok(&rt, joined(rt.alloc(), input));
         same_bytes(&rt, out.as_slice(), wanted, &input);
     }
     let faulty = joined(rt.alloc(), b"a\n\xff");
     holds(&rt, matches!(faulty, Err(RunFault::NotUtf8)), &"byte FF");
-    Ok(())
 }
 
 // Two lines whose text together no buffer has room for; of some neither is too long by itself.
 #[test]
-fn long_together(rt: HostRuntime) -> Result<(), Fail> {
+fn long_together(rt: HostRuntime) {
     let alloc = rt.alloc();
-    check_two(&rt, alloc, long_text(), "if", "heap")?;
-    check_two(&rt, alloc, full_text(), "a", "heap")?;
-    check_two(&rt, alloc, long_blank(), " ", "static")?;
-    let spaces = repeated(alloc, " ", INLINE_CAP)?;
+    check_two(&rt, alloc, long_text(), "if", "heap");
+    check_two(&rt, alloc, full_text(), "a", "heap");
+    check_two(&rt, alloc, long_blank(), " ", "static");
+    let spaces = ok(&rt, repeated(alloc, " ", INLINE_CAP));
     check_two(&rt, alloc, " ", spaces.as_str(), "static")
 }
 
 /// The text of both lines is kept in the place.
-fn check_two(
-    rt: &impl Abort,
-    alloc: Global,
-    first: &str,
-    second: &str,
-    place: &str,
-) -> Result<(), Fail> {
-    let out = joined_two(alloc, first, second)?;
-    let wanted = answer_to_two(alloc, place, first, second)?;
+fn check_two(rt: &impl Abort, alloc: Global, first: &str, second: &str, place: &str) {
+    let out = joined_two(rt, alloc, first, second);
+    let wanted = ok(rt, answer_to_two(alloc, place, first, second));
     same_bytes(rt, out.as_slice(), wanted.as_str().as_bytes(), &place);
-    Ok(())
 }
 
-fn joined_two(alloc: Global, first: &str, second: &str) -> Result<Vec<u8>, Fail> {
-    let input = format!(in alloc; "{first}\n{second}")?;
-    Ok(joined(alloc, input.as_str().as_bytes())?)
+fn joined_two(rt: &impl Abort, alloc: Global, first: &str, second: &str) -> Vec<u8> {
+    let input = ok(rt, format!(in alloc; "{first}\n{second}"));
+    ok(rt, joined(alloc, input.as_str().as_bytes()))
 }
 
 fn answer_to_two(

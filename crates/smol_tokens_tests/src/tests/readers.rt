@@ -1,6 +1,6 @@
 //! `run` in every mode, over readers of every step, which end after each byte and fail at each call.
 use super::rows::{LETTERS, Row, Words, all_rows};
-use super::same::{holds, same};
+use super::same::{holds, ok, same};
 use super::words::mode_of_words;
 use smol_str::stream::PIECE;
 use smol_tokens_core::fault::RunFault;
@@ -8,7 +8,6 @@ use smol_tokens_core::run::run;
 use std::alloc::{AllocError, Global};
 use std::io::ErrorKind;
 use std::process::Abort;
-use std::test::Fail;
 use test_support::state::fixed_state;
 use test_support::streams::{
     Drip, Failure, READ_ERRORS, STEPS, Trickle, empty_drip, is_tried, trickle_of,
@@ -40,7 +39,7 @@ pub fn run_by(
     words: &[&str],
     reader: &mut Trickle<'_>,
     writer: &mut Drip,
-) -> Result<Answer, Fail> {
+) -> Result<Answer, &'static str> {
     let mode = mode_of_words(alloc, words)?;
     Ok(answer_of(run(alloc, fixed_state(), mode, reader, writer)))
 }
@@ -52,7 +51,7 @@ fn read_by(
     words: Words,
     reader: &mut Trickle<'_>,
     writer: &mut Drip,
-) -> Result<Answer, Fail> {
+) -> Result<Answer, &'static str> {
     let answer = run_by(alloc, words, reader, writer)?;
     holds(rt, reader.least >= 1 && reader.most <= PIECE, &words);
     Ok(answer)
@@ -64,26 +63,29 @@ fn sound_drip(alloc: Global) -> Drip {
 }
 
 #[test]
-fn fails_at_each_call(rt: HostRuntime) -> Result<(), Fail> {
-    for row in all_rows(rt.alloc())?.iter() {
-        check_row(&rt, rt.alloc(), row)?;
+fn fails_at_each_call(rt: HostRuntime) {
+    for row in ok(&rt, all_rows(rt.alloc())).iter() {
+        check_row(&rt, rt.alloc(), row);
     }
-    Ok(())
 }
 
-fn check_row(rt: &impl Abort, alloc: Global, row: &Row) -> Result<(), Fail> {
+fn check_row(rt: &impl Abort, alloc: Global, row: &Row) {
     for step in STEPS {
-        let calls = check_whole(rt, alloc, row, step)?;
+        let calls = ok(rt, check_whole(rt, alloc, row, step));
         for error in READ_ERRORS {
-            check_failures(rt, alloc, row, (step, error), calls)?;
+            check_failures(rt, alloc, row, (step, error), calls);
         }
     }
-    Ok(())
 }
 
 /// The report on the input is written whole, after so many calls: by single bytes each is one, and one more says that
 /// the input has ended.
-fn check_whole(rt: &impl Abort, alloc: Global, row: &Row, step: usize) -> Result<usize, Fail> {
+fn check_whole(
+    rt: &impl Abort,
+    alloc: Global,
+    row: &Row,
+    step: usize,
+) -> Result<usize, &'static str> {
     let mut reader = trickle_of(row.input.as_slice(), step, 0);
     let mut writer = sound_drip(alloc);
     let answer = read_by(rt, alloc, row.words, &mut reader, &mut writer)?;
@@ -107,31 +109,24 @@ fn check_failures(
     row: &Row,
     (step, error): (usize, ErrorKind),
     calls: usize,
-) -> Result<(), Fail> {
+) {
     for fails_at in 1..calls.saturating_add(1) {
         if is_tried(fails_at.saturating_mul(step), row.input.len()) {
             let mut reader = trickle_of(row.input.as_slice(), step, fails_at);
             reader.failure = error;
-            check_failure(rt, alloc, row.words, &mut reader)?;
+            check_failure(rt, alloc, row.words, &mut reader);
         }
     }
-    Ok(())
 }
 
 /// The reader's error is reported at once, and nothing is written.
-fn check_failure(
-    rt: &impl Abort,
-    alloc: Global,
-    words: Words,
-    reader: &mut Trickle<'_>,
-) -> Result<(), Fail> {
+fn check_failure(rt: &impl Abort, alloc: Global, words: Words, reader: &mut Trickle<'_>) {
     let mut writer = sound_drip(alloc);
-    let answer = read_by(rt, alloc, words, reader, &mut writer)?;
+    let answer = ok(rt, read_by(rt, alloc, words, reader, &mut writer));
     let about = (words, reader.step, reader.fails_at);
     same(rt, &answer, &Answer::Io(reader.failure), &about);
     holds(rt, writer.taken.is_empty(), &about);
     same(rt, &reader.calls, &reader.fails_at, &about);
-    Ok(())
 }
 
 /// Characters of one to four bytes, in two lines.
@@ -139,14 +134,13 @@ const CHARACTERS: &str = "aßΔ\nC€🦀";
 
 // An input that ends is whole, and not UTF-8 where it ends within a character.
 #[test]
-fn end_after_each_byte(rt: HostRuntime) -> Result<(), Fail> {
+fn end_after_each_byte(rt: HostRuntime) {
     for (words, _, _) in LETTERS {
-        check_ends(&rt, rt.alloc(), words)?;
+        check_ends(&rt, rt.alloc(), words);
     }
-    Ok(())
 }
 
-fn check_ends(rt: &impl Abort, alloc: Global, words: Words) -> Result<(), Fail> {
+fn check_ends(rt: &impl Abort, alloc: Global, words: Words) {
     let input = CHARACTERS.as_bytes();
     for end in 0..=input.len() {
         let wanted = if CHARACTERS.is_char_boundary(end) {
@@ -154,37 +148,34 @@ fn check_ends(rt: &impl Abort, alloc: Global, words: Words) -> Result<(), Fail> 
         } else {
             Answer::NotUtf8
         };
-        check_answers(rt, alloc, words, &input[..end], wanted)?;
+        check_answers(rt, alloc, words, &input[..end], wanted);
     }
-    Ok(())
 }
 
 // The only byte, the last of whole pieces and of a part of one, and a surrogate.
 #[test]
-fn not_utf8(rt: HostRuntime) -> Result<(), Fail> {
+fn not_utf8(rt: HostRuntime) {
     for (words, _, _) in LETTERS {
-        check_not_utf8(&rt, rt.alloc(), words)?;
+        check_not_utf8(&rt, rt.alloc(), words);
     }
-    Ok(())
 }
 
-fn check_not_utf8(rt: &impl Abort, alloc: Global, words: Words) -> Result<(), Fail> {
+fn check_not_utf8(rt: &impl Abort, alloc: Global, words: Words) {
     for count in [0, PIECE - 1, 2 * PIECE, 9000] {
-        let input = ending_badly(alloc, count)?;
-        check_answers(rt, alloc, words, input.as_slice(), Answer::NotUtf8)?;
+        let input = ok(rt, ending_badly(alloc, count));
+        check_answers(rt, alloc, words, input.as_slice(), Answer::NotUtf8);
     }
     check_answers(rt, alloc, words, b"\xed\xa0\x80\n", Answer::NotUtf8)
 }
 
 // An input longer than every buffer is reported as no UTF-8, and not as out of memory.
 #[test]
-fn long_not_utf8(rt: HostRuntime) -> Result<(), Fail> {
+fn long_not_utf8(rt: HostRuntime) {
     for count in [PIECE, 65_536, 5_000_000] {
-        let input = ending_badly(rt.alloc(), count)?;
+        let input = ok(&rt, ending_badly(rt.alloc(), count));
         let mut reader = trickle_of(input.as_slice(), PIECE, 0);
-        check_answer(&rt, rt.alloc(), &["show"], &mut reader, Answer::NotUtf8)?;
+        check_answer(&rt, rt.alloc(), &["show"], &mut reader, Answer::NotUtf8);
     }
-    Ok(())
 }
 
 /// So many letters, and a byte that no text has.
@@ -195,18 +186,11 @@ fn ending_badly(alloc: Global, count: usize) -> Result<Vec<u8>, AllocError> {
 }
 
 /// What is returned by every step, after the whole input came; nothing is written after a fault.
-fn check_answers(
-    rt: &impl Abort,
-    alloc: Global,
-    words: Words,
-    input: &[u8],
-    wanted: Answer,
-) -> Result<(), Fail> {
+fn check_answers(rt: &impl Abort, alloc: Global, words: Words, input: &[u8], wanted: Answer) {
     for step in STEPS {
         let mut reader = trickle_of(input, step, 0);
-        check_answer(rt, alloc, words, &mut reader, wanted)?;
+        check_answer(rt, alloc, words, &mut reader, wanted);
     }
-    Ok(())
 }
 
 fn check_answer(
@@ -215,13 +199,12 @@ fn check_answer(
     words: Words,
     reader: &mut Trickle<'_>,
     wanted: Answer,
-) -> Result<(), Fail> {
+) {
     let mut writer = sound_drip(alloc);
-    let answer = read_by(rt, alloc, words, reader, &mut writer)?;
+    let answer = ok(rt, read_by(rt, alloc, words, reader, &mut writer));
     let about = (words, reader.step);
     same(rt, &answer, &wanted, &about);
     holds(rt, reader.rest.is_empty(), &about);
     let is_kept_back = wanted == Answer::Done || writer.taken.is_empty();
     holds(rt, is_kept_back, &about);
-    Ok(())
 }

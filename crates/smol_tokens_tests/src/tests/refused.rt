@@ -68,7 +68,7 @@ fn check_mode(
     input: &[u8],
     len: usize,
 ) -> Result<(), Fail> {
-    let ample = report_by(alloc, words, input)?;
+    let ample = report_by(rt, alloc, words, input);
     same(rt, &ample.len(), &len, &words);
     let name = format!(in alloc; "run {words:?} on {} bytes", input.len())?;
     let requests = refuse_each(rt, alloc, name.as_str(), words, input, ample.as_slice())?;

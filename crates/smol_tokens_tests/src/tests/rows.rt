@@ -1,9 +1,10 @@
 //! Inputs in every mode, and the reports on them.
+use super::same::ok;
 use super::words::mode_of_words;
 use smol_str::INLINE_CAP;
 use smol_tokens_core::run::run;
 use std::alloc::{AllocError, Global};
-use std::test::Fail;
+use std::process::Abort;
 use test_support::state::fixed_state;
 use test_support::texts::{full_text, long_blank, long_capitals, long_text, repeated};
 
@@ -188,10 +189,10 @@ pub fn long_line(
 }
 
 /// The report in the mode of these words, by std's reader and writer over memory.
-pub fn report_by(alloc: Global, words: &[&str], input: &[u8]) -> Result<Vec<u8>, Fail> {
-    let mode = mode_of_words(alloc, words)?;
+pub fn report_by(rt: &impl Abort, alloc: Global, words: &[&str], input: &[u8]) -> Vec<u8> {
+    let mode = ok(rt, mode_of_words(alloc, words));
     let mut reader = input;
     let mut out = Vec::new(alloc);
-    run(alloc, fixed_state(), mode, &mut reader, &mut out)?;
-    Ok(out)
+    ok(rt, run(alloc, fixed_state(), mode, &mut reader, &mut out));
+    out
 }

@@ -1,5 +1,5 @@
-//! What tests compare, each with the row in its message. A call of a helper costs its caller's proof far less than an
-//! assertion does, and one assertion serves all of them.
+//! What tests compare, each with the row in its message, and what they expect to be `Ok`. A call of a helper costs its
+//! caller's proof far less than an assertion or a `?` does, behind which all that the caller holds is dropped.
 use std::fmt::Debug;
 use std::process::Abort;
 
@@ -21,4 +21,12 @@ pub fn same_bytes(rt: &impl Abort, found: &[u8], wanted: &[u8], row: &impl Debug
 /// It is so.
 pub fn holds(rt: &impl Abort, is_so: bool, row: &impl Debug) {
     assert!(rt; is_so, "{row:?}");
+}
+
+/// What a call returns; a fault ends the test.
+pub fn ok<T, E: Debug>(rt: &impl Abort, outcome: Result<T, E>) -> T {
+    match outcome {
+        Ok(value) => value,
+        Err(fault) => panic!(rt; "{fault:?}"),
+    }
 }

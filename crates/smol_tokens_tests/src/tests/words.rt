@@ -1,5 +1,5 @@
 //! The words of a command line, and the lines that report a fault.
-use super::same::{holds, same_text};
+use super::same::{holds, ok, same_text};
 use smol_tokens_core::fault::{RunFault, fault_line};
 use smol_tokens_core::mode::{Mode, mode_of};
 use std::alloc::{AllocError, Global};
@@ -18,9 +18,9 @@ fn strings(alloc: Global, words: &[&str]) -> Result<Vec<String>, AllocError> {
 }
 
 /// The mode that these words ask for.
-pub fn mode_of_words(alloc: Global, words: &[&str]) -> Result<Mode, Fail> {
-    let words = strings(alloc, words)?;
-    Ok(mode_of(words).ok_or("no mode")?)
+pub fn mode_of_words(alloc: Global, words: &[&str]) -> Result<Mode, &'static str> {
+    let words = strings(alloc, words).ok().ok_or("out of memory")?;
+    mode_of(words).ok_or("no mode")
 }
 
 fn name_of(mode: &Mode) -> &'static str {
@@ -35,14 +35,13 @@ fn name_of(mode: &Mode) -> &'static str {
 }
 
 #[test]
-fn modes(rt: HostRuntime) -> Result<(), Fail> {
-    let mode = mode_of_words(rt.alloc(), &[])?;
+fn modes(rt: HostRuntime) {
+    let mode = ok(&rt, mode_of_words(rt.alloc(), &[]));
     same_text(&rt, name_of(&mode), "show", &"no word");
     for word in ["show", "join", "lower", "upper", "tokens"] {
-        let mode = mode_of_words(rt.alloc(), &[word])?;
+        let mode = ok(&rt, mode_of_words(rt.alloc(), &[word]));
         same_text(&rt, name_of(&mode), word, &word);
     }
-    Ok(())
 }
 
 #[test]
@@ -87,12 +86,11 @@ static WRONG: [&[&str]; 20] = [
 ];
 
 #[test]
-fn wrong_words(rt: HostRuntime) -> Result<(), Fail> {
+fn wrong_words(rt: HostRuntime) {
     for &words in &WRONG {
-        let words_of = strings(rt.alloc(), words)?;
+        let words_of = ok(&rt, strings(rt.alloc(), words));
         holds(&rt, mode_of(words_of).is_none(), &words);
     }
-    Ok(())
 }
 
 #[test]
@@ -115,13 +113,12 @@ fn fault_lines(rt: HostRuntime) {
 }
 
 #[test]
-fn no_request(rt: HostRuntime) -> Result<(), Fail> {
-    let words = strings(rt.alloc(), &["replace", "a", "b"])?;
+fn no_request(rt: HostRuntime) {
+    let words = ok(&rt, strings(rt.alloc(), &["replace", "a", "b"]));
     refuse_all(rt.alloc());
     let mode = mode_of(words);
     let line = fault_line(&RunFault::OutOfMemory);
     let was_refused = end_refusals(rt.alloc());
     let holds_all = mode.is_some() && !line.is_empty() && !was_refused;
     holds(&rt, holds_all, &"no request");
-    Ok(())
 }

@@ -1,30 +1,27 @@
 //! `run` in every mode, over writers of every step, which fail at each call.
 use super::readers::{Answer, run_by};
 use super::rows::{Row, all_rows};
-use super::same::{holds, same};
+use super::same::{holds, ok, same};
 use std::alloc::Global;
 use std::io::ErrorKind;
 use std::process::Abort;
-use std::test::Fail;
 use test_support::streams::{
     Drip, Failure, STEPS, WRITE_FAILURES, empty_drip, is_tried, trickle_of,
 };
 
 #[test]
-fn fails_at_each_call(rt: HostRuntime) -> Result<(), Fail> {
-    for row in all_rows(rt.alloc())?.iter() {
-        check_row(&rt, rt.alloc(), row)?;
+fn fails_at_each_call(rt: HostRuntime) {
+    for row in ok(&rt, all_rows(rt.alloc())).iter() {
+        check_row(&rt, rt.alloc(), row);
     }
-    Ok(())
 }
 
-fn check_row(rt: &impl Abort, alloc: Global, row: &Row) -> Result<(), Fail> {
+fn check_row(rt: &impl Abort, alloc: Global, row: &Row) {
     for step in STEPS {
         for failure in WRITE_FAILURES {
-            check_failures(rt, alloc, row, step, failure)?;
+            check_failures(rt, alloc, row, step, failure);
         }
     }
-    Ok(())
 }
 
 /// The report goes out by as many writes as its steps are; where one fails, its error is reported at
@@ -35,7 +32,7 @@ fn check_failures(
     row: &Row,
     step: usize,
     (failure, kind): (Failure, ErrorKind),
-) -> Result<(), Fail> {
+) {
     let size = row.report.len();
     let calls = size.div_ceil(step.max(1));
     for fails_at in 0..=calls {
@@ -45,10 +42,9 @@ fn check_failures(
                 None => (Answer::Done, calls, size),
                 Some(before) => (Answer::Io(kind), fails_at, before.saturating_mul(step)),
             };
-            check_run(rt, alloc, row, &mut writer, wanted)?;
+            check_run(rt, alloc, row, &mut writer, wanted);
         }
     }
-    Ok(())
 }
 
 /// What a run returns, how many writes it made, and how many bytes of the report went out.
@@ -58,13 +54,12 @@ fn check_run(
     row: &Row,
     writer: &mut Drip,
     (told, made, went_out): (Answer, usize, usize),
-) -> Result<(), Fail> {
+) {
     let mut reader = trickle_of(row.input.as_slice(), usize::MAX, 0);
-    let answer = run_by(alloc, row.words, &mut reader, writer)?;
+    let answer = ok(rt, run_by(alloc, row.words, &mut reader, writer));
     let about = (row.words, writer.step, writer.failure, writer.fails_at);
     same(rt, &answer, &told, &about);
     same(rt, &writer.calls, &made, &about);
     let wanted = &row.report[..went_out.min(row.report.len())];
     holds(rt, writer.taken.as_slice() == wanted, &about);
-    Ok(())
 }

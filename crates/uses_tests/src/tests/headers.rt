@@ -1,40 +1,34 @@
 //! The header store: names in either case.
-use super::same::{holds, same_text};
+use super::same::{holds, ok, same_text};
 use smol_str::SmolStr;
 use std::alloc::{AllocError, Global};
 use std::hash::BuildHasher;
 use std::process::Abort;
-use std::test::Fail;
 use test_support::state::fixed_state;
 use uses::headers::{Headers, headers_of_peer};
 
 #[test]
-fn the_last_value_of_a_name(rt: HostRuntime) -> Result<(), Fail> {
+fn the_last_value_of_a_name(rt: HostRuntime) {
     let alloc = rt.alloc();
     check_headers(&rt, alloc, Headers::with_hasher(alloc, fixed_state()))
 }
 
 #[test]
-fn the_same_of_a_peer(rt: HostRuntime) -> Result<(), Fail> {
+fn the_same_of_a_peer(rt: HostRuntime) {
     let alloc = rt.alloc();
-    let headers = headers_of_peer(alloc, &rt)?;
+    let headers = ok(&rt, headers_of_peer(alloc, &rt));
     check_headers(&rt, alloc, headers)
 }
 
 /// An empty store takes three names, of which two are one, and has the last value of each.
-fn check_headers<S: BuildHasher + Drop>(
-    rt: &impl Abort,
-    alloc: Global,
-    mut headers: Headers<S>,
-) -> Result<(), Fail> {
-    holds(rt, headers.get(alloc, "host")?.is_none(), &"empty");
-    set_three(alloc, &mut headers)?;
+fn check_headers<S: BuildHasher + Drop>(rt: &impl Abort, alloc: Global, mut headers: Headers<S>) {
+    holds(rt, ok(rt, headers.get(alloc, "host")).is_none(), &"empty");
+    ok(rt, set_three(alloc, &mut headers));
     for (name, value) in [("ACCEPT", "json"), ("Host", "a")] {
-        let found = headers.get(alloc, name)?.ok_or("no such name")?;
+        let found = ok(rt, ok(rt, headers.get(alloc, name)).ok_or("no such name"));
         same_text(rt, found.as_str(), value, &name);
     }
-    holds(rt, headers.get(alloc, "Age")?.is_none(), &"Age");
-    Ok(())
+    holds(rt, ok(rt, headers.get(alloc, "Age")).is_none(), &"Age");
 }
 
 fn set_three<S: BuildHasher>(alloc: Global, headers: &mut Headers<S>) -> Result<(), AllocError> {

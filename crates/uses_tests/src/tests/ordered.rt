@@ -1,19 +1,17 @@
 //! Sorted names, in the order of their characters.
-use super::same::{same, same_text};
+use super::same::{ok, same, same_text};
 use smol_str::SmolStr;
 use std::alloc::{AllocError, Global};
 use std::process::Abort;
-use std::test::Fail;
 use uses::ordered::sorted_union;
 
 #[test]
-fn a_union(rt: HostRuntime) -> Result<(), Fail> {
+fn a_union(rt: HostRuntime) {
     let left = ["b", "aa", "é"];
     let right = ["", "\u{10000}", "b", "\u{ffff}"];
-    let union = union_of(rt.alloc(), &left, &right)?;
+    let union = ok(&rt, union_of(rt.alloc(), &left, &right));
     let wanted = ["", "aa", "b", "b", "é", "\u{ffff}", "\u{10000}"];
     check_texts(&rt, &union, &wanted);
-    Ok(())
 }
 
 fn union_of(alloc: Global, left: &[&str], right: &[&str]) -> Result<Vec<SmolStr>, AllocError> {

@@ -1,5 +1,5 @@
 //! Records: the bytes of one, read back both ways, and cut at each place.
-use super::same::{holds, same, same_text};
+use super::same::{holds, ok, same, same_text};
 use smol_str::SmolStr;
 use smol_str::borsh::DecodeFault;
 use std::alloc::Global;
@@ -23,7 +23,7 @@ fn a_field_is_read_back(rt: HostRuntime) -> Result<(), Fail> {
 }
 
 #[test]
-fn the_bytes_of_a_field(rt: HostRuntime) -> Result<(), Fail> {
+fn the_bytes_of_a_field(rt: HostRuntime) {
     let field = Field {
         name: SmolStr::new_inline("if"),
         value: SmolStr::new_inline("éx"),
@@ -31,7 +31,6 @@ fn the_bytes_of_a_field(rt: HostRuntime) -> Result<(), Fail> {
     let mut written = Vec::new(rt.alloc());
     holds(&rt, write_field(&mut written, &field).is_ok(), &"written");
     holds(&rt, Some(written.as_slice()) == BYTES.get(..LEN), &"bytes");
-    Ok(())
 }
 
 /// The field that the bytes begin with.
@@ -50,15 +49,14 @@ fn check_field(rt: &impl Abort, read: Result<Field, DecodeFault>) -> Result<(), 
 }
 
 #[test]
-fn a_cut_field_has_ended(rt: HostRuntime) -> Result<(), Fail> {
+fn a_cut_field_has_ended(rt: HostRuntime) {
     let alloc = rt.alloc();
     for len in 0..LEN {
-        let whole = BYTES.get(..len).ok_or("too few bytes")?;
+        let whole = ok(&rt, BYTES.get(..len).ok_or("too few bytes"));
         let mut reader = whole;
         holds(&rt, has_ended(read_field(alloc, &mut reader)), &len);
         holds(&rt, has_ended(find_field(alloc, whole)), &len);
     }
-    Ok(())
 }
 
 fn has_ended(read: Result<Field, DecodeFault>) -> bool {
