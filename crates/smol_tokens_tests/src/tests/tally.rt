@@ -375,9 +375,10 @@ fn tally_of_two(alloc: Global) -> Result<Tally, &'static str> {
 
 // The example in the documentation of `Tally`.
 #[test]
-fn tally_example(rt: HostRuntime) {
+fn tally_example(rt: HostRuntime) -> Result<(), Fail> {
     let alloc = rt.alloc();
     let mut seen = Tally::new(alloc);
-    ok(&rt, seen.add(SmolStr::new_inline("if"), 1));
+    seen.add(SmolStr::new_inline("if"), 1)?;
     assert_eq!(rt; seen.count(&SmolStr::new_inline("if")), Some(1));
+    Ok(())
 }
