@@ -38,7 +38,7 @@ class Functions:
                 owner = module
             found = FUNCTION.match(lines[at])
             if found:
-                end = _end(lines, at, found[1])
+                end = _braces(lines, at, found[1])[1]
                 names[at:end + 1] = [f"{owner if found[1] else module}::{found[2]}"] * (end + 1 - at)
                 at = end
             at += 1
@@ -72,6 +72,30 @@ class Functions:
                 found[name] = first, at
         return found
 
+    def bodies(self, path):
+        """The lines of a file that stand between the braces of each function, by its name: the first, and the one after
+        the last. Those that constants are computed by are not among them."""
+        lines, found = (self.crate / path).read_text(encoding="utf-8").split("\n"), {}
+        for at, (line, name) in enumerate(zip(lines, self.named(path))):
+            head = FUNCTION.match(line)
+            if head and name and "const fn" not in head[0]:
+                opens, end = _braces(lines, at, head[1])
+                found |= {name: (opens + 1, end)} if opens < end else {}
+        return found
+
+    def impl_alone(self, path, name):
+        """Of a method that is the only function of its impl, of a trait of the same file: the trait's name, the lines of
+        the impl, and those of the trait, the one after its last. None of any other function."""
+        lines, names = (self.crate / path).read_text(encoding="utf-8").split("\n"), [*self.named(path)]
+        at = names.index(name)
+        first = max(it for it in range(at) if lines[it].startswith(("impl", "}")))
+        last = lines.index("}", at)
+        found = re.match(r"impl (\w+) for ", lines[first])
+        opens = next((it for it, line in enumerate(lines) if found and re.match(rf"(pub )?trait {found[1]}\b", line)), -1)
+        if opens < 0 or len({*names[first:last]} - {None}) > 1:
+            return None
+        return found[1], (first, last), (opens, lines.index("}", opens) + 1)
+
     def owner(self, module, header):
         """The path below which the functions of an impl or a trait stand."""
         declared = TYPE.match(header)
@@ -79,9 +103,9 @@ class Functions:
             return f"{module}::{declared[1]}"
         parameters, rest = _parameters(header.removeprefix("impl"))
         trait, _, of = re.sub(r"\s+where\b.*", "", rest).rpartition(" for ")
-        if trait:
-            trait = re.sub(r"^[\w:]*::", "", trait)
-            return f"{module}::{_words(of, parameters)}{_words(trait, parameters)}"
+        if trait and trait != "Drop":
+            trait, _, given = re.sub(r"^[\w:]*::", "", trait).partition("<")
+            return f"{module}::{_words(of, parameters)}{trait}{_words(given.removesuffix('>'), parameters)}"
         words = [word for word in re.findall(r"\w+", re.sub(r"'\w+", "", of)) if word not in parameters]
         return f"{self.homes.get(words[0], module)}::{'+'.join(words)}"
 
@@ -92,15 +116,16 @@ def _header(lines, at):
     return " ".join(line.strip() for line in lines[at:end + 1]).removesuffix("{").strip()
 
 
-def _end(lines, at, indent):
-    """The last line of a function that begins at a line: of its body, or of a trait's clauses where it has none."""
+def _braces(lines, at, indent):
+    """The lines with the braces of a function that begins at a line; twice its last line, where it has none on lines of
+    their own."""
     for opens in range(at, len(lines)):
         line = lines[opens]
         if line in (f"{indent}{{}}", f"{indent}}}") or line.endswith((";", "{}")):
-            return opens
+            return opens, opens
         if line.endswith("{") and line.startswith(indent) and line[len(indent)] != " ":
             break
-    return next((to for to in range(opens, len(lines)) if lines[to] == f"{indent}}}"), len(lines) - 1)
+    return opens, next((to for to in range(opens, len(lines)) if lines[to] == f"{indent}}}"), len(lines) - 1)
 
 
 def _parameters(text):
@@ -116,6 +141,7 @@ def _parameters(text):
 
 
 def _words(of, parameters):
-    """A type or trait in one word: `io::Error` is `IoError`, `&str` is `RefStr`, a parameter is `Any`."""
+    """A type or trait in one word: `io::Error` is `IoError`, `&str` is `RefStr`, a type that is a parameter is `Any`."""
+    of = re.sub(r"<(\w+)>", lambda it: "" if it[1] in parameters else it[0], of)
     words = re.findall(r"&|(?<!')\b\w+", re.sub(r"'\w+", "", of))
     return "".join("Ref" if it == "&" else "Any" if it in parameters else it[0].upper() + it[1:] for it in words)
