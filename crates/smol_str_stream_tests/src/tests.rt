@@ -2,6 +2,7 @@
 
 mod collect;
 mod readers;
+mod rows;
 mod same;
 mod wire;
 mod wire_faults;

@@ -3,6 +3,7 @@ ghost use Rattle.std.specs.Prelude.{◌≡◌, ◌+◌, length};
 ghost use Rattle.std.specs.Iterator.{at_most, YieldsFirst};
 ghost use Rattle.std.specs.Vec.Iter.{into_iter_items};
 
+use super::rows::{ok_text, ok_value, same_count, same_flag};
 use super::same::{holds, ok, same, same_place, same_text, same_value};
 use smol_str::{BLANK_NEWLINES, INLINE_CAP, Place, SmolStr, SmolStrBuilder};
 use std::alloc::{AllocError, Global};
@@ -126,11 +127,16 @@ fn string_ref_items<'p, 's>(
 fn chars_of(alloc: Global, pieces: &[&str]) -> Result<Vec<char>, AllocError> {
     let mut chars = Vec::new(alloc);
     for piece in pieces {
-        for character in piece.chars() {
-            chars.push(character)?;
-        }
+        push_chars(&mut chars, piece)?;
     }
     Ok(chars)
+}
+
+fn push_chars(chars: &mut Vec<char>, text: &str) -> Result<(), AllocError> {
+    for character in text.chars() {
+        chars.push(character)?;
+    }
+    Ok(())
 }
 
 fn strings_of(alloc: Global, pieces: &[&str]) -> Result<Vec<String>, AllocError> {
@@ -172,13 +178,17 @@ fn made(alloc: Global, items: Items<'_, '_>) -> Result<SmolStr, AllocError> {
 /// The value of a builder that was extended, or the builder. None is extended by strings that are owned.
 fn extended(alloc: Global, items: Items<'_, '_>) -> Result<SmolStr, SmolStrBuilder> {
     let mut builder = SmolStrBuilder::new(alloc);
-    let answer = match items {
+    let answer = extend(&mut builder, items);
+    finished(answer, builder)
+}
+
+fn extend(builder: &mut SmolStrBuilder, items: Items<'_, '_>) -> Result<(), AllocError> {
+    match items {
         Items::Chars(chars) => builder.extend_chars(chars),
         Items::Strs(strs) => builder.extend_strs(strs),
         Items::Strings(_strings) => Err(AllocError),
         Items::StringRefs(refs) => builder.extend_strings(refs),
-    };
-    finished(answer, builder)
+    }
 }
 
 fn finished(
@@ -193,7 +203,6 @@ fn finished(
 
 #[test]
 fn test_from_char_iterator(rt: HostRuntime) {
-    let many = ok(&rt, repeated(rt.alloc(), "a", 93));
     for (text, len, place) in [
         ("if", 2, Place::Inline),
         ("for", 3, Place::Inline),
@@ -205,10 +214,11 @@ fn test_from_char_iterator(rt: HostRuntime) {
         ("パーティーへ行か", 24, Place::Inline),
         ("사회과학원 어학연구소", 31, Place::Inline),
         ("表ポあA鷗ŒéＢ逍Üßªąñ丂㐀𠀀", 43, Place::Heap),
-        (many.as_str(), 93, Place::Heap),
     ] {
         assert_collected(&rt, rt.alloc(), text, len, place);
     }
+    let many = ok_text(&rt, repeated(rt.alloc(), "a", 93));
+    assert_collected(&rt, rt.alloc(), many.as_str(), 93, Place::Heap)
 }
 
 /// What fills a buffer behind characters of three bytes, and what is more than fits there.
@@ -232,14 +242,14 @@ fn characters(rt: HostRuntime) {
 }
 
 fn assert_wide(rt: &impl Abort, alloc: Global, end: &str, len: usize, place: Place) {
-    let text = ok(rt, repeated_and(alloc, "ア", INLINE_CAP / 3, end));
+    let text = ok_text(rt, repeated_and(alloc, "ア", INLINE_CAP / 3, end));
     assert_collected(rt, alloc, text.as_str(), len, place)
 }
 
 fn assert_collected(rt: &impl Abort, alloc: Global, text: &str, len: usize, place: Place) {
-    let value = ok(rt, SmolStr::from_chars(alloc, text.chars()));
+    let value = ok_value(rt, SmolStr::from_chars(alloc, text.chars()));
     same_value(rt, &value, text, place, &text);
-    same(rt, &value.len(), &len, &text);
+    same_count(rt, value.len(), len, &text);
 }
 
 #[test]
@@ -255,27 +265,28 @@ fn pieces(rt: HostRuntime) {
 }
 
 fn assert_blank(rt: &impl Abort, alloc: Global, newlines: usize, place: Place) {
-    let first = ok(rt, repeated(alloc, "\n", newlines));
-    let blank = ok(
-        rt,
-        SmolStr::from_strs(alloc, [first.as_str(), " "].into_iter()),
-    );
-    same(rt, &blank.len(), &newlines.saturating_add(1), &newlines);
+    let first = ok_text(rt, repeated(alloc, "\n", newlines));
+    let blank = ok_value(rt, of_two(alloc, first.as_str(), " "));
+    same_count(rt, blank.len(), newlines.saturating_add(1), &newlines);
     same_place(rt, &blank, place, &newlines);
+}
+
+fn of_two(alloc: Global, first: &str, second: &str) -> Result<SmolStr, AllocError> {
+    SmolStr::from_strs(alloc, [first, second].into_iter())
 }
 
 #[test]
 fn no_pieces(rt: HostRuntime) {
     let none: Vec<String> = Vec::new(rt.alloc());
-    let empty = ok(&rt, SmolStr::from_strings(rt.alloc(), none.into_iter()));
+    let empty = ok_value(&rt, SmolStr::from_strings(rt.alloc(), none.into_iter()));
     same_value(&rt, &empty, "", Place::Inline, &"no pieces");
 }
 
 #[test]
 fn owned_and_borrowed_pieces(rt: HostRuntime) {
-    let borrowed = ok(&rt, of_borrowed(rt.alloc(), &["if", "", "x"]));
+    let borrowed = ok_value(&rt, of_borrowed(rt.alloc(), &["if", "", "x"]));
     same_value(&rt, &borrowed, "ifx", Place::Inline, &"borrowed");
-    let owned = ok(&rt, of_owned(rt.alloc(), &["if", "", "x"]));
+    let owned = ok_value(&rt, of_owned(rt.alloc(), &["if", "", "x"]));
     same_value(&rt, &owned, "ifx", Place::Inline, &"owned");
     same(&rt, &borrowed, &owned, &"both");
 }
@@ -301,7 +312,7 @@ fn ordinary_iterators(rt: HostRuntime) {
 }
 
 fn assert_text(rt: &impl Abort, answer: Result<SmolStr, AllocError>, text: &str) {
-    same_value(rt, &ok(rt, answer), text, Place::Inline, &text);
+    same_value(rt, &ok_value(rt, answer), text, Place::Inline, &text);
 }
 
 fn of_values(alloc: Global, values: &[SmolStr]) -> Result<SmolStr, AllocError> {
@@ -329,7 +340,7 @@ fn of_copies(alloc: Global, parts: &[&str]) -> Result<SmolStr, AllocError> {
 fn from_string_iter(rt: HostRuntime) {
     for count in 1..100 {
         let pieces = ok(&rt, first_pieces(rt.alloc(), count));
-        let value = ok(&rt, SmolStr::from_strings(rt.alloc(), pieces.into_iter()));
+        let value = ok_value(&rt, SmolStr::from_strings(rt.alloc(), pieces.into_iter()));
         assert_joined(&rt, rt.alloc(), &value, count);
     }
 }
@@ -338,7 +349,7 @@ fn from_string_iter(rt: HostRuntime) {
 fn from_str_iter(rt: HostRuntime) {
     for count in 1..100 {
         let pieces = ok(&rt, first_pieces(rt.alloc(), count));
-        let value = ok(&rt, SmolStr::from_string_refs(rt.alloc(), pieces.iter()));
+        let value = ok_value(&rt, SmolStr::from_string_refs(rt.alloc(), pieces.iter()));
         assert_joined(&rt, rt.alloc(), &value, count);
     }
 }
@@ -346,9 +357,14 @@ fn from_str_iter(rt: HostRuntime) {
 fn first_pieces(alloc: Global, count: usize) -> Result<Vec<String>, AllocError> {
     let mut pieces = Vec::new(alloc);
     for number in 1..=count {
-        pieces.push(repeated(alloc, "é", number % 5)?)?;
+        push_piece(alloc, &mut pieces, number % 5)?;
     }
     Ok(pieces)
+}
+
+fn push_piece(alloc: Global, pieces: &mut Vec<String>, letters: usize) -> Result<(), AllocError> {
+    pieces.push(repeated(alloc, "é", letters)?)?;
+    Ok(())
 }
 
 fn first_letters(count: usize) -> usize {
@@ -360,7 +376,7 @@ fn first_letters(count: usize) -> usize {
 }
 
 fn assert_joined(rt: &impl Abort, alloc: Global, value: &SmolStr, count: usize) {
-    let text = ok(rt, repeated(alloc, "é", first_letters(count)));
+    let text = ok_text(rt, repeated(alloc, "é", first_letters(count)));
     let place = if text.len() > INLINE_CAP {
         Place::Heap
     } else {
@@ -379,15 +395,19 @@ fn from_buf_and_chars_size_hinted_heap(rt: HostRuntime) {
     );
     let text = "abcdefghijklmnopqr_0x1x2x3x4x5x6x7x8x9x10x11x12x13";
     same_text(&rt, builder.as_str(), text, &"builder");
-    let value = ok(&rt, builder.finish().ok().ok_or("refused"));
-    same_value(&rt, &value, text, Place::Heap, &"value");
+    assert_finished(&rt, builder, text)
+}
+
+fn assert_finished(rt: &impl Abort, builder: SmolStrBuilder, text: &str) {
+    let value = ok(rt, builder.finish().ok().ok_or("refused"));
+    same_value(rt, &value, text, Place::Heap, &"value");
 }
 
 #[test]
 fn test_bad_size_hint_char_iter(rt: HostRuntime) {
-    let collected = ok(&rt, of_chars(rt.alloc(), &["testing"], 1024));
+    let collected = ok_value(&rt, of_chars(rt.alloc(), &["testing"], 1024));
     same_value(&rt, &collected, "testing", Place::Inline, &"collected");
-    let new = ok(&rt, SmolStr::new(rt.alloc(), "testing"));
+    let new = ok_value(&rt, SmolStr::new(rt.alloc(), "testing"));
     same_place(&rt, &new, Place::Inline, &"new");
     same(&rt, &new, &collected, &"both");
 }
@@ -408,7 +428,7 @@ fn hints(rt: HostRuntime) {
 }
 
 fn assert_hinted_letters(rt: &impl Abort, alloc: Global, letters: usize, lower: usize) {
-    let text = ok(rt, repeated(alloc, "a", letters));
+    let text = ok_text(rt, repeated(alloc, "a", letters));
     let pieces = ["", text.as_str(), ""];
     assert_hinted(rt, alloc, &pieces, lower, text.as_str(), Place::Heap)
 }
@@ -423,21 +443,41 @@ fn assert_hinted(
 ) {
     let strings = ok(rt, strings_of(alloc, pieces));
     for call in CALLS {
-        let items = ok(rt, items_of(alloc, call, pieces, strings.as_slice(), lower));
-        match value_of(alloc, call, items) {
-            Ok(value) => same_value(rt, &value, text, place, &(call, lower)),
-            Err(_) => holds(rt, false, &(call, lower)),
-        }
+        let made = made_with_hint(alloc, call, pieces, strings.as_slice(), lower);
+        assert_made(rt, made, (call, lower), text, place);
+    }
+}
+
+fn made_with_hint(
+    alloc: Global,
+    call: Call,
+    pieces: &[&str],
+    strings: &[String],
+    lower: usize,
+) -> Result<SmolStr, AllocError> {
+    value_of(alloc, call, items_of(alloc, call, pieces, strings, lower)?)
+}
+
+fn assert_made(
+    rt: &impl Abort,
+    made: Result<SmolStr, AllocError>,
+    row: (Call, usize),
+    text: &str,
+    place: Place,
+) {
+    match made {
+        Ok(value) => same_value(rt, &value, text, place, &row),
+        Err(_) => holds(rt, false, &row),
     }
 }
 
 #[test]
 fn each_request_in_turn(rt: HostRuntime) -> Result<(), Fail> {
     for letters in [INLINE_CAP, 4999] {
-        let first = repeated(rt.alloc(), "a", letters)?;
+        let first = ok_text(&rt, repeated(rt.alloc(), "a", letters));
         assert_requests(&rt, rt.alloc(), &[first.as_str(), "a"], true)?;
     }
-    let full = repeated(rt.alloc(), "a", INLINE_CAP)?;
+    let full = ok_text(&rt, repeated(rt.alloc(), "a", INLINE_CAP));
     assert_requests(&rt, rt.alloc(), &["", full.as_str()], false)
 }
 
@@ -447,8 +487,8 @@ fn assert_requests(
     pieces: &[&str; 2],
     needs_memory: bool,
 ) -> Result<(), Fail> {
-    let whole = joined(alloc, pieces)?;
-    let value = SmolStr::new(alloc, whole.as_str())?;
+    let whole = ok_text(rt, joined(alloc, pieces));
+    let value = ok_value(rt, SmolStr::new(alloc, whole.as_str()));
     let makes_requests = needs_memory && can_refuse(alloc);
     for call in CALLS {
         assert_asked(rt, alloc, call, pieces, &value, makes_requests)?;
@@ -466,17 +506,10 @@ fn assert_asked(
     makes_requests: bool,
 ) -> Result<(), Fail> {
     let asked = asked_by(alloc, call, pieces, value.as_str())?;
-    same(rt, &(asked.requests > 0), &makes_requests, &call);
-    holds(rt, is_exact(alloc, asked.held, value)?, &call);
+    same_flag(rt, asked.requests > 0, makes_requests, &call);
+    let is_exact = ok(rt, is_exact(alloc, asked.held, value));
+    holds(rt, is_exact, &call);
     Ok(())
-}
-
-fn asked_by(alloc: Global, call: Call, pieces: &[&str; 2], whole: &str) -> Result<Asked, Fail> {
-    if extends(call) {
-        extended_refused(alloc, call, pieces, whole)
-    } else {
-        made_refused(alloc, call, pieces, whole)
-    }
 }
 
 fn joined(alloc: Global, pieces: &[&str; 2]) -> Result<String, AllocError> {
@@ -487,14 +520,32 @@ fn joined(alloc: Global, pieces: &[&str; 2]) -> Result<String, AllocError> {
     Ok(whole)
 }
 
-fn made_refused(alloc: Global, call: Call, pieces: &[&str; 2], whole: &str) -> Result<Asked, Fail> {
+/// What the call asks for, each request refused in turn.
+fn asked_by(alloc: Global, call: Call, pieces: &[&str; 2], whole: &str) -> Result<Asked, Fail> {
     each_refused(
         alloc,
         name_of(call),
         || Ok(strings_of(alloc, pieces)?),
-        |strings| made_of(alloc, call, strings, pieces, whole),
-        |answer| check_made(answer, call, whole),
+        |strings| drawn_by(alloc, call, strings, pieces, whole),
+        |answer| check_drawn(answer, call, pieces, whole),
     )
+}
+
+/// What the call makes, or the builder that it leaves, where it extends one.
+fn drawn_by(
+    alloc: Global,
+    call: Call,
+    strings: Vec<String>,
+    pieces: &[&str; 2],
+    whole: &str,
+) -> Result<SmolStr, Option<SmolStrBuilder>> {
+    if extends(call) {
+        return extended_by(alloc, call, strings.as_slice(), pieces, whole);
+    }
+    match made_of(alloc, call, strings, pieces, whole) {
+        Ok(value) => Ok(value),
+        Err(_) => Err(None),
+    }
 }
 
 /// The strings are the same pieces; what is drawn is made before, or needs no memory.
@@ -508,40 +559,36 @@ fn made_of(
     match call {
         Call::FromStrings => SmolStr::from_strings(alloc, with_hint(strings, 0)),
         Call::FromStringRefs => SmolStr::from_string_refs(alloc, strings.iter()),
-        Call::FromStrs => SmolStr::from_strs(alloc, [pieces[0], pieces[1]].into_iter()),
+        Call::FromStrs => of_two(alloc, pieces[0], pieces[1]),
         _ => SmolStr::from_chars(alloc, whole.chars()),
     }
-}
-
-fn extended_refused(
-    alloc: Global,
-    call: Call,
-    pieces: &[&str; 2],
-    whole: &str,
-) -> Result<Asked, Fail> {
-    each_refused(
-        alloc,
-        name_of(call),
-        || Ok(strings_of(alloc, pieces)?),
-        |strings| extended_by(alloc, call, strings, pieces, whole),
-        |answer| check_extended(answer, call, pieces, whole),
-    )
 }
 
 fn extended_by(
     alloc: Global,
     call: Call,
-    strings: Vec<String>,
+    strings: &[String],
     pieces: &[&str; 2],
     whole: &str,
-) -> Result<SmolStr, SmolStrBuilder> {
+) -> Result<SmolStr, Option<SmolStrBuilder>> {
     let mut builder = SmolStrBuilder::new(alloc);
     let answer = match call {
         Call::ExtendStrings => builder.extend_strings(strings.iter()),
-        Call::ExtendStrs => builder.extend_strs([pieces[0], pieces[1]].into_iter()),
+        Call::ExtendStrs => extend_by_two(&mut builder, pieces[0], pieces[1]),
         _ => builder.extend_chars(whole.chars()),
     };
-    finished(answer, builder)
+    match finished(answer, builder) {
+        Ok(value) => Ok(value),
+        Err(builder) => Err(Some(builder)),
+    }
+}
+
+fn extend_by_two(
+    builder: &mut SmolStrBuilder,
+    first: &str,
+    second: &str,
+) -> Result<(), AllocError> {
+    builder.extend_strs([first, second].into_iter())
 }
 
 fn name_of(call: Call) -> &'static str {
@@ -556,28 +603,22 @@ fn name_of(call: Call) -> &'static str {
     }
 }
 
-/// A value that was made has the text of all pieces.
-fn check_made(answer: &Result<SmolStr, AllocError>, call: Call, whole: &str) -> Result<(), Fail> {
-    match answer {
-        Ok(value) => check(value.as_str() == whole, call, value.as_str()),
-        Err(_) => Ok(()),
-    }
-}
-
 /// A value has the text of all pieces, and a builder that of the first few items.
-fn check_extended(
-    answer: &Result<SmolStr, SmolStrBuilder>,
+fn check_drawn(
+    answer: &Result<SmolStr, Option<SmolStrBuilder>>,
     call: Call,
     pieces: &[&str; 2],
     whole: &str,
 ) -> Result<(), Fail> {
     match answer {
         Ok(value) => check(value.as_str() == whole, call, value.as_str()),
-        Err(builder) => {
-            let text = builder.as_str();
-            check(text == whole || has_stopped(text, call, pieces), call, text)
-        }
+        Err(None) => Ok(()),
+        Err(Some(builder)) => check_left(builder.as_str(), call, pieces, whole),
     }
+}
+
+fn check_left(text: &str, call: Call, pieces: &[&str; 2], whole: &str) -> Result<(), Fail> {
+    check(text == whole || has_stopped(text, call, pieces), call, text)
 }
 
 /// Each character of the pieces is an item where characters are drawn.
@@ -597,7 +638,7 @@ fn check(is_right: bool, call: Call, text: &str) -> Result<(), Fail> {
 // Where two bytes are left, the third text is refused, and those before it stay.
 #[test]
 fn extending_refused(rt: HostRuntime) {
-    let start = ok(&rt, repeated(rt.alloc(), "a", INLINE_CAP - 2));
+    let start = ok_text(&rt, repeated(rt.alloc(), "a", INLINE_CAP - 2));
     assert_stops(&rt, rt.alloc(), start.as_str())
 }
 
@@ -608,7 +649,7 @@ fn assert_stops(rt: &impl Abort, alloc: Global, start: &str) {
         .extend_strs(["b", "c", "de", "f"].into_iter())
         .is_err();
     end_refusals(alloc);
-    same(rt, &gave_up, &can_refuse(alloc), &"extend_strs");
+    same_flag(rt, gave_up, can_refuse(alloc), &"extend_strs");
     if gave_up {
         assert_stopped(rt, &builder, start);
     }
@@ -626,25 +667,16 @@ fn assert_stopped(rt: &impl Abort, builder: &SmolStrBuilder, start: &str) {
 
 #[test]
 fn builders_compared(rt: HostRuntime) {
-    same(
-        &rt,
-        &ok(&rt, compared(rt.alloc(), "ab", "ab")),
-        &(true, false),
-        &"ab",
-    );
-    same(
-        &rt,
-        &ok(&rt, compared(rt.alloc(), "ab", "b")),
-        &(false, true),
-        &"b",
-    );
+    assert_compared(&rt, rt.alloc(), "ab", true);
+    assert_compared(&rt, rt.alloc(), "b", false)
 }
 
-/// Whether a builder on the heap equals one that is inline, and whether it differs.
-fn compared(alloc: Global, one: &str, other: &str) -> Result<(bool, bool), AllocError> {
-    let heap = builder_of(alloc, 100, one)?;
-    let inline = builder_of(alloc, 0, other)?;
-    Ok((heap == inline, heap != inline))
+/// Whether a builder of `ab` on the heap equals one of the text that is inline.
+fn assert_compared(rt: &impl Abort, alloc: Global, text: &str, are_equal: bool) {
+    let heap = ok(rt, builder_of(alloc, 100, "ab"));
+    let inline = ok(rt, builder_of(alloc, 0, text));
+    same_flag(rt, heap == inline, are_equal, &text);
+    same_flag(rt, heap != inline, !are_equal, &text);
 }
 
 #[test]
@@ -665,20 +697,18 @@ fn assert_copied(rt: &impl Abort, heap: &SmolStrBuilder) {
 // Only a clone of a builder on the heap takes memory.
 #[test]
 fn builders_cloned_refused(rt: HostRuntime) {
-    for (capacity, needs_memory) in [(0, false), (100, true)] {
-        let builder = ok(&rt, builder_of(rt.alloc(), capacity, "ab"));
-        refuse_all(rt.alloc());
-        let copy = builder.clone();
-        let was_refused = end_refusals(rt.alloc());
-        same(
-            &rt,
-            &was_refused,
-            &(needs_memory && can_refuse(rt.alloc())),
-            &capacity,
-        );
-        match copy {
-            Ok(copy) => holds(&rt, copy == builder && !was_refused, &capacity),
-            Err(_) => holds(&rt, was_refused, &capacity),
-        }
+    assert_clone_refused(&rt, rt.alloc(), 0, false);
+    assert_clone_refused(&rt, rt.alloc(), 100, can_refuse(rt.alloc()))
+}
+
+fn assert_clone_refused(rt: &impl Abort, alloc: Global, capacity: usize, is_refused: bool) {
+    let builder = ok(rt, builder_of(alloc, capacity, "ab"));
+    refuse_all(alloc);
+    let copy = builder.clone();
+    let was_refused = end_refusals(alloc);
+    same_flag(rt, was_refused, is_refused, &capacity);
+    match copy {
+        Ok(copy) => holds(rt, copy == builder && !was_refused, &capacity),
+        Err(_) => holds(rt, was_refused, &capacity),
     }
 }

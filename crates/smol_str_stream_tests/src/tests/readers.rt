@@ -1,4 +1,5 @@
 //! Each call that reads, over readers of every step, which end after each byte and fail at each call.
+use super::rows::same_count;
 use super::same::{holds, ok, same};
 use super::wire::{LETTERS, ROWS, form_of};
 use super::wire_faults::{Kind, kind_of, kind_of_limited};
@@ -108,11 +109,20 @@ fn written(alloc: Global, value: &SmolStr) -> Result<Vec<u8>, Kind> {
 /// No buffer was empty or greater than a piece; that of `fill` is the caller's own.
 fn assert_buffers(rt: &impl Abort, call: Call, reader: &Trickle<'_>, size: usize, row: &Row) {
     let most = if call == Call::Fill { size } else { PIECE };
-    holds(rt, reader.least >= 1 && reader.most <= most, row);
+    holds_in(rt, reader.least >= 1 && reader.most <= most, row);
 }
 
 /// A call, the size of a wire form, how many bytes the reader gives a call, and where it ends or fails.
 type Row = (Call, usize, usize, usize);
+
+fn holds_in(rt: &impl Abort, is_so: bool, row: &Row) {
+    holds(rt, is_so, row);
+}
+
+/// As many calls.
+fn same_calls(rt: &impl Abort, found: usize, wanted: usize, row: &Row) {
+    same_count(rt, found, wanted, row);
+}
 
 #[test]
 fn end_after_each_byte(rt: HostRuntime) {
@@ -137,14 +147,19 @@ fn assert_ends(rt: &impl Abort, alloc: Global, call: Call, form: &[u8], step: us
 fn assert_end(rt: &impl Abort, alloc: Global, call: Call, front: &[u8], size: usize, step: usize) {
     let row = (call, size, step, front.len());
     let mut reader = trickle_of(front, step, 0);
+    assert_ended(rt, read_by(alloc, call, &mut reader, size), front, &row);
+    holds_in(rt, reader.rest.is_empty(), &row);
+    assert_buffers(rt, call, &reader, size, &row);
+}
+
+fn assert_ended(rt: &impl Abort, read: Result<Vec<u8>, Kind>, front: &[u8], row: &Row) {
+    let (call, size, ..) = *row;
     let is_of_a_value = call == Call::WireForm || call == Call::LimitedForm;
     let has_ended_early = is_of_a_value && front.len() < size;
-    match read_by(alloc, call, &mut reader, size) {
-        Ok(all) => holds(rt, all.as_slice() == front, &row),
-        Err(kind) => same(rt, &(kind, has_ended_early), &(Kind::Ended, true), &row),
+    match read {
+        Ok(all) => holds_in(rt, all.as_slice() == front, row),
+        Err(kind) => same(rt, &(kind, has_ended_early), &(Kind::Ended, true), row),
     }
-    holds(rt, reader.rest.is_empty(), &row);
-    assert_buffers(rt, call, &reader, size, &row);
 }
 
 #[test]
@@ -168,8 +183,9 @@ fn assert_fails(rt: &impl Abort, alloc: Global, call: Call, form: &[u8], step: u
             }
         }
     }
-    let after = count_calls(rt, alloc, call, form, step, calls.saturating_add(1));
-    same(rt, &after, &calls, &(call, form.len(), step));
+    let fails_at = calls.saturating_add(1);
+    let after = count_calls(rt, alloc, call, form, step, fails_at);
+    same_calls(rt, after, calls, &(call, form.len(), step, fails_at));
 }
 
 /// The call gives up with the reader's own error.
@@ -186,9 +202,13 @@ fn assert_failure(
     let mut reader = trickle_of(form, step, fails_at);
     reader.failure = error;
     let read = read_by(alloc, call, &mut reader, form.len());
-    same(rt, &read.err(), &Some(Kind::Io(error)), &row);
-    same(rt, &reader.calls, &fails_at, &row);
+    assert_failed(rt, read, Kind::Io(error), &row);
+    same_calls(rt, reader.calls, fails_at, &row);
     assert_buffers(rt, call, &reader, form.len(), &row);
+}
+
+fn assert_failed(rt: &impl Abort, read: Result<Vec<u8>, Kind>, kind: Kind, row: &Row) {
+    same(rt, &read.err(), &Some(kind), row);
 }
 
 /// How often a reader is called that does not fail before all is read: by single bytes once a byte,
@@ -211,14 +231,14 @@ fn count_calls(
     );
     if step == 1 {
         let at_end = usize::from(call == Call::ReadAll);
-        same(rt, &reader.calls.saturating_sub(at_end), &form.len(), &row);
+        same_calls(rt, reader.calls.saturating_sub(at_end), form.len(), &row);
     }
     reader.calls
 }
 
 fn assert_reads(rt: &impl Abort, read: Result<Vec<u8>, Kind>, wanted: &[u8], row: &Row) {
     match read {
-        Ok(all) => holds(rt, all.as_slice() == wanted, row),
+        Ok(all) => holds_in(rt, all.as_slice() == wanted, row),
         Err(kind) => holds(rt, false, &(kind, row)),
     }
 }
@@ -230,5 +250,5 @@ fn no_read_into_nothing(rt: HostRuntime) {
         let read = read_by(rt.alloc(), call, &mut reader, 0);
         assert_reads(&rt, read, b"", &(call, 0, 1, 1));
     }
-    same(&rt, &reader.calls, &0, &"calls");
+    same_count(&rt, reader.calls, 0, &"calls");
 }

@@ -1,4 +1,5 @@
 //! Wire forms, written and read again by readers and writers of every step.
+use super::rows::{ok_text, ok_value, same_bytes, same_count};
 use super::same::{holds, ok, same, same_place, same_text, same_value};
 use smol_str::borsh::{BorshDeserialize, BorshSerialize, from_wire, length_prefix};
 use smol_str::stream::PIECE;
@@ -67,7 +68,7 @@ fn written(rt: HostRuntime) {
 
 fn assert_written(rt: &impl Abort, alloc: Global, row: Row) {
     let form = ok(rt, form_of(alloc, row));
-    let value = ok(rt, value_of(alloc, row));
+    let value = ok_value(rt, value_of(alloc, row));
     for step in STEPS {
         assert_steps(rt, alloc, &value, form.as_slice(), step);
     }
@@ -77,13 +78,13 @@ fn assert_written(rt: &impl Abort, alloc: Global, row: Row) {
 fn assert_steps(rt: &impl Abort, alloc: Global, value: &SmolStr, form: &[u8], step: usize) {
     let mut writer = empty_drip(alloc, step, 0, Failure::TakesNone);
     ok(rt, value.serialize(&mut writer));
-    same(rt, &writer.taken.as_slice(), &form, &(value, step));
+    same_bytes(rt, writer.taken.as_slice(), form, &(value, step));
 }
 
 fn assert_form(rt: &impl Abort, alloc: Global, value: &SmolStr, form: &[u8]) {
     let mut all = Vec::new(alloc);
     ok(rt, value.serialize(&mut all));
-    same(rt, &all.as_slice(), &form, value);
+    same_bytes(rt, all.as_slice(), form, value);
 }
 
 fn value_of(alloc: Global, row: Row) -> Result<SmolStr, AllocError> {
@@ -99,7 +100,7 @@ fn read_again(rt: HostRuntime) {
 }
 
 fn assert_read_again(rt: &impl Abort, alloc: Global, row: Row) {
-    let text = ok(rt, text_of(alloc, row));
+    let text = ok_text(rt, text_of(alloc, row));
     let mut bytes = ok(rt, form_of(alloc, row));
     ok(rt, bytes.extend_from_slice(b"a\xff"));
     assert_found(rt, alloc, bytes.as_slice(), text.as_str(), row.4);
@@ -120,7 +121,7 @@ fn assert_read_again(rt: &impl Abort, alloc: Global, row: Row) {
 fn assert_found(rt: &impl Abort, alloc: Global, bytes: &[u8], text: &str, place: Place) {
     let (value, taken) = ok(rt, from_wire(alloc, bytes));
     same_value(rt, &value, text, place, &taken);
-    same(rt, &taken.saturating_add(2), &bytes.len(), &value);
+    same_count(rt, taken.saturating_add(2), bytes.len(), &value);
 }
 
 /// A reader of `step` bytes a call gives the text, by buffers that are within a piece, and has the rest left.
@@ -136,12 +137,14 @@ fn assert_read(
     let mut reader = trickle_of(bytes, step, 0);
     let value = ok(rt, SmolStr::deserialize_reader(alloc, &mut reader));
     same_value(rt, &value, text, place, &step);
-    same(rt, &reader.rest, &rest, &(&value, step));
-    holds(
-        rt,
-        reader.least >= 1 && reader.most <= PIECE,
-        &(&value, step),
-    );
+    assert_left(rt, &reader, rest, &value, step);
+}
+
+/// The reader has the rest left, and was given buffers within a piece.
+fn assert_left(rt: &impl Abort, reader: &Trickle<'_>, rest: &[u8], value: &SmolStr, step: usize) {
+    let row = (value, step);
+    same_bytes(rt, reader.rest, rest, &row);
+    holds(rt, reader.least >= 1 && reader.most <= PIECE, &row);
 }
 
 #[test]
@@ -155,12 +158,17 @@ fn borsh_serialize_heap(rt: HostRuntime) {
 }
 
 fn assert_equal_again(rt: &impl Abort, alloc: Global, row: Row) {
-    let value = ok(rt, value_of(alloc, row));
+    let value = ok_value(rt, value_of(alloc, row));
     let form = ok(rt, form_of(alloc, row));
     assert_form(rt, alloc, &value, form.as_slice());
-    let (again, _) = ok(rt, from_wire(alloc, form.as_slice()));
-    same(rt, &again, &value, &"again");
-    same_place(rt, &again, row.4, &"again");
+    assert_again(rt, alloc, form.as_slice(), &value, row.4)
+}
+
+/// What is read again of the form is equal to the value, in the place.
+fn assert_again(rt: &impl Abort, alloc: Global, form: &[u8], value: &SmolStr, place: Place) {
+    let (again, _) = ok(rt, from_wire(alloc, form));
+    same(rt, &again, value, &"again");
+    same_place(rt, &again, place, &"again");
 }
 
 // A pinned value is written as any other, and what is read is where its text belongs.
@@ -168,9 +176,7 @@ fn assert_equal_again(rt: &impl Abort, alloc: Global, row: Row) {
 fn pinned(rt: HostRuntime) {
     let value = SmolStr::new_static("ab");
     assert_form(&rt, rt.alloc(), &value, b"\x02\0\0\0ab");
-    let (again, _) = ok(&rt, from_wire(rt.alloc(), b"\x02\0\0\0ab"));
-    same_place(&rt, &again, Place::Inline, &"again");
-    same(&rt, &again, &value, &"again");
+    assert_again(&rt, rt.alloc(), b"\x02\0\0\0ab", &value, Place::Inline)
 }
 
 #[test]
@@ -203,7 +209,7 @@ fn long_body(rt: HostRuntime) {
 
 /// A text of 5,000 characters, which has this size.
 fn assert_long(rt: &impl Abort, alloc: Global, size: [u8; 4], character: &str, step: usize) {
-    let text = ok(rt, repeated(alloc, character, 5000));
+    let text = ok_text(rt, repeated(alloc, character, 5000));
     let mut form = ok(rt, Vec::from_slice(alloc, &size));
     ok(rt, form.extend_from_slice(text.as_bytes()));
     assert_read(

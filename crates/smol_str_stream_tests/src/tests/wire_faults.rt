@@ -1,4 +1,5 @@
 //! Bytes that hold no wire form.
+use super::rows::same_count;
 use super::same::{ok, same};
 use super::wire::{ROWS, form_of, letters};
 use smol_str::borsh::{
@@ -111,9 +112,20 @@ fn assert_long_refused(rt: &impl Abort, alloc: Global, bytes: &[u8], kind: Kind)
 
 fn assert_refused_at_hand(rt: &impl Abort, alloc: Global, bytes: &[u8], kind: Kind) {
     let fault = from_wire(alloc, bytes).err();
-    same(rt, &fault.as_ref().map(kind_of), &Some(kind), &bytes);
+    same_fault(rt, fault, kind, bytes, bytes.len());
     let fault = split_wire(alloc, bytes).err();
-    same(rt, &fault.as_ref().map(kind_of), &Some(kind), &bytes);
+    same_fault(rt, fault, kind, bytes, bytes.len());
+}
+
+/// The fault is of the kind. A reader gave `step` bytes a call; bytes at hand come all at once.
+fn same_fault(rt: &impl Abort, fault: Option<DecodeFault>, kind: Kind, bytes: &[u8], step: usize) {
+    let found = fault.as_ref().map(kind_of);
+    same(rt, &found, &Some(kind), &(bytes, step));
+}
+
+/// So many bytes are left of those that a reader gave, `step` a call.
+fn same_left(rt: &impl Abort, left: usize, wanted: usize, bytes: &[u8], step: usize) {
+    same_count(rt, left, wanted, &(bytes, step));
 }
 
 /// Each call returns this fault, whatever the reader's steps.
@@ -135,13 +147,8 @@ fn assert_reader_refused(
 ) {
     let mut reader = trickle_of(bytes, step, 0);
     let fault = SmolStr::deserialize_reader(alloc, &mut reader).err();
-    same(
-        rt,
-        &fault.as_ref().map(kind_of),
-        &Some(kind),
-        &(bytes, step),
-    );
-    same(rt, &reader.rest.len(), &left, &(bytes, step));
+    same_fault(rt, fault, kind, bytes, step);
+    same_left(rt, reader.rest.len(), left, bytes, step);
 }
 
 /// With a limit that no size is above.
@@ -155,11 +162,7 @@ fn assert_limited_refused(
 ) {
     let mut reader = trickle_of(bytes, step, 0);
     let fault = deserialize_limited(alloc, &mut reader, usize::MAX).err();
-    same(
-        rt,
-        &fault.as_ref().map(kind_of_limited),
-        &Some(kind),
-        &(bytes, step),
-    );
-    same(rt, &reader.rest.len(), &left, &(bytes, step));
+    let found = fault.as_ref().map(kind_of_limited);
+    same(rt, &found, &Some(kind), &(bytes, step));
+    same_left(rt, reader.rest.len(), left, bytes, step);
 }

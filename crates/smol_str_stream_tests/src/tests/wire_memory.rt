@@ -1,7 +1,8 @@
 //! Wire forms with memory refused, and with memory counted.
 use super::readers::kind_of_read;
+use super::rows::{ok_text, ok_value, same_bytes, same_count, same_flag};
 use super::same::{holds, ok, same, same_value};
-use super::wire::{ROWS, Row, form_of, letters, text_of};
+use super::wire::{ROWS, form_of, letters, text_of};
 use super::wire_faults::{Kind, kind_of, kind_of_limited};
 use smol_str::borsh::{
     BorshDeserialize, BorshSerialize, DecodeFault, LimitedFault, deserialize_limited, from_wire,
@@ -139,12 +140,16 @@ fn check(answer: &Result<Made, Kind>, call: Call, wanted: &[u8]) -> Result<(), F
 #[test]
 fn each_request(rt: HostRuntime) -> Result<(), Fail> {
     for count in [INLINE_CAP as u32 + 1, 5000, 20000, 70_000] {
-        let form = letters(rt.alloc(), count, count)?;
-        let text = repeated(rt.alloc(), "a", count as usize)?;
-        for call in OF_FORMS {
-            let asked = call_refused(rt.alloc(), call, form.as_slice(), text.as_bytes())?;
-            assert_asked(&rt, rt.alloc(), call, asked, text.as_str())?;
-        }
+        assert_requests(&rt, rt.alloc(), count)?;
+    }
+    Ok(())
+}
+
+fn assert_requests(rt: &impl Abort, alloc: Global, count: u32) -> Result<(), Fail> {
+    let form = ok(rt, letters(alloc, count, count));
+    let text = ok_text(rt, repeated(alloc, "a", count as usize));
+    for call in OF_FORMS {
+        assert_asked(rt, alloc, call, form.as_slice(), text.as_str())?;
     }
     Ok(())
 }
@@ -154,35 +159,50 @@ fn assert_asked(
     rt: &impl Abort,
     alloc: Global,
     call: Call,
-    asked: Asked,
+    form: &[u8],
     text: &str,
 ) -> Result<(), Fail> {
-    let row = (call, text.len());
-    same(rt, &(asked.requests > 0), &can_refuse(alloc), &row);
-    let value = SmolStr::new(alloc, text)?;
-    holds(rt, is_exact(alloc, asked.held, &value)?, &row);
+    let asked = call_refused(alloc, call, form, text.as_bytes())?;
+    assert_makes_requests(rt, alloc, asked, &(call, text.len()));
+    assert_exact(rt, alloc, asked, text, call);
     if matches!(call, Call::FromWire | Call::SplitWire) {
         let wanted = asked_by_all(alloc, SHARED, text)?;
-        holds(rt, is_asked(asked, wanted), &row);
+        holds(rt, is_asked(asked, wanted), &(call, text.len()));
     }
     Ok(())
+}
+
+/// A call that needs memory asks for it, where requests are counted.
+fn assert_makes_requests(rt: &impl Abort, alloc: Global, asked: Asked, row: &(Call, usize)) {
+    same_flag(rt, asked.requests > 0, can_refuse(alloc), row);
+}
+
+/// What is held is the text alone.
+fn assert_exact(rt: &impl Abort, alloc: Global, asked: Asked, text: &str, call: Call) {
+    let value = ok_value(rt, SmolStr::new(alloc, text));
+    let is_exact = ok(rt, is_exact(alloc, asked.held, &value));
+    holds(rt, is_exact, &(call, text.len()));
 }
 
 // Bytes of resident and of longer texts.
 #[test]
 fn each_request_of_reading(rt: HostRuntime) -> Result<(), Fail> {
     for len in [INLINE_CAP, INLINE_CAP + 1, 5000] {
-        let text = repeated(rt.alloc(), "a", len)?;
-        for call in [Call::ReadUpTo, Call::ReadAll] {
-            let asked = call_refused(rt.alloc(), call, text.as_bytes(), text.as_bytes())?;
-            same(
-                &rt,
-                &(asked.requests > 0),
-                &can_refuse(rt.alloc()),
-                &(call, len),
-            );
-        }
+        let text = ok_text(&rt, repeated(rt.alloc(), "a", len));
+        assert_reading_asks(&rt, rt.alloc(), Call::ReadUpTo, text.as_bytes())?;
+        assert_reading_asks(&rt, rt.alloc(), Call::ReadAll, text.as_bytes())?;
     }
+    Ok(())
+}
+
+fn assert_reading_asks(
+    rt: &impl Abort,
+    alloc: Global,
+    call: Call,
+    bytes: &[u8],
+) -> Result<(), Fail> {
+    let asked = call_refused(alloc, call, bytes, bytes)?;
+    assert_makes_requests(rt, alloc, asked, &(call, bytes.len()));
     Ok(())
 }
 
@@ -192,36 +212,53 @@ fn short_by_the_limit_of_39(rt: HostRuntime) -> Result<(), Fail> {
     let text = "aaaaaaaaaaaaaaaaaaaaaaaa";
     let form = b"\x18\0\0\0aaaaaaaaaaaaaaaaaaaaaaaa";
     let asked = call_refused(rt.alloc(), Call::FromWire, form, text.as_bytes())?;
-    same(&rt, &asked.requests, &0, &text);
-    let (value, taken) = from_wire(rt.alloc(), form)?;
-    same_value(&rt, &value, text, Place::Inline, &text);
-    same(&rt, &taken, &28, &text);
+    assert_no_requests(&rt, asked, Call::FromWire, text);
+    assert_found(&rt, rt.alloc(), form, text, 28);
     assert_full_text_made(&rt, rt.alloc());
     Ok(())
+}
+
+/// The form is of the text, which is inline, and has so many bytes.
+fn assert_found(rt: &impl Abort, alloc: Global, form: &[u8], text: &str, len: usize) {
+    let (value, taken) = ok(rt, from_wire(alloc, form));
+    same_value(rt, &value, text, Place::Inline, &text);
+    same_count(rt, taken, len, &text);
 }
 
 fn assert_full_text_made(rt: &impl Abort, alloc: Global) {
     refuse_all(alloc);
     let made = SmolStr::new(alloc, full_text());
     holds(rt, !end_refusals(alloc), &"refusals");
-    let value = ok(rt, made);
+    let value = ok_value(rt, made);
     same_value(rt, &value, full_text(), Place::Inline, &"full text");
-    same(rt, &value.len(), &39, &"full text");
+    same_count(rt, value.len(), 39, &"full text");
 }
 
 // Resident text is found in bytes without memory, short text by a reader too.
 #[test]
 fn no_request(rt: HostRuntime) -> Result<(), Fail> {
     for row in &ROWS {
-        let text = text_of(rt.alloc(), *row)?;
-        if !matches!(row.4, Place::Heap) {
-            assert_no_request(&rt, rt.alloc(), Call::FromWire, *row, text.as_str())?;
-            assert_no_request(&rt, rt.alloc(), Call::SplitWire, *row, text.as_str())?;
-        }
-        if text.len() <= INLINE_CAP {
-            assert_no_request(&rt, rt.alloc(), Call::Reader, *row, text.as_str())?;
-            assert_no_request(&rt, rt.alloc(), Call::Limited, *row, text.as_str())?;
-        }
+        let text = ok_text(&rt, text_of(rt.alloc(), *row));
+        let form = ok(&rt, form_of(rt.alloc(), *row));
+        assert_row_asks_for_nothing(&rt, rt.alloc(), form.as_slice(), text.as_str(), row.4)?;
+    }
+    Ok(())
+}
+
+fn assert_row_asks_for_nothing(
+    rt: &impl Abort,
+    alloc: Global,
+    form: &[u8],
+    text: &str,
+    place: Place,
+) -> Result<(), Fail> {
+    if !matches!(place, Place::Heap) {
+        assert_no_request(rt, alloc, Call::FromWire, form, text)?;
+        assert_no_request(rt, alloc, Call::SplitWire, form, text)?;
+    }
+    if text.len() <= INLINE_CAP {
+        assert_no_request(rt, alloc, Call::Reader, form, text)?;
+        assert_no_request(rt, alloc, Call::Limited, form, text)?;
     }
     Ok(())
 }
@@ -230,32 +267,40 @@ fn assert_no_request(
     rt: &impl Abort,
     alloc: Global,
     call: Call,
-    row: Row,
+    form: &[u8],
     text: &str,
 ) -> Result<(), Fail> {
-    let form = form_of(alloc, row)?;
-    let asked = call_refused(alloc, call, form.as_slice(), text.as_bytes())?;
-    same(rt, &asked.requests, &0, &(call, text));
+    let asked = call_refused(alloc, call, form, text.as_bytes())?;
+    assert_no_requests(rt, asked, call, text);
     Ok(())
+}
+
+fn assert_no_requests(rt: &impl Abort, asked: Asked, call: Call, text: &str) {
+    same(rt, &asked.requests, &0, &(call, text));
 }
 
 #[test]
 fn serialize_asks_for_nothing(rt: HostRuntime) {
     for row in &ROWS {
-        let text = ok(&rt, text_of(rt.alloc(), *row));
+        let text = ok_text(&rt, text_of(rt.alloc(), *row));
         let form = ok(&rt, form_of(rt.alloc(), *row));
         assert_written(&rt, rt.alloc(), text.as_str(), form.as_slice());
     }
 }
 
 fn assert_written(rt: &impl Abort, alloc: Global, text: &str, form: &[u8]) {
-    let value = ok(rt, SmolStr::new(alloc, text));
+    let value = ok_value(rt, SmolStr::new(alloc, text));
     let mut out = ok(rt, Vec::with_capacity(alloc, form.len()));
+    holds(rt, is_written_refused(alloc, &value, &mut out), &text);
+    same_bytes(rt, out.as_slice(), form, &text);
+}
+
+/// Whether the value is written where each request is refused, and makes none.
+fn is_written_refused(alloc: Global, value: &SmolStr, out: &mut Vec<u8>) -> bool {
     refuse_all(alloc);
-    let is_written = value.serialize(&mut out).is_ok();
+    let is_written = value.serialize(out).is_ok();
     let was_refused = end_refusals(alloc);
-    holds(rt, is_written && !was_refused, &text);
-    same(rt, &out.as_slice(), &form, &text);
+    is_written && !was_refused
 }
 
 // Neither the stated size nor the buffer of a piece asks for memory.
@@ -279,13 +324,14 @@ fn size_above_the_limit(rt: HostRuntime) {
     ] {
         assert_too_long(&rt, rt.alloc(), size, limit);
     }
+    assert_at_the_limit(&rt, rt.alloc())
+}
+
+fn assert_at_the_limit(rt: &impl Abort, alloc: Global) {
     let mut reader = trickle_of(b"\x05\0\0\0abcdef", usize::MAX, 0);
-    holds(
-        &rt,
-        deserialize_limited(rt.alloc(), &mut reader, 5).is_ok(),
-        &"the limit",
-    );
-    holds(&rt, reader.rest.len() == 1, &"the rest");
+    let is_read = deserialize_limited(alloc, &mut reader, 5).is_ok();
+    holds(rt, is_read, &"the limit");
+    holds(rt, reader.rest.len() == 1, &"the rest");
 }
 
 fn assert_too_long(rt: &impl Abort, alloc: Global, size: u32, limit: usize) {

@@ -1,5 +1,6 @@
 //! Each call that writes, over writers of every step, which fail at each call.
 use super::readers::forms;
+use super::rows::same_count;
 use super::same::{holds, ok, same};
 use smol_str::SmolStr;
 use smol_str::borsh::{BorshSerialize, EncodeFault, from_wire};
@@ -18,6 +19,19 @@ enum Call {
 
 /// A call, the size of a wire form, how many bytes the writer takes a call, and where it fails.
 type Row = (Call, usize, usize, usize);
+
+fn holds_in(rt: &impl Abort, is_so: bool, row: &Row) {
+    holds(rt, is_so, row);
+}
+
+/// As many calls.
+fn same_calls(rt: &impl Abort, found: usize, wanted: usize, row: &Row) {
+    same_count(rt, found, wanted, row);
+}
+
+fn same_error(rt: &impl Abort, found: Option<ErrorKind>, wanted: Option<ErrorKind>, row: &Row) {
+    same(rt, &found, &wanted, row);
+}
 
 /// A value and its wire form.
 #[derive(Drop)]
@@ -53,14 +67,16 @@ fn serialized(value: &SmolStr, writer: &mut Drip) -> Option<ErrorKind> {
 #[test]
 fn fails_at_each_call(rt: HostRuntime) {
     for form in ok(&rt, forms(rt.alloc())).iter() {
-        let (value, _) = ok(&rt, from_wire(rt.alloc(), form.as_slice()));
-        let form = form.as_slice();
-        let written = Written { value, form };
-        for call in [Call::Serialize, Call::WriteSteps] {
-            for step in STEPS {
-                assert_fails(&rt, rt.alloc(), call, &written, step);
-            }
-        }
+        assert_form_fails(&rt, rt.alloc(), form.as_slice());
+    }
+}
+
+fn assert_form_fails(rt: &impl Abort, alloc: Global, form: &[u8]) {
+    let (value, _) = ok(rt, from_wire(alloc, form));
+    let written = Written { value, form };
+    for step in STEPS {
+        assert_fails(rt, alloc, Call::Serialize, &written, step);
+        assert_fails(rt, alloc, Call::WriteSteps, &written, step);
     }
 }
 
@@ -74,8 +90,14 @@ fn assert_fails(rt: &impl Abort, alloc: Global, call: Call, written: &Written<'_
             }
         }
     }
-    let after = count_calls(rt, alloc, call, written, step, calls.saturating_add(1));
-    same(rt, &after, &calls, &(call, written.form.len(), step));
+    let fails_at = calls.saturating_add(1);
+    let after = count_calls(rt, alloc, call, written, step, fails_at);
+    same_calls(
+        rt,
+        after,
+        calls,
+        &(call, written.form.len(), step, fails_at),
+    );
 }
 
 /// The call gives up with the writer's own error, and what was taken is a beginning.
@@ -91,17 +113,17 @@ fn assert_failure(
     let row = (call, written.form.len(), step, fails_at);
     let (failure, kind) = failure;
     let mut writer = empty_drip(alloc, step, fails_at, failure);
-    same(rt, &write_by(call, written, &mut writer), &Some(kind), &row);
-    same(rt, &writer.calls, &fails_at, &row);
+    same_error(rt, write_by(call, written, &mut writer), Some(kind), &row);
+    same_calls(rt, writer.calls, fails_at, &row);
     assert_beginning(rt, &writer, written.form, &row);
 }
 
 /// By single bytes, each call before the failure took one.
 fn assert_beginning(rt: &impl Abort, writer: &Drip, form: &[u8], row: &Row) {
     let taken = writer.taken.as_slice();
-    holds(rt, form.starts_with(taken), row);
+    holds_in(rt, form.starts_with(taken), row);
     if writer.step == 1 {
-        same(rt, &taken.len(), &writer.fails_at.saturating_sub(1), row);
+        same_calls(rt, taken.len(), writer.fails_at.saturating_sub(1), row);
     }
 }
 
@@ -116,10 +138,10 @@ fn count_calls(
 ) -> usize {
     let row = (call, written.form.len(), step, fails_at);
     let mut writer = empty_drip(alloc, step, fails_at, Failure::TakesNone);
-    same(rt, &write_by(call, written, &mut writer), &None, &row);
-    holds(rt, writer.taken.as_slice() == written.form, &row);
+    same_error(rt, write_by(call, written, &mut writer), None, &row);
+    holds_in(rt, writer.taken.as_slice() == written.form, &row);
     if step == 1 {
-        same(rt, &writer.calls, &written.form.len(), &row);
+        same_calls(rt, writer.calls, written.form.len(), &row);
     }
     writer.calls
 }
