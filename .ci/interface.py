@@ -22,7 +22,8 @@ def library(crate):
     if not (folder / "format").is_file():
         raise ValueError(f"{at} has no built library: ./check leaves one, and so does rt lib in that folder")
     built = (folder / "format").stat().st_mtime
-    if any(path.stat().st_mtime > built for path in (CRATES / crate / "src").rglob("*.rt")):
+    sources = (path for part in ("src", "specs", "proofs") for path in (CRATES / crate / part).rglob("*.*"))
+    if any(path.stat().st_mtime > built for path in sources):
         raise ValueError(f"{at}/out/rlib is older than the sources: remove it, and run rt lib in {at}")
     return folder
 

@@ -109,13 +109,13 @@ fn written(alloc: Global, value: &SmolStr) -> Result<Vec<u8>, Kind> {
 /// No buffer was empty or greater than a piece; that of `fill` is the caller's own.
 fn assert_buffers(rt: &impl Abort, call: Call, reader: &Trickle<'_>, size: usize, row: &Row) {
     let most = if call == Call::Fill { size } else { PIECE };
-    holds_in(rt, reader.least >= 1 && reader.most <= most, row);
+    row_holds(rt, reader.least >= 1 && reader.most <= most, row);
 }
 
 /// A call, the size of a wire form, how many bytes the reader gives a call, and where it ends or fails.
 type Row = (Call, usize, usize, usize);
 
-fn holds_in(rt: &impl Abort, is_so: bool, row: &Row) {
+fn row_holds(rt: &impl Abort, is_so: bool, row: &Row) {
     holds(rt, is_so, row);
 }
 
@@ -148,7 +148,7 @@ fn assert_end(rt: &impl Abort, alloc: Global, call: Call, front: &[u8], size: us
     let row = (call, size, step, front.len());
     let mut reader = trickle_of(front, step, 0);
     assert_ended(rt, read_by(alloc, call, &mut reader, size), front, &row);
-    holds_in(rt, reader.rest.is_empty(), &row);
+    row_holds(rt, reader.rest.is_empty(), &row);
     assert_buffers(rt, call, &reader, size, &row);
 }
 
@@ -157,7 +157,7 @@ fn assert_ended(rt: &impl Abort, read: Result<Vec<u8>, Kind>, front: &[u8], row:
     let is_of_a_value = call == Call::WireForm || call == Call::LimitedForm;
     let has_ended_early = is_of_a_value && front.len() < size;
     match read {
-        Ok(all) => holds_in(rt, all.as_slice() == front, row),
+        Ok(all) => row_holds(rt, all.as_slice() == front, row),
         Err(kind) => same(rt, &(kind, has_ended_early), &(Kind::Ended, true), row),
     }
 }
@@ -238,7 +238,7 @@ fn count_calls(
 
 fn assert_reads(rt: &impl Abort, read: Result<Vec<u8>, Kind>, wanted: &[u8], row: &Row) {
     match read {
-        Ok(all) => holds_in(rt, all.as_slice() == wanted, row),
+        Ok(all) => row_holds(rt, all.as_slice() == wanted, row),
         Err(kind) => holds(rt, false, &(kind, row)),
     }
 }

@@ -20,7 +20,7 @@ enum Call {
 /// A call, the size of a wire form, how many bytes the writer takes a call, and where it fails.
 type Row = (Call, usize, usize, usize);
 
-fn holds_in(rt: &impl Abort, is_so: bool, row: &Row) {
+fn row_holds(rt: &impl Abort, is_so: bool, row: &Row) {
     holds(rt, is_so, row);
 }
 
@@ -121,7 +121,7 @@ fn assert_failure(
 /// By single bytes, each call before the failure took one.
 fn assert_beginning(rt: &impl Abort, writer: &Drip, form: &[u8], row: &Row) {
     let taken = writer.taken.as_slice();
-    holds_in(rt, form.starts_with(taken), row);
+    row_holds(rt, form.starts_with(taken), row);
     if writer.step == 1 {
         same_calls(rt, taken.len(), writer.fails_at.saturating_sub(1), row);
     }
@@ -139,7 +139,7 @@ fn count_calls(
     let row = (call, written.form.len(), step, fails_at);
     let mut writer = empty_drip(alloc, step, fails_at, Failure::TakesNone);
     same_error(rt, write_by(call, written, &mut writer), None, &row);
-    holds_in(rt, writer.taken.as_slice() == written.form, &row);
+    row_holds(rt, writer.taken.as_slice() == written.form, &row);
     if step == 1 {
         same_calls(rt, writer.calls, written.form.len(), &row);
     }
