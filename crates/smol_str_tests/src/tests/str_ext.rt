@@ -98,8 +98,8 @@ fn sizes_that_grow(rt: HostRuntime) {
 
 #[test]
 fn sizes_that_shrink(rt: HostRuntime) {
-    let text = ok(&rt, repeated(rt.alloc(), "K", INLINE_CAP / 3 + 1));
-    let value = ok(&rt, text.as_str().to_lowercase_smolstr(rt.alloc()));
+    let kelvins = ok(&rt, repeated(rt.alloc(), "\u{212A}", INLINE_CAP / 3 + 1));
+    let value = ok(&rt, kelvins.as_str().to_lowercase_smolstr(rt.alloc()));
     same_place(&rt, &value, Place::Inline, &"shorter");
     same(&rt, &value.len(), &(INLINE_CAP / 3 + 1), &"shorter");
 }
