@@ -5,5 +5,6 @@ mod format;
 mod json;
 mod print;
 mod refused_str_ext;
+mod rows;
 mod same;
 mod without_memory;

@@ -3,7 +3,8 @@ use crate::refuse::count_held;
 use smol_str::SmolStr;
 use std::alloc::{AllocError, Global};
 
-/// What the C library may leave at the end of a block that was made smaller.
+/// What the C library may leave at the end of a block: of one that was made smaller, or of a free one that it hands out
+/// whole.
 const LEFT: u32 = 32;
 
 /// Whether so many bytes are what a value of the text holds which `SmolStr::new` makes, and no spare room.
@@ -15,5 +16,5 @@ pub fn is_exact(alloc: Global, held: u32, value: &SmolStr) -> Result<bool, Alloc
     let exact = SmolStr::new(alloc, value.as_str())?;
     let wanted = count_held(alloc).wrapping_sub(before);
     drop(exact);
-    Ok(held >= wanted && held.saturating_sub(wanted) <= LEFT)
+    Ok(held.saturating_sub(wanted) <= LEFT && wanted.saturating_sub(held) <= LEFT)
 }

@@ -4,13 +4,15 @@ mod inputs;
 mod table;
 mod things;
 
-use super::same::same;
+use super::rows::{failed, ok_string, ok_value, same_asked, same_flag};
+use super::same::{holds, ok};
 use inputs::{input_of, run};
 use smol_str::{INLINE_CAP, Place, SmolStr};
 use std::alloc::{AllocError, Global};
+use std::process::Abort;
 use std::test::Fail;
 use table::{Row, Stands, TABLES};
-use test_support::by_std::{Asks, NONE, asked_by_all, is_asked};
+use test_support::by_std::{Asks, NONE, asked_by_all};
 use test_support::held::is_exact;
 use test_support::refuse::{Asked, can_refuse, count_blocks, each_refused, start_counts};
 use test_support::texts::{full_text, joined, long_text, longest_blank, repeated};
@@ -37,15 +39,15 @@ fn requests(rt: HostRuntime) -> Result<(), Fail> {
     let alloc = rt.alloc();
     start_counts(alloc);
     let texts = long_texts(alloc)?;
-    same(
+    same_flag(
         &rt,
-        &(count_blocks(alloc) > 0),
-        &can_refuse(alloc),
-        &"blocks are counted",
+        count_blocks(alloc) > 0,
+        can_refuse(alloc),
+        "blocks are counted",
     );
     for rows in &TABLES {
         for row in *rows {
-            check_row(alloc, &texts, *row)?;
+            check_row(&rt, alloc, &texts, row)?;
         }
     }
     Ok(())
@@ -53,46 +55,41 @@ fn requests(rt: HostRuntime) -> Result<(), Fail> {
 
 /// No text, where a full buffer makes no request; a text that fills a buffer; a blank run; and texts that are not
 /// resident.
-fn check_row(alloc: Global, texts: &Texts, row: Row) -> Result<(), Fail> {
+fn check_row(rt: &impl Abort, alloc: Global, texts: &Texts, row: &Row) -> Result<(), Fail> {
     if row.of_full.is_empty() {
-        check_call(alloc, row, "no text", "", NONE)?;
+        check_call(rt, alloc, row, "no text", "", NONE)?;
     }
-    check_call(alloc, row, "a full buffer", full_text(), row.of_full)?;
-    check_call(
-        alloc,
-        row,
-        "the longest blank",
-        texts.blank.as_str(),
-        row.of_blank,
-    )?;
-    check_call(alloc, row, "a byte too many", long_text(), row.of_heap)?;
-    check_call(alloc, row, "5,000 bytes", texts.long.as_str(), row.of_heap)?;
-    check_call(
-        alloc,
-        row,
-        "2,500 accents",
-        texts.accented.as_str(),
-        row.of_heap,
-    )
-}
-
-/// What a call makes with ample memory.
-#[derive(Drop)]
-struct Ample {
-    is_made: bool,
-    is_value: bool,
-    text: Option<String>,
-    place: Option<Place>,
+    let shapes = [
+        ("a full buffer", full_text(), row.of_full),
+        ("the longest blank", texts.blank.as_str(), row.of_blank),
+        ("a byte too many", long_text(), row.of_heap),
+        ("5,000 bytes", texts.long.as_str(), row.of_heap),
+        ("2,500 accents", texts.accented.as_str(), row.of_heap),
+    ];
+    for (shape, text, asks) in shapes {
+        check_call(rt, alloc, row, shape, text, asks)?;
+    }
+    Ok(())
 }
 
 /// With each request refused in turn the call is refused, and what it took comes back; with none refused it asks for
 /// exactly what std's calls ask for.
-fn check_call(alloc: Global, row: Row, shape: &str, text: &str, asks: &[Asks]) -> Result<(), Fail> {
-    let name = name_of(alloc, row.name, shape)?;
-    let ample = ample_of(alloc, row, text)?;
-    let asked = asked_of(alloc, row, name.as_str(), text, &ample)?;
-    check_held(alloc, name.as_str(), asked, &ample)?;
-    check_asked(name.as_str(), asked, asked_by_all(alloc, asks, text)?)
+fn check_call(
+    rt: &impl Abort,
+    alloc: Global,
+    row: &Row,
+    shape: &str,
+    text: &str,
+    asks: &[Asks],
+) -> Result<(), Fail> {
+    let name = ok_string(rt, name_of(alloc, row.name, shape));
+    let value = ok_value(rt, SmolStr::new(alloc, text));
+    let ample = ample_of(alloc, row, &value);
+    let asked = asked_of(alloc, row, name.as_str(), &value, &ample)?;
+    check_held(rt, alloc, name.as_str(), asked.held, &ample);
+    let wanted = asked_by_all(alloc, asks, text)?;
+    same_asked(rt, asked, wanted, name.as_str());
+    Ok(())
 }
 
 /// The call and the text, in messages.
@@ -101,77 +98,74 @@ fn name_of(alloc: Global, call: &str, shape: &str) -> Result<String, AllocError>
     joined(alloc, call.as_str(), shape)
 }
 
-fn ample_of(alloc: Global, row: Row, text: &str) -> Result<Ample, Fail> {
-    let answer = run(alloc, row, text, input_of(alloc, row.takes, text)?);
-    let thing = match &answer {
-        Ok(made) => made,
-        Err(back) => back,
-    };
-    let text = match text_of(thing) {
-        Some(text) => Some(String::from_str(alloc, text)?),
-        None => None,
-    };
-    Ok(Ample {
-        is_made: answer.is_ok(),
-        is_value: matches!(thing, Thing::Value(_)),
-        text,
-        place: place_of(thing),
-    })
+/// What the call makes of the value's text with ample memory.
+fn ample_of(alloc: Global, row: &Row, value: &SmolStr) -> Result<Thing, Thing> {
+    match input_of(alloc, row.takes, value.as_str()) {
+        Ok(input) => run(alloc, row, value, input),
+        Err(back) => Err(back),
+    }
 }
 
-fn asked_of(alloc: Global, row: Row, name: &str, text: &str, ample: &Ample) -> Result<Asked, Fail> {
-    let place = SmolStr::new(alloc, text)?.place();
+fn asked_of(
+    alloc: Global,
+    row: &Row,
+    name: &str,
+    value: &SmolStr,
+    ample: &Result<Thing, Thing>,
+) -> Result<Asked, Fail> {
     each_refused(
         alloc,
         name,
-        || input_of(alloc, row.takes, text),
-        |input| run(alloc, row, text, input),
-        |answer| check_answer(name, row.stands, text, place, answer, ample),
+        || prepared(alloc, row, value),
+        |input| run(alloc, row, value, input),
+        |answer| check_answer(name, row.stands, value, answer, ample),
     )
 }
 
-/// A value keeps its text and no more.
-fn check_held(alloc: Global, name: &str, asked: Asked, ample: &Ample) -> Result<(), Fail> {
-    if !ample.is_made || !ample.is_value || keeps_its_text(alloc, asked.held, ample)? {
-        return Ok(());
-    }
-    Err(Fail::new(format_args!("{name} keeps {} bytes", asked.held)))
-}
-
-fn keeps_its_text(alloc: Global, held: u32, ample: &Ample) -> Result<bool, AllocError> {
-    match (&ample.text, ample.place) {
-        (Some(text), Some(Place::Heap)) => {
-            is_exact(alloc, held, &SmolStr::new(alloc, text.as_str())?)
-        }
-        _ => Ok(held == 0),
+fn prepared(alloc: Global, row: &Row, value: &SmolStr) -> Result<Thing, Fail> {
+    match input_of(alloc, row.takes, value.as_str()) {
+        Ok(input) => Ok(input),
+        Err(_) => Err(failed(row.name, "is not prepared")),
     }
 }
 
-fn check_asked(name: &str, asked: Asked, wanted: Asked) -> Result<(), Fail> {
-    if is_asked(asked, wanted) {
-        return Ok(());
+/// A value that is made keeps its text and no more.
+fn check_held(rt: &impl Abort, alloc: Global, name: &str, held: u32, ample: &Result<Thing, Thing>) {
+    if let Ok(Thing::Value(value)) = ample {
+        let is_kept = ok(rt, keeps_its_text(alloc, held, value));
+        holds(rt, is_kept, &(name, "keeps", held));
     }
-    Err(Fail::new(format_args!("{name} asks for {asked:?} and std for {wanted:?}")))
+}
+
+fn keeps_its_text(alloc: Global, held: u32, value: &SmolStr) -> Result<bool, AllocError> {
+    if !value.is_heap_allocated() {
+        return Ok(held == 0);
+    }
+    is_exact(alloc, held, &SmolStr::new(alloc, value.as_str())?)
 }
 
 /// After a refusal there is what the call took, and otherwise what it makes with ample memory.
 fn check_answer(
     name: &str,
     stands: Stands,
-    text: &str,
-    place: Place,
+    value: &SmolStr,
     answer: &Result<Thing, Thing>,
-    ample: &Ample,
+    ample: &Result<Thing, Thing>,
 ) -> Result<(), Fail> {
     let is_so = match answer {
-        Ok(made) => ample.is_made && is_same(made, ample),
-        Err(back) => text_of(back) == text_that_stands(stands, text)
-            && is_where_it_was(back, place),
+        Ok(made) => is_same(made, ample),
+        Err(back) => is_left(back, stands, value),
     };
     if is_so {
         return Ok(());
     }
-    Err(Fail::new(format_args!("{name} leaves something else")))
+    Err(failed(name, "leaves something else"))
+}
+
+/// Whether what a refusal leaves has the text that is to stand, where that was.
+fn is_left(back: &Thing, stands: Stands, value: &SmolStr) -> bool {
+    let wanted = text_that_stands(stands, value.as_str());
+    is_text(text_of(back), wanted) && is_where_it_was(back, value.place())
 }
 
 fn text_that_stands(stands: Stands, text: &str) -> Option<&str> {
@@ -194,11 +188,17 @@ fn is_where_it_was(thing: &Thing, place: Place) -> bool {
 }
 
 /// Whether it has the text that is made with ample memory, in the same place.
-fn is_same(made: &Thing, ample: &Ample) -> bool {
-    let is_text = match (text_of(made), &ample.text) {
-        (Some(text), Some(wanted)) => text == wanted.as_str(),
+fn is_same(made: &Thing, ample: &Result<Thing, Thing>) -> bool {
+    match ample {
+        Ok(wanted) => is_text(text_of(made), text_of(wanted)) && place_of(made) == place_of(wanted),
+        Err(_) => false,
+    }
+}
+
+fn is_text(found: Option<&str>, wanted: Option<&str>) -> bool {
+    match (found, wanted) {
+        (Some(found), Some(wanted)) => found == wanted,
         (None, None) => true,
         _ => false,
-    };
-    is_text && place_of(made) == ample.place
+    }
 }

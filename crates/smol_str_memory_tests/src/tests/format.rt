@@ -1,5 +1,6 @@
 //! Values of what is printed: the texts, prints that give up, and memory refused.
-use super::same::{holds, same, same_place, same_text};
+use super::rows::{failed, ok_string, ok_value, same_count, same_flag};
+use super::same::{holds, ok, same_place, same_text};
 use smol_str::{
     FormatError, INLINE_CAP, Place, SmolStr, SmolStrBuilder, ToSmolStr, format_smolstr,
 };
@@ -34,53 +35,55 @@ impl Display for TwoPieces<'_> {
     }
 }
 
-fn assert_value(
-    rt: &impl Abort,
-    made: Result<SmolStr, FormatError>,
-    text: &str,
-    place: Place,
-) -> Result<(), Fail> {
-    let value = made?;
+/// The value that a print makes.
+fn ok_printed(rt: &impl Abort, made: Result<SmolStr, FormatError>) -> SmolStr {
+    match made {
+        Ok(value) => value,
+        Err(fault) => panic!(rt; "{fault:?}"),
+    }
+}
+
+fn assert_value(rt: &impl Abort, made: Result<SmolStr, FormatError>, text: &str, place: Place) {
+    let value = ok_printed(rt, made);
     same_text(rt, value.as_str(), text, &text);
     same_place(rt, &value, place, &text);
-    Ok(())
 }
 
 #[test]
-fn rows(rt: HostRuntime) -> Result<(), Fail> {
+fn rows(rt: HostRuntime) {
     let alloc = rt.alloc();
-    formats(&rt, alloc)?;
-    blank_formats(&rt, alloc)?;
-    values(&rt, alloc)?;
-    assert_copied(&rt, alloc, long_blank(), Place::Static)?;
+    formats(&rt, alloc);
+    blank_formats(&rt, alloc);
+    values(&rt, alloc);
+    assert_copied(&rt, alloc, long_blank(), Place::Static);
     assert_copied(&rt, alloc, long_text(), Place::Heap)
 }
 
-fn formats(rt: &impl Abort, alloc: Global) -> Result<(), Fail> {
+fn formats(rt: &impl Abort, alloc: Global) {
     let row = format_smolstr!(alloc; "{}-{:02}", "a", 7);
-    assert_value(rt, row, "a-07", Place::Inline)?;
+    assert_value(rt, row, "a-07", Place::Inline);
     let full = full_text();
     let row = format_smolstr!(alloc; "{full}a");
     assert_value(rt, row, long_text(), Place::Heap)
 }
 
-fn blank_formats(rt: &impl Abort, alloc: Global) -> Result<(), Fail> {
+fn blank_formats(rt: &impl Abort, alloc: Global) {
     let row = format_smolstr!(alloc; "{:>width$}", "", width = INLINE_CAP + 1);
-    assert_value(rt, row, long_blank(), Place::Static)?;
+    assert_value(rt, row, long_blank(), Place::Static);
     let row = format_smolstr!(alloc; "{:>24}", "");
     assert_value(rt, row, "                        ", Place::Inline)
 }
 
-fn values(rt: &impl Abort, alloc: Global) -> Result<(), Fail> {
-    assert_value(rt, 42u8.to_smolstr(alloc), "42", Place::Inline)?;
-    assert_value(rt, "".to_smolstr(alloc), "", Place::Inline)?;
-    let value = SmolStr::new(alloc, "if")?;
+fn values(rt: &impl Abort, alloc: Global) {
+    assert_value(rt, 42u8.to_smolstr(alloc), "42", Place::Inline);
+    assert_value(rt, "".to_smolstr(alloc), "", Place::Inline);
+    let value = ok_value(rt, SmolStr::new(alloc, "if"));
     assert_value(rt, value.to_smolstr(alloc), "if", Place::Inline)
 }
 
 /// A `String` of the text prints as it.
-fn assert_copied(rt: &impl Abort, alloc: Global, text: &str, place: Place) -> Result<(), Fail> {
-    let string = String::from_str(alloc, text)?;
+fn assert_copied(rt: &impl Abort, alloc: Global, text: &str, place: Place) {
+    let string = ok_string(rt, String::from_str(alloc, text));
     assert_value(rt, string.to_smolstr(alloc), text, place)
 }
 
@@ -91,13 +94,9 @@ fn test_to_smolstr(rt: HostRuntime) -> Result<(), Fail> {
         let Some(end) = letters.get(start..) else {
             return Err("no such end".into());
         };
-        assert_value(&rt, end.to_smolstr(rt.alloc()), end, Place::Inline)?;
-        assert_value(
-            &rt,
-            format_smolstr!(rt.alloc(); "{}", end),
-            end,
-            Place::Inline,
-        )?;
+        assert_value(&rt, end.to_smolstr(rt.alloc()), end, Place::Inline);
+        let made = format_smolstr!(rt.alloc(); "{}", end);
+        assert_value(&rt, made, end, Place::Inline);
     }
     Ok(())
 }
@@ -105,16 +104,22 @@ fn test_to_smolstr(rt: HostRuntime) -> Result<(), Fail> {
 /// A format by both macros, and what it prints.
 macro_rules! row {
     ($rt:expr, $alloc:expr; $wanted:expr; $($arg:tt)+) => {
-        assert_printed(
-            $rt,
-            of_call(|| format_smolstr!($alloc; $($arg)+)),
-            of_call(|| {
-                let string: Result<String, AllocError> = format!(in $alloc; $($arg)+);
-                string
-            }),
-            $wanted,
-        )?
+        assert_string($rt, format!(in $alloc; $($arg)+), $wanted);
+        assert_printed($rt, of_call(|| format_smolstr!($alloc; $($arg)+)), $wanted);
     };
+}
+
+fn assert_string(rt: &impl Abort, made: Result<String, AllocError>, wanted: &str) {
+    same_text(rt, ok_string(rt, made).as_str(), wanted, &"format!");
+}
+
+fn assert_printed(rt: &impl Abort, made: Result<SmolStr, FormatError>, wanted: &str) {
+    same_text(
+        rt,
+        ok_printed(rt, made).as_str(),
+        wanted,
+        &"format_smolstr!",
+    );
 }
 
 /// What a call returns. A closure is proved by itself, for less than its text costs in a long function.
@@ -124,39 +129,30 @@ fn of_call<T, F: FnOnce() -> T>(call: F) -> T
     call()
 }
 
-fn assert_printed(
-    rt: &impl Abort,
-    made: Result<SmolStr, FormatError>,
-    string: Result<String, AllocError>,
-    wanted: &str,
-) -> Result<(), Fail> {
-    same_text(rt, string?.as_str(), wanted, &"format!");
-    same_text(rt, made?.as_str(), wanted, &"format_smolstr!");
-    Ok(())
-}
-
 // Widths, fills and precision are those of `format!`.
 #[test]
-fn texts_as_a_string(rt: HostRuntime) -> Result<(), Fail> {
+fn texts_as_a_string(rt: HostRuntime) {
     let alloc = rt.alloc();
-    let value = SmolStr::new(alloc, "né")?;
-    row!(&rt, alloc; "   né"; "{value:>5}");
-    row!(&rt, alloc; "né**"; "{value:*<4}");
-    row!(&rt, alloc; "  né  "; "{value:^6}");
+    assert_values(&rt, alloc, &ok_value(&rt, SmolStr::new(alloc, "né")));
     assert_parts_of_texts(&rt, alloc)
 }
 
-fn assert_parts_of_texts(rt: &impl Abort, alloc: Global) -> Result<(), Fail> {
+fn assert_values(rt: &impl Abort, alloc: Global, value: &SmolStr) {
+    row!(rt, alloc; "   né"; "{value:>5}");
+    row!(rt, alloc; "né**"; "{value:*<4}");
+    row!(rt, alloc; "  né  "; "{value:^6}");
+}
+
+fn assert_parts_of_texts(rt: &impl Abort, alloc: Global) {
     row!(rt, alloc; "éééa"; "{:é>4}", "a");
     row!(rt, alloc; "ab"; "{:.2}", "abc");
     row!(rt, alloc; "   a|"; "{:>4.1}|", "abc");
     row!(rt, alloc; "a                        b"; "a{:24}b", "");
-    Ok(())
 }
 
 // Signs and bases too.
 #[test]
-fn numbers_as_a_string(rt: HostRuntime) -> Result<(), Fail> {
+fn numbers_as_a_string(rt: HostRuntime) {
     let alloc = rt.alloc();
     row!(&rt, alloc; "-0042"; "{:05}", -42i32);
     row!(&rt, alloc; "+7"; "{:+}", 7u8);
@@ -164,43 +160,48 @@ fn numbers_as_a_string(rt: HostRuntime) -> Result<(), Fail> {
     assert_bases(&rt, alloc)
 }
 
-fn assert_bases(rt: &impl Abort, alloc: Global) -> Result<(), Fail> {
+fn assert_bases(rt: &impl Abort, alloc: Global) {
     row!(rt, alloc; "0xff"; "{:#x}", 255u8);
     row!(rt, alloc; "00000101"; "{:08b}", 5u8);
     row!(rt, alloc; "{true}"; "{{{}}}", true);
     row!(rt, alloc; "\"a\\n\""; "{:?}", "a\n");
-    Ok(())
 }
 
 #[test]
-fn gives_up(rt: HostRuntime) -> Result<(), Fail> {
+fn gives_up(rt: HostRuntime) {
     let alloc = rt.alloc();
     assert_gives_up(&rt, GivesUp.to_smolstr(alloc));
     assert_gives_up(&rt, format_smolstr!(alloc; "a{}b", GivesUp));
-    // The builder keeps what was printed before.
-    let mut builder = SmolStrBuilder::new(alloc);
-    builder.push_str("x")?;
-    let printed = write!(builder, "{}{GivesUp}", 1);
-    holds(&rt, printed.is_err(), &"write!");
-    same_text(&rt, builder.as_str(), "x1ab", &"write!");
-    Ok(())
+    assert_kept(&rt, alloc)
 }
 
 fn assert_gives_up(rt: &impl Abort, made: Result<SmolStr, FormatError>) {
     holds(rt, matches!(made, Err(FormatError)), &made);
 }
 
+/// The builder keeps what was printed before.
+fn assert_kept(rt: &impl Abort, alloc: Global) {
+    let mut builder = SmolStrBuilder::new(alloc);
+    ok(rt, builder.push_str("x"));
+    let printed = write!(builder, "{}{GivesUp}", 1);
+    same_flag(rt, printed.is_err(), true, "write!");
+    same_text(rt, builder.as_str(), "x1ab", &"write!");
+}
+
 #[test]
-fn written_to_a_builder(rt: HostRuntime) -> Result<(), Fail> {
+fn written_to_a_builder(rt: HostRuntime) {
     let mut builder = SmolStrBuilder::new(rt.alloc());
-    print_pieces(&mut builder)?;
+    ok(&rt, print_pieces(&mut builder));
     same_text(&rt, builder.as_str(), "éab  7", &"written");
-    write!(builder, "{:>width$}", "", width = INLINE_CAP)?;
-    let spaces = repeated(rt.alloc(), " ", INLINE_CAP)?;
+    ok(&rt, write!(builder, "{:>width$}", "", width = INLINE_CAP));
+    assert_written(&rt, rt.alloc(), &builder);
+}
+
+fn assert_written(rt: &impl Abort, alloc: Global, builder: &SmolStrBuilder) {
+    let spaces = ok_string(rt, repeated(alloc, " ", INLINE_CAP));
     let written = builder.as_str().strip_prefix("éab  7").unwrap_or("");
-    same_text(&rt, written, spaces.as_str(), &"written");
-    holds(&rt, builder.inline_buffer().is_none(), &"on the heap");
-    Ok(())
+    same_text(rt, written, spaces.as_str(), &"written");
+    same_flag(rt, builder.inline_buffer().is_none(), true, "on the heap");
 }
 
 fn print_pieces(builder: &mut SmolStrBuilder) -> fmt::Result {
@@ -223,7 +224,7 @@ fn whole_requests<D: Display>(alloc: Global, value: &D, text: &str) -> Result<u3
 
 fn check_whole(made: &Result<SmolStr, FormatError>, text: &str) -> Result<(), Fail> {
     match made {
-        Ok(value) if !value.eq_str(text) => Err(Fail::new(format_args!("not the whole of {text}"))),
+        Ok(value) if !value.eq_str(text) => Err(failed("not the whole of", text)),
         _ => Ok(()),
     }
 }
@@ -232,41 +233,32 @@ fn check_whole(made: &Result<SmolStr, FormatError>, text: &str) -> Result<(), Fa
 fn two_pieces(rt: HostRuntime) -> Result<(), Fail> {
     let alloc = rt.alloc();
     let made = TwoPieces("ab", "c").to_smolstr(alloc);
-    assert_value(&rt, made, "abc", Place::Inline)?;
-    same(
-        &rt,
-        &whole_requests(alloc, &TwoPieces("ab", "c"), "abc")?,
-        &0,
-        &"short",
-    );
-    let whole = repeated_and(alloc, "a", INLINE_CAP, "b")?;
+    assert_value(&rt, made, "abc", Place::Inline);
+    let requests = whole_requests(alloc, &TwoPieces("ab", "c"), "abc")?;
+    same_count(&rt, requests as usize, 0, "short");
+    let whole = ok_string(&rt, repeated_and(alloc, "a", INLINE_CAP, "b"));
     let requests = whole_requests(alloc, &TwoPieces(full_text(), "b"), whole.as_str())?;
-    same(
-        &rt,
-        &(requests > 0),
-        &can_refuse(alloc),
-        &"a byte more than short",
-    );
-    let long = repeated(alloc, "a", 5000)?;
+    let refused = can_refuse(alloc);
+    same_flag(&rt, requests > 0, refused, "a byte more than short");
+    let long = ok_string(&rt, repeated(alloc, "a", 5000));
     let requests = whole_requests(alloc, &long, long.as_str())?;
-    same(&rt, &(requests > 0), &can_refuse(alloc), &"long");
+    same_flag(&rt, requests > 0, can_refuse(alloc), "long");
     Ok(())
 }
 
 // Not only Ok, but with no request at all.
 #[test]
-fn short_needs_none(rt: HostRuntime) -> Result<(), Fail> {
+fn short_needs_none(rt: HostRuntime) {
     let alloc = rt.alloc();
     start_counts(alloc);
     refuse_all(alloc);
     let number = 42u8.to_smolstr(alloc);
     let whole = padded(alloc);
     let was_refused = end_refusals(alloc);
-    same(&rt, &count_requests(alloc), &0, &"requests");
-    holds(&rt, !was_refused, &"refused");
-    assert_value(&rt, number, "42", Place::Inline)?;
-    assert_padded(&rt, whole?.as_str());
-    Ok(())
+    same_count(&rt, count_requests(alloc) as usize, 0, "requests");
+    same_flag(&rt, was_refused, false, "refused");
+    assert_value(&rt, number, "42", Place::Inline);
+    assert_padded(&rt, ok_printed(&rt, whole).as_str());
 }
 
 /// A text that fills a buffer.
@@ -277,5 +269,5 @@ fn padded(alloc: Global) -> Result<SmolStr, FormatError> {
 fn assert_padded(rt: &impl Abort, whole: &str) {
     let number = whole.strip_prefix("ab-").unwrap_or("");
     same_text(rt, number.trim_start(), "12", &"number");
-    same(rt, &whole.len(), &INLINE_CAP, &"whole");
+    same_count(rt, whole.len(), INLINE_CAP, "whole");
 }

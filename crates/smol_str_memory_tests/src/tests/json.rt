@@ -1,5 +1,6 @@
 //! JSON strings: texts, refusals, and memory refused.
-use super::same::{holds, ok, same, same_place, same_text, same_value};
+use super::rows::{failed, held_exactly, ok_string, ok_value, same_asked, same_flag};
+use super::same::{holds, same_place, same_text, same_value};
 use serde_json::Value;
 use smol_str::json::{JsonFault, from_json, from_value, to_json, to_value};
 use smol_str::{INLINE_CAP, Place, SmolStr};
@@ -47,8 +48,18 @@ fn written(rt: HostRuntime) {
 }
 
 fn check_written(rt: &impl Abort, alloc: Global, text: &str, json: &str) {
-    let value = ok(rt, SmolStr::new(alloc, text));
-    same_text(rt, ok(rt, to_json(alloc, &value)).as_str(), json, &text);
+    check_json(
+        rt,
+        alloc,
+        &ok_value(rt, SmolStr::new(alloc, text)),
+        json,
+        text,
+    );
+}
+
+fn check_json(rt: &impl Abort, alloc: Global, value: &SmolStr, json: &str, row: &str) {
+    let written = ok_string(rt, to_json(alloc, value));
+    same_text(rt, written.as_str(), json, &row);
 }
 
 #[test]
@@ -62,8 +73,19 @@ fn read(rt: HostRuntime) {
         ("\"\\u2028\"", "\u{2028}"),
         ("\"\\u0000\\b\\f\\n\\r\\t\"", "\u{0}\u{8}\u{c}\n\r\t"),
     ] {
-        let value = ok(&rt, from_json(rt.alloc(), json).ok().ok_or("no value"));
-        same_value(&rt, &value, text, Place::Inline, &json);
+        check_read(&rt, rt.alloc(), json, text);
+    }
+}
+
+fn check_read(rt: &impl Abort, alloc: Global, json: &str, text: &str) {
+    same_value(rt, &value_of(rt, alloc, json), text, Place::Inline, &json);
+}
+
+/// The value of a JSON string.
+fn value_of(rt: &impl Abort, alloc: Global, json: &str) -> SmolStr {
+    match from_json(alloc, json) {
+        Ok(value) => value,
+        Err(_) => panic!(rt; "no value of {json}"),
     }
 }
 
@@ -105,7 +127,8 @@ fn not_read(rt: HostRuntime) {
 }
 
 fn check_not_read(rt: &impl Abort, alloc: Global, json: &str, answer: Answer) {
-    same(rt, &answer_of(&from_json(alloc, json)), &answer, &json);
+    let found = answer_of(&from_json(alloc, json));
+    holds(rt, found == answer, &(json, found, answer));
 }
 
 // Longer than each buffer: a list, a string without its end, and one with half a surrogate pair at its end.
@@ -113,38 +136,43 @@ fn check_not_read(rt: &impl Abort, alloc: Global, json: &str, answer: Answer) {
 fn long_not_read(rt: HostRuntime) {
     let alloc = rt.alloc();
     for size in ABOVE_BUFFERS {
-        let letters = ok(&rt, repeated(alloc, "a", size));
+        let letters = ok_string(&rt, repeated(alloc, "a", size));
         let text = letters.as_str();
-        check_parts(&rt, alloc, ("[\"", text, "\"]"), Answer::NotString);
-        check_parts(&rt, alloc, ("\"", text, ""), Answer::Json);
-        check_parts(&rt, alloc, ("\"", text, "\\ud800\""), Answer::Json);
+        check_parts(&rt, alloc, "[\"", text, "\"]", Answer::NotString);
+        check_parts(&rt, alloc, "\"", text, "", Answer::Json);
+        check_parts(&rt, alloc, "\"", text, "\\ud800\"", Answer::Json);
     }
 }
 
-fn check_parts(rt: &impl Abort, alloc: Global, parts: (&str, &str, &str), answer: Answer) {
-    let mut json = ok(rt, joined(alloc, parts.0, parts.1));
-    ok(rt, json.push_str(parts.2));
+fn check_parts(rt: &impl Abort, alloc: Global, front: &str, text: &str, end: &str, answer: Answer) {
+    let json = ok_string(rt, joined_parts(alloc, front, text, end));
     let found = answer_of(&from_json(alloc, json.as_str()));
-    same(rt, &found, &answer, &(parts.0, parts.1.len(), parts.2));
+    holds(
+        rt,
+        found == answer,
+        &((front, text.len(), end), found, answer),
+    );
+}
+
+fn joined_parts(alloc: Global, front: &str, text: &str, end: &str) -> Result<String, AllocError> {
+    let mut json = joined(alloc, front, text)?;
+    json.push_str(end)?;
+    Ok(json)
 }
 
 /// So many lists in one another.
 fn check_nested(rt: &impl Abort, alloc: Global, depth: usize, answer: Answer) {
-    let closed = ok(rt, repeated(alloc, "]", depth));
-    let nested = ok(rt, repeated_and(alloc, "[", depth, closed.as_str()));
+    let closed = ok_string(rt, repeated(alloc, "]", depth));
+    let nested = ok_string(rt, repeated_and(alloc, "[", depth, closed.as_str()));
     check_not_read(rt, alloc, nested.as_str(), answer);
 }
 
 #[test]
 fn test_serde(rt: HostRuntime) {
-    let value = ok(&rt, SmolStr::new(rt.alloc(), "Hello, World"));
-    check_there_and_back(&rt, rt.alloc(), &value);
-    same_text(
-        &rt,
-        ok(&rt, to_json(rt.alloc(), &value)).as_str(),
-        "\"Hello, World\"",
-        &"test_serde",
-    );
+    let alloc = rt.alloc();
+    let value = ok_value(&rt, SmolStr::new(alloc, "Hello, World"));
+    check_there_and_back(&rt, alloc, &value);
+    check_json(&rt, alloc, &value, "\"Hello, World\"", "test_serde");
 }
 
 // Every character is written so that it is read again.
@@ -160,8 +188,8 @@ fn each_character_there_and_back(rt: HostRuntime) -> Result<(), Fail> {
 }
 
 fn check_there_and_back(rt: &impl Abort, alloc: Global, value: &SmolStr) {
-    let json = ok(rt, to_json(alloc, value));
-    let back = ok(rt, from_json(alloc, json.as_str()).ok().ok_or("no value"));
+    let json = ok_string(rt, to_json(alloc, value));
+    let back = value_of(rt, alloc, json.as_str());
     holds(rt, back == *value, value);
 }
 
@@ -196,17 +224,12 @@ fn each_request_in_turn(rt: HostRuntime) -> Result<(), Fail> {
     let alloc = rt.alloc();
     check_refused(&rt, alloc, "a full buffer", full_text(), Place::Inline)?;
     check_refused(&rt, alloc, "a blank run", long_blank(), Place::Static)?;
-    check_refused(
-        &rt,
-        alloc,
-        "24 spaces",
-        "                        ",
-        Place::Inline,
-    )?;
+    let spaces = "                        ";
+    check_refused(&rt, alloc, "24 spaces", spaces, Place::Inline)?;
     check_refused(&rt, alloc, "a byte too many", long_text(), Place::Heap)?;
-    let long = repeated(alloc, "a", 5000)?;
+    let long = ok_string(&rt, repeated(alloc, "a", 5000));
     check_refused(&rt, alloc, "5,000 bytes", long.as_str(), Place::Heap)?;
-    let quoted = repeated_and(alloc, "\"é", INLINE_CAP, "\u{1}")?;
+    let quoted = ok_string(&rt, repeated_and(alloc, "\"é", INLINE_CAP, "\u{1}"));
     check_refused(&rt, alloc, "escapes", quoted.as_str(), Place::Heap)
 }
 
@@ -218,76 +241,93 @@ fn check_refused(
     text: &str,
     place: Place,
 ) -> Result<(), Fail> {
-    let ample = ample_of(alloc, text)?;
+    let ample = ample_of(rt, alloc, text);
     same_place(rt, &ample.value, place, &name);
-    check_call(rt, alloc, ("to_value of ", name), Call::ToValue, &ample)?;
-    check_call(rt, alloc, ("to_json of ", name), Call::ToJson, &ample)?;
-    check_call(rt, alloc, ("from_value of ", name), Call::FromValue, &ample)?;
-    check_call(rt, alloc, ("from_json of ", name), Call::FromJson, &ample)
+    check_call(rt, alloc, "to_value of ", name, Call::ToValue, &ample)?;
+    check_call(rt, alloc, "to_json of ", name, Call::ToJson, &ample)?;
+    check_call(rt, alloc, "from_value of ", name, Call::FromValue, &ample)?;
+    check_call(rt, alloc, "from_json of ", name, Call::FromJson, &ample)
 }
 
-fn ample_of(alloc: Global, text: &str) -> Result<Ample, AllocError> {
-    let value = SmolStr::new(alloc, text)?;
-    let string = to_value(alloc, &value)?;
-    let json = to_json(alloc, &value)?;
-    Ok(Ample {
+fn ample_of(rt: &impl Abort, alloc: Global, text: &str) -> Ample {
+    let value = ok_value(rt, SmolStr::new(alloc, text));
+    let string = ok_json(rt, to_value(alloc, &value));
+    let json = ok_string(rt, to_json(alloc, &value));
+    Ample {
         value,
         string,
         json,
-    })
+    }
 }
 
-/// The call is refused exactly where a request is, and makes requests unless a resident text is read from a value.
+fn ok_json(rt: &impl Abort, outcome: Result<Value, AllocError>) -> Value {
+    match outcome {
+        Ok(string) => string,
+        Err(fault) => panic!(rt; "{fault:?}"),
+    }
+}
+
+/// The call makes requests unless a resident text is read from a value.
 fn check_call(
     rt: &impl Abort,
     alloc: Global,
-    row: (&str, &str),
+    front: &str,
+    name: &str,
     call: Call,
     ample: &Ample,
 ) -> Result<(), Fail> {
-    let name = joined(alloc, row.0, row.1)?;
-    let asked = each_refused(
-        alloc,
-        name.as_str(),
-        || Ok(()),
-        |()| run(alloc, call, ample),
-        |answer| check_answer(name.as_str(), answer, ample),
-    )?;
+    let name = ok_string(rt, joined(alloc, front, name));
+    let asked = asked_of(alloc, name.as_str(), call, ample)?;
     let asks = !matches!(call, Call::FromValue) || ample.value.is_heap_allocated();
-    same(
-        rt,
-        &(asked.requests > 0),
-        &(asks && can_refuse(alloc)),
-        &name,
-    );
-    let wanted = asked_by_std(alloc, call, ample)?;
-    holds(rt, is_asked(asked, wanted), &(&name, asked, wanted));
+    let refused = asks && can_refuse(alloc);
+    same_flag(rt, asked.requests > 0, refused, name.as_str());
+    let wanted = asked_by_std(rt, alloc, call, ample);
+    same_asked(rt, asked, wanted, name.as_str());
     if matches!(call, Call::FromValue | Call::FromJson) {
-        holds(rt, is_exact(alloc, asked.held, &ample.value)?, &name);
+        held_exactly(rt, alloc, asked.held, &ample.value, name.as_str());
     }
     Ok(())
+}
+
+/// The call is refused exactly where a request is.
+fn asked_of(alloc: Global, name: &str, call: Call, ample: &Ample) -> Result<Asked, Fail> {
+    each_refused(
+        alloc,
+        name,
+        || Ok(()),
+        |()| run(alloc, call, ample),
+        |answer| check_answer(name, answer, ample),
+    )
 }
 
 /// What `serde_json`'s own calls ask for on the same text, and a value's own.
-fn asked_by_std(alloc: Global, call: Call, ample: &Ample) -> Result<Asked, Fail> {
+fn asked_by_std(rt: &impl Abort, alloc: Global, call: Call, ample: &Ample) -> Asked {
     let text = ample.value.as_str();
     let before = count_asked(alloc);
     match call {
-        Call::ToValue => drop(Value::String(String::from_str(alloc, text)?)),
-        Call::ToJson => drop(Value::String(String::from_str(alloc, text)?).to_string(alloc)?),
-        Call::FromValue => drop(SmolStr::new(alloc, text)?),
-        Call::FromJson => read_by_serde(alloc, ample.json.as_str(), text)?,
+        Call::ToValue => drop(string_of(rt, alloc, text)),
+        Call::ToJson => write_by_serde(rt, alloc, text),
+        Call::FromValue => drop(ok_value(rt, SmolStr::new(alloc, text))),
+        Call::FromJson => read_by_serde(rt, alloc, ample.json.as_str(), text),
     }
-    Ok(count_asked(alloc).since(before))
+    count_asked(alloc).since(before)
 }
 
-fn read_by_serde(alloc: Global, json: &str, text: &str) -> Result<(), Fail> {
+fn string_of(rt: &impl Abort, alloc: Global, text: &str) -> Value {
+    Value::String(ok_string(rt, String::from_str(alloc, text)))
+}
+
+fn write_by_serde(rt: &impl Abort, alloc: Global, text: &str) {
+    let string = string_of(rt, alloc, text);
+    drop(ok_string(rt, string.to_string(alloc)));
+}
+
+fn read_by_serde(rt: &impl Abort, alloc: Global, json: &str, text: &str) {
     let Ok(read) = Value::from_str(alloc, json) else {
-        return Err("serde_json does not read it".into());
+        panic!(rt; "serde_json does not read {json}");
     };
-    drop(SmolStr::new(alloc, text)?);
+    drop(ok_value(rt, SmolStr::new(alloc, text)));
     drop(read);
-    Ok(())
 }
 
 fn run(alloc: Global, call: Call, ample: &Ample) -> Result<Made, JsonFault> {
@@ -331,5 +371,5 @@ fn check_answer(name: &str, answer: &Result<Made, JsonFault>, ample: &Ample) -> 
     if is_so {
         return Ok(());
     }
-    Err(Fail::new(format_args!("{name} makes something else, or tells another fault")))
+    Err(failed(name, "makes something else, or tells another fault"))
 }

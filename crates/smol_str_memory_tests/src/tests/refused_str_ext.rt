@@ -1,12 +1,12 @@
 //! Case and replacement with memory refused: no value, or the one with ample memory.
-use super::same::{holds, ok, same, same_place};
+use super::rows::{held_exactly, ok_string, ok_value, same_asked, same_flag};
+use super::same::same_place;
 use smol_str::{Place, SmolStr, StrExt};
 use std::alloc::{AllocError, Global};
 use std::process::Abort;
 use std::test::Fail;
-use test_support::by_std::{Asks, asked_by_all, is_asked};
-use test_support::held::is_exact;
-use test_support::refuse::{can_refuse, each_refused, end_refusals, refuse_all};
+use test_support::by_std::{Asks, asked_by_all};
+use test_support::refuse::{Asked, can_refuse, each_refused, end_refusals, refuse_all};
 use test_support::texts::{full_text, joined, long_text, repeated};
 
 /// A call under test.
@@ -48,53 +48,53 @@ static CALLS: [(&str, Call); 10] = [
 #[test]
 fn each_request_in_turn(rt: HostRuntime) -> Result<(), Fail> {
     let alloc = rt.alloc();
-    let long = repeated(alloc, "a", 5000)?;
+    let long = ok_string(&rt, repeated(alloc, "a", 5000));
     for &(name, call) in &CALLS {
-        check_refused(&rt, alloc, (name, " of a byte too many"), call, long_text())?;
-        check_refused(&rt, alloc, (name, " of 5,000 bytes"), call, long.as_str())?;
+        check_refused(&rt, alloc, name, " of a byte too many", call, long_text())?;
+        check_refused(&rt, alloc, name, " of 5,000 bytes", call, long.as_str())?;
     }
     // A short text, of which the result is not short, or which a capital sigma stands in.
-    check_refused(
-        &rt,
-        alloc,
-        ("twice ", "a full buffer"),
-        Call::Replace("a", "bb"),
-        full_text(),
-    )?;
-    check_refused(
-        &rt,
-        alloc,
-        ("parted ", "a full buffer"),
-        Call::Replace("", "-"),
-        full_text(),
-    )?;
-    check_refused(&rt, alloc, ("a capital ", "sigma"), Call::Lower, "ΑΣ")
+    let (twice, parted) = (Call::Replace("a", "bb"), Call::Replace("", "-"));
+    check_refused(&rt, alloc, "twice ", "a full buffer", twice, full_text())?;
+    check_refused(&rt, alloc, "parted ", "a full buffer", parted, full_text())?;
+    check_refused(&rt, alloc, "a capital ", "sigma", Call::Lower, "ΑΣ")
 }
 
-/// With each request refused in turn the call is refused, and with none refused it returns what it does with ample memory.
 fn check_refused(
     rt: &impl Abort,
     alloc: Global,
-    row: (&str, &str),
+    front: &str,
+    end: &str,
     call: Call,
     text: &str,
 ) -> Result<(), Fail> {
-    let ample = answer(alloc, call, text)?;
-    let name = joined(alloc, row.0, row.1)?;
-    let asked = each_refused(
-        alloc,
-        name.as_str(),
-        || Ok(()),
-        |()| answer(alloc, call, text),
-        |made| check_made(name.as_str(), made, &ample),
-    )?;
-    same(rt, &(asked.requests > 0), &can_refuse(alloc), &name);
-    holds(rt, is_exact(alloc, asked.held, &ample)?, &name);
+    let name = ok_string(rt, joined(alloc, front, end));
+    let ample = ok_value(rt, answer(alloc, call, text));
+    let asked = asked_of(alloc, name.as_str(), call, text, &ample)?;
+    same_flag(rt, asked.requests > 0, can_refuse(alloc), name.as_str());
+    held_exactly(rt, alloc, asked.held, &ample, name.as_str());
     if is_one_copy(call) && text.is_ascii() {
         let wanted = asked_by_all(alloc, ONE_COPY, text)?;
-        holds(rt, is_asked(asked, wanted), &name);
+        same_asked(rt, asked, wanted, name.as_str());
     }
     Ok(())
+}
+
+/// With each request refused in turn the call is refused, and with none refused it returns what it does with ample memory.
+fn asked_of(
+    alloc: Global,
+    name: &str,
+    call: Call,
+    text: &str,
+    ample: &SmolStr,
+) -> Result<Asked, Fail> {
+    each_refused(
+        alloc,
+        name,
+        || Ok(()),
+        |()| answer(alloc, call, text),
+        |made| check_made(name, made, ample),
+    )
 }
 
 /// A copy of the text, which the value keeps.
@@ -128,30 +128,23 @@ fn no_request_for_a_short_answer(rt: HostRuntime) {
         };
         check_no_request(&rt, alloc, name, call, text);
     }
-    let long = ok(&rt, repeated(alloc, "a", 10_000));
-    check_no_request(
-        &rt,
-        alloc,
-        "a removed",
-        Call::Replace("a", ""),
-        long.as_str(),
-    );
-    check_no_request(
-        &rt,
-        alloc,
-        "aaaa removed",
-        Call::Replace("aaaa", ""),
-        long.as_str(),
-    );
+    check_removed(&rt, alloc);
     check_no_request(&rt, alloc, "aa by b", Call::Replace("aa", "b"), long_text());
     check_no_request(&rt, alloc, "capitals", Call::Upper, "aßΔC");
     check_no_request(&rt, alloc, "small letters", Call::Lower, "aßΔC")
+}
+
+fn check_removed(rt: &impl Abort, alloc: Global) {
+    let long = ok_string(rt, repeated(alloc, "a", 10_000));
+    let (one, four) = (Call::Replace("a", ""), Call::Replace("aaaa", ""));
+    check_no_request(rt, alloc, "a removed", one, long.as_str());
+    check_no_request(rt, alloc, "aaaa removed", four, long.as_str());
 }
 
 fn check_no_request(rt: &impl Abort, alloc: Global, name: &str, call: Call, text: &str) {
     refuse_all(alloc);
     let made = answer(alloc, call, text);
     let was_refused = end_refusals(alloc);
-    holds(rt, !was_refused, &name);
-    same_place(rt, &ok(rt, made), Place::Inline, &name);
+    same_flag(rt, was_refused, false, name);
+    same_place(rt, &ok_value(rt, made), Place::Inline, &name);
 }

@@ -1,6 +1,7 @@
 //! The calls that take no memory and have no row with `NONE` in `calls/table.rt`: one line a call, by its name, with every
 //! request refused.
-use super::same::holds;
+use super::rows::{ok_string, ok_value};
+use super::same::{holds, ok};
 use serde_json::Value;
 use smol_str::borsh::{
     BorshDeserialize, BorshSerialize, deserialize_limited, from_wire, length_prefix, split_wire,
@@ -17,44 +18,55 @@ use std::cmp::Ordering;
 use std::fmt::Write;
 use std::hash::{DefaultHasher, Hash};
 use std::process::Abort;
-use std::test::Fail;
 use test_support::builders::builder_of;
 use test_support::refuse::{end_refusals, refuse_all};
 use test_support::texts::{full_text, long_text, longest_blank, repeated};
+
+/// Makes each call, by its name.
+macro_rules! rows {
+    ($rt:expr; $($name:literal: $call:expr;)+) => {
+        $(check_row($rt, $call, $name);)+
+    };
+}
 
 /// Makes each call, by its name, and refuses every request meanwhile.
 macro_rules! free {
     ($rt:expr, $alloc:expr; $($name:literal: $call:expr;)+) => {
         refuse_all($alloc);
-        let rows = [$(($name, $call)),+];
-        check_free($rt, &rows, end_refusals($alloc));
+        $(check_row($rt, $call, $name);)+
+        check_not_refused($rt, $alloc);
     };
 }
 
-fn check_free(rt: &impl Abort, rows: &[(&str, bool)], was_refused: bool) {
-    for (name, is_so) in rows {
-        holds(rt, *is_so, name);
-    }
-    holds(rt, !was_refused, &"a call makes a request");
+fn check_not_refused(rt: &impl Abort, alloc: Global) {
+    check_row(rt, !end_refusals(alloc), "a call makes a request");
+}
+
+fn check_row(rt: &impl Abort, is_so: bool, name: &str) {
+    holds(rt, is_so, &name);
 }
 
 #[test]
-fn json(rt: HostRuntime) -> Result<(), Fail> {
-    let blank = longest_blank(rt.alloc())?;
-    for text in ["", full_text(), blank.as_str()] {
-        let json = Value::String(String::from_str(rt.alloc(), text)?);
-        free! { &rt, rt.alloc();
-            "json::from_value": from_value(rt.alloc(), &json).is_ok();
-        }
-    }
-    Ok(())
-}
-
-#[test]
-fn values(rt: HostRuntime) -> Result<(), Fail> {
+fn json(rt: HostRuntime) {
     let alloc = rt.alloc();
-    let value = SmolStr::new(alloc, long_text())?;
-    let mut room = String::with_capacity(alloc, 100)?;
+    let blank = ok_string(&rt, longest_blank(alloc));
+    for text in ["", full_text(), blank.as_str()] {
+        read(&rt, alloc, text);
+    }
+}
+
+fn read(rt: &impl Abort, alloc: Global, text: &str) {
+    let json = Value::String(ok_string(rt, String::from_str(alloc, text)));
+    free! { rt, alloc;
+        "json::from_value": from_value(alloc, &json).is_ok();
+    }
+}
+
+#[test]
+fn values(rt: HostRuntime) {
+    let alloc = rt.alloc();
+    let value = ok_value(&rt, SmolStr::new(alloc, long_text()));
+    let mut room = ok_string(&rt, String::with_capacity(alloc, 100));
     let mut hasher = DefaultHasher::default();
     free! { &rt, alloc;
         "SmolStr::as_str": value.as_str() == long_text();
@@ -67,15 +79,14 @@ fn values(rt: HostRuntime) -> Result<(), Fail> {
         "SmolStr::hash": { value.hash(&mut hasher); true };
         "SmolStr::fmt": write!(room, "{value}{value:?}").is_ok();
     }
-    Ok(())
 }
 
 #[test]
-fn values_compared(rt: HostRuntime) -> Result<(), Fail> {
+fn values_compared(rt: HostRuntime) {
     let alloc = rt.alloc();
-    let value = SmolStr::new(alloc, long_text())?;
+    let value = ok_value(&rt, SmolStr::new(alloc, long_text()));
     let other = SmolStr::new_static(long_text());
-    let string = String::from_str(alloc, long_text())?;
+    let string = ok_string(&rt, String::from_str(alloc, long_text()));
     free! { &rt, alloc;
         "SmolStr::eq": value.eq(&other);
         "SmolStr::eq_str": value.eq_str(long_text());
@@ -85,7 +96,6 @@ fn values_compared(rt: HostRuntime) -> Result<(), Fail> {
         "SmolStr::cmp_str": value.cmp_str(full_text()) == Ordering::Greater;
         "SmolStr::cmp_string": value.cmp_string(&string) == Ordering::Equal;
     }
-    Ok(())
 }
 
 #[test]
@@ -101,10 +111,10 @@ fn empty(rt: HostRuntime) {
 }
 
 #[test]
-fn builders(rt: HostRuntime) -> Result<(), Fail> {
+fn builders(rt: HostRuntime) {
     let alloc = rt.alloc();
-    let builder = builder_of(alloc, 0, full_text())?;
-    let large = builder_of(alloc, 100, full_text())?;
+    let builder = ok(&rt, builder_of(alloc, 0, full_text()));
+    let large = ok(&rt, builder_of(alloc, 100, full_text()));
     free! { &rt, alloc;
         "SmolStrBuilder::as_str": builder.as_str() == full_text();
         "SmolStrBuilder::len": builder.len() == INLINE_CAP;
@@ -112,29 +122,27 @@ fn builders(rt: HostRuntime) -> Result<(), Fail> {
         "SmolStrBuilder::inline_buffer": builder.inline_buffer().is_some();
         "SmolStrBuilder::eq": builder.eq(&large);
     }
-    Ok(())
 }
 
 #[test]
-fn collected(rt: HostRuntime) -> Result<(), Fail> {
+fn collected(rt: HostRuntime) {
     let alloc = rt.alloc();
-    let builder = builder_of(alloc, 100, full_text())?;
+    let builder = ok(&rt, builder_of(alloc, 100, full_text()));
     free! { &rt, alloc;
         "ValueAlloc::value_of": Global::value_of(builder).is_ok();
     }
-    Ok(())
 }
 
 #[test]
-fn items(rt: HostRuntime) -> Result<(), Fail> {
+fn items(rt: HostRuntime) {
     let alloc = rt.alloc();
     let strings = [
-        String::from_str(alloc, "ab")?,
-        String::from_str(alloc, "c")?,
+        ok_string(&rt, String::from_str(alloc, "ab")),
+        ok_string(&rt, String::from_str(alloc, "c")),
     ];
     let owned = [
-        String::from_str(alloc, "ab")?,
-        String::from_str(alloc, "c")?,
+        ok_string(&rt, String::from_str(alloc, "ab")),
+        ok_string(&rt, String::from_str(alloc, "c")),
     ];
     free! { &rt, alloc;
         "SmolStr::from_chars": SmolStr::from_chars(alloc, full_text().chars()).is_ok();
@@ -142,22 +150,32 @@ fn items(rt: HostRuntime) -> Result<(), Fail> {
         "SmolStr::from_string_refs": SmolStr::from_string_refs(alloc, strings.iter()).is_ok();
         "SmolStr::from_strings": SmolStr::from_strings(alloc, owned.into_iter()).is_ok();
     }
-    Ok(())
 }
 
 #[test]
-fn extended(rt: HostRuntime) -> Result<(), Fail> {
+fn extended(rt: HostRuntime) {
     let alloc = rt.alloc();
-    let strings = [String::from_str(alloc, "ab")?];
-    free! { &rt, alloc;
+    let strings = [ok_string(&rt, String::from_str(alloc, "ab"))];
+    refuse_all(alloc);
+    extend(&rt, alloc, &strings);
+    print(&rt, alloc);
+    check_not_refused(&rt, alloc);
+}
+
+fn extend(rt: &impl Abort, alloc: Global, strings: &[String]) {
+    rows! { rt;
         "SmolStrBuilder::extend_chars": SmolStrBuilder::new(alloc).extend_chars(full_text().chars()).is_ok();
         "SmolStrBuilder::extend_strs": SmolStrBuilder::new(alloc).extend_strs(["ab", "c"].into_iter()).is_ok();
         "SmolStrBuilder::extend_strings": SmolStrBuilder::new(alloc).extend_strings(strings.iter()).is_ok();
         "Piece::append_to": full_text().append_to(&mut SmolStrBuilder::new(alloc)).is_ok();
+    }
+}
+
+fn print(rt: &impl Abort, alloc: Global) {
+    rows! { rt;
         "ToSmolStr::to_smolstr": full_text().to_smolstr(alloc).is_ok();
         "format_smolstr!": format_smolstr!(alloc; "{}-{:>4}", "ab", 7).is_ok();
     }
-    Ok(())
 }
 
 #[test]
@@ -172,15 +190,14 @@ fn cases(rt: HostRuntime) {
 }
 
 #[test]
-fn replaced(rt: HostRuntime) -> Result<(), Fail> {
+fn replaced(rt: HostRuntime) {
     let alloc = rt.alloc();
-    let long = repeated(alloc, "a", 5000)?;
+    let long = ok_string(&rt, repeated(alloc, "a", 5000));
     let long = long.as_str();
     free! { &rt, alloc;
         "StrExt::replace_smolstr": long.replace_smolstr(alloc, "a", "").is_ok();
         "StrExt::replacen_smolstr": full_text().replacen_smolstr(alloc, "aa", "b", 3).is_ok();
     }
-    Ok(())
 }
 
 #[test]
@@ -194,23 +211,34 @@ fn loops_over_bytes(rt: HostRuntime) {
 }
 
 #[test]
-fn streams(rt: HostRuntime) -> Result<(), Fail> {
+fn streams(rt: HostRuntime) {
     let alloc = rt.alloc();
-    let value = SmolStr::new(alloc, long_text())?;
+    let value = ok_value(&rt, SmolStr::new(alloc, long_text()));
+    let mut out = ok(&rt, Vec::with_capacity(alloc, 100));
+    refuse_all(alloc);
+    read_streams(&rt, alloc);
+    write_streams(&rt, &value, &mut out);
+    check_not_refused(&rt, alloc);
+}
+
+fn read_streams(rt: &impl Abort, alloc: Global) {
     let mut form = b"\x02\0\0\0ab".as_slice();
     let mut limited = form;
     let mut rest = long_text().as_bytes();
     let mut buffer = [0; 7];
-    let mut out = Vec::with_capacity(alloc, 100)?;
-    free! { &rt, alloc;
+    rows! { rt;
         "borsh::length_prefix": length_prefix(5000).is_some();
         "borsh::from_wire": from_wire(alloc, b"\x02\0\0\0ab").is_ok();
         "borsh::split_wire": split_wire(alloc, b"\x02\0\0\0ab").is_ok();
         "BorshDeserialize::deserialize_reader": SmolStr::deserialize_reader(alloc, &mut form).is_ok();
         "borsh::deserialize_limited": deserialize_limited(alloc, &mut limited, 2).is_ok();
         "stream::fill": fill(&mut rest, &mut buffer).is_ok();
-        "stream::write_steps": write_steps(&mut out, b"ab").is_ok();
-        "BorshSerialize::serialize": value.serialize(&mut out).is_ok();
     }
-    Ok(())
+}
+
+fn write_streams(rt: &impl Abort, value: &SmolStr, out: &mut Vec<u8>) {
+    rows! { rt;
+        "stream::write_steps": write_steps(out, b"ab").is_ok();
+        "BorshSerialize::serialize": value.serialize(out).is_ok();
+    }
 }

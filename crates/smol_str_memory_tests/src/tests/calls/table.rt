@@ -6,8 +6,9 @@
 //! `without_memory`.
 use super::inputs::Start;
 use super::things::{
-    Thing, always, appended, built, compare, copied, made, made_or, of_cow, owned, read_builder,
-    read_value, scan, shared,
+    Thing, always, appended, built, compare, copied, holds, is_builder_read, is_read, is_scanned,
+    made, made_or_boxed, made_or_builder, made_or_string, of_cow, owned, printed, shared,
+    validated, written,
 };
 use smol_str::kernel::AsciiCase;
 use smol_str::{
@@ -18,6 +19,7 @@ use std::borrow::CowStr;
 use std::boxed::BoxedStr;
 use std::fmt::Write;
 use std::rc::RcStr;
+use std::slice::from_ref;
 use test_support::by_std::{
     AND_CHAR, Asks, BUILT, BUILT_TO_SIZE, BY_CHAR, BY_TEXT, KEPT, NONE, OWNED, PRINTED, SHARED,
     TWICE, WITH_ROOM,
@@ -92,15 +94,15 @@ macro_rules! of_text {
         "SmolStr::from_str", Takes::Text, NONE, NONE, SHARED, Nothing:
             made(SmolStr::from_str($alloc, $text));
         "SmolStr::from_utf8", Takes::Text, NONE, NONE, SHARED, Nothing:
-            made(SmolStr::from_utf8($alloc, $text.as_bytes()));
+            validated(SmolStr::from_utf8($alloc, $text.as_bytes()));
         "SmolStr::from_utf8_unchecked", Takes::Text, NONE, NONE, SHARED, Nothing:
             made(SmolStr::from_utf8_unchecked($alloc, $text.as_bytes()));
         "SmolStr::from_cow_str, borrowed", Takes::Text, NONE, NONE, SHARED, Nothing:
             of_cow(SmolStr::from_cow_str($alloc, CowStr::Borrowed($text)));
         "ToSmolStr::to_smolstr", Takes::Text, NONE, WITH_ROOM, PRINTED, Nothing:
-            made($text.to_smolstr($alloc));
+            printed($text.to_smolstr($alloc));
         "format_smolstr!", Takes::Text, NONE, WITH_ROOM, PRINTED, Nothing:
-            made(format_smolstr!($alloc; "{}", $text));
+            printed(format_smolstr!($alloc; "{}", $text));
     } };
 }
 
@@ -124,7 +126,7 @@ macro_rules! of_nothing {
         "SmolStrBuilder::with_capacity", Takes::Nothing, NONE, OWNED, OWNED, Nothing:
             built(SmolStrBuilder::with_capacity($alloc, $text.len()));
         "the kernel", Takes::Nothing, NONE, NONE, NONE, Nothing:
-            scan($text);
+            holds(is_scanned($text));
     } };
 }
 
@@ -133,7 +135,7 @@ macro_rules! of_owned {
         "SmolStr::from_string_ref", Takes::Owned, NONE, NONE, SHARED, Nothing:
             made(SmolStr::from_string_ref($alloc, &$owned));
         "SmolStr::from_string", Takes::Owned, NONE, NONE, SHARED, Text:
-            made_or(SmolStr::from_string($alloc, $owned).map_err(|s| Thing::Owned(s)));
+            made_or_string(SmolStr::from_string($alloc, $owned));
         "SmolStr::from_owned", Takes::Owned, NONE, NONE, KEPT, Nothing:
             made(SmolStr::from_owned($owned));
         "SmolStr::from_cow_str, owned", Takes::Owned, NONE, NONE, SHARED, Text:
@@ -144,7 +146,7 @@ macro_rules! of_owned {
 macro_rules! of_boxed {
     ($read:ident!($of:expr), $alloc:ident, $boxed:ident) => { $read! { $of;
         "SmolStr::from_boxed_str", Takes::Boxed, NONE, NONE, SHARED, Text:
-            made_or(SmolStr::from_boxed_str($alloc, $boxed).map_err(|s| Thing::Boxed(s)));
+            made_or_boxed(SmolStr::from_boxed_str($alloc, $boxed));
     } };
 }
 
@@ -164,14 +166,14 @@ macro_rules! of_value {
         "SmolStr::into_rc_str", Takes::Value, SHARED, SHARED, NONE, Text:
             shared($value.into_rc_str($alloc));
         "a value read", Takes::Value, NONE, NONE, NONE, Nothing:
-            read_value(&$value);
+            holds(is_read(&$value));
     } };
 }
 
 macro_rules! of_pair {
     ($read:ident!($of:expr), $value:ident, $string:ident) => { $read! { $of;
         "comparisons", Takes::Pair, NONE, NONE, NONE, Nothing:
-            compare(&$value, &$string);
+            { compare($value, &$string); Ok(Thing::Nothing) };
     } };
 }
 
@@ -186,9 +188,9 @@ macro_rules! appends {
         "SmolStrBuilder::push_str, first", Takes::Append(Start::Empty), NONE, WITH_ROOM, WITH_ROOM, Empty:
             appended($builder.push_str($text), $builder);
         "SmolStrBuilder::write_str", Takes::Append(Start::Text), TWICE, BY_TEXT, BY_TEXT, Text:
-            appended($builder.write_str($text), $builder);
+            written($builder.write_str($text), $builder);
         "SmolStrBuilder::write_fmt", Takes::Append(Start::Text), TWICE, BY_TEXT, BY_TEXT, Text:
-            appended($builder.write_fmt($text), $builder);
+            written($builder.write_fmt($text), $builder);
     } };
 }
 
@@ -197,26 +199,26 @@ macro_rules! of_builder {
         "SmolStrBuilder::clone", Takes::Builder(Start::Text), NONE, OWNED, OWNED, Text:
             copied($builder.clone(), $builder);
         "a builder read", Takes::Builder(Start::Text), NONE, NONE, NONE, Nothing:
-            read_builder(&$builder);
+            holds(is_builder_read(&$builder));
         "SmolStrBuilder::finish", Takes::Builder(Start::Text), NONE, NONE, SHARED, Text:
-            made_or($builder.finish().map_err(|b| Thing::Builder(b)));
+            made_or_builder($builder.finish());
         "SmolStrBuilder::finish, large", Takes::Builder(Start::Large), NONE, NONE, SHARED, Text:
-            made_or($builder.finish().map_err(|b| Thing::Builder(b)));
+            made_or_builder($builder.finish());
         "SmolStr::from_builder", Takes::Builder(Start::Text), NONE, NONE, SHARED, Text:
-            made_or(SmolStr::from_builder($builder).map_err(|b| Thing::Builder(b)));
+            made_or_builder(SmolStr::from_builder($builder));
         "SmolStrBuilder::into_value", Takes::Builder(Start::Text), NONE, NONE, KEPT, Nothing:
             made($builder.into_value());
         "format::finished", Takes::Builder(Start::Text), NONE, NONE, KEPT, Nothing:
-            made(finished($builder));
+            printed(finished($builder));
     } };
 }
 
 macro_rules! of_steps {
-    ($read:ident!($of:expr), $alloc:ident, $capacity:ident, $steps:ident) => { $read! { $of;
+    ($read:ident!($of:expr), $alloc:ident, $capacity:ident, $step:ident) => { $read! { $of;
         "build", Takes::Steps, NONE, WITH_ROOM, BUILT, Nothing:
-            made(build($alloc, $capacity, &$steps));
+            made(build($alloc, $capacity, from_ref(&$step)));
         "build, to size", Takes::StepsToSize, NONE, OWNED, BUILT_TO_SIZE, Nothing:
-            made(build($alloc, $capacity, &$steps));
+            made(build($alloc, $capacity, from_ref(&$step)));
     } };
 }
 
@@ -231,7 +233,7 @@ pub static TABLES: [&[Row]; 10] = [
     of_pair!(rows!(0), value, string),
     appends!(rows!(0), builder, text),
     of_builder!(rows!(0), builder),
-    of_steps!(rows!(0), alloc, capacity, steps),
+    of_steps!(rows!(0), alloc, capacity, step),
 ];
 
 pub fn of_text(alloc: Global, call: &str, text: &str) -> Result<Thing, Thing> {
@@ -258,7 +260,7 @@ pub fn of_value(alloc: Global, call: &str, value: SmolStr) -> Result<Thing, Thin
     of_value!(made_by!(call), alloc, value)
 }
 
-pub fn of_pair(call: &str, value: SmolStr, string: String) -> Result<Thing, Thing> {
+pub fn of_pair(call: &str, value: &SmolStr, string: String) -> Result<Thing, Thing> {
     of_pair!(made_by!(call), value, string)
 }
 
@@ -274,7 +276,8 @@ pub fn of_steps(
     alloc: Global,
     call: &str,
     capacity: usize,
-    steps: [Step; 1],
+    string: String,
 ) -> Result<Thing, Thing> {
-    of_steps!(made_by!(call), alloc, capacity, steps)
+    let step = Step::PushStr(string);
+    of_steps!(made_by!(call), alloc, capacity, step)
 }

@@ -1,13 +1,14 @@
 //! What calls make and give back.
 use smol_str::kernel::{AsciiCase, convert_while_ascii, next_match};
-use smol_str::{INLINE_CAP, Place, SmolStr, SmolStrBuilder};
-use std::alloc::{AllocError, Global};
+use smol_str::{FormatError, FromUtf8Fault, INLINE_CAP, Place, SmolStr, SmolStrBuilder};
+use std::alloc::AllocError;
 use std::borrow::CowStr;
 use std::boxed::BoxedStr;
+use std::fmt;
 use std::rc::RcStr;
 use test_support::texts::long_text;
 
-/// What a call made, or gave back.
+/// What a call takes beside a text, made, or gave back.
 #[derive(Drop)]
 pub enum Thing {
     Nothing,
@@ -16,8 +17,6 @@ pub enum Thing {
     Owned(String),
     Boxed(BoxedStr),
     Shared(RcStr),
-    /// The borrowed text that was handed in.
-    Lent,
 }
 
 pub fn place_of(thing: &Thing) -> Option<Place> {
@@ -31,7 +30,7 @@ pub fn place_of(thing: &Thing) -> Option<Place> {
 
 pub fn text_of<'a>(thing: &'a Thing) -> Option<&'a str> {
     match thing {
-        Thing::Nothing | Thing::Lent => None,
+        Thing::Nothing => None,
         Thing::Value(value) => Some(value.as_str()),
         Thing::Builder(builder) => Some(builder.as_str()),
         Thing::Owned(string) => Some(string.as_str()),
@@ -46,18 +45,53 @@ pub fn always(value: SmolStr) -> Result<Thing, Thing> {
 }
 
 /// What a call returns that gives nothing back.
-pub fn made<E: Drop>(answer: Result<SmolStr, E>) -> Result<Thing, Thing> {
-    made_or(answer.map_err(|_| Thing::Nothing))
+pub fn made(answer: Result<SmolStr, AllocError>) -> Result<Thing, Thing> {
+    match answer {
+        Ok(value) => Ok(Thing::Value(value)),
+        Err(_) => Err(Thing::Nothing),
+    }
 }
 
-pub fn made_or(answer: Result<SmolStr, Thing>) -> Result<Thing, Thing> {
-    answer.map(|value| Thing::Value(value))
+pub fn printed(answer: Result<SmolStr, FormatError>) -> Result<Thing, Thing> {
+    match answer {
+        Ok(value) => Ok(Thing::Value(value)),
+        Err(_) => Err(Thing::Nothing),
+    }
 }
 
+pub fn validated(answer: Result<SmolStr, FromUtf8Fault>) -> Result<Thing, Thing> {
+    match answer {
+        Ok(value) => Ok(Thing::Value(value)),
+        Err(_) => Err(Thing::Nothing),
+    }
+}
+
+pub fn made_or_string(answer: Result<SmolStr, String>) -> Result<Thing, Thing> {
+    match answer {
+        Ok(value) => Ok(Thing::Value(value)),
+        Err(back) => Err(Thing::Owned(back)),
+    }
+}
+
+pub fn made_or_boxed(answer: Result<SmolStr, BoxedStr>) -> Result<Thing, Thing> {
+    match answer {
+        Ok(value) => Ok(Thing::Value(value)),
+        Err(back) => Err(Thing::Boxed(back)),
+    }
+}
+
+pub fn made_or_builder(answer: Result<SmolStr, SmolStrBuilder>) -> Result<Thing, Thing> {
+    match answer {
+        Ok(value) => Ok(Thing::Value(value)),
+        Err(back) => Err(Thing::Builder(back)),
+    }
+}
+
+/// The borrowed text that was handed in is no thing.
 pub fn of_cow(answer: Result<SmolStr, CowStr<'_>>) -> Result<Thing, Thing> {
     match answer {
         Ok(value) => Ok(Thing::Value(value)),
-        Err(CowStr::Borrowed(_)) => Err(Thing::Lent),
+        Err(CowStr::Borrowed(_)) => Err(Thing::Nothing),
         Err(CowStr::Owned(string)) => Err(Thing::Owned(string)),
     }
 }
@@ -79,7 +113,14 @@ pub fn copied(
     }
 }
 
-pub fn appended<E: Drop>(answer: Result<(), E>, builder: SmolStrBuilder) -> Result<Thing, Thing> {
+pub fn appended(answer: Result<(), AllocError>, builder: SmolStrBuilder) -> Result<Thing, Thing> {
+    match answer {
+        Ok(()) => Ok(Thing::Builder(builder)),
+        Err(_) => Err(Thing::Builder(builder)),
+    }
+}
+
+pub fn written(answer: fmt::Result, builder: SmolStrBuilder) -> Result<Thing, Thing> {
     match answer {
         Ok(()) => Ok(Thing::Builder(builder)),
         Err(_) => Err(Thing::Builder(builder)),
@@ -100,46 +141,46 @@ pub fn shared(answer: Result<RcStr, SmolStr>) -> Result<Thing, Thing> {
     }
 }
 
-pub fn read_value(value: &SmolStr) -> Result<Thing, Thing> {
+/// What a call returns that makes no thing; one that is not so fails.
+pub fn holds(is_so: bool) -> Result<Thing, Thing> {
+    if is_so {
+        Ok(Thing::Nothing)
+    } else {
+        Err(Thing::Nothing)
+    }
+}
+
+pub fn is_read(value: &SmolStr) -> bool {
     let text = value.as_str();
     let is_whole = text.len() == value.len()
         && value.is_empty() == (value.len() == 0)
         && value.is_ascii() == text.is_ascii();
     let is_inline = value.inline_buffer().is_some() && value.place() == Place::Inline;
-    if is_whole && !(is_inline && value.is_heap_allocated()) {
-        return Ok(Thing::Nothing);
-    }
-    Err(Thing::Nothing)
+    is_whole && !(is_inline && value.is_heap_allocated())
 }
 
-pub fn read_builder(builder: &SmolStrBuilder) -> Result<Thing, Thing> {
+pub fn is_builder_read(builder: &SmolStrBuilder) -> bool {
     let is_short = builder.as_str().len() <= INLINE_CAP && builder.len() <= INLINE_CAP;
-    if is_short || builder.inline_buffer().is_none() && !builder.is_empty() {
-        return Ok(Thing::Nothing);
-    }
-    Err(Thing::Nothing)
+    is_short || builder.inline_buffer().is_none() && !builder.is_empty()
 }
 
 /// Both calls of the kernel; a text longer than a buffer is searched alone.
-pub fn scan(text: &str) -> Result<Thing, Thing> {
+pub fn is_scanned(text: &str) -> bool {
     let is_found = text.is_char_boundary(0) && next_match(text, 0, "a").is_some();
     let is_ascii = text.len() > INLINE_CAP
         || convert_while_ascii(text, AsciiCase::Lower).1 == text.len();
-    if is_found == text.contains('a') && is_ascii {
-        return Ok(Thing::Nothing);
-    }
-    Err(Thing::Nothing)
+    is_found == text.contains('a') && is_ascii
 }
 
-pub fn compare(value: &SmolStr, string: &String) -> Result<Thing, Thing> {
+/// Makes each comparison.
+pub fn compare(value: &SmolStr, string: &String) {
     let pinned = SmolStr::new_static(long_text());
-    let _ = (
-        *value == pinned,
-        value.cmp(&pinned),
-        value.partial_cmp(&pinned),
-    );
-    let _ = (value.eq_string(string), value.cmp_string(string));
+    let _ = *value == pinned;
+    let _ = value.cmp(&pinned);
+    let _ = value.partial_cmp(&pinned);
+    let _ = value.eq_string(string);
+    let _ = value.cmp_string(string);
     let text = string.as_str();
-    let _ = (value.eq_str(text), value.cmp_str(text));
-    Ok(Thing::Nothing)
+    let _ = value.eq_str(text);
+    let _ = value.cmp_str(text);
 }
