@@ -21,7 +21,8 @@ def library(crate):
     folder, at = CRATES / crate / "out" / "rlib" / f"{crate}.rlib", f"crates/{crate}"
     if not (folder / "format").is_file():
         raise ValueError(f"{at} has no built library: ./check leaves one, and so does rt lib in that folder")
-    built = (folder / "format").stat().st_mtime
+    # when it was put there: the files of one that an earlier run kept are as old as that run
+    built = folder.stat().st_mtime
     sources = (path for part in ("src", "specs", "proofs") for path in (CRATES / crate / part).rglob("*.*"))
     if any(path.stat().st_mtime > built for path in sources):
         raise ValueError(f"{at}/out/rlib is older than the sources: remove it, and run rt lib in {at}")
