@@ -19,6 +19,10 @@ class Functions:
             for name in TYPE.findall(file.read_text(encoding="utf-8")):
                 self.homes.setdefault(name, self.module(file))
 
+    def paths(self):
+        """The paths of these files in the crate."""
+        return [str(file.relative_to(self.crate)) for file in self.files]
+
     def module(self, file):
         """The path of a file's module, which begins with the crate's name."""
         parts = file.relative_to(self.crate / "src").with_suffix("").parts
@@ -82,6 +86,19 @@ class Functions:
                 opens, end = _braces(lines, at, head[1])
                 found |= {name: (opens + 1, end)} if opens < end else {}
         return found
+
+    def is_generic(self, path, name):
+        """Has a function of a file, or its impl, parameters that are types?"""
+        lines = (self.crate / path).read_text(encoding="utf-8").split("\n")
+        at = [*self.named(path)].index(name)
+        while not FUNCTION.match(lines[at]):
+            at += 1
+        opens = max((it for it in range(at) if lines[it].startswith(("impl", "}"))), default=at)
+        outer = _header(lines, opens) if FUNCTION.match(lines[at])[1] else ""
+        parameters = _parameters(outer.removeprefix("impl"))[0] if outer.startswith("impl") else set()
+        head = re.split(r" (?:requires|ensures|ghost) ", _header(lines, at))[0]
+        own = _parameters(head[re.search(r"fn \w+", head).end():])[0]
+        return bool(parameters or own or re.search(r"\bimpl\b", head))
 
     def impl_alone(self, path, name):
         """Of a method that is the only function of its impl, of a trait of the same file: the trait's name, the lines of
