@@ -3,7 +3,7 @@ ghost use Rattle.std.specs.Prelude.{◌≡◌};
 ghost use Rattle.smol_tokens_core.specs.ModeWords.{asked_mode, mode_of_word};
 
 /// What the program writes of its input.
-#[derive(Debug, Drop)]
+#[derive(Debug)]
 pub enum Mode {
     /// For each line, the place of its text, its length in bytes and the text.
     Show,
@@ -17,6 +17,16 @@ pub enum Mode {
     Replace(String, String),
     /// For each different line how often it stands, and the line, in order of first sight.
     Tokens,
+}
+
+// By hand it is one call in each proof; a derived one would be a case for each mode there.
+impl Drop for Mode {
+    fn drop(self) {
+        match self {
+            Mode::Replace(_from, _to) => {}
+            Mode::Show | Mode::Join | Mode::Lower | Mode::Upper | Mode::Tokens => {}
+        }
+    }
 }
 
 /// Reads the words after the program's name: none, or the word of a mode, or `replace` and its two

@@ -26,12 +26,12 @@ const BESIDE_TEXT: usize = 11;
 pub fn report_on_input<S: BuildHasher + Drop>(
     alloc: Global,
     state: S,
-    mode: Mode,
+    mode: &Mode,
     input: &[u8],
 ) -> Result<String, RunFault>
     ensures utf8 { OnOk result (IsUtf8 input.now) }
-    ensures ok { IfOk result (λ out. string_bytes out ≡ encode_utf8_all (report mode (chars input.now))) }
-    ensures fault { IfErr result (AfterInputFault mode input.now) }
+    ensures ok { IfOk result (λ out. string_bytes out ≡ encode_utf8_all (report mode.now (chars input.now))) }
+    ensures fault { IfErr result (AfterInputFault mode.now input.now) }
 {
     let Ok(text) = str::from_utf8(input) else {
         return Err(RunFault::NotUtf8);
@@ -46,16 +46,16 @@ pub fn report_on_input<S: BuildHasher + Drop>(
 fn make_report<S: BuildHasher + Drop>(
     alloc: Global,
     state: S,
-    mode: Mode,
+    mode: &Mode,
     text: &str,
 ) -> Result<String, RunFault>
-    ensures ok { IfOk result (λ out. string_bytes out ≡ encode_utf8_all (report mode (chars text.now))) }
-    ensures fault { IfErr result (HasNoReport mode (chars text.now)) }
+    ensures ok { IfOk result (λ out. string_bytes out ≡ encode_utf8_all (report mode.now (chars text.now))) }
+    ensures fault { IfErr result (HasNoReport mode.now (chars text.now)) }
 {
-    let report = match &mode {
+    let report = match mode {
         Mode::Join => join(alloc, text)?,
         Mode::Tokens => count_lines(alloc, state, text)?,
-        _ => lines_report(alloc, &mode, text)?,
+        _ => lines_report(alloc, mode, text)?,
     };
     Ok(report)
 }

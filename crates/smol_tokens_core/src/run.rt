@@ -1,5 +1,9 @@
 //! The program, over any reader and writer.
-ghost use Rattle.std.specs.Prelude.{OnOk, IfErr};
+ghost use Rattle.std.specs.Prelude.{◌≡◌, OnOk, IfOk, IfErr, IsUtf8, encode_utf8_all};
+ghost use Rattle.std.specs.Str.{chars};
+ghost use Rattle.std.specs.String.{string_bytes};
+ghost use Rattle.smol_tokens_core.specs.Report.{report};
+ghost use Rattle.smol_tokens_core.specs.ReportFaults.{AfterInputFault};
 ghost use Rattle.smol_tokens_core.specs.Faults.{WroteReport, AfterFault};
 
 use crate::fault::RunFault;
@@ -33,7 +37,21 @@ pub fn run<S: BuildHasher + Drop, R: Read, W: Write>(
         (W.contents writer.old) (W.contents writer.new)) }
 {
     let input = read_all(alloc, reader)?;
-    let report = report_on_input(alloc, state, mode, input.as_slice())?;
+    let report = report_on_owned(alloc, state, mode, input)?;
     write_steps(writer, report.as_bytes())?;
     Ok(())
+}
+
+/// The report on an input that is held no longer: `run` keeps the report alone, so that each of its exits drops little.
+fn report_on_owned<S: BuildHasher + Drop>(
+    alloc: Global,
+    state: S,
+    mode: Mode,
+    input: Vec<u8>,
+) -> Result<String, RunFault>
+    ensures utf8 { OnOk result (IsUtf8 input.items) }
+    ensures ok { IfOk result (λ out. string_bytes out ≡ encode_utf8_all (report mode (chars input.items))) }
+    ensures fault { IfErr result (AfterInputFault mode input.items) }
+{
+    report_on_input(alloc, state, &mode, input.as_slice())
 }

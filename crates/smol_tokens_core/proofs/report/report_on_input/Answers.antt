@@ -8,6 +8,6 @@ pub returns-clause-fault : goal.returns-clause-fault
 returns-clause-fault g c =
     let text = c.in-Ok.ensures.cases in
     let none = rw text.0 at c.make_report.ensures.fault in
-    IfErr-weaker c.make_report.result (HasNoReport c.args.mode (chars c.args.input.now))
-    (AfterInputFault c.args.mode c.args.input.now)
-    (λ fault h. after-no_report_on_text c.args.mode c.args.input.now fault text.1 h) none
+    IfErr-weaker c.make_report.result (HasNoReport c.args.mode.now (chars c.args.input.now))
+    (AfterInputFault c.args.mode.now c.args.input.now)
+    (λ fault h. after-no_report_on_text c.args.mode.now c.args.input.now fault text.1 h) none

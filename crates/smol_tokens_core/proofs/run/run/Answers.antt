@@ -11,8 +11,7 @@ returns-in_err-input-clause-fault g c =
 
 pub returns-in_err-report-clause-fault : goal.returns-in_err-report-clause-fault
 returns-in_err-report-clause-fault g c =
-    let none = rw c.as_slice.ensures.value at c.in_err-report.ensures.fault in
     let after = after-no_report c.args.mode (g.R.Read.remaining c.args.reader.now)
     (g.R.Read.remaining c.read_all.new.reader) (g.W.Write.contents c.args.writer.now) c.in_ok-input.input.items
-    c.in_err-report.field-0.0 c.in_ok-input.ensures.end c.in_ok-input.ensures.whole none in
+    c.in_err-report.field-0.0 c.in_ok-input.ensures.end c.in_ok-input.ensures.whole c.in_err-report.ensures.fault in
     search (rules, after)
