@@ -1,9 +1,12 @@
-use Rattle.std.proofs.Common.{arith, rules}
+use Rattle.std.proofs.Common.{arith}
 use Rattle.smol_str.proofs.WireLemmas.Borsh.{is_read-of_body, Consumes-of_body, size-of_body, AfterLimitedFault-above, AfterLimitedFault-of_body}
 use Rattle.smol_str.proofs.borsh.deserialize_limited.Goals as goal
 
 pub returns-then-size-limit-clause-fault : goal.returns-then-size-limit-clause-fault
-returns-then-size-limit-clause-fault g c = search (rules, arith, AfterLimitedFault-above)
+returns-then-size-limit-clause-fault g c =
+    let size = rw c.in-Some.is at c.in_ok-size.ensures.ok in
+    AfterLimitedFault-above c.in-Some.size size.0 (g.R.Read.remaining c.args.reader.now)
+    (g.R.Read.remaining c.read_size.new.reader) c.args.limit size.1 c.if-size-limit.true
 
 pub returns-in_err-read_body-clause-fault : goal.returns-in_err-read_body-clause-fault
 returns-in_err-read_body-clause-fault g c =
@@ -12,10 +15,17 @@ returns-in_err-read_body-clause-fault g c =
     (omega (arith, c.if-size-limit.false)) c.in_err-read_body.ensures.fault
 
 pub returns-clause-ok : goal.returns-clause-ok
-returns-clause-ok g c = search (rules, arith, Consumes-of_body)
+returns-clause-ok g c =
+    let size = rw c.in-Some.is at c.in_ok-size.ensures.ok in
+    Consumes-of_body c.in-Some.size size.0 _ _ c.in_ok-read_body.field-0 c.in_ok-read_body.ensures.ok _ size.1
 
 pub returns-clause-value : goal.returns-clause-value
-returns-clause-value g c = search (rules, arith, is_read-of_body)
+returns-clause-value g c =
+    let size = rw c.in-Some.is at c.in_ok-size.ensures.ok in
+    is_read-of_body c.in-Some.size size.0 _ _ c.in_ok-read_body.field-0 c.in_ok-read_body.ensures.ok
 
 pub returns-clause-limited : goal.returns-clause-limited
-returns-clause-limited g c = search (rules, arith, size-of_body)
+returns-clause-limited g c =
+    let size = rw c.in-Some.is at c.in_ok-size.ensures.ok in
+    let same = size-of_body c.in-Some.size size.0 _ _ c.in_ok-read_body.field-0 c.in_ok-read_body.ensures.ok in
+    omega (arith, same, c.if-size-limit.false)

@@ -1,4 +1,4 @@
-use Rattle.smol_str.proofs.Common.{◌∙◌, rules}
+use Rattle.smol_str.proofs.Common.{◌∙◌}
 use Rattle.smol_str.proofs.WireLemmas.Borsh.{Appends-parts, failed-in_prefix, failed-in_bytes}
 use Rattle.smol_str.proofs.borsh.SmolStrBorshSerialize.serialize.Goals as goal
 
@@ -14,4 +14,6 @@ returns-in_err-write_steps-2-clause-fault g c =
     c.in_err-write_steps-2.ensures.beginning
 
 pub returns-clause-ok : goal.returns-clause-ok
-returns-clause-ok g c = search (rules, Appends-parts)
+returns-clause-ok g c =
+    Appends-parts _ _ _ (c.as_bytes-bytes.ensures.value ∙ c.as_str.ensures.bytes) c.in-Some.ensures _ _ _
+    c.in_ok-write_steps.ensures.ok c.in_ok-write_steps-2.ensures.ok
