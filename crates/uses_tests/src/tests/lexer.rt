@@ -1,67 +1,56 @@
 //! The lexer over sources of this repository: where the tokens lie, and what they ask the heap for.
-use super::same::{same, same_text};
-use super::sources::SOURCES;
+use super::same::{ok_value, ok_values, same_size, same_text};
+use super::sources::sources;
 use smol_str::{Place, SmolStr};
 use std::alloc::Global;
 use std::process::Abort;
-use std::test::Fail;
 use test_support::refuse::{can_refuse, count_requests, start_counts};
 use uses::lexer::{lex, there_and_back};
 
 #[test]
-fn own_sources(rt: HostRuntime) -> Result<(), Fail> {
-    for (source, counts) in SOURCES {
-        check_source(&rt, rt.alloc(), source, counts)?;
+fn own_sources(rt: HostRuntime) {
+    for &(source, counts) in sources() {
+        check_source(&rt, rt.alloc(), source, counts);
     }
-    Ok(())
 }
 
 /// So many of the tokens are inline, static and on the heap.
-fn check_source(
-    rt: &impl Abort,
-    alloc: Global,
-    source: &str,
-    counts: [usize; 3],
-) -> Result<(), Fail> {
-    let tokens = lex(alloc, source)?;
-    for (place, count) in [Place::Inline, Place::Static, Place::Heap]
-        .into_iter()
-        .zip(counts)
-    {
-        same(rt, &count_at(&tokens, place), &count, &place);
-    }
-    check_requests(rt, alloc, &tokens, counts[2])?;
-    let whole = there_and_back(alloc, source)?;
-    same_text(rt, whole.as_str(), source, &"there and back");
-    Ok(())
+fn check_source(rt: &impl Abort, alloc: Global, source: &str, [inline, fixed, heap]: [usize; 3]) {
+    let tokens = ok_values(rt, lex(alloc, source));
+    same_size(rt, count_at(&tokens, Place::Inline), inline, "inline");
+    same_size(rt, count_at(&tokens, Place::Static), fixed, "static");
+    same_size(rt, count_at(&tokens, Place::Heap), heap, "heap");
+    check_requests(rt, alloc, &tokens, heap);
+    let whole = ok_value(rt, there_and_back(alloc, source));
+    same_text(rt, whole.as_str(), source, "there and back");
 }
 
 /// How many tokens lie in the place.
 fn count_at(tokens: &[SmolStr], place: Place) -> usize {
-    tokens.iter().filter(|token| token.place() == place).count()
+    let mut count = 0usize;
+    for token in tokens {
+        if token.place() == place {
+            count = count.saturating_add(1);
+        }
+    }
+    count
 }
 
 /// Each token on the heap takes two requests, and no other takes any.
-fn check_requests(
-    rt: &impl Abort,
-    alloc: Global,
-    tokens: &[SmolStr],
-    on_heap: usize,
-) -> Result<(), Fail> {
+fn check_requests(rt: &impl Abort, alloc: Global, tokens: &[SmolStr], on_heap: usize) {
     let wanted = if can_refuse(alloc) {
         on_heap.saturating_mul(2)
     } else {
         0
     };
-    same(rt, &count_again(alloc, tokens)?, &wanted, &on_heap);
-    Ok(())
+    same_size(rt, count_again(rt, alloc, tokens), wanted, "requests");
 }
 
 /// The requests for memory of the tokens alone, made once more.
-fn count_again(alloc: Global, tokens: &[SmolStr]) -> Result<usize, Fail> {
+fn count_again(rt: &impl Abort, alloc: Global, tokens: &[SmolStr]) -> usize {
     start_counts(alloc);
     for token in tokens {
-        let _ = SmolStr::new(alloc, token.as_str())?;
+        drop(ok_value(rt, SmolStr::new(alloc, token.as_str())));
     }
-    Ok(count_requests(alloc) as usize)
+    count_requests(alloc) as usize
 }

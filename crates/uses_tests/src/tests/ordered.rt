@@ -1,7 +1,7 @@
 //! Sorted names, in the order of their characters.
-use super::same::{ok, same, same_text};
+use super::same::{holds, holds_in, ok_value, ok_values, same_size};
 use smol_str::SmolStr;
-use std::alloc::{AllocError, Global};
+use std::alloc::Global;
 use std::process::Abort;
 use uses::ordered::sorted_union;
 
@@ -9,27 +9,29 @@ use uses::ordered::sorted_union;
 fn a_union(rt: HostRuntime) {
     let left = ["b", "aa", "é"];
     let right = ["", "\u{10000}", "b", "\u{ffff}"];
-    let union = ok(&rt, union_of(rt.alloc(), &left, &right));
+    let left = values(&rt, rt.alloc(), &left);
+    let right = values(&rt, rt.alloc(), &right);
+    let union = ok_values(&rt, sorted_union(left, right));
     let wanted = ["", "aa", "b", "b", "é", "\u{ffff}", "\u{10000}"];
     check_texts(&rt, &union, &wanted);
 }
 
-fn union_of(alloc: Global, left: &[&str], right: &[&str]) -> Result<Vec<SmolStr>, AllocError> {
-    let left = values(alloc, left)?;
-    sorted_union(left, values(alloc, right)?)
-}
-
 fn check_texts(rt: &impl Abort, values: &[SmolStr], texts: &[&str]) {
-    same(rt, &values.len(), &texts.len(), &texts);
-    for (value, text) in values.iter().zip(texts.iter()) {
-        same_text(rt, value.as_str(), text, &texts);
+    same_size(rt, values.len(), texts.len(), "names");
+    for (index, &text) in texts.iter().enumerate() {
+        let is_there = matches!(values.get(index), Some(value) if value.as_str() == text);
+        holds(rt, is_there, &(index, text));
     }
 }
 
-fn values(alloc: Global, texts: &[&str]) -> Result<Vec<SmolStr>, AllocError> {
+fn values(rt: &impl Abort, alloc: Global, texts: &[&str]) -> Vec<SmolStr> {
     let mut values = Vec::new(alloc);
     for text in texts {
-        values.push(SmolStr::new(alloc, text)?)?;
+        push(rt, &mut values, ok_value(rt, SmolStr::new(alloc, text)));
     }
-    Ok(values)
+    values
+}
+
+fn push(rt: &impl Abort, values: &mut Vec<SmolStr>, value: SmolStr) {
+    holds_in(rt, values.push(value).is_ok(), "a value");
 }

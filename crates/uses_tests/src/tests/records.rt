@@ -1,10 +1,9 @@
 //! Records: the bytes of one, read back both ways, and cut at each place.
-use super::same::{holds, ok, same, same_text};
+use super::same::{holds, holds_in, same_text};
 use smol_str::SmolStr;
 use smol_str::borsh::DecodeFault;
 use std::alloc::Global;
 use std::process::Abort;
-use std::test::Fail;
 use uses::records::{Field, field_from_wire, read_field, write_field};
 
 /// A size of four bytes and then a text, twice, with two bytes after it.
@@ -14,12 +13,11 @@ const BYTES: &[u8] = b"\x02\0\0\0if\x03\0\0\0\xc3\xa9xyz";
 const LEN: usize = 13;
 
 #[test]
-fn a_field_is_read_back(rt: HostRuntime) -> Result<(), Fail> {
-    let alloc = rt.alloc();
+fn a_field_is_read_back(rt: HostRuntime) {
     let mut reader = BYTES;
-    check_field(&rt, read_field(alloc, &mut reader))?;
-    same(&rt, &reader, &b"yz".as_slice(), &"rest");
-    check_field(&rt, find_field(alloc, BYTES))
+    check_field(&rt, read_field(rt.alloc(), &mut reader));
+    holds_in(&rt, reader == b"yz".as_slice(), "rest");
+    check_field(&rt, find_field(rt.alloc(), BYTES))
 }
 
 #[test]
@@ -29,8 +27,9 @@ fn the_bytes_of_a_field(rt: HostRuntime) {
         value: SmolStr::new_inline("éx"),
     };
     let mut written = Vec::new(rt.alloc());
-    holds(&rt, write_field(&mut written, &field).is_ok(), &"written");
-    holds(&rt, Some(written.as_slice()) == BYTES.get(..LEN), &"bytes");
+    let is_written = write_field(&mut written, &field).is_ok();
+    holds_in(&rt, is_written, "written");
+    holds_in(&rt, Some(written.as_slice()) == BYTES.get(..LEN), "bytes");
 }
 
 /// The field that the bytes begin with.
@@ -39,23 +38,27 @@ fn find_field(alloc: Global, bytes: &[u8]) -> Result<Field, DecodeFault> {
     Ok(field)
 }
 
-fn check_field(rt: &impl Abort, read: Result<Field, DecodeFault>) -> Result<(), Fail> {
-    let Ok(field) = read else {
-        return Err("the record was not read".into());
-    };
-    same_text(rt, field.name.as_str(), "if", &"name");
-    same_text(rt, field.value.as_str(), "éx", &"value");
-    Ok(())
+fn check_field(rt: &impl Abort, read: Result<Field, DecodeFault>) {
+    match read {
+        Ok(field) => {
+            same_text(rt, field.name.as_str(), "if", "name");
+            same_text(rt, field.value.as_str(), "éx", "value")
+        }
+        Err(_) => holds_in(rt, false, "the record was not read"),
+    }
 }
 
 #[test]
 fn a_cut_field_has_ended(rt: HostRuntime) {
-    let alloc = rt.alloc();
     for len in 0..LEN {
-        let whole = ok(&rt, BYTES.get(..len).ok_or("too few bytes"));
-        let mut reader = whole;
-        holds(&rt, has_ended(read_field(alloc, &mut reader)), &len);
-        holds(&rt, has_ended(find_field(alloc, whole)), &len);
+        let cut = BYTES.get(..len).unwrap_or(BYTES);
+        let mut reader = cut;
+        let is_ended = has_ended(read_field(rt.alloc(), &mut reader));
+        holds(
+            &rt,
+            is_ended && has_ended(find_field(rt.alloc(), cut)),
+            &(len, is_ended),
+        );
     }
 }
 

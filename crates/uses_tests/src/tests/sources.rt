@@ -79,8 +79,12 @@ fn reports(rt: HostRuntime) -> Result<(), Fail> {
 const LONG: &str = r#"let a_name_of_more_bytes_than_a_value_has_room_for =
                                             1;"#;
 
-pub const SOURCES: [(&str, [usize; 3]); 3] = [
+static SOURCES: [(&str, [usize; 3]); 3] = [
     (PRINT, [362, 0, 0]),
     (JOIN, [642, 0, 0]),
     (LONG, [6, 1, 1]),
 ];
+
+pub fn sources() -> &'static [(&'static str, [usize; 3])] {
+    &SOURCES
+}

@@ -1,5 +1,5 @@
 //! The symbol table: the ids of names that come again, look-ups without memory, and memory refused.
-use super::same::{ok, same};
+use super::same::{holds, holds_in};
 use std::alloc::Global;
 use std::process::Abort;
 use std::test::Fail;
@@ -28,27 +28,31 @@ fn each_name_has_its_id(rt: HostRuntime) {
 }
 
 fn check_id(rt: &impl Abort, symbols: &mut Symbols, name: &str, id: usize) {
-    same(rt, &ok(rt, symbols.intern(name)), &id, &name);
+    same_id(rt, symbols.intern(name).ok(), Some(id), name);
+}
+
+/// The name has this id, or none.
+fn same_id(rt: &impl Abort, found: Option<usize>, wanted: Option<usize>, name: &str) {
+    holds(rt, found == wanted, &(name, found, wanted));
 }
 
 // However long a text is, no value is made to look it up, nor to intern it again.
 #[test]
-fn found_without_memory(rt: HostRuntime) -> Result<(), Fail> {
+fn found_without_memory(rt: HostRuntime) {
     let alloc = rt.alloc();
-    let mut symbols = table_of_one(&rt, alloc)?;
+    let mut symbols = table_of_one(&rt, alloc);
     check_id(&rt, &mut symbols, long_text(), 1);
     refuse_all(alloc);
-    let found = [
-        symbols.find("if"),
-        symbols.find(long_text()),
-        symbols.find("else"),
-    ];
+    let short = symbols.find("if");
+    let long = symbols.find(long_text());
+    let unknown = symbols.find("else");
     let again = symbols.intern(long_text()).ok();
     let was_refused = end_refusals(alloc);
-    same(&rt, &found, &[Some(0), Some(1), None], &"found");
-    same(&rt, &again, &Some(1), &"interned again");
-    same(&rt, &was_refused, &false, &"a look-up makes a request");
-    Ok(())
+    same_id(&rt, short, Some(0), "if");
+    same_id(&rt, long, Some(1), "found");
+    same_id(&rt, unknown, None, "else");
+    same_id(&rt, again, Some(1), "interned again");
+    holds_in(&rt, !was_refused, "a look-up makes a request");
 }
 
 // After a refusal the table is as before, and takes another name.
@@ -58,21 +62,21 @@ fn each_request_in_turn(rt: HostRuntime) -> Result<(), Fail> {
     let asked = each_refused_by_value(
         alloc,
         "Symbols::intern",
-        || table_of_one(&rt, alloc),
-        |symbols| interned(symbols),
+        || Ok(table_of_one(&rt, alloc)),
+        interned,
         |ended| {
             check_interned(&rt, ended);
             Ok(())
         },
     )?;
-    same(&rt, &(asked.requests > 0), &can_refuse(alloc), &"requests");
+    holds_in(&rt, (asked.requests > 0) == can_refuse(alloc), "requests");
     Ok(())
 }
 
-fn table_of_one(rt: &impl Abort, alloc: Global) -> Result<Symbols, Fail> {
+fn table_of_one(rt: &impl Abort, alloc: Global) -> Symbols {
     let mut symbols = Symbols::with_hasher(alloc, fixed_state());
     check_id(rt, &mut symbols, "if", 0);
-    Ok(symbols)
+    symbols
 }
 
 /// The new id, and the table, also where it was refused.
@@ -86,7 +90,7 @@ fn interned(mut symbols: Symbols) -> Result<(Symbols, usize), Symbols> {
 fn check_interned(rt: &impl Abort, ended: Result<(Symbols, usize), Symbols>) {
     match ended {
         Ok((mut symbols, id)) => {
-            same(rt, &id, &1, &"the new name");
+            same_id(rt, Some(id), Some(1), "the new name");
             check_id(rt, &mut symbols, "else", 2)
         }
         Err(mut symbols) => check_id(rt, &mut symbols, "else", 1),
