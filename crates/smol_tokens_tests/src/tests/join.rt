@@ -4,12 +4,12 @@ ghost use Rattle.std.specs.Str.{chars};
 ghost use Rattle.smol_tokens_core.specs.Report.{report};
 
 use super::rows::answer;
-use super::same::{holds, ok, same_bytes};
+use super::same::{holds_in, ok_report, ok_text, same_bytes};
 use smol_str::INLINE_CAP;
 use smol_tokens_core::fault::RunFault;
 use smol_tokens_core::mode::Mode;
 use smol_tokens_core::run::run;
-use std::alloc::{AllocError, Global};
+use std::alloc::Global;
 use std::process::Abort;
 use test_support::state::fixed_state;
 use test_support::texts::{full_text, long_blank, long_text, repeated};
@@ -43,14 +43,26 @@ static REPORTS: [(&[u8], &[u8]); 6] = [
     (b"\xc3\xa9\r\n\xc3\x9f", b"inline 5 \xc3\xa9\r\xc3\x9f\n"),
 ];
 
+fn rows() -> &'static [(&'static [u8], &'static [u8])] {
+    &REPORTS
+}
+
 #[test]
 fn reports(rt: HostRuntime) {
-    for &(input, wanted) in &REPORTS {
-        let out = ok(&rt, joined(rt.alloc(), input));
-        same_bytes(&rt, out.as_slice(), wanted, &input);
+    for &(input, wanted) in rows() {
+        check_joined(&rt, rt.alloc(), input, wanted);
     }
-    let faulty = joined(rt.alloc(), b"a\n\xff");
-    holds(&rt, matches!(faulty, Err(RunFault::NotUtf8)), &"byte FF");
+    let is_reported = is_not_utf8(joined(rt.alloc(), b"a\n\xff"));
+    holds_in(&rt, is_reported, "byte FF");
+}
+
+fn check_joined(rt: &impl Abort, alloc: Global, input: &[u8], wanted: &[u8]) {
+    let out = ok_report(rt, joined(alloc, input));
+    same_bytes(rt, out.as_slice(), wanted, input);
+}
+
+fn is_not_utf8(ended: Result<Vec<u8>, RunFault>) -> bool {
+    matches!(ended, Err(RunFault::NotUtf8))
 }
 
 // Two lines whose text together no buffer has room for; of some neither is too long by itself.
@@ -60,28 +72,23 @@ fn long_together(rt: HostRuntime) {
     check_two(&rt, alloc, long_text(), "if", "heap");
     check_two(&rt, alloc, full_text(), "a", "heap");
     check_two(&rt, alloc, long_blank(), " ", "static");
-    let spaces = ok(&rt, repeated(alloc, " ", INLINE_CAP));
+    let spaces = ok_text(&rt, repeated(alloc, " ", INLINE_CAP));
     check_two(&rt, alloc, " ", spaces.as_str(), "static")
 }
 
 /// The text of both lines is kept in the place.
 fn check_two(rt: &impl Abort, alloc: Global, first: &str, second: &str, place: &str) {
-    let out = joined_two(rt, alloc, first, second);
-    let wanted = ok(rt, answer_to_two(alloc, place, first, second));
-    same_bytes(rt, out.as_slice(), wanted.as_str().as_bytes(), &place);
+    let input = ok_text(rt, format!(in alloc; "{first}\n{second}"));
+    let wanted = answer_to_two(rt, alloc, place, first, second);
+    check_joined(
+        rt,
+        alloc,
+        input.as_str().as_bytes(),
+        wanted.as_str().as_bytes(),
+    )
 }
 
-fn joined_two(rt: &impl Abort, alloc: Global, first: &str, second: &str) -> Vec<u8> {
-    let input = ok(rt, format!(in alloc; "{first}\n{second}"));
-    ok(rt, joined(alloc, input.as_str().as_bytes()))
-}
-
-fn answer_to_two(
-    alloc: Global,
-    place: &str,
-    first: &str,
-    second: &str,
-) -> Result<String, AllocError> {
-    let together = format!(in alloc; "{first}{second}")?;
-    answer(alloc, place, together.as_str())
+fn answer_to_two(rt: &impl Abort, alloc: Global, place: &str, first: &str, second: &str) -> String {
+    let together = ok_text(rt, format!(in alloc; "{first}{second}"));
+    ok_text(rt, answer(alloc, place, together.as_str()))
 }

@@ -1,11 +1,11 @@
 //! `run` in every mode, over readers of every step, which end after each byte and fail at each call.
-use super::rows::{LETTERS, Row, Words, all_rows};
-use super::same::{holds, ok, same};
-use super::words::mode_of_words;
+use super::rows::{Row, Words, all_rows, letters};
+use super::same::{holds, holds_in, ok_bytes};
+use super::words::mode_by;
 use smol_str::stream::PIECE;
 use smol_tokens_core::fault::RunFault;
 use smol_tokens_core::run::run;
-use std::alloc::{AllocError, Global};
+use std::alloc::Global;
 use std::io::ErrorKind;
 use std::process::Abort;
 use test_support::state::fixed_state;
@@ -35,13 +35,30 @@ fn answer_of(ended: Result<(), RunFault>) -> Answer {
 
 /// Runs in the mode of these words.
 pub fn run_by(
+    rt: &impl Abort,
     alloc: Global,
     words: &[&str],
     reader: &mut Trickle<'_>,
     writer: &mut Drip,
-) -> Result<Answer, &'static str> {
-    let mode = mode_of_words(alloc, words)?;
-    Ok(answer_of(run(alloc, fixed_state(), mode, reader, writer)))
+) -> Answer {
+    let mode = mode_by(rt, alloc, words);
+    answer_of(run(alloc, fixed_state(), mode, reader, writer))
+}
+
+/// The words of a mode, and a stream's step and the call at which it fails.
+pub type Case = (Words, usize, usize);
+
+/// What a run returns, how often it called the stream, and how many bytes it wrote.
+pub type Ended = (Answer, usize, usize);
+
+/// The run ended as it is to.
+pub fn same_ended(rt: &impl Abort, found: Ended, wanted: Ended, case: Case) {
+    holds(rt, found == wanted, &(case, found, wanted));
+}
+
+/// It is so in this case.
+pub fn holds_at(rt: &impl Abort, is_so: bool, case: Case) {
+    holds(rt, is_so, &case);
 }
 
 /// Runs into a writer that never fails; no buffer was empty or above a piece.
@@ -51,10 +68,11 @@ fn read_by(
     words: Words,
     reader: &mut Trickle<'_>,
     writer: &mut Drip,
-) -> Result<Answer, &'static str> {
-    let answer = run_by(alloc, words, reader, writer)?;
-    holds(rt, reader.least >= 1 && reader.most <= PIECE, &words);
-    Ok(answer)
+) -> Answer {
+    let answer = run_by(rt, alloc, words, reader, writer);
+    let case = (words, reader.step, reader.fails_at);
+    holds_at(rt, reader.least >= 1 && reader.most <= PIECE, case);
+    answer
 }
 
 /// A writer that never fails.
@@ -64,50 +82,45 @@ fn sound_drip(alloc: Global) -> Drip {
 
 #[test]
 fn fails_at_each_call(rt: HostRuntime) {
-    for row in ok(&rt, all_rows(rt.alloc())).iter() {
+    for row in all_rows(&rt, rt.alloc()).iter() {
         check_row(&rt, rt.alloc(), row);
     }
 }
 
 fn check_row(rt: &impl Abort, alloc: Global, row: &Row) {
     for step in STEPS {
-        let calls = ok(rt, check_whole(rt, alloc, row, step));
+        let calls = check_whole(rt, alloc, row, step);
         for error in READ_ERRORS {
-            check_failures(rt, alloc, row, (step, error), calls);
+            check_failures(rt, alloc, row, step, error, calls);
         }
     }
 }
 
 /// The report on the input is written whole, after so many calls: by single bytes each is one, and one more says that
 /// the input has ended.
-fn check_whole(
-    rt: &impl Abort,
-    alloc: Global,
-    row: &Row,
-    step: usize,
-) -> Result<usize, &'static str> {
+fn check_whole(rt: &impl Abort, alloc: Global, row: &Row, step: usize) -> usize {
     let mut reader = trickle_of(row.input.as_slice(), step, 0);
     let mut writer = sound_drip(alloc);
-    let answer = read_by(rt, alloc, row.words, &mut reader, &mut writer)?;
-    same(rt, &answer, &Answer::Done, &(row.words, step));
+    let answer = read_by(rt, alloc, row.words, &mut reader, &mut writer);
+    let calls = if step == 1 {
+        row.input.len().saturating_add(1)
+    } else {
+        reader.calls
+    };
+    let found = (answer, reader.calls, writer.taken.len());
+    let wanted = (Answer::Done, calls, row.report.len());
+    same_ended(rt, found, wanted, (row.words, step, 0));
     let is_whole = writer.taken.as_slice() == row.report.as_slice();
-    holds(rt, is_whole, &(row.words, step));
-    if step == 1 {
-        same(
-            rt,
-            &reader.calls,
-            &row.input.len().saturating_add(1),
-            &row.words,
-        );
-    }
-    Ok(reader.calls)
+    holds_at(rt, is_whole, (row.words, step, 0));
+    calls
 }
 
 fn check_failures(
     rt: &impl Abort,
     alloc: Global,
     row: &Row,
-    (step, error): (usize, ErrorKind),
+    step: usize,
+    error: ErrorKind,
     calls: usize,
 ) {
     for fails_at in 1..calls.saturating_add(1) {
@@ -122,11 +135,10 @@ fn check_failures(
 /// The reader's error is reported at once, and nothing is written.
 fn check_failure(rt: &impl Abort, alloc: Global, words: Words, reader: &mut Trickle<'_>) {
     let mut writer = sound_drip(alloc);
-    let answer = ok(rt, read_by(rt, alloc, words, reader, &mut writer));
-    let about = (words, reader.step, reader.fails_at);
-    same(rt, &answer, &Answer::Io(reader.failure), &about);
-    holds(rt, writer.taken.is_empty(), &about);
-    same(rt, &reader.calls, &reader.fails_at, &about);
+    let answer = read_by(rt, alloc, words, reader, &mut writer);
+    let found = (answer, reader.calls, writer.taken.len());
+    let wanted = (Answer::Io(reader.failure), reader.fails_at, 0);
+    same_ended(rt, found, wanted, (words, reader.step, reader.fails_at));
 }
 
 /// Characters of one to four bytes, in two lines.
@@ -135,7 +147,7 @@ const CHARACTERS: &str = "aßΔ\nC€🦀";
 // An input that ends is whole, and not UTF-8 where it ends within a character.
 #[test]
 fn end_after_each_byte(rt: HostRuntime) {
-    for (words, _, _) in LETTERS {
+    for &(words, ..) in letters() {
         check_ends(&rt, rt.alloc(), words);
     }
 }
@@ -155,14 +167,14 @@ fn check_ends(rt: &impl Abort, alloc: Global, words: Words) {
 // The only byte, the last of whole pieces and of a part of one, and a surrogate.
 #[test]
 fn not_utf8(rt: HostRuntime) {
-    for (words, _, _) in LETTERS {
+    for &(words, ..) in letters() {
         check_not_utf8(&rt, rt.alloc(), words);
     }
 }
 
 fn check_not_utf8(rt: &impl Abort, alloc: Global, words: Words) {
     for count in [0, PIECE - 1, 2 * PIECE, 9000] {
-        let input = ok(rt, ending_badly(alloc, count));
+        let input = ending_badly(rt, alloc, count);
         check_answers(rt, alloc, words, input.as_slice(), Answer::NotUtf8);
     }
     check_answers(rt, alloc, words, b"\xed\xa0\x80\n", Answer::NotUtf8)
@@ -172,17 +184,17 @@ fn check_not_utf8(rt: &impl Abort, alloc: Global, words: Words) {
 #[test]
 fn long_not_utf8(rt: HostRuntime) {
     for count in [PIECE, 65_536, 5_000_000] {
-        let input = ok(&rt, ending_badly(rt.alloc(), count));
+        let input = ending_badly(&rt, rt.alloc(), count);
         let mut reader = trickle_of(input.as_slice(), PIECE, 0);
         check_answer(&rt, rt.alloc(), &["show"], &mut reader, Answer::NotUtf8);
     }
 }
 
 /// So many letters, and a byte that no text has.
-fn ending_badly(alloc: Global, count: usize) -> Result<Vec<u8>, AllocError> {
-    let mut input = vec![in alloc; b'a'; count]?;
-    input.push(0xff)?;
-    Ok(input)
+fn ending_badly(rt: &impl Abort, alloc: Global, count: usize) -> Vec<u8> {
+    let mut input = ok_bytes(rt, vec![in alloc; b'a'; count]);
+    holds_in(rt, input.push(0xff).is_ok(), "a byte");
+    input
 }
 
 /// What is returned by every step, after the whole input came; nothing is written after a fault.
@@ -201,10 +213,11 @@ fn check_answer(
     wanted: Answer,
 ) {
     let mut writer = sound_drip(alloc);
-    let answer = ok(rt, read_by(rt, alloc, words, reader, &mut writer));
-    let about = (words, reader.step);
-    same(rt, &answer, &wanted, &about);
-    holds(rt, reader.rest.is_empty(), &about);
+    let answer = read_by(rt, alloc, words, reader, &mut writer);
     let is_kept_back = wanted == Answer::Done || writer.taken.is_empty();
-    holds(rt, is_kept_back, &about);
+    holds(
+        rt,
+        answer == wanted && reader.rest.is_empty() && is_kept_back,
+        &(words, reader.step, answer, wanted),
+    );
 }

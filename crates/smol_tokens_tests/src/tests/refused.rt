@@ -1,7 +1,7 @@
 //! `run` with memory refused: nothing is written, or all.
 use super::rows::{Words, answer, report_by};
-use super::same::{holds, same};
-use super::words::mode_of_words;
+use super::same::{holds_in, ok_bytes, ok_text, same_size};
+use super::words::mode_by;
 use smol_str::stream::PIECE;
 use smol_tokens_core::fault::RunFault;
 use smol_tokens_core::mode::Mode;
@@ -17,47 +17,54 @@ use test_support::texts::{long_blank, long_text, repeated};
 /// The lengths of three reports on an input: line by line, in mode join, and in mode tokens.
 type Lengths = [usize; 3];
 
-/// The words of each mode, and which of the reports it writes; none changes the length of a line.
-static WORDS: [(Words, usize); 7] = [
-    (&["show"], 0),
-    (&["join"], 1),
-    (&["lower"], 0),
-    (&["upper"], 0),
-    (&["replace", "a", "b"], 0),
-    (&["replace", "aa", "bb"], 0),
-    (&["tokens"], 2),
+/// The words of the modes that report line by line; none changes the length of a line.
+static LINE_BY_LINE: [Words; 5] = [
+    &["show"],
+    &["lower"],
+    &["upper"],
+    &["replace", "a", "b"],
+    &["replace", "aa", "bb"],
 ];
+
+fn line_by_line() -> &'static [Words] {
+    &LINE_BY_LINE
+}
 
 #[test]
 fn each_request_in_turn(rt: HostRuntime) -> Result<(), Fail> {
     let alloc = rt.alloc();
     check_modes(&rt, alloc, "", [0, 10, 0])?;
     check_modes(&rt, alloc, "if\n\nx\n", [12 + 10 + 11, 13, 5 + 3 + 4])?;
-    let lines = [
+    for (line, place) in [
         ("aaaaaaaaaaaaaaaaaaaaaaa", "inline"),
         ("                        ", "inline"),
         ("aaaaaaaaaaaaaaaaaaaaaaaa", "inline"),
         (long_blank(), "static"),
         (long_text(), "heap"),
-    ];
-    for (line, place) in lines {
+    ] {
         check_line(&rt, alloc, line, place)?;
     }
-    check_line(&rt, alloc, repeated(alloc, "a", 5000)?.as_str(), "heap")
+    let long = ok_text(&rt, repeated(alloc, "a", 5000));
+    check_line(&rt, alloc, long.as_str(), "heap")
 }
 
 /// A line whose text is kept in the place. Mode tokens writes `1`, a space, the line and a newline.
 fn check_line(rt: &impl Abort, alloc: Global, line: &str, place: &str) -> Result<(), Fail> {
-    let len = answer(alloc, place, line)?.len();
+    let len = ok_text(rt, answer(alloc, place, line)).len();
     check_modes(rt, alloc, line, [len, len, line.len().saturating_add(3)])
 }
 
-fn check_modes(rt: &impl Abort, alloc: Global, input: &str, lengths: Lengths) -> Result<(), Fail> {
-    for &(words, which) in &WORDS {
-        let len = lengths.get(which).copied().ok_or("no length")?;
-        check_mode(rt, alloc, words, input.as_bytes(), len)?;
+fn check_modes(
+    rt: &impl Abort,
+    alloc: Global,
+    input: &str,
+    [by_line, joined, by_token]: Lengths,
+) -> Result<(), Fail> {
+    for &words in line_by_line() {
+        check_mode(rt, alloc, words, input, by_line)?;
     }
-    Ok(())
+    check_mode(rt, alloc, &["join"], input, joined)?;
+    check_mode(rt, alloc, &["tokens"], input, by_token)
 }
 
 /// The report on the input has the length, and is written whole, or nothing is where a request is refused.
@@ -65,15 +72,19 @@ fn check_mode(
     rt: &impl Abort,
     alloc: Global,
     words: Words,
-    input: &[u8],
+    input: &str,
     len: usize,
 ) -> Result<(), Fail> {
-    let ample = report_by(rt, alloc, words, input);
-    same(rt, &ample.len(), &len, &words);
-    let name = format!(in alloc; "run {words:?} on {} bytes", input.len())?;
-    let requests = refuse_each(rt, alloc, name.as_str(), words, input, ample.as_slice())?;
-    let is_met = requests > 0;
-    same(rt, &is_met, &(can_refuse(alloc) && len > 0), &name);
+    let name = ok_text(
+        rt,
+        format!(in alloc; "run {words:?} on {} bytes", input.len()),
+    );
+    let name = name.as_str();
+    let ample = report_by(rt, alloc, words, input.as_bytes());
+    same_size(rt, ample.len(), len, name);
+    let requests = refuse_each(rt, alloc, name, words, input.as_bytes(), ample.as_slice())?;
+    let is_met = can_refuse(alloc) && len > 0;
+    holds_in(rt, (requests > 0) == is_met, name);
     Ok(())
 }
 
@@ -88,7 +99,7 @@ fn refuse_each(
     let asked = each_refused_by_value(
         alloc,
         name,
-        || prepared(alloc, words, wanted.len()),
+        || Ok(prepared(rt, alloc, words, wanted.len())),
         |prepared| ended(alloc, input, prepared),
         |ended| check_ended(rt, &ended, wanted, name),
     )?;
@@ -96,10 +107,10 @@ fn refuse_each(
 }
 
 /// The mode of these words, and a writer that has room for the report.
-fn prepared(alloc: Global, words: &[&str], len: usize) -> Result<(Mode, Drip), Fail> {
+fn prepared(rt: &impl Abort, alloc: Global, words: &[&str], len: usize) -> (Mode, Drip) {
     let mut writer = empty_drip(alloc, PIECE, 0, Failure::TakesNone);
-    writer.taken = Vec::with_capacity(alloc, len)?;
-    Ok((mode_of_words(alloc, words)?, writer))
+    writer.taken = ok_bytes(rt, Vec::with_capacity(alloc, len));
+    (mode_by(rt, alloc, words), writer)
 }
 
 /// A fault, and what was written before it.
@@ -121,9 +132,9 @@ fn check_ended(
     name: &str,
 ) -> Result<(), Fail> {
     match ended {
-        Ok(taken) => holds(rt, taken.as_slice() == wanted, &name),
+        Ok(taken) => holds_in(rt, taken.as_slice() == wanted, name),
         // nothing is written after out of memory
-        Err((RunFault::OutOfMemory, taken)) => holds(rt, taken.is_empty(), &name),
+        Err((RunFault::OutOfMemory, taken)) => holds_in(rt, taken.is_empty(), name),
         Err((fault, _)) => return Err(Fail::new(format_args!("{name}: {fault:?}"))),
     }
     Ok(())

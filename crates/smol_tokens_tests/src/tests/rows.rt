@@ -1,12 +1,14 @@
 //! Inputs in every mode, and the reports on them.
-use super::same::ok;
-use super::words::mode_of_words;
+use super::same::{holds_in, ok_bytes, ok_run, ok_text};
+use super::words::mode_by;
 use smol_str::INLINE_CAP;
 use smol_tokens_core::run::run;
 use std::alloc::{AllocError, Global};
 use std::process::Abort;
 use test_support::state::fixed_state;
-use test_support::texts::{full_text, long_blank, long_capitals, long_text, repeated};
+use test_support::texts::{
+    full_text, joined, long_blank, long_capitals, long_text, repeated, repeated_and,
+};
 
 /// The words of a mode.
 pub type Words = &'static [&'static str];
@@ -56,19 +58,27 @@ static REPORTS: [(Words, &[u8], &[u8]); 17] = [
     (&["tokens"], b"", b""),
 ];
 
+fn reports() -> &'static [(Words, &'static [u8], &'static [u8])] {
+    &REPORTS
+}
+
 /// The words of a mode, how the report line for one of 70,000 `a` begins, and to one of 9,000, and the
 /// letter made of an `a`.
-pub const LETTERS: [(Words, [&str; 2], char); 7] = [
-    (&["show"], HEAP, 'a'),
-    (&["join"], HEAP, 'a'),
-    (&["lower"], HEAP, 'a'),
-    (&["upper"], HEAP, 'A'),
-    (&["replace", "a", "x"], HEAP, 'x'),
-    (&["replace", "aa", "xx"], HEAP, 'x'),
-    (&["tokens"], ["1 ", "1 "], 'a'),
+type Letters = (Words, &'static str, &'static str, &'static str);
+
+static LETTERS: [Letters; 7] = [
+    (&["show"], "heap 70000 ", "heap 9000 ", "a"),
+    (&["join"], "heap 70000 ", "heap 9000 ", "a"),
+    (&["lower"], "heap 70000 ", "heap 9000 ", "a"),
+    (&["upper"], "heap 70000 ", "heap 9000 ", "A"),
+    (&["replace", "a", "x"], "heap 70000 ", "heap 9000 ", "x"),
+    (&["replace", "aa", "xx"], "heap 70000 ", "heap 9000 ", "x"),
+    (&["tokens"], "1 ", "1 ", "a"),
 ];
 
-const HEAP: [&str; 2] = ["heap 70000 ", "heap 9000 "];
+pub fn letters() -> &'static [Letters] {
+    &LETTERS
+}
 
 const SHOW: Words = &["show"];
 
@@ -87,85 +97,117 @@ pub struct Row {
 }
 
 /// The reports of the table, those on texts about the limit, and those on a line of 9,000 letters.
-pub fn all_rows(alloc: Global) -> Result<Vec<Row>, AllocError> {
+pub fn all_rows(rt: &impl Abort, alloc: Global) -> Vec<Row> {
     let mut all = Vec::new(alloc);
-    push_reports(&mut all, alloc)?;
-    push_full(&mut all, alloc)?;
-    push_tokens(&mut all, alloc)?;
-    push_letters(&mut all, alloc)?;
-    Ok(all)
+    push_reports(rt, &mut all, alloc);
+    push_full(rt, &mut all, alloc);
+    push_tokens(rt, &mut all, alloc);
+    push_letters(rt, &mut all, alloc);
+    all
 }
 
-fn push_reports(all: &mut Vec<Row>, alloc: Global) -> Result<(), AllocError> {
-    for &(words, input, report) in &REPORTS {
-        push_row(all, alloc, words, input, report)?;
+fn push_reports(rt: &impl Abort, all: &mut Vec<Row>, alloc: Global) {
+    for &(words, input, report) in reports() {
+        push_row(rt, all, alloc, words, input, report);
     }
-    Ok(())
 }
 
-fn push_letters(all: &mut Vec<Row>, alloc: Global) -> Result<(), AllocError> {
-    let input = long_line(alloc, "", 'a', 9000)?;
-    for (words, [_, front], letter) in LETTERS {
-        let report = long_line(alloc, front, letter, 9000)?;
-        push_texts(all, alloc, words, input.as_str(), report.as_str())?;
+fn push_letters(rt: &impl Abort, all: &mut Vec<Row>, alloc: Global) {
+    let input = ok_text(rt, long_line(alloc, "", "a", 9000));
+    for &(words, _, front, letter) in letters() {
+        push_text(
+            rt,
+            all,
+            alloc,
+            words,
+            input.as_str(),
+            long_line(alloc, front, letter, 9000),
+        );
     }
-    Ok(())
 }
 
 /// A line that fills a buffer, and lines that are a byte too long.
-fn push_full(all: &mut Vec<Row>, alloc: Global) -> Result<(), AllocError> {
-    push_line(all, alloc, SHOW, full_text(), ("inline", full_text()))?;
-    push_line(all, alloc, SHOW, long_text(), ("heap", long_text()))?;
-    push_line(all, alloc, UPPER, long_text(), ("heap", long_capitals()))?;
-    let line = repeated(alloc, "x", INLINE_CAP + 1)?;
-    push_line(all, alloc, BLANKS, line.as_str(), ("static", long_blank()))
+fn push_full(rt: &impl Abort, all: &mut Vec<Row>, alloc: Global) {
+    push_line(rt, all, alloc, SHOW, full_text(), ("inline", full_text()));
+    push_line(rt, all, alloc, SHOW, long_text(), ("heap", long_text()));
+    push_line(
+        rt,
+        all,
+        alloc,
+        UPPER,
+        long_text(),
+        ("heap", long_capitals()),
+    );
+    let line = ok_text(rt, repeated(alloc, "x", INLINE_CAP + 1));
+    push_line(
+        rt,
+        all,
+        alloc,
+        BLANKS,
+        line.as_str(),
+        ("static", long_blank()),
+    )
 }
 
 /// A token that is a byte too long, among short ones.
-fn push_tokens(all: &mut Vec<Row>, alloc: Global) -> Result<(), AllocError> {
+fn push_tokens(rt: &impl Abort, all: &mut Vec<Row>, alloc: Global) {
     let long = long_text();
-    let input = format!(in alloc; "x\n{long}\nx\n{long}\nx\n")?;
-    let report = format!(in alloc; "3 x\n2 {long}\n")?;
-    push_texts(all, alloc, TOKENS, input.as_str(), report.as_str())
+    let input = ok_text(rt, format!(in alloc; "x\n{long}\nx\n{long}\nx\n"));
+    push_text(
+        rt,
+        all,
+        alloc,
+        TOKENS,
+        input.as_str(),
+        format!(in alloc; "3 x\n2 {long}\n"),
+    )
 }
 
 /// A line, and what the report says of it: a text, and where that is kept.
 fn push_line(
+    rt: &impl Abort,
     all: &mut Vec<Row>,
     alloc: Global,
     words: Words,
     line: &str,
     (place, text): (&str, &str),
-) -> Result<(), AllocError> {
-    let report = answer(alloc, place, text)?;
-    push_texts(all, alloc, words, line, report.as_str())
+) {
+    push_text(rt, all, alloc, words, line, answer(alloc, place, text))
 }
 
-fn push_texts(
+fn push_text(
+    rt: &impl Abort,
     all: &mut Vec<Row>,
     alloc: Global,
     words: Words,
     input: &str,
-    report: &str,
-) -> Result<(), AllocError> {
-    push_row(all, alloc, words, input.as_bytes(), report.as_bytes())
+    report: Result<String, AllocError>,
+) {
+    let report = ok_text(rt, report);
+    push_row(
+        rt,
+        all,
+        alloc,
+        words,
+        input.as_bytes(),
+        report.as_str().as_bytes(),
+    )
 }
 
 fn push_row(
+    rt: &impl Abort,
     all: &mut Vec<Row>,
     alloc: Global,
     words: Words,
     input: &[u8],
     report: &[u8],
-) -> Result<(), AllocError> {
-    let input = Vec::from_slice(alloc, input)?;
-    let report = Vec::from_slice(alloc, report)?;
-    all.push(Row {
+) {
+    let row = Row {
         words,
-        input,
-        report,
-    })?;
-    Ok(())
+        input: ok_bytes(rt, Vec::from_slice(alloc, input)),
+        report: ok_bytes(rt, Vec::from_slice(alloc, report)),
+    };
+    holds_in(rt, all.push(row).is_ok(), "a row");
 }
 
 /// The line that says where a text is kept, its size, and the text.
@@ -177,22 +219,18 @@ pub fn answer(alloc: Global, place: &str, text: &str) -> Result<String, AllocErr
 pub fn long_line(
     alloc: Global,
     front: &str,
-    letter: char,
+    letter: &str,
     count: usize,
 ) -> Result<String, AllocError> {
-    let mut line = String::from_str(alloc, front)?;
-    for _ in 0..count {
-        line.push(letter)?;
-    }
-    line.push('\n')?;
-    Ok(line)
+    let line = repeated_and(alloc, letter, count, "\n")?;
+    joined(alloc, front, line.as_str())
 }
 
 /// The report in the mode of these words, by std's reader and writer over memory.
 pub fn report_by(rt: &impl Abort, alloc: Global, words: &[&str], input: &[u8]) -> Vec<u8> {
-    let mode = ok(rt, mode_of_words(alloc, words));
+    let mode = mode_by(rt, alloc, words);
     let mut reader = input;
     let mut out = Vec::new(alloc);
-    ok(rt, run(alloc, fixed_state(), mode, &mut reader, &mut out));
+    ok_run(rt, run(alloc, fixed_state(), mode, &mut reader, &mut out));
     out
 }

@@ -2,7 +2,7 @@
 ghost use Rattle.std.specs.Prelude.{OnOk};
 ghost use Rattle.std.specs.Io.KnownBytes.{IsAtEnd};
 
-use super::same::{holds, same_bytes};
+use super::same::{holds_in, same_bytes};
 use smol_tokens_core::fault::RunFault;
 use smol_tokens_core::mode::Mode;
 use smol_tokens_core::run::run;
@@ -23,14 +23,15 @@ fn run_to_the_end<R: Read, W: Write>(
 
 #[test]
 fn nothing_is_left(rt: HostRuntime) {
-    let mut reader = b"if\n\xc3\xa9".as_slice();
+    let input = b"if\n\xc3\xa9".as_slice();
+    let mut reader = input;
     let mut writer = Vec::new(rt.alloc());
     let is_done = run_to_the_end(rt.alloc(), &mut reader, &mut writer).is_ok();
-    holds(&rt, is_done && reader.is_empty(), &"one run");
+    holds_in(&rt, is_done && reader.is_empty(), "one run");
     same_bytes(
         &rt,
         writer.as_slice(),
         b"inline 2 if\ninline 2 \xc3\xa9\n",
-        &"its report",
+        input,
     );
 }

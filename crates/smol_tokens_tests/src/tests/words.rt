@@ -1,26 +1,31 @@
 //! The words of a command line, and the lines that report a fault.
-use super::same::{holds, ok, same_text};
+use super::same::{holds, holds_in, ok_text, same_text};
 use smol_tokens_core::fault::{RunFault, fault_line};
 use smol_tokens_core::mode::{Mode, mode_of};
-use std::alloc::{AllocError, Global};
+use std::alloc::Global;
 use std::io;
 use std::io::ErrorKind;
 use std::process::Abort;
-use std::test::Fail;
 use test_support::refuse::{end_refusals, refuse_all};
 
-fn strings(alloc: Global, words: &[&str]) -> Result<Vec<String>, AllocError> {
+fn strings(rt: &impl Abort, alloc: Global, words: &[&str]) -> Vec<String> {
     let mut all = Vec::new(alloc);
     for word in words {
-        all.push(String::from_str(alloc, word)?)?;
+        push_word(rt, &mut all, ok_text(rt, String::from_str(alloc, word)));
     }
-    Ok(all)
+    all
+}
+
+fn push_word(rt: &impl Abort, all: &mut Vec<String>, word: String) {
+    holds_in(rt, all.push(word).is_ok(), "a word");
 }
 
 /// The mode that these words ask for.
-pub fn mode_of_words(alloc: Global, words: &[&str]) -> Result<Mode, &'static str> {
-    let words = strings(alloc, words).ok().ok_or("out of memory")?;
-    mode_of(words).ok_or("no mode")
+pub fn mode_by(rt: &impl Abort, alloc: Global, words: &[&str]) -> Mode {
+    match mode_of(strings(rt, alloc, words)) {
+        Some(mode) => mode,
+        None => panic!(rt; "no mode: {words:?}"),
+    }
 }
 
 fn name_of(mode: &Mode) -> &'static str {
@@ -36,30 +41,31 @@ fn name_of(mode: &Mode) -> &'static str {
 
 #[test]
 fn modes(rt: HostRuntime) {
-    let mode = ok(&rt, mode_of_words(rt.alloc(), &[]));
-    same_text(&rt, name_of(&mode), "show", &"no word");
+    check_name(&rt, rt.alloc(), &[], "show");
     for word in ["show", "join", "lower", "upper", "tokens"] {
-        let mode = ok(&rt, mode_of_words(rt.alloc(), &[word]));
-        same_text(&rt, name_of(&mode), word, &word);
+        check_name(&rt, rt.alloc(), &[word], word);
     }
+}
+
+fn check_name(rt: &impl Abort, alloc: Global, words: &[&str], name: &str) {
+    let mode = mode_by(rt, alloc, words);
+    let found = name_of(&mode);
+    holds(rt, found == name, &(words, found, name));
 }
 
 #[test]
-fn replacements(rt: HostRuntime) -> Result<(), Fail> {
+fn replacements(rt: HostRuntime) {
     for (from, to) in [("", "x"), ("x", ""), ("", ""), ("ba", "do")] {
-        let mode = mode_of_words(rt.alloc(), &["replace", from, to])?;
-        check_replacement(&rt, &mode, from, to)?;
+        let mode = mode_by(&rt, rt.alloc(), &["replace", from, to]);
+        holds(&rt, is_replacement(&mode, from, to), &(from, to));
     }
-    Ok(())
 }
 
-fn check_replacement(rt: &impl Abort, mode: &Mode, from: &str, to: &str) -> Result<(), Fail> {
-    let Mode::Replace(first, second) = mode else {
-        return Err("no replacement".into());
-    };
-    same_text(rt, first.as_str(), from, &(from, to));
-    same_text(rt, second.as_str(), to, &(from, to));
-    Ok(())
+fn is_replacement(mode: &Mode, from: &str, to: &str) -> bool {
+    match mode {
+        Mode::Replace(first, second) => first.as_str() == from && second.as_str() == to,
+        _ => false,
+    }
 }
 
 static WRONG: [&[&str]; 20] = [
@@ -85,40 +91,38 @@ static WRONG: [&[&str]; 20] = [
     &["replace", "replace"],
 ];
 
+fn wrong() -> &'static [&'static [&'static str]] {
+    &WRONG
+}
+
 #[test]
 fn wrong_words(rt: HostRuntime) {
-    for &words in &WRONG {
-        let words_of = ok(&rt, strings(rt.alloc(), words));
-        holds(&rt, mode_of(words_of).is_none(), &words);
+    for &words in wrong() {
+        let mode = mode_of(strings(&rt, rt.alloc(), words));
+        holds(&rt, mode.is_none(), &words);
     }
 }
 
 #[test]
 fn fault_lines(rt: HostRuntime) {
+    check_line(&rt, &RunFault::NotUtf8, "not UTF-8");
+    check_line(&rt, &RunFault::OutOfMemory, "out of memory");
+    check_line(&rt, &RunFault::Full, "full");
     let io = RunFault::Io(io::Error::from(ErrorKind::WriteZero));
-    same_text(
-        &rt,
-        fault_line(&RunFault::NotUtf8),
-        "not UTF-8",
-        &"not UTF-8",
-    );
-    same_text(
-        &rt,
-        fault_line(&RunFault::OutOfMemory),
-        "out of memory",
-        &"memory",
-    );
-    same_text(&rt, fault_line(&RunFault::Full), "full", &"full");
-    same_text(&rt, fault_line(&io), "read or write failed", &"io");
+    check_line(&rt, &io, "read or write failed")
+}
+
+fn check_line(rt: &impl Abort, fault: &RunFault, line: &str) {
+    same_text(rt, fault_line(fault), line, line);
 }
 
 #[test]
 fn no_request(rt: HostRuntime) {
-    let words = ok(&rt, strings(rt.alloc(), &["replace", "a", "b"]));
+    let words = strings(&rt, rt.alloc(), &["replace", "a", "b"]);
     refuse_all(rt.alloc());
     let mode = mode_of(words);
     let line = fault_line(&RunFault::OutOfMemory);
     let was_refused = end_refusals(rt.alloc());
     let holds_all = mode.is_some() && !line.is_empty() && !was_refused;
-    holds(&rt, holds_all, &"no request");
+    holds_in(&rt, holds_all, "no request");
 }

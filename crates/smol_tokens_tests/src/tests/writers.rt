@@ -1,7 +1,6 @@
 //! `run` in every mode, over writers of every step, which fail at each call.
-use super::readers::{Answer, run_by};
+use super::readers::{Answer, Ended, holds_at, run_by, same_ended};
 use super::rows::{Row, all_rows};
-use super::same::{holds, ok, same};
 use std::alloc::Global;
 use std::io::ErrorKind;
 use std::process::Abort;
@@ -11,7 +10,7 @@ use test_support::streams::{
 
 #[test]
 fn fails_at_each_call(rt: HostRuntime) {
-    for row in ok(&rt, all_rows(rt.alloc())).iter() {
+    for row in all_rows(&rt, rt.alloc()).iter() {
         check_row(&rt, rt.alloc(), row);
     }
 }
@@ -47,19 +46,12 @@ fn check_failures(
     }
 }
 
-/// What a run returns, how many writes it made, and how many bytes of the report went out.
-fn check_run(
-    rt: &impl Abort,
-    alloc: Global,
-    row: &Row,
-    writer: &mut Drip,
-    (told, made, went_out): (Answer, usize, usize),
-) {
+/// What went out is the front of the report.
+fn check_run(rt: &impl Abort, alloc: Global, row: &Row, writer: &mut Drip, wanted: Ended) {
     let mut reader = trickle_of(row.input.as_slice(), usize::MAX, 0);
-    let answer = ok(rt, run_by(alloc, row.words, &mut reader, writer));
-    let about = (row.words, writer.step, writer.failure, writer.fails_at);
-    same(rt, &answer, &told, &about);
-    same(rt, &writer.calls, &made, &about);
-    let wanted = &row.report[..went_out.min(row.report.len())];
-    holds(rt, writer.taken.as_slice() == wanted, &about);
+    let answer = run_by(rt, alloc, row.words, &mut reader, writer);
+    let case = (row.words, writer.step, writer.fails_at);
+    let taken = writer.taken.as_slice();
+    same_ended(rt, (answer, writer.calls, taken.len()), wanted, case);
+    holds_at(rt, row.report.as_slice().starts_with(taken), case);
 }
