@@ -80,14 +80,6 @@ pub fn letters() -> &'static [Letters] {
     &LETTERS
 }
 
-const SHOW: Words = &["show"];
-
-const UPPER: Words = &["upper"];
-
-const BLANKS: Words = &["replace", "x", " "];
-
-const TOKENS: Words = &["tokens"];
-
 /// The words of a mode, an input, and the report on it.
 #[derive(Drop)]
 pub struct Row {
@@ -128,13 +120,27 @@ fn push_letters(rt: &impl Abort, all: &mut Vec<Row>, alloc: Global) {
 
 /// A line that fills a buffer, and lines that are a byte too long.
 fn push_full(rt: &impl Abort, all: &mut Vec<Row>, alloc: Global) {
-    push_line(rt, all, alloc, SHOW, full_text(), ("inline", full_text()));
-    push_line(rt, all, alloc, SHOW, long_text(), ("heap", long_text()));
     push_line(
         rt,
         all,
         alloc,
-        UPPER,
+        &["show"],
+        full_text(),
+        ("inline", full_text()),
+    );
+    push_line(
+        rt,
+        all,
+        alloc,
+        &["show"],
+        long_text(),
+        ("heap", long_text()),
+    );
+    push_line(
+        rt,
+        all,
+        alloc,
+        &["upper"],
         long_text(),
         ("heap", long_capitals()),
     );
@@ -143,7 +149,7 @@ fn push_full(rt: &impl Abort, all: &mut Vec<Row>, alloc: Global) {
         rt,
         all,
         alloc,
-        BLANKS,
+        &["replace", "x", " "],
         line.as_str(),
         ("static", long_blank()),
     )
@@ -157,7 +163,7 @@ fn push_tokens(rt: &impl Abort, all: &mut Vec<Row>, alloc: Global) {
         rt,
         all,
         alloc,
-        TOKENS,
+        &["tokens"],
         input.as_str(),
         format!(in alloc; "3 x\n2 {long}\n"),
     )

@@ -6,6 +6,7 @@ use smol_tokens_core::fault::RunFault;
 use std::alloc::AllocError;
 use std::fmt::Debug;
 use std::process::Abort;
+use std::rc::RcStr;
 
 /// The texts are equal.
 pub fn same_text(rt: &impl Abort, found: &str, wanted: &str, row: &str) {
@@ -44,6 +45,11 @@ pub fn ok_bytes(rt: &impl Abort, outcome: Result<Vec<u8>, AllocError>) -> Vec<u8
 
 /// The value that a call makes; a fault ends the test.
 pub fn ok_value(rt: &impl Abort, outcome: Result<SmolStr, AllocError>) -> SmolStr {
+    ok(rt, outcome)
+}
+
+/// The shared text that a call makes; a fault ends the test.
+pub fn ok_shared(rt: &impl Abort, outcome: Result<RcStr, AllocError>) -> RcStr {
     ok(rt, outcome)
 }
 

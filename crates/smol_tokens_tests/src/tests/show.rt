@@ -3,8 +3,9 @@ ghost use Rattle.std.specs.Prelude.{◌≡◌, IfOk, IsUtf8, encode_utf8_all};
 ghost use Rattle.std.specs.Str.{chars};
 ghost use Rattle.smol_tokens_core.specs.Report.{report};
 
+use super::readers::{Answer, run_by};
 use super::rows::answer;
-use super::same::{holds_in, ok_report, ok_run, ok_text, same_bytes, same_size};
+use super::same::{holds_in, ok_report, ok_text, same_bytes, same_size};
 use smol_str::BLANK_SPACES;
 use smol_str::stream::PIECE;
 use smol_tokens_core::fault::RunFault;
@@ -168,7 +169,8 @@ fn check_pieces(rt: &impl Abort, alloc: Global, line: &str) {
 }
 
 fn show(rt: &impl Abort, alloc: Global, reader: &mut Trickle<'_>, writer: &mut Drip) {
-    ok_run(rt, run(alloc, fixed_state(), Mode::Show, reader, writer));
+    let answer = run_by(rt, alloc, &["show"], reader, writer);
+    holds_in(rt, answer == Answer::Done, "show");
 }
 
 #[test]

@@ -1,5 +1,5 @@
 //! Tallies: rows, values of one text in all places, many tokens, and memory refused.
-use super::same::{holds, holds_in, ok_text, ok_value, same_size, same_text};
+use super::same::{holds, holds_in, ok_shared, ok_text, ok_value, same_size, same_text};
 use smol_str::{Place, SmolStr};
 use smol_tokens_core::tally::{AddFault, Tally};
 use std::alloc::{AllocError, Global};
@@ -27,14 +27,14 @@ fn count_of(tally: &Tally, text: &'static str) -> Option<u64> {
     tally.count(&SmolStr::new_static(text))
 }
 
+/// The token of this text is at the position, and counted so many times.
 fn check_at(rt: &impl Abort, tally: &Tally, index: usize, text: &str, count: u64) {
-    match tally.at(index) {
-        Some((token, counted)) => {
-            same_text(rt, token.as_str(), text, "the token at a position");
-            same_count(rt, Some(counted), Some(count), text)
-        }
-        None => holds(rt, false, &(index, text)),
-    }
+    let found = tally.at(index);
+    let is_there = match found {
+        Some((token, counted)) => token.as_str() == text && counted == count,
+        None => false,
+    };
+    holds(rt, is_there, &(index, found, text, count));
 }
 
 /// The tally has these tokens and counts and no others, by position and by text.
@@ -79,25 +79,22 @@ fn check_values(rt: &impl Abort, tally: &Tally) {
     same_count(rt, tally.count(&SmolStr::new_inline("a")), Some(3), "a");
     let count = tally.count(&SmolStr::new_inline("b"));
     same_count(rt, count, Some(u64::MAX), "b");
-    let place = place_at(tally, 0);
-    holds_in(rt, place == Some(Place::Inline), "the first value");
-}
-
-fn place_at(tally: &Tally, index: usize) -> Option<Place> {
-    let (token, _) = tally.at(index)?;
-    Some(token.place())
+    let is_inline = match tally.at(0) {
+        Some((first, _count)) => first.place() == Place::Inline,
+        None => false,
+    };
+    holds_in(rt, is_inline, "the first value");
 }
 
 #[test]
 fn full(rt: HostRuntime) {
     let mut tally = Tally::new(rt.alloc());
-    let token = SmolStr::new_inline("a");
-    check_add(&rt, &mut tally, token, u64::MAX, u64::MAX);
     check_full(&rt, &mut tally)
 }
 
 /// The token that is one too many comes back, and nothing has changed.
 fn check_full(rt: &impl Abort, tally: &mut Tally) {
+    check_add(rt, tally, SmolStr::new_inline("a"), u64::MAX, u64::MAX);
     match tally.add(SmolStr::new_static("a"), 1) {
         Err(AddFault::Full(back)) => check_static(rt, &back, "a"),
         Err(AddFault::OutOfMemory(_back)) => holds_in(rt, false, "out of memory"),
@@ -220,13 +217,6 @@ fn check_token(rt: &impl Abort, alloc: Global, text: &str) -> Result<(), Fail> {
     let sizes_met = count_met(rt, alloc, &shared)?;
     holds_in(rt, (sizes_met > 1) == can_refuse(alloc), text);
     Ok(())
-}
-
-fn ok_shared(rt: &impl Abort, outcome: Result<RcStr, AllocError>) -> RcStr {
-    match outcome {
-        Ok(shared) => shared,
-        Err(refused) => panic!(rt; "{refused:?}"),
-    }
 }
 
 /// On how many of the tallies the token makes requests.
@@ -365,19 +355,22 @@ fn check_last(rt: &impl Abort, alloc: Global, tally: &Tally, there: u64, text: &
 
 #[test]
 fn no_request_for_a_token_that_is_there(rt: HostRuntime) {
-    let alloc = rt.alloc();
-    let mut tally = Tally::new(alloc);
-    check_add(&rt, &mut tally, SmolStr::new_inline("a"), 1, 1);
-    check_add(&rt, &mut tally, SmolStr::new_inline("b"), 2, 2);
+    let mut tally = Tally::new(rt.alloc());
+    check_no_request(&rt, rt.alloc(), &mut tally)
+}
+
+fn check_no_request(rt: &impl Abort, alloc: Global, tally: &mut Tally) {
+    check_add(rt, tally, SmolStr::new_inline("a"), 1, 1);
+    check_add(rt, tally, SmolStr::new_inline("b"), 2, 2);
     refuse_all(alloc);
-    let added = add_five(&mut tally);
-    let count = count_of(&tally, "b");
+    let added = add_five(tally);
+    let count = count_of(tally, "b");
     let last = tally.at(1).is_some();
     let empty = size_of_new(alloc);
     let was_refused = end_refusals(alloc);
-    holds_in(&rt, !was_refused && last && empty == 0, "no request");
-    same_count(&rt, added, Some(7), "add");
-    same_count(&rt, count, Some(7), "count");
+    holds_in(rt, !was_refused && last && empty == 0, "no request");
+    same_count(rt, added, Some(7), "add");
+    same_count(rt, count, Some(7), "count");
 }
 
 fn add_five(tally: &mut Tally) -> Option<u64> {

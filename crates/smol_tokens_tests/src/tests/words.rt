@@ -55,10 +55,16 @@ fn check_name(rt: &impl Abort, alloc: Global, words: &[&str], name: &str) {
 
 #[test]
 fn replacements(rt: HostRuntime) {
-    for (from, to) in [("", "x"), ("x", ""), ("", ""), ("ba", "do")] {
-        let mode = mode_by(&rt, rt.alloc(), &["replace", from, to]);
-        holds(&rt, is_replacement(&mode, from, to), &(from, to));
-    }
+    let alloc = rt.alloc();
+    check_replacement(&rt, alloc, "", "x");
+    check_replacement(&rt, alloc, "x", "");
+    check_replacement(&rt, alloc, "", "");
+    check_replacement(&rt, alloc, "ba", "do")
+}
+
+fn check_replacement(rt: &impl Abort, alloc: Global, from: &str, to: &str) {
+    let mode = mode_by(rt, alloc, &["replace", from, to]);
+    holds(rt, is_replacement(&mode, from, to), &(from, to));
 }
 
 fn is_replacement(mode: &Mode, from: &str, to: &str) -> bool {
