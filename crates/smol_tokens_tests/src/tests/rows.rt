@@ -107,14 +107,8 @@ fn push_reports(rt: &impl Abort, all: &mut Vec<Row>, alloc: Global) {
 fn push_letters(rt: &impl Abort, all: &mut Vec<Row>, alloc: Global) {
     let input = ok_text(rt, long_line(alloc, "", "a", 9000));
     for &(words, _, front, letter) in letters() {
-        push_text(
-            rt,
-            all,
-            alloc,
-            words,
-            input.as_str(),
-            long_line(alloc, front, letter, 9000),
-        );
+        let report = long_line(alloc, front, letter, 9000);
+        push_text(rt, all, alloc, words, input.as_str(), report);
     }
 }
 
@@ -159,14 +153,8 @@ fn push_full(rt: &impl Abort, all: &mut Vec<Row>, alloc: Global) {
 fn push_tokens(rt: &impl Abort, all: &mut Vec<Row>, alloc: Global) {
     let long = long_text();
     let input = ok_text(rt, format!(in alloc; "x\n{long}\nx\n{long}\nx\n"));
-    push_text(
-        rt,
-        all,
-        alloc,
-        &["tokens"],
-        input.as_str(),
-        format!(in alloc; "3 x\n2 {long}\n"),
-    )
+    let report = format!(in alloc; "3 x\n2 {long}\n");
+    push_text(rt, all, alloc, &["tokens"], input.as_str(), report)
 }
 
 /// A line, and what the report says of it: a text, and where that is kept.
@@ -190,14 +178,8 @@ fn push_text(
     report: Result<String, AllocError>,
 ) {
     let report = ok_text(rt, report);
-    push_row(
-        rt,
-        all,
-        alloc,
-        words,
-        input.as_bytes(),
-        report.as_str().as_bytes(),
-    )
+    let report = report.as_str().as_bytes();
+    push_row(rt, all, alloc, words, input.as_bytes(), report)
 }
 
 fn push_row(
