@@ -114,39 +114,16 @@ fn push_letters(rt: &impl Abort, all: &mut Vec<Row>, alloc: Global) {
 
 /// A line that fills a buffer, and lines that are a byte too long.
 fn push_full(rt: &impl Abort, all: &mut Vec<Row>, alloc: Global) {
-    push_line(
-        rt,
-        all,
-        alloc,
-        &["show"],
-        full_text(),
-        ("inline", full_text()),
-    );
-    push_line(
-        rt,
-        all,
-        alloc,
-        &["show"],
-        long_text(),
-        ("heap", long_text()),
-    );
-    push_line(
-        rt,
-        all,
-        alloc,
-        &["upper"],
-        long_text(),
-        ("heap", long_capitals()),
-    );
+    let report = answer(alloc, "inline", full_text());
+    push_text(rt, all, alloc, &["show"], full_text(), report);
+    let report = answer(alloc, "heap", long_text());
+    push_text(rt, all, alloc, &["show"], long_text(), report);
+    let report = answer(alloc, "heap", long_capitals());
+    push_text(rt, all, alloc, &["upper"], long_text(), report);
     let line = ok_text(rt, repeated(alloc, "x", INLINE_CAP + 1));
-    push_line(
-        rt,
-        all,
-        alloc,
-        &["replace", "x", " "],
-        line.as_str(),
-        ("static", long_blank()),
-    )
+    let line = line.as_str();
+    let report = answer(alloc, "static", long_blank());
+    push_text(rt, all, alloc, &["replace", "x", " "], line, report)
 }
 
 /// A token that is a byte too long, among short ones.
@@ -157,18 +134,7 @@ fn push_tokens(rt: &impl Abort, all: &mut Vec<Row>, alloc: Global) {
     push_text(rt, all, alloc, &["tokens"], input.as_str(), report)
 }
 
-/// A line, and what the report says of it: a text, and where that is kept.
-fn push_line(
-    rt: &impl Abort,
-    all: &mut Vec<Row>,
-    alloc: Global,
-    words: Words,
-    line: &str,
-    (place, text): (&str, &str),
-) {
-    push_text(rt, all, alloc, words, line, answer(alloc, place, text))
-}
-
+/// An input, and the report on it; a fault ends the test.
 fn push_text(
     rt: &impl Abort,
     all: &mut Vec<Row>,
