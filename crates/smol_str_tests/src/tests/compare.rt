@@ -1,12 +1,12 @@
 //! Equality, order and hashes.
-use super::same::{holds, ok, same, same_place};
+use super::rows::{in_place, is_so, ok_string, ok_value, same_count};
+use super::same::{holds, ok, same};
 use smol_str::borsh::from_wire;
 use smol_str::{INLINE_CAP, Place, SmolStr, Step, StrExt, build};
 use std::alloc::Global;
 use std::cmp::Ordering;
 use std::hash::{DefaultHasher, Hash, Hasher};
 use std::process::Abort;
-use std::test::Fail;
 use test_support::builders::builder_of;
 use test_support::texts::{long_blank, long_text, repeated_and};
 
@@ -31,8 +31,8 @@ fn orders(rt: HostRuntime) {
 
 #[test]
 fn order_of_a_pinned_value(rt: HostRuntime) {
-    let pinned = SmolStr::new_static("ab");
-    same(&rt, &pinned.cmp_str("abc"), &Ordering::Less, &pinned);
+    let order = SmolStr::new_static("ab").cmp_str("abc");
+    same_order(&rt, order, Ordering::Less, ("ab", "abc"));
 }
 
 // Texts that differ in their last byte, and not before it.
@@ -40,7 +40,7 @@ fn order_of_a_pinned_value(rt: HostRuntime) {
 fn orders_of_long_texts(rt: HostRuntime) {
     let alloc = rt.alloc();
     let text = long_text();
-    let other = ok(&rt, repeated_and(alloc, "a", INLINE_CAP, "b"));
+    let other = ok_string(&rt, repeated_and(alloc, "a", INLINE_CAP, "b"));
     assert_orders(&rt, alloc, (text, other.as_str()), Ordering::Less);
     assert_order_to_pinned(&rt, alloc, other.as_str(), text, Ordering::Greater);
     assert_orders(&rt, alloc, (text, text), Ordering::Equal);
@@ -48,8 +48,9 @@ fn orders_of_long_texts(rt: HostRuntime) {
 }
 
 fn assert_orders(rt: &impl Abort, alloc: Global, texts: (&str, &str), order: Ordering) {
-    assert_order_of_values(rt, alloc, texts, order);
-    assert_order_of_texts(rt, alloc, texts, order)
+    let value = ok_value(rt, SmolStr::new(alloc, texts.0));
+    assert_order_to_value(rt, alloc, &value, texts.1, order);
+    assert_order_to_text(rt, alloc, &value, texts.1, order)
 }
 
 /// The right side as a pinned value, so that places differ.
@@ -60,38 +61,51 @@ fn assert_order_to_pinned(
     right: &'static str,
     order: Ordering,
 ) {
-    let value = ok(rt, SmolStr::new(alloc, left));
+    let value = ok_value(rt, SmolStr::new(alloc, left));
     assert_order(rt, &value, &SmolStr::new_static(right), order);
 }
 
-fn assert_order_of_values(rt: &impl Abort, alloc: Global, texts: (&str, &str), order: Ordering) {
-    let value = ok(rt, SmolStr::new(alloc, texts.0));
-    let other = ok(rt, SmolStr::new(alloc, texts.1));
-    assert_order(rt, &value, &other, order);
-}
-
-fn assert_order_of_texts(rt: &impl Abort, alloc: Global, texts: (&str, &str), order: Ordering) {
-    let value = ok(rt, SmolStr::new(alloc, texts.0));
-    let owned = ok(rt, String::from_str(alloc, texts.1));
-    assert_order_of_text(rt, &value, &owned, order);
+fn assert_order_to_value(
+    rt: &impl Abort,
+    alloc: Global,
+    value: &SmolStr,
+    right: &str,
+    order: Ordering,
+) {
+    assert_order(rt, value, &ok_value(rt, SmolStr::new(alloc, right)), order)
 }
 
 fn assert_order(rt: &impl Abort, value: &SmolStr, other: &SmolStr, order: Ordering) {
-    let row = (value, other);
-    same(rt, &value.cmp(other), &order, &row);
+    let row = (value.as_str(), other.as_str());
+    same_order(rt, value.cmp(other), order, row);
     same(rt, &value.partial_cmp(other), &Some(order), &row);
-    same(rt, &other.cmp(value), &order.reverse(), &row);
-    holds(rt, (value == other) == (order == Ordering::Equal), &row);
+    same_order(rt, other.cmp(value), order.reverse(), row);
+    same_equality(rt, value == other, order, row);
 }
 
-fn assert_order_of_text(rt: &impl Abort, value: &SmolStr, owned: &String, order: Ordering) {
-    let text = owned.as_str();
-    let is_equal = order == Ordering::Equal;
-    let row = (value, text);
-    same(rt, &value.cmp_str(text), &order, &row);
-    same(rt, &value.cmp_string(owned), &order, &row);
-    holds(rt, value.eq_str(text) == is_equal, &row);
-    holds(rt, value.eq_string(owned) == is_equal, &row);
+fn assert_order_to_text(
+    rt: &impl Abort,
+    alloc: Global,
+    value: &SmolStr,
+    right: &str,
+    order: Ordering,
+) {
+    let row = (value.as_str(), right);
+    same_order(rt, value.cmp_str(right), order, row);
+    same_equality(rt, value.eq_str(right), order, row);
+    let owned = ok_string(rt, String::from_str(alloc, right));
+    same_order(rt, value.cmp_string(&owned), order, row);
+    same_equality(rt, value.eq_string(&owned), order, row);
+}
+
+/// The orders of two texts are the same.
+fn same_order(rt: &impl Abort, found: Ordering, wanted: Ordering, row: (&str, &str)) {
+    same(rt, &found, &wanted, &row);
+}
+
+/// Two texts of this order are equal, or they are not.
+fn same_equality(rt: &impl Abort, are_equal: bool, order: Ordering, row: (&str, &str)) {
+    holds(rt, are_equal == (order == Ordering::Equal), &row);
 }
 
 fn hash_of<T: Hash>(value: &T) -> u64 {
@@ -104,32 +118,30 @@ fn hash_of<T: Hash>(value: &T) -> u64 {
 // every place, that of std's `str`.
 #[test]
 fn pinned_and_new(rt: HostRuntime) {
-    let rows = [
-        ("", Place::Inline),
-        ("ab", Place::Inline),
-        (long_blank(), Place::Static),
-        (long_text(), Place::Heap),
-    ];
-    for (text, place) in rows {
-        let value = ok(&rt, SmolStr::new(rt.alloc(), text));
-        same_place(&rt, &value, place, &text);
-        assert_pinned_equals(&rt, text, &value);
-    }
+    assert_pinned_and_new(&rt, rt.alloc(), "", Place::Inline);
+    assert_pinned_and_new(&rt, rt.alloc(), "ab", Place::Inline);
+    assert_pinned_and_new(&rt, rt.alloc(), long_blank(), Place::Static);
+    assert_pinned_and_new(&rt, rt.alloc(), long_text(), Place::Heap)
+}
+
+fn assert_pinned_and_new(rt: &impl Abort, alloc: Global, text: &'static str, place: Place) {
+    let value = ok_value(rt, SmolStr::new(alloc, text));
+    in_place(rt, &value, place, text);
+    assert_pinned_equals(rt, text, &value)
 }
 
 fn assert_pinned_equals(rt: &impl Abort, text: &'static str, value: &SmolStr) {
     let pinned = SmolStr::new_static(text);
-    holds(rt, pinned.eq_str(text), &text);
-    holds(rt, *value == pinned, &text);
+    is_so(rt, pinned.eq_str(text), text);
+    is_so(rt, *value == pinned, text);
     assert_hash(rt, value, text);
     assert_hash(rt, &pinned, text);
     assert_static(rt, &pinned, text)
 }
 
 fn assert_static(rt: &impl Abort, pinned: &SmolStr, text: &str) {
-    same_place(rt, pinned, Place::Static, &text);
-    let copy = ok(rt, pinned.clone());
-    same_place(rt, &copy, Place::Static, &text);
+    in_place(rt, pinned, Place::Static, text);
+    in_place(rt, &ok_value(rt, pinned.clone()), Place::Static, text);
 }
 
 /// The hash is that of the text.
@@ -139,46 +151,50 @@ fn assert_hash(rt: &impl Abort, value: &SmolStr, text: &str) {
 
 // One text, made in every way: values that are equal in pairs, with one hash, all inline.
 #[test]
-fn one_text_in_every_way(rt: HostRuntime) -> Result<(), Fail> {
+fn one_text_in_every_way(rt: HostRuntime) {
     let mut values = Vec::new(rt.alloc());
-    add_constructed(rt.alloc(), &mut values)?;
-    add_converted(rt.alloc(), &mut values)?;
-    same(&rt, &values.len(), &8, &"ways");
+    add_constructed(&rt, rt.alloc(), &mut values);
+    add_converted(&rt, rt.alloc(), &mut values);
+    same_count(&rt, values.len(), 8, "ways");
     for value in &values {
         assert_equals_all(&rt, value, values.as_slice());
     }
-    Ok(())
 }
 
-fn add_constructed(alloc: Global, values: &mut Vec<SmolStr>) -> Result<(), Fail> {
-    add(values, SmolStr::new(alloc, "ab").ok())?;
-    add(values, Some(SmolStr::new_inline("ab")))?;
-    add(values, SmolStr::from_utf8(alloc, b"ab").ok())?;
-    add(values, SmolStr::from_chars(alloc, "ab".chars()).ok())
+fn add_constructed(rt: &impl Abort, alloc: Global, values: &mut Vec<SmolStr>) {
+    add(rt, values, SmolStr::new(alloc, "ab").ok());
+    add(rt, values, Some(SmolStr::new_inline("ab")));
+    add(rt, values, SmolStr::from_utf8(alloc, b"ab").ok());
+    add(rt, values, SmolStr::from_chars(alloc, "ab".chars()).ok());
 }
 
-fn add_converted(alloc: Global, values: &mut Vec<SmolStr>) -> Result<(), Fail> {
-    add(values, Some(from_wire(alloc, b"\x02\0\0\0ab")?.0))?;
-    add(values, "xb".replace_smolstr(alloc, "x", "a").ok())?;
-    add_built(alloc, values)
+fn add_converted(rt: &impl Abort, alloc: Global, values: &mut Vec<SmolStr>) {
+    add(rt, values, read(alloc));
+    add(rt, values, "xb".replace_smolstr(alloc, "x", "a").ok());
+    add(rt, values, finished(alloc));
+    add(rt, values, built(alloc));
 }
 
-fn add_built(alloc: Global, values: &mut Vec<SmolStr>) -> Result<(), Fail> {
-    add(values, builder_of(alloc, 100, "ab")?.finish().ok())?;
-    add(
-        values,
-        build(alloc, 0, &[Step::Push('a'), Step::Push('b')]).ok(),
-    )
+fn read(alloc: Global) -> Option<SmolStr> {
+    let (value, _) = from_wire(alloc, b"\x02\0\0\0ab").ok()?;
+    Some(value)
+}
+
+fn finished(alloc: Global) -> Option<SmolStr> {
+    builder_of(alloc, 100, "ab").ok()?.finish().ok()
+}
+
+fn built(alloc: Global) -> Option<SmolStr> {
+    build(alloc, 0, &[Step::Push('a'), Step::Push('b')]).ok()
 }
 
 /// A test fails where there is no value.
-fn add(values: &mut Vec<SmolStr>, made: Option<SmolStr>) -> Result<(), Fail> {
-    values.push(made.ok_or("no value")?)?;
-    Ok(())
+fn add(rt: &impl Abort, values: &mut Vec<SmolStr>, made: Option<SmolStr>) {
+    ok(rt, values.push(ok(rt, made.ok_or("no value"))));
 }
 
 fn assert_equals_all(rt: &impl Abort, left: &SmolStr, values: &[SmolStr]) {
-    same_place(rt, left, Place::Inline, left);
+    in_place(rt, left, Place::Inline, left.as_str());
     assert_hash(rt, left, "ab");
     for right in values {
         holds(rt, left == right, &(left, right));

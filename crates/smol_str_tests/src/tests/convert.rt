@@ -1,31 +1,37 @@
 //! Values from other texts, and back.
-use super::same::{holds, ok, same, same_place, same_text, same_value};
+use super::rows::{
+    has_text, in_place, into_shared, into_string, is_so, ok_shared, ok_string, ok_value,
+    same_count, same_str,
+};
+use super::same::{holds, ok, same};
 use smol_str::{FromUtf8Fault, INLINE_CAP, Place, SmolStr};
-use std::alloc::Global;
+use std::alloc::{AllocError, Global};
 use std::borrow::CowStr;
 use std::process::Abort;
 use std::rc::RcStr;
 use std::test::Fail;
-use test_support::refuse::{can_refuse, each_refused};
+use test_support::refuse::{Asked, can_refuse, each_refused};
 use test_support::texts::{ABOVE_BUFFERS, long_blank, long_text, repeated};
 
 #[test]
 fn test_from_char(rt: HostRuntime) {
-    let rows = [('a', "a", 1), ('ñ', "ñ", 2), ('€', "€", 3), ('🦀', "🦀", 4)];
-    for (character, text, len) in rows {
-        let value = SmolStr::from(character);
-        same_value(&rt, &value, text, Place::Inline, &character);
-        same(&rt, &value.len(), &len, &character);
-    }
+    assert_from_char(&rt, 'a', "a", 1);
+    assert_from_char(&rt, 'ñ', "ñ", 2);
+    assert_from_char(&rt, '€', "€", 3);
+    assert_from_char(&rt, '🦀', "🦀", 4)
+}
+
+fn assert_from_char(rt: &impl Abort, character: char, text: &str, len: usize) {
+    let value = SmolStr::from(character);
+    has_text(rt, &value, text, Place::Inline, text);
+    same_count(rt, value.len(), len, text);
 }
 
 #[test]
 fn bytes(rt: HostRuntime) {
     let wrong: [&[u8]; 3] = [b"\xc0\x80", b"\xed\xa0\x80", b"\xf4\x90\x80\x80"];
     for bytes in wrong {
-        let answer = SmolStr::from_utf8(rt.alloc(), bytes);
-        let is_not_utf8 = matches!(answer, Err(FromUtf8Fault::NotUtf8(_)));
-        holds(&rt, is_not_utf8, &bytes);
+        holds(&rt, valid_up_to(rt.alloc(), bytes).is_some(), &bytes);
     }
 }
 
@@ -33,13 +39,24 @@ fn bytes(rt: HostRuntime) {
 #[test]
 fn long_bytes(rt: HostRuntime) {
     for size in ABOVE_BUFFERS {
-        let mut bytes = ok(&rt, repeated(rt.alloc(), "a", size)).into_bytes();
-        ok(&rt, bytes.push(0xff));
-        let valid = match SmolStr::from_utf8(rt.alloc(), bytes.as_slice()) {
-            Err(FromUtf8Fault::NotUtf8(error)) => Some(error.valid_up_to()),
-            _ => None,
-        };
+        let bytes = ok(&rt, wrong_behind(rt.alloc(), size));
+        let valid = valid_up_to(rt.alloc(), bytes.as_slice());
         same(&rt, &valid, &Some(size), &"from_utf8");
+    }
+}
+
+/// So many letters, and a byte that is not UTF-8.
+fn wrong_behind(alloc: Global, size: usize) -> Result<Vec<u8>, AllocError> {
+    let mut bytes = repeated(alloc, "a", size)?.into_bytes();
+    bytes.push(0xff)?;
+    Ok(bytes)
+}
+
+/// Where the bytes stop being UTF-8.
+fn valid_up_to(alloc: Global, bytes: &[u8]) -> Option<usize> {
+    match SmolStr::from_utf8(alloc, bytes) {
+        Err(FromUtf8Fault::NotUtf8(error)) => Some(error.valid_up_to()),
+        _ => None,
     }
 }
 
@@ -58,31 +75,41 @@ fn conversions(rt: HostRuntime) {
 }
 
 fn assert_into_string(rt: &impl Abort, alloc: Global, text: &str) {
-    let value = ok(rt, SmolStr::new(alloc, text));
-    let back = ok(rt, value.into_string(alloc).ok().ok_or("refused"));
-    same_text(rt, back.as_str(), text, &"into_string");
+    let value = ok_value(rt, SmolStr::new(alloc, text));
+    same_str(
+        rt,
+        into_string(rt, alloc, value).as_str(),
+        text,
+        "into_string",
+    );
 }
 
 fn assert_into_rc_str(rt: &impl Abort, alloc: Global, text: &str) {
-    let value = SmolStr::from_rc_str(ok(rt, RcStr::from_str(alloc, text)));
-    let back = ok(rt, value.into_rc_str(alloc).ok().ok_or("refused"));
-    same_text(rt, back.as_str(), text, &"into_rc_str");
+    let value = SmolStr::from_rc_str(ok_shared(rt, RcStr::from_str(alloc, text)));
+    same_str(
+        rt,
+        into_shared(rt, alloc, value).as_str(),
+        text,
+        "into_rc_str",
+    );
 }
+
+/// A text so many times, and the place of the value.
+static INPUTS: [(&str, usize, Place); 7] = [
+    ("ab", 1, Place::Inline),
+    (" ", INLINE_CAP + 1, Place::Static),
+    ("a", INLINE_CAP + 1, Place::Heap),
+    ("a", 5000, Place::Heap),
+    ("a", 70_000, Place::Heap),
+    ("é", 2500, Place::Heap),
+    ("é", 35_000, Place::Heap),
+];
 
 // Each call that takes a text makes the value that `new` makes, and none gives up.
 #[test]
 fn every_way_in(rt: HostRuntime) {
-    let rows = [
-        ("ab", 1, Place::Inline),
-        (" ", INLINE_CAP + 1, Place::Static),
-        ("a", INLINE_CAP + 1, Place::Heap),
-        ("a", 5000, Place::Heap),
-        ("a", 70_000, Place::Heap),
-        ("é", 2500, Place::Heap),
-        ("é", 35_000, Place::Heap),
-    ];
-    for (piece, times, place) in rows {
-        let text = ok(&rt, repeated(rt.alloc(), piece, times));
+    for &(piece, times, place) in &INPUTS {
+        let text = ok_string(&rt, repeated(rt.alloc(), piece, times));
         assert_every_way(&rt, rt.alloc(), (text.as_str(), place));
     }
 }
@@ -111,7 +138,7 @@ fn assert_from_bytes(rt: &impl Abort, alloc: Global, wanted: (&str, Place)) {
 }
 
 fn assert_from_string(rt: &impl Abort, alloc: Global, wanted: (&str, Place)) {
-    let text = ok(rt, String::from_str(alloc, wanted.0));
+    let text = ok_string(rt, String::from_str(alloc, wanted.0));
     let value = SmolStr::from_string_ref(alloc, &text).ok();
     assert_made(rt, alloc, value, wanted, "from_string_ref");
     let value = SmolStr::from_string(alloc, text).ok();
@@ -121,17 +148,16 @@ fn assert_from_string(rt: &impl Abort, alloc: Global, wanted: (&str, Place)) {
 fn assert_from_cow_str(rt: &impl Abort, alloc: Global, wanted: (&str, Place)) {
     let value = SmolStr::from_cow_str(alloc, CowStr::Borrowed(wanted.0)).ok();
     assert_made(rt, alloc, value, wanted, "from_cow_str, borrowed");
-    let text = ok(rt, String::from_str(alloc, wanted.0));
+    let text = ok_string(rt, String::from_str(alloc, wanted.0));
     let value = SmolStr::from_cow_str(alloc, CowStr::Owned(text)).ok();
     assert_made(rt, alloc, value, wanted, "from_cow_str, owned")
 }
 
 fn assert_from_shared(rt: &impl Abort, alloc: Global, wanted: (&str, Place)) {
-    let boxed = ok(rt, String::from_str(alloc, wanted.0)).into_boxed_str();
+    let boxed = ok_string(rt, String::from_str(alloc, wanted.0)).into_boxed_str();
     let value = SmolStr::from_boxed_str(alloc, boxed).ok();
     assert_made(rt, alloc, value, wanted, "from_boxed_str");
-    let shared = ok(rt, RcStr::from_str(alloc, wanted.0));
-    let value = SmolStr::from_rc_str(shared);
+    let value = SmolStr::from_rc_str(ok_shared(rt, RcStr::from_str(alloc, wanted.0)));
     assert_made(rt, alloc, Some(value), wanted, "from_rc_str")
 }
 
@@ -145,49 +171,54 @@ fn assert_made(
 ) {
     let value = ok(rt, made.ok_or(way));
     let (text, place) = wanted;
-    same_value(rt, &value, text, place, &way);
+    has_text(rt, &value, text, place, way);
     assert_prints(rt, alloc, &value, text);
     assert_prints_quoted(rt, alloc, &value, text)
 }
 
 fn assert_prints(rt: &impl Abort, alloc: Global, value: &SmolStr, text: &str) {
     let printed = ok(rt, format!(in alloc; "{value}"));
-    same_text(rt, printed.as_str(), text, &"printed");
+    same_str(rt, printed.as_str(), text, "printed");
 }
 
 fn assert_prints_quoted(rt: &impl Abort, alloc: Global, value: &SmolStr, text: &str) {
-    let printed = ok(rt, format!(in alloc; "{value:?}"));
     let quoted = ok(rt, format!(in alloc; "\"{text}\""));
-    same_text(
+    let printed = ok(rt, format!(in alloc; "{value:?}"));
+    same_str(
         rt,
         printed.as_str(),
         quoted.as_str(),
-        &"printed for debugging",
+        "printed for debugging",
     );
 }
 
 // A text that is not resident is kept as it was handed in, and handed out again.
 #[test]
 fn keeps_a_shared_text(rt: HostRuntime) {
-    let shared = ok(&rt, RcStr::from_str(rt.alloc(), long_text()));
-    let value = SmolStr::from_rc_str(ok(&rt, shared.clone()));
-    same_place(&rt, &value, Place::Heap, &"the long text");
-    let back = ok(&rt, value.into_rc_str(rt.alloc()).ok().ok_or("refused"));
-    holds(&rt, RcStr::ptr_eq(&back, &shared), &"it takes no memory");
+    let shared = ok_shared(&rt, RcStr::from_str(rt.alloc(), long_text()));
+    let value = SmolStr::from_rc_str(ok_shared(&rt, shared.clone()));
+    in_place(&rt, &value, Place::Heap, "the long text");
+    assert_hands_out(&rt, rt.alloc(), value, &shared)
+}
+
+/// The value becomes the very text that it shares, which takes no memory.
+fn assert_hands_out(rt: &impl Abort, alloc: Global, value: SmolStr, shared: &RcStr) {
+    let back = into_shared(rt, alloc, value);
+    is_so(rt, RcStr::ptr_eq(&back, shared), "the shared text");
 }
 
 #[test]
 fn places_of_shared_texts(rt: HostRuntime) {
-    let rows = [
-        ("ab", Place::Inline),
-        ("aaaaaaaaaaaaaaaaaaaaaaaa", Place::Inline),
-        ("                        ", Place::Inline),
-        (long_blank(), Place::Static),
-    ];
-    for (text, place) in rows {
-        let value = SmolStr::from_rc_str(ok(&rt, RcStr::from_str(rt.alloc(), text)));
-        same_value(&rt, &value, text, place, &"from_rc_str");
-    }
+    let alloc = rt.alloc();
+    assert_place_of_shared(&rt, alloc, "ab", Place::Inline);
+    assert_place_of_shared(&rt, alloc, "aaaaaaaaaaaaaaaaaaaaaaaa", Place::Inline);
+    assert_place_of_shared(&rt, alloc, "                        ", Place::Inline);
+    assert_place_of_shared(&rt, alloc, long_blank(), Place::Static)
+}
+
+fn assert_place_of_shared(rt: &impl Abort, alloc: Global, text: &str, place: Place) {
+    let value = SmolStr::from_rc_str(ok_shared(rt, RcStr::from_str(alloc, text)));
+    has_text(rt, &value, text, place, "from_rc_str");
 }
 
 #[test]
@@ -196,11 +227,11 @@ fn refused_borrowed_text_comes_back(rt: HostRuntime) -> Result<(), Fail> {
     let asked = each_refused(
         alloc,
         "from_cow_str",
-        || Ok(()),
-        |()| from_borrowed(alloc),
-        |answer| Ok(assert_borrowed(&rt, answer)),
+        || Ok(alloc),
+        from_borrowed,
+        check_borrowed,
     )?;
-    same(&rt, &(asked.requests > 0), &can_refuse(alloc), &"requests");
+    assert_asks(&rt, alloc, asked);
     Ok(())
 }
 
@@ -212,51 +243,55 @@ fn from_borrowed(alloc: Global) -> Result<SmolStr, bool> {
     }
 }
 
-fn assert_borrowed(rt: &impl Abort, answer: &Result<SmolStr, bool>) {
+fn check_borrowed(answer: &Result<SmolStr, bool>) -> Result<(), Fail> {
     match answer {
-        Ok(value) => same_text(rt, value.as_str(), long_text(), &"a value"),
-        Err(is_back) => holds(rt, *is_back, &"the borrowed text comes back"),
+        Ok(value) if value.as_str() == long_text() => Ok(()),
+        Ok(value) => Err(Fail::new(format_args!("from_cow_str makes {value}"))),
+        Err(true) => Ok(()),
+        Err(false) => Err("the borrowed text does not come back".into()),
     }
+}
+
+/// A call made requests, where memory can be refused.
+fn assert_asks(rt: &impl Abort, alloc: Global, asked: Asked) {
+    is_so(rt, (asked.requests > 0) == can_refuse(alloc), "requests");
 }
 
 // A value on the heap that comes back still has the shared text that it was made of.
 #[test]
 fn refused_value_keeps_its_shared_text(rt: HostRuntime) -> Result<(), Fail> {
     for len in [INLINE_CAP + 1, 5000] {
-        let text = repeated(rt.alloc(), "a", len)?;
-        let shared = RcStr::from_str(rt.alloc(), text.as_str())?;
+        let shared = ok_shared(&rt, shared_letters(rt.alloc(), len));
         assert_keeps(&rt, rt.alloc(), &shared)?;
     }
     Ok(())
+}
+
+fn shared_letters(alloc: Global, len: usize) -> Result<RcStr, AllocError> {
+    let text = repeated(alloc, "a", len)?;
+    RcStr::from_str(alloc, text.as_str())
 }
 
 fn assert_keeps(rt: &impl Abort, alloc: Global, shared: &RcStr) -> Result<(), Fail> {
     let asked = each_refused(
         alloc,
         "into_string",
-        || Ok(SmolStr::from_rc_str(shared.clone()?)),
+        || Ok(value_of(shared)?),
         |value| value.into_string(alloc),
-        |answer| {
-            assert_shares(rt, alloc, shared, answer);
-            Ok(())
-        },
+        |answer| Ok(assert_shares(rt, alloc, shared, answer)),
     )?;
-    same(rt, &(asked.requests > 0), &can_refuse(alloc), &"requests");
+    assert_asks(rt, alloc, asked);
     Ok(())
+}
+
+/// The value that shares the text.
+fn value_of(shared: &RcStr) -> Result<SmolStr, AllocError> {
+    Ok(SmolStr::from_rc_str(shared.clone()?))
 }
 
 fn assert_shares(rt: &impl Abort, alloc: Global, shared: &RcStr, answer: &Result<String, SmolStr>) {
     match answer {
-        Ok(string) => same_text(rt, string.as_str(), shared.as_str(), &"a string"),
-        Err(back) => {
-            let back = ok(
-                rt,
-                ok(rt, back.clone())
-                    .into_rc_str(alloc)
-                    .ok()
-                    .ok_or("refused"),
-            );
-            holds(rt, RcStr::ptr_eq(&back, shared), &"the shared text");
-        }
+        Ok(string) => same_str(rt, string.as_str(), shared.as_str(), "a string"),
+        Err(back) => assert_hands_out(rt, alloc, ok_value(rt, back.clone()), shared),
     }
 }

@@ -1,4 +1,5 @@
 //! The loops over bytes, against outside rows, a plain map and std's search.
+use super::rows::{is_so, ok_string, ok_strings, ok_value, same_count, same_str};
 use super::same::{ok, same};
 use smol_str::kernel::{AsciiCase, convert_while_ascii, next_match};
 use smol_str::{INLINE_CAP, InlineBuffer, SmolStr};
@@ -47,62 +48,72 @@ static FRONTS: [(&str, AsciiCase, &str, usize); 11] = [
     ),
 ];
 
+/// The table, behind a function: one that names it is dear to prove.
+fn front_rows() -> &'static [(&'static str, AsciiCase, &'static str, usize)] {
+    &FRONTS
+}
+
 #[test]
-fn fronts(rt: HostRuntime) -> Result<(), Fail> {
-    for &(text, case, front, zeros) in &FRONTS {
-        assert_front(&rt, text, case, front, zeros)?;
+fn fronts(rt: HostRuntime) {
+    for &(text, case, front, zeros) in front_rows() {
+        assert_front(&rt, text, case, front, zeros);
     }
     assert_front(&rt, full_text(), AsciiCase::Upper, full_capitals(), 0)
 }
 
+fn assert_front(rt: &impl Abort, text: &str, case: AsciiCase, front: &str, zeros: usize) {
+    let wanted = padded(front.as_bytes());
+    assert_converted(rt, text, case, &wanted, front.len());
+    same_count(rt, wanted.len().saturating_sub(front.len()), zeros, text);
+}
+
+/// The call gives these bytes, of which the first `len` are the front.
+fn assert_converted(
+    rt: &impl Abort,
+    text: &str,
+    case: AsciiCase,
+    wanted: &InlineBuffer,
+    len: usize,
+) {
+    if text.len() > INLINE_CAP {
+        panic!(rt; "{text} is too long");
+    }
+    let (buffer, found) = convert_while_ascii(text, case);
+    same_count(rt, found, len, text);
+    same(rt, &buffer, wanted, &text);
+}
+
 // As values, which also say whether they are ASCII.
 #[test]
-fn values_in_a_case(rt: HostRuntime) -> Result<(), Fail> {
-    for &(text, ..) in &FRONTS {
-        assert_value(&rt, rt.alloc(), text)?;
+fn values_in_a_case(rt: HostRuntime) {
+    for &(text, ..) in front_rows() {
+        assert_in_cases(&rt, rt.alloc(), text);
     }
-    assert_value(&rt, rt.alloc(), full_capitals())?;
+    assert_in_cases(&rt, rt.alloc(), full_capitals());
     for text in [
         "a text that is longer than a value has room for",
         "so is this, and not ASCII at its end: é",
     ] {
-        same(
-            &rt,
-            &SmolStr::new(rt.alloc(), text)?.is_ascii(),
-            &text.is_ascii(),
-            &text,
-        );
+        let value = ok_value(&rt, SmolStr::new(rt.alloc(), text));
+        is_so(&rt, value.is_ascii() == text.is_ascii(), text);
     }
-    Ok(())
 }
 
-fn assert_value(rt: &impl Abort, alloc: Global, text: &str) -> Result<(), Fail> {
-    if text.len() > INLINE_CAP {
-        return Err(Fail::new(format_args!("{text} is too long")));
-    }
-    let mut wanted = String::from_str(alloc, text)?;
+fn assert_in_cases(rt: &impl Abort, alloc: Global, text: &str) {
+    let mut wanted = ok_string(rt, String::from_str(alloc, text));
     wanted.make_ascii_lowercase();
-    let lower = SmolStr::new_inline_in_case(text, AsciiCase::Lower);
-    same(rt, &lower.as_str(), &wanted.as_str(), &text);
+    assert_in_case(rt, text, AsciiCase::Lower, wanted.as_str());
     wanted.make_ascii_uppercase();
-    let upper = SmolStr::new_inline_in_case(text, AsciiCase::Upper);
-    same(rt, &upper.as_str(), &wanted.as_str(), &text);
-    same(rt, &upper.is_ascii(), &text.is_ascii(), &text);
-    Ok(())
+    assert_in_case(rt, text, AsciiCase::Upper, wanted.as_str())
 }
 
-fn assert_front(
-    rt: &impl Abort,
-    text: &str,
-    case: AsciiCase,
-    front: &str,
-    zeros: usize,
-) -> Result<(), Fail> {
-    let (buffer, len) = converted(text, case)?;
-    same(rt, &len, &front.len(), &text);
-    same(rt, &buffer.iter().skip(len).count(), &zeros, &text);
-    same(rt, &buffer, &padded(front.as_bytes()), &text);
-    Ok(())
+fn assert_in_case(rt: &impl Abort, text: &str, case: AsciiCase, wanted: &str) {
+    if text.len() > INLINE_CAP {
+        panic!(rt; "{text} is too long");
+    }
+    let value = SmolStr::new_inline_in_case(text, case);
+    same_str(rt, value.as_str(), wanted, text);
+    is_so(rt, value.is_ascii() == text.is_ascii(), text);
 }
 
 // Letters on both sides, so that a byte too many or too few would show.
@@ -113,7 +124,7 @@ fn each_byte_at_each_place(rt: HostRuntime) -> Result<(), Fail> {
             let mut bytes = letters();
             bytes[place] = byte;
             let text = str::from_utf8(&bytes)?;
-            assert_mapped(&rt, text, INLINE_CAP)?;
+            assert_mapped(&rt, text, INLINE_CAP);
         }
     }
     Ok(())
@@ -126,7 +137,7 @@ fn a_wide_character_at_each_place(rt: HostRuntime) -> Result<(), Fail> {
         bytes[place] = 0xC3;
         bytes[place + 1] = 0xA9;
         let text = str::from_utf8(&bytes)?;
-        assert_mapped(&rt, text, place)?;
+        assert_mapped(&rt, text, place);
     }
     Ok(())
 }
@@ -143,41 +154,20 @@ fn letters() -> InlineBuffer {
 }
 
 /// The first `len` bytes are the front, and each is mapped as std maps a byte.
-fn assert_mapped(rt: &impl Abort, text: &str, len: usize) -> Result<(), Fail> {
-    let front = text.as_bytes().get(..len).ok_or("a text too short")?;
-    let mut wanted = padded(front);
+fn assert_mapped(rt: &impl Abort, text: &str, len: usize) {
+    let mut wanted = padded(ok(rt, text.as_bytes().get(..len).ok_or("a text too short")));
     wanted.make_ascii_lowercase();
-    same(
-        rt,
-        &converted(text, AsciiCase::Lower)?,
-        &(wanted, len),
-        &text,
-    );
+    assert_converted(rt, text, AsciiCase::Lower, &wanted, len);
     wanted.make_ascii_uppercase();
-    same(
-        rt,
-        &converted(text, AsciiCase::Upper)?,
-        &(wanted, len),
-        &text,
-    );
-    Ok(())
+    assert_converted(rt, text, AsciiCase::Upper, &wanted, len)
 }
 
 /// The bytes, and then zeros.
 fn padded(bytes: &[u8]) -> InlineBuffer {
     let mut buffer = [0; INLINE_CAP];
-    for (to, from) in buffer.iter_mut().zip(bytes) {
-        *to = *from;
-    }
+    let len = bytes.len().min(INLINE_CAP);
+    buffer[..len].copy_from_slice(&bytes[..len]);
     buffer
-}
-
-/// The call, where its condition is kept.
-fn converted(text: &str, case: AsciiCase) -> Result<(InlineBuffer, usize), Fail> {
-    if text.len() > INLINE_CAP {
-        return Err("a text too long".into());
-    }
-    Ok(convert_while_ascii(text, case))
 }
 
 /// A text, a place in it, a pattern, and where that is found.
@@ -196,19 +186,17 @@ static MATCHES: [(&str, usize, &str, Option<usize>); 9] = [
 #[test]
 fn matches(rt: HostRuntime) {
     for &(text, from, pattern, wanted) in &MATCHES {
-        let found = ok(
-            &rt,
-            found_from(text, from, pattern).ok_or("a place inside a character"),
-        );
-        same(&rt, &found, &wanted, &(pattern, text, from));
+        let found = found_from(text, from, pattern);
+        let found = ok(&rt, found.ok_or("a place inside a character"));
+        same_match(&rt, found, wanted, (pattern, text, from));
     }
 }
 
 // Every place of every small text, with every small pattern.
 #[test]
 fn matches_as_std_finds(rt: HostRuntime) {
-    let texts = ok(&rt, small_texts(rt.alloc(), 5));
-    let patterns = ok(&rt, small_texts(rt.alloc(), 3));
+    let texts = ok_strings(&rt, small_texts(rt.alloc(), 5));
+    let patterns = ok_strings(&rt, small_texts(rt.alloc(), 3));
     for text in &texts {
         for pattern in &patterns {
             assert_found(&rt, text.as_str(), pattern.as_str());
@@ -220,9 +208,19 @@ fn assert_found(rt: &impl Abort, text: &str, pattern: &str) {
     for from in 0..=text.len() {
         if let Some(found) = found_from(text, from, pattern) {
             let wanted = std_finds(text, from, pattern);
-            same(rt, &found, &wanted, &(pattern, text, from));
+            same_match(rt, found, wanted, (pattern, text, from));
         }
     }
+}
+
+/// The pattern is found at the place in the text, from a place on.
+fn same_match(
+    rt: &impl Abort,
+    found: Option<usize>,
+    wanted: Option<usize>,
+    row: (&str, &str, usize),
+) {
+    same(rt, &found, &wanted, &row);
 }
 
 /// Where std finds the pattern.

@@ -1,11 +1,9 @@
 //! Where texts are kept.
-use super::same::{holds, ok, same, same_place, same_text, same_value};
-use smol_str::{
-    BLANK_NEWLINES, BLANK_SPACES, INLINE_CAP, InlineBuffer, Place, SmolStr, SmolStrBuilder,
-};
+use super::rows::{has_text, in_place, is_so, ok_string, ok_value, same_count, same_str};
+use super::same::{holds, ok};
+use smol_str::{BLANK_NEWLINES, BLANK_SPACES, INLINE_CAP, InlineBuffer, Place, SmolStr};
 use std::alloc::{AllocError, Global};
 use std::process::Abort;
-use std::test::Fail;
 use test_support::builders::builder_of;
 use test_support::texts::{full_text, long_text, repeated, repeated_and};
 
@@ -47,20 +45,27 @@ static BLANKS: [(usize, usize, usize, Place); 17] = [
 #[test]
 fn new_places(rt: HostRuntime) {
     for &(piece, times, end, place) in &PLACES {
-        let text = ok(&rt, repeated_and(rt.alloc(), piece, times, end));
-        let value = ok(&rt, SmolStr::new(rt.alloc(), text.as_str()));
-        same_value(&rt, &value, text.as_str(), place, &([piece, end], times));
+        let text = ok_string(&rt, repeated_and(rt.alloc(), piece, times, end));
+        assert_new(&rt, rt.alloc(), text.as_str(), place);
     }
 }
 
 #[test]
 fn blank_places(rt: HostRuntime) {
     for &(newlines, spaces, more, place) in &BLANKS {
-        let text = ok(&rt, blank(rt.alloc(), newlines, spaces, more));
-        let value = ok(&rt, SmolStr::new(rt.alloc(), text.as_str()));
-        let row = (newlines, spaces, more);
-        same_value(&rt, &value, text.as_str(), place, &row);
+        let text = ok_string(&rt, blank(rt.alloc(), newlines, spaces, more));
+        assert_new(&rt, rt.alloc(), text.as_str(), place);
     }
+}
+
+fn assert_new(rt: &impl Abort, alloc: Global, text: &str, place: Place) {
+    has_text(
+        rt,
+        &ok_value(rt, SmolStr::new(alloc, text)),
+        text,
+        place,
+        text,
+    )
 }
 
 fn blank(
@@ -76,38 +81,35 @@ fn blank(
 
 #[test]
 fn const_fn_ctor(rt: HostRuntime) {
-    let texts = [
+    for text in [
         "",
         "A",
         "HELLO",
         "ABCDEFGHIZKLMNOPQRSTUVW",
         "                       ",
         full_text(),
-    ];
-    for text in texts {
-        let value = ok(&rt, inline(text).ok_or("a text too long"));
-        assert_equals_new(&rt, rt.alloc(), &value, text);
-        same_place(&rt, &value, Place::Inline, &text);
+    ] {
+        assert_inline(&rt, rt.alloc(), text);
     }
 }
 
-/// The call, where its condition is kept.
-fn inline(text: &str) -> Option<SmolStr> {
+fn assert_inline(rt: &impl Abort, alloc: Global, text: &str) {
     if text.len() > INLINE_CAP {
-        return None;
+        panic!(rt; "{text} is too long");
     }
-    Some(SmolStr::new_inline(text))
+    let value = SmolStr::new_inline(text);
+    assert_equals_new(rt, alloc, &value, text);
+    in_place(rt, &value, Place::Inline, text);
 }
 
 fn assert_equals_new(rt: &impl Abort, alloc: Global, value: &SmolStr, text: &str) {
-    let made = ok(rt, SmolStr::new(alloc, text));
-    holds(rt, *value == made, &text);
+    is_so(rt, *value == ok_value(rt, SmolStr::new(alloc, text)), text);
 }
 
 #[test]
 fn default_value(rt: HostRuntime) {
     let value = SmolStr::default();
-    same_value(&rt, &value, "", Place::Inline, &"default");
+    has_text(&rt, &value, "", Place::Inline, "default");
     assert_equals_new(&rt, rt.alloc(), &value, "")
 }
 
@@ -123,53 +125,55 @@ fn in_turn(alloc: Global, characters: &[char], count: usize) -> Result<String, A
 }
 
 /// Texts of 0 to 400 characters, the given ones in turn, are kept as they are.
-fn assert_round_trips(rt: &impl Abort, alloc: Global, characters: &[char]) -> Result<(), Fail> {
+fn assert_round_trips(rt: &impl Abort, alloc: Global, characters: &[char]) {
     for count in 0..=400usize {
-        let text = in_turn(alloc, characters, count)?;
-        let value = SmolStr::new(alloc, text.as_str())?;
-        assert_keeps(rt, &value, text.as_str());
-        same(rt, &value.is_empty(), &(count == 0), &text);
+        let text = ok_string(rt, in_turn(alloc, characters, count));
+        let value = ok_value(rt, SmolStr::new(alloc, text.as_str()));
+        assert_keeps(rt, &value, text.as_str(), count);
     }
-    Ok(())
 }
 
-fn assert_keeps(rt: &impl Abort, value: &SmolStr, text: &str) {
-    same_text(rt, value.as_str(), text, &"round trip");
-    same(rt, &value.len(), &text.len(), &text);
-    let is_apart = value.is_heap_allocated();
-    holds(rt, text.len() > INLINE_CAP || !is_apart, &text);
+fn assert_keeps(rt: &impl Abort, value: &SmolStr, text: &str, count: usize) {
+    same_str(rt, value.as_str(), text, "round trip");
+    same_count(rt, value.len(), text.len(), text);
+    is_so(
+        rt,
+        text.len() > INLINE_CAP || !value.is_heap_allocated(),
+        text,
+    );
+    is_so(rt, value.is_empty() == (count == 0), text);
 }
 
 #[test]
-fn roundtrip(rt: HostRuntime) -> Result<(), Fail> {
+fn roundtrip(rt: HostRuntime) {
     assert_round_trips(&rt, rt.alloc(), &['a', 'é', '€', '🦀'])
 }
 
 #[test]
-fn roundtrip_spaces(rt: HostRuntime) -> Result<(), Fail> {
+fn roundtrip_spaces(rt: HostRuntime) {
     assert_round_trips(&rt, rt.alloc(), &[' '])
 }
 
 #[test]
-fn roundtrip_newlines(rt: HostRuntime) -> Result<(), Fail> {
+fn roundtrip_newlines(rt: HostRuntime) {
     assert_round_trips(&rt, rt.alloc(), &['\n'])
 }
 
 #[test]
-fn roundtrip_ws(rt: HostRuntime) -> Result<(), Fail> {
+fn roundtrip_ws(rt: HostRuntime) {
     assert_round_trips(&rt, rt.alloc(), &['\n', ' '])
 }
 
 // The buffer, a byte for the length, and a word for the place.
 #[test]
 fn size_of_a_value(rt: HostRuntime) {
-    assert_eq!(rt; size_of::<SmolStr>(), INLINE_CAP + 1 + 8);
+    same_count(&rt, size_of::<SmolStr>(), INLINE_CAP + 1 + 8, "a value");
 }
 
 // The text's bytes, and zeros: of a value and of a builder that are inline, and of no other.
 #[test]
 fn inline_buffers(rt: HostRuntime) {
-    let value = ok(&rt, SmolStr::new(rt.alloc(), "ab"));
+    let value = ok_value(&rt, SmolStr::new(rt.alloc(), "ab"));
     assert_holds_ab(&rt, value.inline_buffer());
     let builder = ok(&rt, builder_of(rt.alloc(), 0, "ab"));
     assert_holds_ab(&rt, builder.inline_buffer());
@@ -178,22 +182,18 @@ fn inline_buffers(rt: HostRuntime) {
 #[test]
 fn no_inline_buffers(rt: HostRuntime) {
     assert_no_buffer(&rt, SmolStr::new_static("ab"));
-    assert_no_buffer(&rt, ok(&rt, SmolStr::new(rt.alloc(), long_text())));
+    assert_no_buffer(&rt, ok_value(&rt, SmolStr::new(rt.alloc(), long_text())));
     let large = ok(&rt, builder_of(rt.alloc(), 100, "ab"));
-    holds(&rt, large.inline_buffer().is_none(), &"a large builder");
+    is_so(&rt, large.inline_buffer().is_none(), "a large builder");
 }
 
 fn assert_no_buffer(rt: &impl Abort, value: SmolStr) {
-    holds(rt, value.inline_buffer().is_none(), &value);
+    is_so(rt, value.inline_buffer().is_none(), value.as_str());
 }
 
 fn assert_holds_ab(rt: &impl Abort, buffer: Option<&InlineBuffer>) {
-    match buffer {
-        Some(buffer) => {
-            holds(rt, buffer.starts_with(b"ab"), buffer);
-            holds(rt, buffer.iter().skip(2).all(|byte| *byte == 0), buffer);
-            same(rt, &buffer.len(), &INLINE_CAP, buffer);
-        }
-        None => holds(rt, false, &"an inline text has a buffer"),
-    }
+    let mut wanted = [0; INLINE_CAP];
+    wanted[0] = b'a';
+    wanted[1] = b'b';
+    holds(rt, buffer == Some(&wanted), &buffer);
 }

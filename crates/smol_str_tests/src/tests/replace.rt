@@ -1,6 +1,7 @@
 //! Replacement, against outside rows and std's own.
-use super::same::{ok, same_text, same_value};
-use smol_str::{INLINE_CAP, Place, StrExt};
+use super::rows::{ok_string, ok_strings, ok_value};
+use super::same::{same_text, same_value};
+use smol_str::{INLINE_CAP, Place, SmolStr, StrExt};
 use std::alloc::{AllocError, Global};
 use std::process::Abort;
 use test_support::texts::{repeated, repeated_and, small_texts};
@@ -15,7 +16,7 @@ type Row = (
 );
 
 /// Those of upstream's test_str_ext are the first four.
-pub static ROWS: [Row; 19] = [
+static ROWS: [Row; 19] = [
     ("foo_bar_baz", "ba", "do", usize::MAX, "foo_dor_doz"),
     ("foo_bar_baz", "ba", "do", 1, "foo_dor_baz"),
     ("foo_bar_baz", "o", "u", 1, "fuo_bar_baz"),
@@ -37,32 +38,40 @@ pub static ROWS: [Row; 19] = [
     ("xb", "x", "a", usize::MAX, "ab"),
 ];
 
+/// The table, behind a function: one that names it is dear to prove.
+fn table() -> &'static [Row] {
+    &ROWS
+}
+
+/// The rows of upstream's test.
+pub fn upstream_rows() -> &'static [Row] {
+    &ROWS[..4]
+}
+
 #[test]
 fn rows(rt: HostRuntime) {
-    assert_rows(&rt, rt.alloc(), &ROWS)
+    assert_rows(&rt, rt.alloc(), table())
 }
 
 pub fn assert_rows(rt: &impl Abort, alloc: Global, rows: &[Row]) {
     for &(text, from, to, count, wanted) in rows {
-        let value = ok(rt, text.replacen_smolstr(alloc, from, to, count));
-        same_value(
-            rt,
-            &value,
-            wanted,
-            Place::Inline,
-            &([from, to, text], count),
-        );
+        let value = ok_value(rt, text.replacen_smolstr(alloc, from, to, count));
+        assert_made(rt, &value, wanted, [from, to, text], count);
     }
 }
 
 #[test]
 fn rows_without_a_limit(rt: HostRuntime) {
-    for &(text, from, to, count, wanted) in &ROWS {
+    for &(text, from, to, count, wanted) in table() {
         if count == usize::MAX {
-            let value = ok(&rt, text.replace_smolstr(rt.alloc(), from, to));
-            same_value(&rt, &value, wanted, Place::Inline, &[from, to, text]);
+            let value = ok_value(&rt, text.replace_smolstr(rt.alloc(), from, to));
+            assert_made(&rt, &value, wanted, [from, to, text], count);
         }
     }
+}
+
+fn assert_made(rt: &impl Abort, value: &SmolStr, wanted: &str, texts: [&str; 3], count: usize) {
+    same_value(rt, value, wanted, Place::Inline, &(texts, count));
 }
 
 /// A text so many times, a pattern, what stands in its place, at most how often, the result as two
@@ -152,9 +161,9 @@ fn long_rows(rt: HostRuntime) {
 
 fn assert_long_row(rt: &impl Abort, alloc: Global, row: &LongRow) {
     let (text, from, to, count, front, end, place) = *row;
-    let text = ok(rt, repeated(alloc, text.0, text.1));
-    let wanted = ok(rt, joined(alloc, front, end));
-    let value = ok(rt, text.as_str().replacen_smolstr(alloc, from, to, count));
+    let text = ok_string(rt, repeated(alloc, text.0, text.1));
+    let value = ok_value(rt, text.as_str().replacen_smolstr(alloc, from, to, count));
+    let wanted = ok_string(rt, joined(alloc, front, end));
     same_value(rt, &value, wanted.as_str(), place, &([from, to], count));
 }
 
@@ -164,18 +173,21 @@ fn joined(alloc: Global, front: (&str, usize), end: (&str, usize)) -> Result<Str
     repeated_and(alloc, front.0, front.1, rest.as_str())
 }
 
-/// What is put in place of matches, in turn.
-const TOS: [&str; 3] = ["", "x", "éé"];
-
-/// The texts of a case.
+/// The texts of a case: what is put in place of matches comes in turn.
 fn case<'a>(text: &'a str, from: &'a str, turn: usize) -> [&'a str; 3] {
-    [text, from, TOS[turn % 3]]
+    let to = match turn % 3 {
+        0 => "",
+        1 => "x",
+        _ => "éé",
+    };
+    [text, from, to]
 }
 
-/// Every small text and pattern at two limits, a quarter of a million cases: enough for one test.
-fn assert_at_limits(rt: &impl Abort, alloc: Global, limits: [usize; 2]) {
-    let texts = ok(rt, small_texts(alloc, 7));
-    let patterns = ok(rt, small_texts(alloc, 3));
+/// Every small text and pattern at these limits, where `None` is `replace`; two are a quarter of a million cases: enough
+/// for one test.
+fn assert_at_limits(rt: &impl Abort, alloc: Global, limits: &[Option<usize>]) {
+    let texts = ok_strings(rt, small_texts(alloc, 7));
+    let patterns = ok_strings(rt, small_texts(alloc, 3));
     for (i, text) in texts.iter().enumerate() {
         for (j, pattern) in patterns.iter().enumerate() {
             let row = (text.as_str(), pattern.as_str(), i.wrapping_add(j));
@@ -184,61 +196,71 @@ fn assert_at_limits(rt: &impl Abort, alloc: Global, limits: [usize; 2]) {
     }
 }
 
-fn assert_replaced(rt: &impl Abort, alloc: Global, row: (&str, &str, usize), limits: [usize; 2]) {
+fn assert_replaced(
+    rt: &impl Abort,
+    alloc: Global,
+    row: (&str, &str, usize),
+    limits: &[Option<usize>],
+) {
     let (text, from, turn) = row;
-    for count in limits {
-        let texts = case(text, from, turn.wrapping_add(count));
-        assert_replaced_at(rt, alloc, texts, count);
+    for limit in limits {
+        let texts = case(text, from, turn.wrapping_add(limit.unwrap_or(0)));
+        assert_replaced_at(rt, alloc, texts, *limit);
     }
 }
 
-fn assert_replaced_at(rt: &impl Abort, alloc: Global, texts: [&str; 3], count: usize) {
+fn assert_replaced_at(rt: &impl Abort, alloc: Global, texts: [&str; 3], limit: Option<usize>) {
+    let value = ok_value(rt, replaced(alloc, texts, limit));
+    let wanted = ok_string(rt, replaced_by_std(alloc, texts, limit));
+    same_text(rt, value.as_str(), wanted.as_str(), &(texts, limit));
+}
+
+fn replaced(alloc: Global, texts: [&str; 3], limit: Option<usize>) -> Result<SmolStr, AllocError> {
     let [text, from, to] = texts;
-    let value = ok(rt, text.replacen_smolstr(alloc, from, to, count));
-    let wanted = ok(rt, text.replacen(alloc, from, to, count));
-    same_text(rt, value.as_str(), wanted.as_str(), &(texts, count));
+    match limit {
+        Some(count) => text.replacen_smolstr(alloc, from, to, count),
+        None => text.replace_smolstr(alloc, from, to),
+    }
+}
+
+fn replaced_by_std(
+    alloc: Global,
+    texts: [&str; 3],
+    limit: Option<usize>,
+) -> Result<String, AllocError> {
+    let [text, from, to] = texts;
+    match limit {
+        Some(count) => text.replacen(alloc, from, to, count),
+        None => text.replace(alloc, from, to),
+    }
 }
 
 #[test]
 fn replaces_as_std_does_at_0_and_1(rt: HostRuntime) {
-    assert_at_limits(&rt, rt.alloc(), [0, 1])
+    assert_at_limits(&rt, rt.alloc(), &[Some(0), Some(1)])
 }
 
 #[test]
 fn replaces_as_std_does_at_2_and_3(rt: HostRuntime) {
-    assert_at_limits(&rt, rt.alloc(), [2, 3])
+    assert_at_limits(&rt, rt.alloc(), &[Some(2), Some(3)])
 }
 
 #[test]
 fn replaces_as_std_does_at_4_and_5(rt: HostRuntime) {
-    assert_at_limits(&rt, rt.alloc(), [4, 5])
+    assert_at_limits(&rt, rt.alloc(), &[Some(4), Some(5)])
 }
 
 #[test]
 fn replaces_as_std_does_at_6_and_7(rt: HostRuntime) {
-    assert_at_limits(&rt, rt.alloc(), [6, 7])
+    assert_at_limits(&rt, rt.alloc(), &[Some(6), Some(7)])
 }
 
 #[test]
 fn replaces_as_std_does_at_8_and_9(rt: HostRuntime) {
-    assert_at_limits(&rt, rt.alloc(), [8, 9])
+    assert_at_limits(&rt, rt.alloc(), &[Some(8), Some(9)])
 }
 
 #[test]
 fn replaces_all_as_std_does(rt: HostRuntime) {
-    let texts = ok(&rt, small_texts(rt.alloc(), 7));
-    let patterns = ok(&rt, small_texts(rt.alloc(), 3));
-    for (i, text) in texts.iter().enumerate() {
-        for (j, pattern) in patterns.iter().enumerate() {
-            let texts = case(text.as_str(), pattern.as_str(), i.wrapping_add(j));
-            assert_all_replaced(&rt, rt.alloc(), texts);
-        }
-    }
-}
-
-fn assert_all_replaced(rt: &impl Abort, alloc: Global, texts: [&str; 3]) {
-    let [text, from, to] = texts;
-    let value = ok(rt, text.replace_smolstr(alloc, from, to));
-    let wanted = ok(rt, text.replace(alloc, from, to));
-    same_text(rt, value.as_str(), wanted.as_str(), &texts);
+    assert_at_limits(&rt, rt.alloc(), &[None])
 }

@@ -1,6 +1,7 @@
 //! Case, against outside rows and std's own mappings, which only tests see printed.
-use super::replace::{self, assert_rows};
-use super::same::{holds, ok, same, same_place, same_text, same_value};
+use super::replace::{assert_rows, upstream_rows};
+use super::rows::{in_place, ok_string, ok_value, same_count, same_str};
+use super::same::{holds, same_value};
 use smol_str::{INLINE_CAP, Place, SmolStr, StrExt};
 use std::alloc::{AllocError, Global};
 use std::process::Abort;
@@ -68,46 +69,63 @@ static ROWS: [(Call, &str, &str, Place); 15] = [
 #[test]
 fn test_str_ext(rt: HostRuntime) {
     for &(call, text, wanted, place) in &ROWS {
-        let value = ok(&rt, answer(rt.alloc(), call, text));
-        same_value(&rt, &value, wanted, place, &(call, text));
+        assert_answer(&rt, rt.alloc(), call, text, wanted, place);
     }
-    assert_rows(&rt, rt.alloc(), &replace::ROWS[..4])
+    assert_rows(&rt, rt.alloc(), upstream_rows())
 }
 
 #[test]
 fn long_rows(rt: HostRuntime) {
-    let rows = [
-        (Call::AsciiLower, long_capitals(), long_text(), Place::Heap),
-        (Call::AsciiUpper, long_blank(), long_blank(), Place::Static),
-        (Call::Lower, long_blank(), long_blank(), Place::Static),
-    ];
-    for (call, text, wanted, place) in rows {
-        let value = ok(&rt, answer(rt.alloc(), call, text));
-        same_value(&rt, &value, wanted, place, &(call, text));
-    }
+    let alloc = rt.alloc();
+    let (capitals, text, blank) = (long_capitals(), long_text(), long_blank());
+    assert_answer(&rt, alloc, Call::AsciiLower, capitals, text, Place::Heap);
+    assert_answer(&rt, alloc, Call::AsciiUpper, blank, blank, Place::Static);
+    assert_answer(&rt, alloc, Call::Lower, blank, blank, Place::Static)
+}
+
+fn assert_answer(
+    rt: &impl Abort,
+    alloc: Global,
+    call: Call,
+    text: &str,
+    wanted: &str,
+    place: Place,
+) {
+    let value = ok_value(rt, answer(alloc, call, text));
+    same_value(rt, &value, wanted, place, &(call, text));
 }
 
 // A short text can become longer than the buffer, and a long one shorter.
 #[test]
 fn sizes_that_grow(rt: HostRuntime) {
-    let text = ok(&rt, repeated(rt.alloc(), "ΐ", INLINE_CAP / 2));
-    let value = ok(&rt, text.as_str().to_uppercase_smolstr(rt.alloc()));
-    same_place(&rt, &value, Place::Heap, &"longer");
-    same(&rt, &value.len(), &(6 * (INLINE_CAP / 2)), &"longer");
+    let text = ok_string(&rt, repeated(rt.alloc(), "ΐ", INLINE_CAP / 2));
+    let upper = text.as_str().to_uppercase_smolstr(rt.alloc());
+    assert_size(&rt, upper, 6 * (INLINE_CAP / 2), Place::Heap, "longer")
 }
 
 #[test]
 fn sizes_that_shrink(rt: HostRuntime) {
-    let kelvins = ok(&rt, repeated(rt.alloc(), "\u{212A}", INLINE_CAP / 3 + 1));
-    let value = ok(&rt, kelvins.as_str().to_lowercase_smolstr(rt.alloc()));
-    same_place(&rt, &value, Place::Inline, &"shorter");
-    same(&rt, &value.len(), &(INLINE_CAP / 3 + 1), &"shorter");
+    let kelvins = ok_string(&rt, repeated(rt.alloc(), "\u{212A}", INLINE_CAP / 3 + 1));
+    let lower = kelvins.as_str().to_lowercase_smolstr(rt.alloc());
+    assert_size(&rt, lower, INLINE_CAP / 3 + 1, Place::Inline, "shorter")
+}
+
+fn assert_size(
+    rt: &impl Abort,
+    made: Result<SmolStr, AllocError>,
+    len: usize,
+    place: Place,
+    row: &str,
+) {
+    let value = ok_value(rt, made);
+    in_place(rt, &value, place, row);
+    same_count(rt, value.len(), len, row);
 }
 
 // Each character that has a mapping: alone, between letters, and behind a text that is not short.
 #[test]
 fn maps_as_std_does(rt: HostRuntime) {
-    let long = ok(&rt, repeated(rt.alloc(), "A", INLINE_CAP));
+    let long = ok_string(&rt, repeated(rt.alloc(), "A", INLINE_CAP));
     let mut mapped = 0u32;
     for number in 0x80..0x2FFFFu32 {
         if let Some(character) = char::from_u32(number) {
@@ -136,7 +154,7 @@ fn assert_mappings(rt: &impl Abort, alloc: Global, character: char, long: &str) 
         (long, "a"),
     ];
     for (before, after) in rows {
-        let text = ok(rt, around(alloc, before, character, after));
+        let text = ok_string(rt, around(alloc, before, character, after));
         assert_lowercase(rt, alloc, text.as_str());
         assert_uppercase(rt, alloc, text.as_str());
     }
@@ -151,13 +169,13 @@ fn around(alloc: Global, before: &str, character: char, after: &str) -> Result<S
 }
 
 fn assert_lowercase(rt: &impl Abort, alloc: Global, text: &str) {
-    let value = ok(rt, text.to_lowercase_smolstr(alloc));
-    let wanted = ok(rt, text.to_lowercase(alloc));
-    same_text(rt, value.as_str(), wanted.as_str(), &text);
+    let value = ok_value(rt, text.to_lowercase_smolstr(alloc));
+    let wanted = ok_string(rt, text.to_lowercase(alloc));
+    same_str(rt, value.as_str(), wanted.as_str(), text);
 }
 
 fn assert_uppercase(rt: &impl Abort, alloc: Global, text: &str) {
-    let value = ok(rt, text.to_uppercase_smolstr(alloc));
-    let wanted = ok(rt, text.to_uppercase(alloc));
-    same_text(rt, value.as_str(), wanted.as_str(), &text);
+    let value = ok_value(rt, text.to_uppercase_smolstr(alloc));
+    let wanted = ok_string(rt, text.to_uppercase(alloc));
+    same_str(rt, value.as_str(), wanted.as_str(), text);
 }
