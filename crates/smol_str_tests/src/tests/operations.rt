@@ -1,12 +1,13 @@
 //! Operations, each on many texts: `bench/instructions` runs these tests one by one and counts what they take.
-use super::same::same;
-use smol_str::borsh::{BorshDeserialize, BorshSerialize, from_wire};
-use smol_str::json::{from_json, to_json};
+use super::rows::same_count;
+use super::same::ok;
+use smol_str::borsh::{BorshDeserialize, BorshSerialize, DecodeFault, EncodeFault, from_wire};
+use smol_str::json::{JsonFault, from_json, to_json};
 use smol_str::kernel::next_match;
-use smol_str::{SmolStr, SmolStrBuilder, StrExt, ToSmolStr};
-use std::alloc::Global;
+use smol_str::{FormatError, FromUtf8Fault, SmolStr, SmolStrBuilder, StrExt, ToSmolStr};
+use std::alloc::{AllocError, Global};
+use std::fmt::Debug;
 use std::process::Abort;
-use std::test::Fail;
 use test_support::texts::repeated;
 
 /// So many texts are in a list, of 0, 1, 2 .. characters.
@@ -16,303 +17,356 @@ const CHARACTERS: usize = 1770;
 /// So often each list is gone through.
 const TIMES: usize = 20;
 
-fn texts(alloc: Global, character: &str) -> Result<Vec<String>, Fail> {
+/// Texts of 0, 1, 2 .. characters.
+fn texts(rt: &impl Abort, alloc: Global, character: &str) -> Vec<String> {
     let mut list = Vec::new(alloc);
     for size in 0..TEXTS {
-        list.push(repeated(alloc, character, size)?)?;
+        ok(rt, add_text(alloc, &mut list, character, size));
     }
-    Ok(list)
+    list
 }
 
-fn values(alloc: Global, character: &str) -> Result<Vec<SmolStr>, Fail> {
+fn add_text(
+    alloc: Global,
+    list: &mut Vec<String>,
+    character: &str,
+    size: usize,
+) -> Result<(), AllocError> {
+    list.push(repeated(alloc, character, size)?)?;
+    Ok(())
+}
+
+/// The values of such texts.
+fn values(rt: &impl Abort, alloc: Global) -> Vec<SmolStr> {
+    let texts = texts(rt, alloc, "a");
+    values_of(rt, alloc, texts.as_slice())
+}
+
+fn values_of(rt: &impl Abort, alloc: Global, texts: &[String]) -> Vec<SmolStr> {
     let mut list = Vec::new(alloc);
-    for text in texts(alloc, character)?.iter() {
-        list.push(SmolStr::new(alloc, text.as_str())?)?;
+    for text in texts {
+        ok(rt, add_value(alloc, &mut list, text.as_str()));
     }
-    Ok(list)
+    list
+}
+
+fn add_value(alloc: Global, list: &mut Vec<SmolStr>, text: &str) -> Result<(), AllocError> {
+    list.push(SmolStr::new(alloc, text)?)?;
+    Ok(())
+}
+
+/// The operation counts this many on a list, each time that the list is gone through.
+fn on_each<T: Drop, E: Debug, F>(
+    rt: &impl Abort,
+    alloc: Global,
+    list: Vec<T>,
+    a_list: usize,
+    operation: F,
+)
+where
+    F: Fn(Global, &T) -> Result<usize, E>,
+    requires { F.IsAlwaysCallable operation }
+{
+    check(rt, ok(rt, total(alloc, list.as_slice(), operation)), a_list)
+}
+
+fn total<T, E, F>(alloc: Global, list: &[T], operation: F) -> Result<usize, E>
+where
+    F: Fn(Global, &T) -> Result<usize, E>,
+    requires { F.IsAlwaysCallable operation }
+{
+    let mut total = 0usize;
+    for _ in 0..TIMES {
+        for item in list {
+            total = total.saturating_add(operation(alloc, item)?);
+        }
+    }
+    Ok(total)
+}
+
+/// The operation counts the characters of a whole list of texts, each time that it is called.
+fn on_whole_list<F>(rt: &impl Abort, alloc: Global, operation: F)
+where
+    F: Fn(Global, &[String]) -> Result<usize, AllocError>,
+    requires { F.IsAlwaysCallable operation }
+{
+    let (list, mut total) = (texts(rt, alloc, "a"), 0usize);
+    for _ in 0..TIMES {
+        total = total.saturating_add(ok(rt, operation(alloc, list.as_slice())));
+    }
+    check(rt, total, CHARACTERS)
 }
 
 /// Each list was gone through so often that this many came together of `a_list`.
 fn check(rt: &impl Abort, total: usize, a_list: usize) {
-    same(rt, &total, &a_list.saturating_mul(TIMES), &a_list);
+    same_count(rt, total, a_list.saturating_mul(TIMES), "in all");
 }
 
 #[test]
-fn nothing(rt: HostRuntime) -> Result<(), Fail> {
-    let list = values(rt.alloc(), "a")?;
-    same(&rt, &list.len(), &TEXTS, &"values");
-    Ok(())
+fn nothing(rt: HostRuntime) {
+    let list = values(&rt, rt.alloc());
+    same_count(&rt, list.len(), TEXTS, "values");
 }
 
 #[test]
-fn made_of_texts(rt: HostRuntime) -> Result<(), Fail> {
-    let (list, mut total) = (texts(rt.alloc(), "a")?, 0usize);
+fn made_of_texts(rt: HostRuntime) {
+    let list = texts(&rt, rt.alloc(), "a");
+    on_each(&rt, rt.alloc(), list, CHARACTERS, make)
+}
+
+fn make(alloc: Global, text: &String) -> Result<usize, AllocError> {
+    Ok(SmolStr::new(alloc, text.as_str())?.len())
+}
+
+#[test]
+fn made_of_bytes(rt: HostRuntime) {
+    let list = texts(&rt, rt.alloc(), "é");
+    on_each(&rt, rt.alloc(), list, 2 * CHARACTERS, make_of_bytes)
+}
+
+fn make_of_bytes(alloc: Global, text: &String) -> Result<usize, FromUtf8Fault> {
+    Ok(SmolStr::from_utf8(alloc, text.as_bytes())?.len())
+}
+
+#[test]
+fn in_ascii_lowercase(rt: HostRuntime) {
+    let list = texts(&rt, rt.alloc(), "A");
+    on_each(&rt, rt.alloc(), list, CHARACTERS, make_ascii_lowercase)
+}
+
+fn make_ascii_lowercase(alloc: Global, text: &String) -> Result<usize, AllocError> {
+    Ok(text.as_str().to_ascii_lowercase_smolstr(alloc)?.len())
+}
+
+#[test]
+fn replaced_by_a_longer_text(rt: HostRuntime) {
+    let list = texts(&rt, rt.alloc(), "a");
+    on_each(&rt, rt.alloc(), list, 2 * CHARACTERS, replace)
+}
+
+fn replace(alloc: Global, text: &String) -> Result<usize, AllocError> {
+    Ok(text.as_str().replace_smolstr(alloc, "a", "bc")?.len())
+}
+
+#[test]
+fn extended_by_texts(rt: HostRuntime) {
+    on_whole_list(&rt, rt.alloc(), extend)
+}
+
+fn extend(alloc: Global, list: &[String]) -> Result<usize, AllocError> {
+    let mut builder = SmolStrBuilder::new(alloc);
+    builder.extend_strings(list.iter())?;
+    Ok(builder.len())
+}
+
+#[test]
+fn compared_with_texts(rt: HostRuntime) {
+    let list = values(&rt, rt.alloc());
+    on_each(&rt, rt.alloc(), list, 1, compare_with_text)
+}
+
+fn compare_with_text(_alloc: Global, value: &SmolStr) -> Result<usize, AllocError> {
+    Ok(usize::from(value.eq_str("aaaaaaaaaa")))
+}
+
+#[test]
+fn collected_from_characters(rt: HostRuntime) {
+    let list = texts(&rt, rt.alloc(), "é");
+    on_each(&rt, rt.alloc(), list, 2 * CHARACTERS, collect)
+}
+
+fn collect(alloc: Global, text: &String) -> Result<usize, AllocError> {
+    Ok(SmolStr::from_chars(alloc, text.chars())?.len())
+}
+
+#[test]
+fn appended_character_by_character(rt: HostRuntime) {
+    let list = texts(&rt, rt.alloc(), "a");
+    on_each(&rt, rt.alloc(), list, CHARACTERS, append_characters)
+}
+
+fn append_characters(alloc: Global, text: &String) -> Result<usize, AllocError> {
+    let mut builder = SmolStrBuilder::new(alloc);
+    for character in text.chars() {
+        builder.push(character)?;
+    }
+    Ok(builder.len())
+}
+
+#[test]
+fn appended_text_by_text(rt: HostRuntime) {
+    on_whole_list(&rt, rt.alloc(), append_texts)
+}
+
+fn append_texts(alloc: Global, list: &[String]) -> Result<usize, AllocError> {
+    let mut builder = SmolStrBuilder::new(alloc);
+    for text in list {
+        builder.push_str(text.as_str())?;
+    }
+    Ok(builder.into_value()?.len())
+}
+
+#[test]
+fn in_lowercase(rt: HostRuntime) {
+    let list = texts(&rt, rt.alloc(), "A");
+    on_each(&rt, rt.alloc(), list, CHARACTERS, make_lowercase)
+}
+
+fn make_lowercase(alloc: Global, text: &String) -> Result<usize, AllocError> {
+    Ok(text.as_str().to_lowercase_smolstr(alloc)?.len())
+}
+
+#[test]
+fn in_uppercase_past_ascii(rt: HostRuntime) {
+    let list = texts(&rt, rt.alloc(), "é");
+    on_each(&rt, rt.alloc(), list, 2 * CHARACTERS, make_uppercase)
+}
+
+fn make_uppercase(alloc: Global, text: &String) -> Result<usize, AllocError> {
+    Ok(text.as_str().to_uppercase_smolstr(alloc)?.len())
+}
+
+#[test]
+fn compared(rt: HostRuntime) {
+    let (list, mut total) = (values(&rt, rt.alloc()), 0usize);
     for _ in 0..TIMES {
-        for text in list.iter() {
-            total = total.saturating_add(SmolStr::new(rt.alloc(), text.as_str())?.len());
-        }
+        total = total.saturating_add(count_less(list.as_slice()));
     }
     check(&rt, total, CHARACTERS);
-    Ok(())
 }
 
-#[test]
-fn made_of_bytes(rt: HostRuntime) -> Result<(), Fail> {
-    let (list, mut total) = (texts(rt.alloc(), "é")?, 0usize);
-    for _ in 0..TIMES {
-        for text in list.iter() {
-            let value = SmolStr::from_utf8(rt.alloc(), text.as_bytes())?;
-            total = total.saturating_add(value.len());
-        }
+/// How often a value of the list is less than one of them.
+fn count_less(list: &[SmolStr]) -> usize {
+    let mut count = 0usize;
+    for value in list {
+        count = list
+            .iter()
+            .filter(|it| *it < value)
+            .count()
+            .saturating_add(count);
     }
-    check(&rt, total, CHARACTERS.saturating_mul(2));
-    Ok(())
+    count
 }
 
 #[test]
-fn in_ascii_lowercase(rt: HostRuntime) -> Result<(), Fail> {
-    let (list, mut total) = (texts(rt.alloc(), "A")?, 0usize);
-    for _ in 0..TIMES {
-        for text in list.iter() {
-            let lower = text.as_str().to_ascii_lowercase_smolstr(rt.alloc())?;
-            total = total.saturating_add(lower.len());
-        }
-    }
-    check(&rt, total, CHARACTERS);
-    Ok(())
-}
-
-#[test]
-fn replaced_by_a_longer_text(rt: HostRuntime) -> Result<(), Fail> {
-    let (list, mut total) = (texts(rt.alloc(), "a")?, 0usize);
-    for _ in 0..TIMES {
-        for text in list.iter() {
-            let longer = text.as_str().replace_smolstr(rt.alloc(), "a", "bc")?;
-            total = total.saturating_add(longer.len());
-        }
-    }
-    check(&rt, total, CHARACTERS.saturating_mul(2));
-    Ok(())
-}
-
-#[test]
-fn extended_by_texts(rt: HostRuntime) -> Result<(), Fail> {
-    let (list, mut total) = (texts(rt.alloc(), "a")?, 0usize);
-    for _ in 0..TIMES {
-        let mut builder = SmolStrBuilder::new(rt.alloc());
-        builder.extend_strings(list.iter())?;
-        total = total.saturating_add(builder.len());
-    }
-    check(&rt, total, CHARACTERS);
-    Ok(())
-}
-
-#[test]
-fn compared_with_texts(rt: HostRuntime) -> Result<(), Fail> {
-    let (list, mut total) = (values(rt.alloc(), "a")?, 0usize);
-    for _ in 0..TIMES {
-        for value in list.iter() {
-            total = total.saturating_add(usize::from(value.eq_str("aaaaaaaaaa")));
-        }
-    }
-    check(&rt, total, 1);
-    Ok(())
-}
-
-#[test]
-fn collected_from_characters(rt: HostRuntime) -> Result<(), Fail> {
-    let (list, mut total) = (texts(rt.alloc(), "é")?, 0usize);
-    for _ in 0..TIMES {
-        for text in list.iter() {
-            let value = SmolStr::from_chars(rt.alloc(), text.chars())?;
-            total = total.saturating_add(value.len());
-        }
-    }
-    check(&rt, total, CHARACTERS.saturating_mul(2));
-    Ok(())
-}
-
-#[test]
-fn appended_character_by_character(rt: HostRuntime) -> Result<(), Fail> {
-    let (list, mut total) = (texts(rt.alloc(), "a")?, 0usize);
-    for _ in 0..TIMES {
-        for text in list.iter() {
-            let mut builder = SmolStrBuilder::new(rt.alloc());
-            for character in text.chars() {
-                builder.push(character)?;
-            }
-            total = total.saturating_add(builder.len());
-        }
-    }
-    check(&rt, total, CHARACTERS);
-    Ok(())
-}
-
-#[test]
-fn appended_text_by_text(rt: HostRuntime) -> Result<(), Fail> {
-    let (list, mut total) = (texts(rt.alloc(), "a")?, 0usize);
-    for _ in 0..TIMES {
-        let mut builder = SmolStrBuilder::new(rt.alloc());
-        for text in list.iter() {
-            builder.push_str(text.as_str())?;
-        }
-        total = total.saturating_add(builder.into_value()?.len());
-    }
-    check(&rt, total, CHARACTERS);
-    Ok(())
-}
-
-#[test]
-fn in_lowercase(rt: HostRuntime) -> Result<(), Fail> {
-    let (list, mut total) = (texts(rt.alloc(), "A")?, 0usize);
-    for _ in 0..TIMES {
-        for text in list.iter() {
-            let lower = text.as_str().to_lowercase_smolstr(rt.alloc())?;
-            total = total.saturating_add(lower.len());
-        }
-    }
-    check(&rt, total, CHARACTERS);
-    Ok(())
-}
-
-#[test]
-fn in_uppercase_past_ascii(rt: HostRuntime) -> Result<(), Fail> {
-    let (list, mut total) = (texts(rt.alloc(), "é")?, 0usize);
-    for _ in 0..TIMES {
-        for text in list.iter() {
-            let upper = text.as_str().to_uppercase_smolstr(rt.alloc())?;
-            total = total.saturating_add(upper.len());
-        }
-    }
-    check(&rt, total, CHARACTERS.saturating_mul(2));
-    Ok(())
-}
-
-#[test]
-fn compared(rt: HostRuntime) -> Result<(), Fail> {
-    let (list, mut total) = (values(rt.alloc(), "a")?, 0usize);
-    for _ in 0..TIMES {
-        for value in list.iter() {
-            total = list
-                .iter()
-                .filter(|it| *it < value)
-                .count()
-                .saturating_add(total);
-        }
-    }
-    check(&rt, total, CHARACTERS);
-    Ok(())
-}
-
-#[test]
-fn equal(rt: HostRuntime) -> Result<(), Fail> {
-    let (list, others) = (values(rt.alloc(), "a")?, values(rt.alloc(), "a")?);
+fn equal(rt: HostRuntime) {
+    let (list, others) = (values(&rt, rt.alloc()), values(&rt, rt.alloc()));
     let mut total = 0usize;
     for _ in 0..TIMES {
-        for (value, other) in list.iter().zip(others.iter()) {
-            total = total.saturating_add(usize::from(value == other));
-        }
+        total = total.saturating_add(count_equal(list.as_slice(), others.as_slice()));
     }
     check(&rt, total, TEXTS);
-    Ok(())
+}
+
+/// How many values equal the one at their place in the other list.
+fn count_equal(list: &[SmolStr], others: &[SmolStr]) -> usize {
+    let mut count = 0usize;
+    for (value, other) in list.iter().zip(others) {
+        count = count.wrapping_add(usize::from(value == other));
+    }
+    count
 }
 
 #[test]
-fn cloned(rt: HostRuntime) -> Result<(), Fail> {
-    let (list, mut total) = (values(rt.alloc(), "a")?, 0usize);
+fn cloned(rt: HostRuntime) {
+    let list = values(&rt, rt.alloc());
+    check(&rt, ok(&rt, clone_all(list.as_slice())), CHARACTERS)
+}
+
+// Its loop is its own: a call of an operation would cost more than a clone does.
+fn clone_all(list: &[SmolStr]) -> Result<usize, AllocError> {
+    let mut total = 0usize;
     for _ in 0..TIMES {
-        for value in list.iter() {
+        for value in list {
             total = total.saturating_add(value.clone()?.len());
         }
     }
-    check(&rt, total, CHARACTERS);
-    Ok(())
+    Ok(total)
 }
 
 #[test]
-fn through_a_string(rt: HostRuntime) -> Result<(), Fail> {
-    let (list, mut total) = (texts(rt.alloc(), "a")?, 0usize);
-    for _ in 0..TIMES {
-        for text in list.iter() {
-            let value = SmolStr::from_string_ref(rt.alloc(), text)?;
-            total = total.saturating_add(value.into_string(rt.alloc())?.len());
-        }
-    }
-    check(&rt, total, CHARACTERS);
-    Ok(())
+fn through_a_string(rt: HostRuntime) {
+    let list = texts(&rt, rt.alloc(), "a");
+    on_each(&rt, rt.alloc(), list, CHARACTERS, make_string)
+}
+
+fn make_string(alloc: Global, text: &String) -> Result<usize, AllocError> {
+    let value = SmolStr::from_string_ref(alloc, text)?;
+    Ok(value.into_string(alloc)?.len())
 }
 
 #[test]
-fn printed(rt: HostRuntime) -> Result<(), Fail> {
-    let (list, mut total) = (values(rt.alloc(), "a")?, 0usize);
-    for _ in 0..TIMES {
-        for value in list.iter() {
-            total = total.saturating_add(value.len().to_smolstr(rt.alloc())?.len());
-        }
-    }
-    check(&rt, total, 110);
-    Ok(())
+fn printed(rt: HostRuntime) {
+    let list = values(&rt, rt.alloc());
+    on_each(&rt, rt.alloc(), list, 110, print_length)
+}
+
+fn print_length(alloc: Global, value: &SmolStr) -> Result<usize, FormatError> {
+    Ok(value.len().to_smolstr(alloc)?.len())
 }
 
 #[test]
-fn through_json(rt: HostRuntime) -> Result<(), Fail> {
-    let (list, mut total) = (values(rt.alloc(), "a")?, 0usize);
-    for _ in 0..TIMES {
-        for value in list.iter() {
-            let json = to_json(rt.alloc(), value)?;
-            total = total.saturating_add(from_json(rt.alloc(), json.as_str())?.len());
-        }
-    }
-    check(&rt, total, CHARACTERS);
-    Ok(())
+fn through_json(rt: HostRuntime) {
+    let list = values(&rt, rt.alloc());
+    on_each(&rt, rt.alloc(), list, CHARACTERS, make_json)
+}
+
+fn make_json(alloc: Global, value: &SmolStr) -> Result<usize, JsonFault> {
+    let json = to_json(alloc, value)?;
+    Ok(from_json(alloc, json.as_str())?.len())
 }
 
 #[test]
-fn written_and_read(rt: HostRuntime) -> Result<(), Fail> {
-    let (list, mut total) = (values(rt.alloc(), "a")?, 0usize);
-    for _ in 0..TIMES {
-        for value in list.iter() {
-            let mut form = Vec::new(rt.alloc());
-            value.serialize(&mut form)?;
-            let mut reader = form.as_slice();
-            total = total.saturating_add(SmolStr::deserialize_reader(
-                rt.alloc(),
-                &mut reader,
-            )?.len());
-        }
+fn written_and_read(rt: HostRuntime) {
+    let list = values(&rt, rt.alloc());
+    on_each(&rt, rt.alloc(), list, CHARACTERS, write_and_read)
+}
+
+fn write_and_read(alloc: Global, value: &SmolStr) -> Result<usize, &'static str> {
+    let form = form_of(alloc, value).ok().ok_or("not written")?;
+    let mut reader = form.as_slice();
+    match SmolStr::deserialize_reader(alloc, &mut reader) {
+        Ok(value) => Ok(value.len()),
+        Err(_) => Err("not read"),
     }
-    check(&rt, total, CHARACTERS);
-    Ok(())
+}
+
+fn form_of(alloc: Global, value: &SmolStr) -> Result<Vec<u8>, EncodeFault> {
+    let mut form = Vec::new(alloc);
+    value.serialize(&mut form)?;
+    Ok(form)
 }
 
 #[test]
-fn read_from_bytes(rt: HostRuntime) -> Result<(), Fail> {
-    let mut forms = Vec::new(rt.alloc());
-    for value in values(rt.alloc(), "a")?.iter() {
-        let mut form = Vec::new(rt.alloc());
-        value.serialize(&mut form)?;
-        forms.push(form)?;
+fn read_from_bytes(rt: HostRuntime) {
+    let list = forms(&rt, rt.alloc());
+    on_each(&rt, rt.alloc(), list, CHARACTERS, read)
+}
+
+fn read(alloc: Global, form: &Vec<u8>) -> Result<usize, DecodeFault> {
+    Ok(from_wire(alloc, form.as_slice())?.0.len())
+}
+
+/// The wire forms of a list of values.
+fn forms(rt: &impl Abort, alloc: Global) -> Vec<Vec<u8>> {
+    let list = values(rt, alloc);
+    forms_of(rt, alloc, list.as_slice())
+}
+
+fn forms_of(rt: &impl Abort, alloc: Global, list: &[SmolStr]) -> Vec<Vec<u8>> {
+    let mut forms = Vec::new(alloc);
+    for value in list {
+        ok(rt, forms.push(ok(rt, form_of(alloc, value))));
     }
-    let mut total = 0usize;
-    for _ in 0..TIMES {
-        for form in forms.iter() {
-            let (value, _) = from_wire(rt.alloc(), form.as_slice())?;
-            total = total.saturating_add(value.len());
-        }
-    }
-    check(&rt, total, CHARACTERS);
-    Ok(())
+    forms
 }
 
 #[test]
-fn found(rt: HostRuntime) -> Result<(), Fail> {
-    let (list, mut total) = (texts(rt.alloc(), "ab")?, 0usize);
-    for _ in 0..TIMES {
-        for text in list.iter() {
-            let at = next_match(text.as_str(), 0, "ba").unwrap_or(0);
-            total = total.saturating_add(at);
-        }
-    }
-    check(&rt, total, TEXTS.saturating_sub(2));
-    Ok(())
+fn found(rt: HostRuntime) {
+    let list = texts(&rt, rt.alloc(), "ab");
+    on_each(&rt, rt.alloc(), list, TEXTS - 2, find)
+}
+
+fn find(_alloc: Global, text: &String) -> Result<usize, AllocError> {
+    Ok(next_match(text.as_str(), 0, "ba").unwrap_or(0))
 }
