@@ -262,7 +262,7 @@ fn equal(rt: HostRuntime) {
 fn count_equal(list: &[SmolStr], others: &[SmolStr]) -> usize {
     let mut count = 0usize;
     for (value, other) in list.iter().zip(others) {
-        count = count.wrapping_add(usize::from(value == other));
+        count = count.saturating_add(usize::from(value == other));
     }
     count
 }
