@@ -1,8 +1,11 @@
-//! Tests of what no clause says: outside values, and memory refused.
+//! Tests of what no clause says: outside values and builders, and memory refused.
 
+mod built;
 mod compare;
 mod convert;
 mod kernel;
+mod keys;
+mod large;
 mod long_texts;
 mod operations;
 mod places;

@@ -2,7 +2,8 @@
 ghost use Rattle.std.specs.Prelude.{◌≡◌, IfOk};
 ghost use Rattle.std.specs.Str.{chars};
 
-use super::same::{holds, ok, same, same_place, same_text, same_value};
+use super::rows::{has_text, in_place, is_so, ok_string, ok_value, same_count, same_str};
+use super::same::{holds, ok, same, same_value};
 use smol_str::{INLINE_CAP, Place, SmolStr, SmolStrBuilder, Step, build};
 use std::alloc::{AllocError, Global};
 use std::process::Abort;
@@ -120,7 +121,7 @@ fn test_builder_push_str(rt: HostRuntime) {
 #[test]
 fn test_builder_push(rt: HostRuntime) {
     for row in rows() {
-        let text = ok(&rt, text_of(rt.alloc(), row));
+        let text = ok_string(&rt, text_of(rt.alloc(), row));
         let builder = ok(&rt, of_characters(rt.alloc(), text.as_str()));
         assert_finishes(&rt, builder, text.as_str(), row.2);
     }
@@ -149,14 +150,14 @@ fn assert_pieces(rt: &impl Abort, alloc: Global, mut builder: SmolStrBuilder, ro
     for piece in row.0 {
         ok(rt, append(alloc, &mut builder, *piece));
     }
-    let text = ok(rt, text_of(alloc, row));
+    let text = ok_string(rt, text_of(alloc, row));
     assert_finishes(rt, builder, text.as_str(), row.2)
 }
 
 fn assert_steps_at(rt: &impl Abort, alloc: Global, capacity: usize, row: &Row) {
-    let text = ok(rt, text_of(alloc, row));
+    let text = ok_string(rt, text_of(alloc, row));
     let steps = ok(rt, steps_of(alloc, row.0));
-    let value = ok(rt, build(alloc, capacity, &steps));
+    let value = ok_value(rt, build(alloc, capacity, &steps));
     same_value(rt, &value, text.as_str(), row.2, &capacity);
 }
 
@@ -257,23 +258,23 @@ fn assert_at_boundary(
 }
 
 fn assert_two_bytes_more(rt: &impl Abort, alloc: Global, text: &str, builder: &SmolStrBuilder) {
-    let whole = ok(rt, repeated_and(alloc, text, 1, "bc"));
-    same_text(rt, builder.as_str(), whole.as_str(), &"two bytes more");
-    holds(rt, builder.inline_buffer().is_none(), &whole);
+    let whole = ok_string(rt, repeated_and(alloc, text, 1, "bc"));
+    same_str(rt, builder.as_str(), whole.as_str(), "two bytes more");
+    is_so(rt, builder.inline_buffer().is_none(), whole.as_str());
 }
 
 fn assert_comes_back(rt: &impl Abort, alloc: Global, text: &str, back: &SmolStrBuilder) {
-    same_text(rt, back.as_str(), text, &"a builder that came back");
-    holds(rt, back.inline_buffer().is_some(), &text);
+    same_str(rt, back.as_str(), text, "a builder that came back");
+    is_so(rt, back.inline_buffer().is_some(), text);
     refuse_all(alloc);
-    let value = ok(rt, with_a_byte_more(back));
-    holds(rt, !end_refusals(alloc), &"a byte more takes no memory");
+    let value = ok_value(rt, with_a_byte_more(back));
+    is_so(rt, !end_refusals(alloc), "a byte more takes no memory");
     assert_a_byte_more(rt, alloc, &value, text)
 }
 
 fn assert_a_byte_more(rt: &impl Abort, alloc: Global, value: &SmolStr, text: &str) {
-    let whole = ok(rt, repeated_and(alloc, text, 1, "d"));
-    same_value(rt, value, whole.as_str(), Place::Inline, &"a byte more");
+    let whole = ok_string(rt, repeated_and(alloc, text, 1, "d"));
+    has_text(rt, value, whole.as_str(), Place::Inline, "a byte more");
 }
 
 fn with_a_byte_more(builder: &SmolStrBuilder) -> Result<SmolStr, AllocError> {
@@ -302,11 +303,11 @@ fn is_made(alloc: Global, capacity: usize) -> bool {
 #[test]
 fn equal_texts(rt: HostRuntime) {
     for row in rows() {
-        let text = ok(&rt, text_of(rt.alloc(), row));
+        let text = ok_string(&rt, text_of(rt.alloc(), row));
         let (one, other) = ok(&rt, made_twice(rt.alloc(), text.as_str()));
-        holds(&rt, one == other, &text);
-        same_place(&rt, &one, row.2, &text);
-        same_place(&rt, &other, row.2, &text);
+        is_so(&rt, one == other, text.as_str());
+        in_place(&rt, &one, row.2, text.as_str());
+        in_place(&rt, &other, row.2, text.as_str());
     }
 }
 
@@ -378,9 +379,9 @@ fn step_of_text(alloc: Global, text: &str, times: usize) -> Result<Step, AllocEr
 
 /// The builder has the text, and finishes to its value.
 fn assert_finishes(rt: &impl Abort, builder: SmolStrBuilder, text: &str, place: Place) {
-    same_text(rt, builder.as_str(), text, &"a builder");
-    same(rt, &builder.len(), &text.len(), &text);
+    same_str(rt, builder.as_str(), text, "a builder");
+    same_count(rt, builder.len(), text.len(), text);
     same(rt, &builder.is_empty(), &text.is_empty(), &text);
-    let value = ok(rt, value_of(builder));
-    same_value(rt, &value, text, place, &"a builder's value");
+    let value = ok_value(rt, value_of(builder));
+    has_text(rt, &value, text, place, "a builder's value");
 }

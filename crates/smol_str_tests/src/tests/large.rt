@@ -1,4 +1,5 @@
 //! Large capacities.
+use super::rows::{is_so, ok_string, ok_value, same_count};
 use super::same::{holds, ok, same, same_place, same_text};
 use smol_str::{INLINE_CAP, Place, SmolStrBuilder, Step, build};
 use std::alloc::Global;
@@ -14,7 +15,7 @@ const CAPACITIES: [usize; 4] = [INLINE_CAP, 200, 5000, 2_097_153];
 fn appends_within_the_capacity(rt: HostRuntime) {
     for capacity in CAPACITIES {
         let builder = ok(&rt, SmolStrBuilder::with_capacity(rt.alloc(), capacity));
-        let text = ok(&rt, repeated(rt.alloc(), "a", capacity));
+        let text = ok_string(&rt, repeated(rt.alloc(), "a", capacity));
         assert_appends(&rt, rt.alloc(), builder, text.as_str());
     }
 }
@@ -23,14 +24,14 @@ fn appends_within_the_capacity(rt: HostRuntime) {
 fn pushes_within_the_capacity(rt: HostRuntime) {
     for capacity in CAPACITIES {
         let builder = ok(&rt, SmolStrBuilder::with_capacity(rt.alloc(), capacity));
-        let text = ok(&rt, repeated(rt.alloc(), "a", capacity));
+        let text = ok_string(&rt, repeated(rt.alloc(), "a", capacity));
         assert_pushes(&rt, rt.alloc(), builder, text.as_str());
     }
 }
 
 /// The text is appended to what the builder has without a request for memory.
 fn assert_appends(rt: &impl Abort, alloc: Global, mut builder: SmolStrBuilder, text: &str) {
-    let whole = ok(rt, repeated_and(alloc, builder.as_str(), 1, text));
+    let whole = ok_string(rt, repeated_and(alloc, builder.as_str(), 1, text));
     refuse_all(alloc);
     ok(rt, builder.push_str(text));
     holds(rt, !end_refusals(alloc), &text.len());
@@ -50,8 +51,8 @@ fn assert_pushes(rt: &impl Abort, alloc: Global, mut builder: SmolStrBuilder, te
 fn builds_of_large_capacity(rt: HostRuntime) {
     let alloc = rt.alloc();
     for capacity in CAPACITIES {
-        let step = Step::PushStr(ok(&rt, repeated(alloc, "a", capacity)));
-        let value = ok(&rt, build(alloc, capacity, &[step, Step::Push('b')]));
+        let step = Step::PushStr(ok_string(&rt, repeated(alloc, "a", capacity)));
+        let value = ok_value(&rt, build(alloc, capacity, &[step, Step::Push('b')]));
         same(&rt, &value.len(), &capacity.wrapping_add(1), &capacity);
         same_place(&rt, &value, Place::Heap, &capacity);
     }
@@ -61,7 +62,7 @@ fn builds_of_large_capacity(rt: HostRuntime) {
 #[test]
 fn refused_finish_keeps_the_capacity(rt: HostRuntime) {
     let alloc = rt.alloc();
-    let text = ok(&rt, repeated(alloc, "a", 100));
+    let text = ok_string(&rt, repeated(alloc, "a", 100));
     let builder = ok(&rt, builder_of(alloc, 200, text.as_str()));
     refuse_all(alloc);
     let answer = builder.finish();
@@ -69,11 +70,11 @@ fn refused_finish_keeps_the_capacity(rt: HostRuntime) {
     same(&rt, &was_refused, &can_refuse(alloc), &"finish");
     match answer {
         Ok(value) => {
-            holds(&rt, !was_refused, &"a value");
-            same(&rt, &value.len(), &100, &"a value");
+            is_so(&rt, !was_refused, "a value");
+            same_count(&rt, value.len(), 100, "a value");
         }
         Err(back) => {
-            holds(&rt, was_refused, &"a builder");
+            is_so(&rt, was_refused, "a builder");
             assert_appends(&rt, alloc, back, text.as_str());
         }
     }

@@ -1,5 +1,6 @@
 //! Values in containers.
-use super::same::{holds, ok, same, same_place, same_text};
+use super::rows::{is_so, ok_value, same_count, same_str};
+use super::same::{holds, ok, same, same_place};
 use smol_str::{Place, SmolStr};
 use std::alloc::{AllocError, Global};
 use std::collections::{BTreeMap, HashMap};
@@ -14,19 +15,19 @@ fn texts() -> [&'static str; 6] {
 #[test]
 fn keys_of_maps(rt: HostRuntime) {
     let map = ok(&rt, hashed(rt.alloc()));
-    same(&rt, &map.len(), &texts().len(), &"entries");
+    same_count(&rt, map.len(), texts().len(), "entries");
     for (place, text) in texts().iter().enumerate() {
         let key = SmolStr::new_static(text);
         same(&rt, &map.get(&key).copied(), &Some(place), &key);
     }
     let missing = map.get(&SmolStr::new_inline("aa"));
-    holds(&rt, missing.is_none(), &"aa");
+    is_so(&rt, missing.is_none(), "aa");
 }
 
 #[test]
 fn keys_of_sorted_maps(rt: HostRuntime) {
     let map = ok(&rt, sorted(rt.alloc()));
-    same(&rt, &map.len(), &texts().len(), &"entries");
+    same_count(&rt, map.len(), texts().len(), "entries");
     for (place, text) in texts().iter().enumerate() {
         let key = SmolStr::new_static(text);
         same(&rt, &map.get(&key).copied(), &Some(place), &key);
@@ -56,7 +57,7 @@ fn test_search_in_hashmap(rt: HostRuntime) {
     let mut map = HashMap::new(rt.alloc());
     ok(
         &rt,
-        map.insert(ok(&rt, SmolStr::new(rt.alloc(), "aaa")), 17),
+        map.insert(ok_value(&rt, SmolStr::new(rt.alloc(), "aaa")), 17),
     );
     let found = map.get(&SmolStr::new_inline("aaa")).copied();
     same(&rt, &found, &Some(17), &"aaa");
@@ -70,7 +71,7 @@ fn clones_of_containers(rt: HostRuntime) {
 }
 
 fn assert_copies(rt: &impl Abort, copies: &[SmolStr], values: &[SmolStr]) {
-    same(rt, &copies.len(), &values.len(), &"values");
+    same_count(rt, copies.len(), values.len(), "values");
     for (copy, value) in copies.iter().zip(values) {
         holds(rt, copy == value, value);
         same_place(rt, copy, value.place(), value);
@@ -94,9 +95,9 @@ fn clones_of_lists_of_builders(rt: HostRuntime) {
         ok(&rt, builders.push(ok(&rt, builder_of(rt.alloc(), 0, text))));
     }
     let copies = ok(&rt, builders.clone());
-    same(&rt, &copies.len(), &builders.len(), &"builders");
+    same_count(&rt, copies.len(), builders.len(), "builders");
     for (copy, builder) in copies.iter().zip(builders.iter()) {
-        same_text(&rt, copy.as_str(), builder.as_str(), &"builders");
+        same_str(&rt, copy.as_str(), builder.as_str(), "builders");
     }
 }
 
