@@ -105,7 +105,7 @@ fn test_to_smolstr(rt: HostRuntime) -> Result<(), Fail> {
 macro_rules! row {
     ($rt:expr, $alloc:expr; $wanted:expr; $($arg:tt)+) => {
         assert_string($rt, format!(in $alloc; $($arg)+), $wanted);
-        assert_printed($rt, of_call(|| format_smolstr!($alloc; $($arg)+)), $wanted);
+        assert_printed($rt, format_smolstr!($alloc; $($arg)+), $wanted);
     };
 }
 
@@ -120,13 +120,6 @@ fn assert_printed(rt: &impl Abort, made: Result<SmolStr, FormatError>, wanted: &
         wanted,
         &"format_smolstr!",
     );
-}
-
-/// What a call returns. A closure is proved by itself, for less than its text costs in a long function.
-fn of_call<T, F: FnOnce() -> T>(call: F) -> T
-    requires { F.IsAlwaysCallable call }
-{
-    call()
 }
 
 // Widths, fills and precision are those of `format!`.

@@ -91,39 +91,50 @@ fn value_of(rt: &impl Abort, alloc: Global, json: &str) -> SmolStr {
 
 #[test]
 fn not_read(rt: HostRuntime) {
-    let alloc = rt.alloc();
-    for (json, answer) in [
-        ("12", Answer::NotString),
-        ("1.5", Answer::NotString),
-        ("-7", Answer::NotString),
-        ("-0", Answer::NotString),
-        ("1e2", Answer::NotString),
-        ("-1.5E-3", Answer::NotString),
-        ("18446744073709551616", Answer::NotString),
-        ("null", Answer::NotString),
-        ("true", Answer::NotString),
-        ("false", Answer::NotString),
-        ("[\"ab\"]", Answer::NotString),
-        ("{\"ab\": \"ab\"}", Answer::NotString),
-        ("", Answer::Json),
-        ("[1", Answer::Json),
-        ("\"ab", Answer::Json),
-        ("\"ab\" 1", Answer::Json),
-        ("\"ab\"\"cd\"", Answer::Json),
-        ("ab", Answer::Json),
-        ("'ab'", Answer::Json),
-        ("01", Answer::Json),
-        ("1e999", Answer::Json),
-        ("\"\\x41\"", Answer::Json),
-        ("\"a\nb\"", Answer::Json),
-        ("\"\\ud800\"", Answer::Json),
-        ("\"\\udc00\"", Answer::Json),
-        ("\"\\ud800\\u0041\"", Answer::Json),
+    check_not_strings(&rt, rt.alloc());
+    check_not_json(&rt, rt.alloc());
+    check_nested(&rt, rt.alloc(), 127, Answer::NotString);
+    check_nested(&rt, rt.alloc(), 128, Answer::Json)
+}
+
+fn check_not_strings(rt: &impl Abort, alloc: Global) {
+    for json in [
+        "12",
+        "1.5",
+        "-7",
+        "-0",
+        "1e2",
+        "-1.5E-3",
+        "18446744073709551616",
+        "null",
+        "true",
+        "false",
+        "[\"ab\"]",
+        "{\"ab\": \"ab\"}",
     ] {
-        check_not_read(&rt, alloc, json, answer);
+        check_not_read(rt, alloc, json, Answer::NotString);
     }
-    check_nested(&rt, alloc, 127, Answer::NotString);
-    check_nested(&rt, alloc, 128, Answer::Json)
+}
+
+fn check_not_json(rt: &impl Abort, alloc: Global) {
+    for json in [
+        "",
+        "[1",
+        "\"ab",
+        "\"ab\" 1",
+        "\"ab\"\"cd\"",
+        "ab",
+        "'ab'",
+        "01",
+        "1e999",
+        "\"\\x41\"",
+        "\"a\nb\"",
+        "\"\\ud800\"",
+        "\"\\udc00\"",
+        "\"\\ud800\\u0041\"",
+    ] {
+        check_not_read(rt, alloc, json, Answer::Json);
+    }
 }
 
 fn check_not_read(rt: &impl Abort, alloc: Global, json: &str, answer: Answer) {
@@ -227,10 +238,18 @@ fn each_request_in_turn(rt: HostRuntime) -> Result<(), Fail> {
     let spaces = "                        ";
     check_refused(&rt, alloc, "24 spaces", spaces, Place::Inline)?;
     check_refused(&rt, alloc, "a byte too many", long_text(), Place::Heap)?;
-    let long = ok_string(&rt, repeated(alloc, "a", 5000));
-    check_refused(&rt, alloc, "5,000 bytes", long.as_str(), Place::Heap)?;
-    let quoted = ok_string(&rt, repeated_and(alloc, "\"é", INLINE_CAP, "\u{1}"));
-    check_refused(&rt, alloc, "escapes", quoted.as_str(), Place::Heap)
+    check_long_refused(&rt, alloc)?;
+    check_escapes_refused(&rt, alloc)
+}
+
+fn check_long_refused(rt: &impl Abort, alloc: Global) -> Result<(), Fail> {
+    let long = ok_string(rt, repeated(alloc, "a", 5000));
+    check_refused(rt, alloc, "5,000 bytes", long.as_str(), Place::Heap)
+}
+
+fn check_escapes_refused(rt: &impl Abort, alloc: Global) -> Result<(), Fail> {
+    let quoted = ok_string(rt, repeated_and(alloc, "\"é", INLINE_CAP, "\u{1}"));
+    check_refused(rt, alloc, "escapes", quoted.as_str(), Place::Heap)
 }
 
 /// Writes and reads the text with each request refused in turn.
@@ -243,10 +262,15 @@ fn check_refused(
 ) -> Result<(), Fail> {
     let ample = ample_of(rt, alloc, text);
     same_place(rt, &ample.value, place, &name);
-    check_call(rt, alloc, "to_value of ", name, Call::ToValue, &ample)?;
-    check_call(rt, alloc, "to_json of ", name, Call::ToJson, &ample)?;
-    check_call(rt, alloc, "from_value of ", name, Call::FromValue, &ample)?;
-    check_call(rt, alloc, "from_json of ", name, Call::FromJson, &ample)
+    check_calls(rt, alloc, name, &ample)
+}
+
+/// Each call; apart from `check_refused`, whose value in JSON each exit would drop.
+fn check_calls(rt: &impl Abort, alloc: Global, name: &str, ample: &Ample) -> Result<(), Fail> {
+    check_call(rt, alloc, "to_value of ", name, Call::ToValue, ample)?;
+    check_call(rt, alloc, "to_json of ", name, Call::ToJson, ample)?;
+    check_call(rt, alloc, "from_value of ", name, Call::FromValue, ample)?;
+    check_call(rt, alloc, "from_json of ", name, Call::FromJson, ample)
 }
 
 fn ample_of(rt: &impl Abort, alloc: Global, text: &str) -> Ample {

@@ -49,15 +49,24 @@ static CALLS: [(&str, Call); 10] = [
 fn each_request_in_turn(rt: HostRuntime) -> Result<(), Fail> {
     let alloc = rt.alloc();
     let long = ok_string(&rt, repeated(alloc, "a", 5000));
+    check_long_refused(&rt, alloc, long.as_str())?;
+    check_short_refused(&rt, alloc)
+}
+
+fn check_long_refused(rt: &impl Abort, alloc: Global, long: &str) -> Result<(), Fail> {
     for &(name, call) in &CALLS {
-        check_refused(&rt, alloc, name, " of a byte too many", call, long_text())?;
-        check_refused(&rt, alloc, name, " of 5,000 bytes", call, long.as_str())?;
+        check_refused(rt, alloc, name, " of a byte too many", call, long_text())?;
+        check_refused(rt, alloc, name, " of 5,000 bytes", call, long)?;
     }
+    Ok(())
+}
+
+fn check_short_refused(rt: &impl Abort, alloc: Global) -> Result<(), Fail> {
     // A short text, of which the result is not short, or which a capital sigma stands in.
     let (twice, parted) = (Call::Replace("a", "bb"), Call::Replace("", "-"));
-    check_refused(&rt, alloc, "twice ", "a full buffer", twice, full_text())?;
-    check_refused(&rt, alloc, "parted ", "a full buffer", parted, full_text())?;
-    check_refused(&rt, alloc, "a capital ", "sigma", Call::Lower, "ΑΣ")
+    check_refused(rt, alloc, "twice ", "a full buffer", twice, full_text())?;
+    check_refused(rt, alloc, "parted ", "a full buffer", parted, full_text())?;
+    check_refused(rt, alloc, "a capital ", "sigma", Call::Lower, "ΑΣ")
 }
 
 fn check_refused(

@@ -22,24 +22,22 @@ use test_support::builders::builder_of;
 use test_support::refuse::{end_refusals, refuse_all};
 use test_support::texts::{full_text, long_text, longest_blank, repeated};
 
-/// Makes each call, by its name.
+/// Makes each call, by its name, and returns the name of the first that does not do what it is to do. Rows stand in
+/// functions of their own: the proof of a row costs more with each value that its function holds.
 macro_rules! rows {
-    ($rt:expr; $($name:literal: $call:expr;)+) => {
-        $(check_row($rt, $call, $name);)+
-    };
+    ($($name:literal: $call:expr;)+) => {{
+        $(if !$call {
+            return Some($name);
+        })+
+        None
+    }};
 }
 
-/// Makes each call, by its name, and refuses every request meanwhile.
-macro_rules! free {
-    ($rt:expr, $alloc:expr; $($name:literal: $call:expr;)+) => {
-        refuse_all($alloc);
-        $(check_row($rt, $call, $name);)+
-        check_not_refused($rt, $alloc);
-    };
-}
-
-fn check_not_refused(rt: &impl Abort, alloc: Global) {
-    check_row(rt, !end_refusals(alloc), "a call makes a request");
+/// Ends the refusals; no row was wrong, and no call made a request.
+fn check_free(rt: &impl Abort, alloc: Global, wrong: Option<&str>) {
+    let was_refused = end_refusals(alloc);
+    check_row(rt, wrong.is_none(), wrong.unwrap_or(""));
+    check_row(rt, !was_refused, "a call makes a request");
 }
 
 fn check_row(rt: &impl Abort, is_so: bool, name: &str) {
@@ -57,8 +55,13 @@ fn json(rt: HostRuntime) {
 
 fn read(rt: &impl Abort, alloc: Global, text: &str) {
     let json = Value::String(ok_string(rt, String::from_str(alloc, text)));
-    free! { rt, alloc;
-        "json::from_value": from_value(alloc, &json).is_ok();
+    refuse_all(alloc);
+    check_free(rt, alloc, json_rows(alloc, &json));
+}
+
+fn json_rows(alloc: Global, json: &Value) -> Option<&'static str> {
+    rows! {
+        "json::from_value": from_value(alloc, json).is_ok();
     }
 }
 
@@ -67,8 +70,14 @@ fn values(rt: HostRuntime) {
     let alloc = rt.alloc();
     let value = ok_value(&rt, SmolStr::new(alloc, long_text()));
     let mut room = ok_string(&rt, String::with_capacity(alloc, 100));
+    refuse_all(alloc);
+    let wrong = value_rows(&value, &mut room);
+    check_free(&rt, alloc, wrong);
+}
+
+fn value_rows(value: &SmolStr, room: &mut String) -> Option<&'static str> {
     let mut hasher = DefaultHasher::default();
-    free! { &rt, alloc;
+    rows! {
         "SmolStr::as_str": value.as_str() == long_text();
         "SmolStr::len": value.len() == INLINE_CAP + 1;
         "SmolStr::is_empty": !value.is_empty();
@@ -87,21 +96,31 @@ fn values_compared(rt: HostRuntime) {
     let value = ok_value(&rt, SmolStr::new(alloc, long_text()));
     let other = SmolStr::new_static(long_text());
     let string = ok_string(&rt, String::from_str(alloc, long_text()));
-    free! { &rt, alloc;
-        "SmolStr::eq": value.eq(&other);
+    refuse_all(alloc);
+    check_free(&rt, alloc, comparison_rows(&value, &other, &string));
+}
+
+fn comparison_rows(value: &SmolStr, other: &SmolStr, string: &String) -> Option<&'static str> {
+    rows! {
+        "SmolStr::eq": value.eq(other);
         "SmolStr::eq_str": value.eq_str(long_text());
-        "SmolStr::eq_string": value.eq_string(&string);
-        "SmolStr::partial_cmp": value.partial_cmp(&other).is_some();
-        "SmolStr::cmp": value.cmp(&other) == Ordering::Equal;
+        "SmolStr::eq_string": value.eq_string(string);
+        "SmolStr::partial_cmp": value.partial_cmp(other).is_some();
+        "SmolStr::cmp": value.cmp(other) == Ordering::Equal;
         "SmolStr::cmp_str": value.cmp_str(full_text()) == Ordering::Greater;
-        "SmolStr::cmp_string": value.cmp_string(&string) == Ordering::Equal;
+        "SmolStr::cmp_string": value.cmp_string(string) == Ordering::Equal;
     }
 }
 
 #[test]
 fn empty(rt: HostRuntime) {
     let alloc = rt.alloc();
-    free! { &rt, alloc;
+    refuse_all(alloc);
+    check_free(&rt, alloc, empty_rows(alloc));
+}
+
+fn empty_rows(alloc: Global) -> Option<&'static str> {
+    rows! {
         "SmolStr::into_string": SmolStr::default().into_string(alloc).is_ok();
         "ValueAlloc::builder": alloc.builder().is_empty();
         "SmolStrBuilder::push": SmolStrBuilder::new(alloc).push('🦀').is_ok();
@@ -115,12 +134,17 @@ fn builders(rt: HostRuntime) {
     let alloc = rt.alloc();
     let builder = ok(&rt, builder_of(alloc, 0, full_text()));
     let large = ok(&rt, builder_of(alloc, 100, full_text()));
-    free! { &rt, alloc;
+    refuse_all(alloc);
+    check_free(&rt, alloc, builder_rows(&builder, &large));
+}
+
+fn builder_rows(builder: &SmolStrBuilder, large: &SmolStrBuilder) -> Option<&'static str> {
+    rows! {
         "SmolStrBuilder::as_str": builder.as_str() == full_text();
         "SmolStrBuilder::len": builder.len() == INLINE_CAP;
         "SmolStrBuilder::is_empty": !builder.is_empty();
         "SmolStrBuilder::inline_buffer": builder.inline_buffer().is_some();
-        "SmolStrBuilder::eq": builder.eq(&large);
+        "SmolStrBuilder::eq": builder.eq(large);
     }
 }
 
@@ -128,7 +152,12 @@ fn builders(rt: HostRuntime) {
 fn collected(rt: HostRuntime) {
     let alloc = rt.alloc();
     let builder = ok(&rt, builder_of(alloc, 100, full_text()));
-    free! { &rt, alloc;
+    refuse_all(alloc);
+    check_free(&rt, alloc, collected_rows(builder));
+}
+
+fn collected_rows(builder: SmolStrBuilder) -> Option<&'static str> {
+    rows! {
         "ValueAlloc::value_of": Global::value_of(builder).is_ok();
     }
 }
@@ -136,19 +165,31 @@ fn collected(rt: HostRuntime) {
 #[test]
 fn items(rt: HostRuntime) {
     let alloc = rt.alloc();
-    let strings = [
-        ok_string(&rt, String::from_str(alloc, "ab")),
-        ok_string(&rt, String::from_str(alloc, "c")),
-    ];
-    let owned = [
-        ok_string(&rt, String::from_str(alloc, "ab")),
-        ok_string(&rt, String::from_str(alloc, "c")),
-    ];
-    free! { &rt, alloc;
+    let strings = two_strings(&rt, alloc);
+    refuse_all(alloc);
+    check_free(&rt, alloc, item_rows(alloc, &strings));
+    refuse_all(alloc);
+    check_free(&rt, alloc, owned_rows(alloc, strings));
+}
+
+fn two_strings(rt: &impl Abort, alloc: Global) -> [String; 2] {
+    [
+        ok_string(rt, String::from_str(alloc, "ab")),
+        ok_string(rt, String::from_str(alloc, "c")),
+    ]
+}
+
+fn item_rows(alloc: Global, strings: &[String]) -> Option<&'static str> {
+    rows! {
         "SmolStr::from_chars": SmolStr::from_chars(alloc, full_text().chars()).is_ok();
         "SmolStr::from_strs": SmolStr::from_strs(alloc, ["ab", "c"].into_iter()).is_ok();
         "SmolStr::from_string_refs": SmolStr::from_string_refs(alloc, strings.iter()).is_ok();
-        "SmolStr::from_strings": SmolStr::from_strings(alloc, owned.into_iter()).is_ok();
+    }
+}
+
+fn owned_rows(alloc: Global, strings: [String; 2]) -> Option<&'static str> {
+    rows! {
+        "SmolStr::from_strings": SmolStr::from_strings(alloc, strings.into_iter()).is_ok();
     }
 }
 
@@ -157,13 +198,13 @@ fn extended(rt: HostRuntime) {
     let alloc = rt.alloc();
     let strings = [ok_string(&rt, String::from_str(alloc, "ab"))];
     refuse_all(alloc);
-    extend(&rt, alloc, &strings);
-    print(&rt, alloc);
-    check_not_refused(&rt, alloc);
+    check_free(&rt, alloc, extend_rows(alloc, &strings));
+    refuse_all(alloc);
+    check_free(&rt, alloc, print_rows(alloc));
 }
 
-fn extend(rt: &impl Abort, alloc: Global, strings: &[String]) {
-    rows! { rt;
+fn extend_rows(alloc: Global, strings: &[String]) -> Option<&'static str> {
+    rows! {
         "SmolStrBuilder::extend_chars": SmolStrBuilder::new(alloc).extend_chars(full_text().chars()).is_ok();
         "SmolStrBuilder::extend_strs": SmolStrBuilder::new(alloc).extend_strs(["ab", "c"].into_iter()).is_ok();
         "SmolStrBuilder::extend_strings": SmolStrBuilder::new(alloc).extend_strings(strings.iter()).is_ok();
@@ -171,8 +212,8 @@ fn extend(rt: &impl Abort, alloc: Global, strings: &[String]) {
     }
 }
 
-fn print(rt: &impl Abort, alloc: Global) {
-    rows! { rt;
+fn print_rows(alloc: Global) -> Option<&'static str> {
+    rows! {
         "ToSmolStr::to_smolstr": full_text().to_smolstr(alloc).is_ok();
         "format_smolstr!": format_smolstr!(alloc; "{}-{:>4}", "ab", 7).is_ok();
     }
@@ -181,7 +222,12 @@ fn print(rt: &impl Abort, alloc: Global) {
 #[test]
 fn cases(rt: HostRuntime) {
     let alloc = rt.alloc();
-    free! { &rt, alloc;
+    refuse_all(alloc);
+    check_free(&rt, alloc, case_rows(alloc));
+}
+
+fn case_rows(alloc: Global) -> Option<&'static str> {
+    rows! {
         "StrExt::to_ascii_lowercase_smolstr": full_text().to_ascii_lowercase_smolstr(alloc).is_ok();
         "StrExt::to_ascii_uppercase_smolstr": "aßΔC".to_ascii_uppercase_smolstr(alloc).is_ok();
         "StrExt::to_lowercase_smolstr": full_text().to_lowercase_smolstr(alloc).is_ok();
@@ -193,8 +239,12 @@ fn cases(rt: HostRuntime) {
 fn replaced(rt: HostRuntime) {
     let alloc = rt.alloc();
     let long = ok_string(&rt, repeated(alloc, "a", 5000));
-    let long = long.as_str();
-    free! { &rt, alloc;
+    refuse_all(alloc);
+    check_free(&rt, alloc, replacement_rows(alloc, long.as_str()));
+}
+
+fn replacement_rows(alloc: Global, long: &str) -> Option<&'static str> {
+    rows! {
         "StrExt::replace_smolstr": long.replace_smolstr(alloc, "a", "").is_ok();
         "StrExt::replacen_smolstr": full_text().replacen_smolstr(alloc, "aa", "b", 3).is_ok();
     }
@@ -203,8 +253,12 @@ fn replaced(rt: HostRuntime) {
 #[test]
 fn loops_over_bytes(rt: HostRuntime) {
     let alloc = rt.alloc();
-    let (full, long) = (full_text(), long_text());
-    free! { &rt, alloc;
+    refuse_all(alloc);
+    check_free(&rt, alloc, kernel_rows(full_text(), long_text()));
+}
+
+fn kernel_rows(full: &str, long: &str) -> Option<&'static str> {
+    rows! {
         "kernel::next_match": long.is_char_boundary(0) && next_match(long, 0, "aa").is_some();
         "kernel::convert_while_ascii": full.len() <= INLINE_CAP && convert_while_ascii(full, AsciiCase::Upper).1 == INLINE_CAP;
     }
@@ -216,17 +270,18 @@ fn streams(rt: HostRuntime) {
     let value = ok_value(&rt, SmolStr::new(alloc, long_text()));
     let mut out = ok(&rt, Vec::with_capacity(alloc, 100));
     refuse_all(alloc);
-    read_streams(&rt, alloc);
-    write_streams(&rt, &value, &mut out);
-    check_not_refused(&rt, alloc);
+    check_free(&rt, alloc, read_rows(alloc));
+    refuse_all(alloc);
+    let wrong = write_rows(&value, &mut out);
+    check_free(&rt, alloc, wrong);
 }
 
-fn read_streams(rt: &impl Abort, alloc: Global) {
+fn read_rows(alloc: Global) -> Option<&'static str> {
     let mut form = b"\x02\0\0\0ab".as_slice();
     let mut limited = form;
     let mut rest = long_text().as_bytes();
     let mut buffer = [0; 7];
-    rows! { rt;
+    rows! {
         "borsh::length_prefix": length_prefix(5000).is_some();
         "borsh::from_wire": from_wire(alloc, b"\x02\0\0\0ab").is_ok();
         "borsh::split_wire": split_wire(alloc, b"\x02\0\0\0ab").is_ok();
@@ -236,8 +291,8 @@ fn read_streams(rt: &impl Abort, alloc: Global) {
     }
 }
 
-fn write_streams(rt: &impl Abort, value: &SmolStr, out: &mut Vec<u8>) {
-    rows! { rt;
+fn write_rows(value: &SmolStr, out: &mut Vec<u8>) -> Option<&'static str> {
+    rows! {
         "stream::write_steps": write_steps(out, b"ab").is_ok();
         "BorshSerialize::serialize": value.serialize(out).is_ok();
     }
