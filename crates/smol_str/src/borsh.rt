@@ -204,6 +204,18 @@ fn read_size<R: Read>(reader: &mut R) -> Result<Option<usize>, io::Error>
     Ok(Some(size_in(&prefix)))
 }
 
+/// Fills `body`, or says why not all of it came.
+fn fill_body<R: Read>(reader: &mut R, body: &mut [u8]) -> Result<(), DecodeFault>
+    ensures ok { OnOk result (Consumes (R.remaining reader.old) (R.remaining reader.new) body.new) }
+    ensures fault { IfErr result
+        (AfterBodyFault (R.remaining reader.old) (R.remaining reader.new) (length body.old)) }
+{
+    if fill(reader, body)? < body.len() {
+        return Err(DecodeFault::Ended);
+    }
+    Ok(())
+}
+
 /// Reads a body that fits the value itself; it takes no memory.
 fn read_short<R: Read>(reader: &mut R, size: usize) -> Result<SmolStr, DecodeFault>
     requires { size ≤ INLINE_CAP }
@@ -212,9 +224,7 @@ fn read_short<R: Read>(reader: &mut R, size: usize) -> Result<SmolStr, DecodeFau
 {
     let mut buffer = empty_buffer();
     let body = &mut buffer[..size];
-    if fill(reader, body)? < size {
-        return Err(DecodeFault::Ended);
-    }
+    fill_body(reader, body)?;
     match str::from_utf8(body) {
         Ok(text) => Ok(SmolStr::new_inline(text)),
         Err(fault) => Err(DecodeFault::NotUtf8(fault)),
@@ -238,9 +248,7 @@ fn read_middle<R: Read>(alloc: Global, reader: &mut R, size: usize) -> Result<Sm
 {
     let mut buffer = middle_buffer();
     let bytes = &mut buffer[..size];
-    if fill(reader, bytes)? < size {
-        return Err(DecodeFault::Ended);
-    }
+    fill_body(reader, bytes)?;
     let value = SmolStr::from_utf8(alloc, bytes)?;
     Ok(value)
 }

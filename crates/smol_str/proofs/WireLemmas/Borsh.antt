@@ -1,5 +1,5 @@
 -- A wire form in two parts, its size and its text, for the calls that write and read one part after the other.
-use Rattle.smol_str.proofs.Common.{inr, ◌≡◌, ℕ, ◌+◌, ◌<◌, ◌≤◌, ◌^◌, Err, List, ◌++◌, Option, None, Some, IfSome, length, take, refl, sym, ap, ◌∙◌, subst, arith, append_assoc, append-nil, to_le_bytes, from_le_bytes, w32, encode_utf8_all, from_le_bytes-to_le_bytes_4, encodes-chars, take_at, drop_at, length-append, Appends, Consumes, IsAtEnd, Appends-trans, Consumes-trans, Result, err_from_is_err_and, INLINE_CAP, size, place_of, Meaning, HasWire, HasEndedEarly, body, common_steps, rules}
+use Rattle.smol_str.proofs.Common.{inl, inr, ◌≡◌, ℕ, ◌+◌, ◌<◌, ◌≤◌, ◌^◌, Err, List, ◌++◌, Option, None, Some, IfSome, length, take, refl, sym, ap, ◌∙◌, subst, arith, append_assoc, append-nil, to_le_bytes, from_le_bytes, w32, encode_utf8_all, from_le_bytes-to_le_bytes_4, encodes-chars, take_at, drop_at, length-append, Appends, Consumes, IsAtEnd, Appends-trans, Consumes-trans, Result, err_from_is_err_and, INLINE_CAP, size, place_of, Meaning, HasWire, HasEndedEarly, body, common_steps, rules}
 use Rattle.std.specs.declared.str.Utf8Error.{Utf8Error}
 use Rattle.std.specs.declared.io.Error.{Error}
 use Rattle.std.specs.Result.{IsErrAnd, IfErr}
@@ -9,11 +9,47 @@ use Rattle.smol_str.specs.declared.borsh.fault.DecodeFault.{DecodeFault}
 use Rattle.smol_str.specs.declared.borsh.fault.DecodeFault.TheVariants.{Ended, NotUtf8, OutOfMemory, Io}
 use Rattle.smol_str.specs.declared.borsh.fault.LimitedFault.{LimitedFault}
 use Rattle.smol_str.specs.declared.borsh.fault.LimitedFault.TheVariants.{TooLong, Decode}
+use Rattle.smol_str.specs.declared.stream.ReadFault.{ReadFault}
+use Rattle.smol_str.specs.declared.stream.ReadFault.TheVariants.{OutOfMemory as NoMemoryToRead, Io as ReaderFailed}
+use Rattle.smol_str.specs.declared.value.convert.FromUtf8Fault.{FromUtf8Fault}
+use Rattle.smol_str.specs.declared.value.convert.FromUtf8Fault.TheVariants.{NotUtf8 as BytesNotUtf8, OutOfMemory as NoMemoryForText}
+use Rattle.smol_str.specs.Faults.{AfterFromUtf8Fault}
 use Rattle.smol_str.specs.Wire.{wire, prefix_size}
 use Rattle.std.specs.Prelude.{⊤}
-use Rattle.smol_str.specs.Stream.{AppendsBeginning, EndsBelow, StopsBelow, ConsumesSome}
-use Rattle.smol_str.specs.WireFaults.{AfterEncodeFault, IsRefusedBody, AfterDecodeFault, StopsEarly, StopsInBody, HasReadBody, AfterBodyFault, StatesAtMost, AfterLimitedFault}
+use Rattle.smol_str.specs.Stream.{AppendsBeginning, EndsBelow, StopsBelow, ConsumesSome, AfterStreamFault}
+use Rattle.smol_str.specs.WireFaults.{AfterEncodeFault, IsRefusedBody, AfterDecodeFault, StopsEarly, StopsInBody, HasReadBody, AfterBodyFault, StatesAtMost, AfterLimitedFault, AfterFromWireFault, of_read_fault, of_utf8_fault}
 use Rattle.smol_str.proofs.WireLemmas.Stream.{beginning-of_first, beginning-of_second}
+
+-- ---- faults that another call's become
+
+-- a result that is known to be a fault
+pub IfErr-is : {T F : Type 0} (P : F → Type 0) (r : Result T F) (f : F) → IsErrAnd r (λ fault. fault ≡ f) → P f → IfErr r P
+IfErr-is P r f failed p =
+    let (fault, is_err, is) = err_from_is_err_and r failed in
+    subst (λ r. IfErr r P) (sym (is_err ∙ ap Err is)) p
+
+-- of a body of n bytes, as long as a buffer
+pub AfterBodyFault-of_fill : {T : Type 0} (a b : Option (List ℕ)) (m n : ℕ) (r : Result T DecodeFault) (f : DecodeFault)
+    → IsErrAnd r (λ fault. fault ≡ f) → AfterBodyFault a b m f → m ≡ n → IfErr r (AfterBodyFault a b n)
+AfterBodyFault-of_fill a b m n r f failed h same =
+    IfErr-is (AfterBodyFault a b n) r f failed (subst (λ n. AfterBodyFault a b n f) same h)
+
+pub AfterFromWireFault-of_text : (b : List ℕ) (e : FromUtf8Fault) → ¬ HasEndedEarly b → AfterFromUtf8Fault (body b) e
+    → AfterFromWireFault b (of_utf8_fault e)
+AfterFromWireFault-of_text b (BytesNotUtf8 e) whole h = (whole, h)
+AfterFromWireFault-of_text b NoMemoryForText whole (utf8, large) = (whole, utf8, large)
+
+-- of a body of n bytes, which is above INLINE_CAP
+module _ (a b : Option (List ℕ)) (n : ℕ) (long : INLINE_CAP < n) where
+  pub AfterBodyFault-of_stream : (e : ReadFault) → AfterStreamFault n a b e → AfterBodyFault a b n (of_read_fault e)
+  AfterBodyFault-of_stream NoMemoryToRead h = (long, h)
+  AfterBodyFault-of_stream (ReaderFailed e) h = h
+
+  pub AfterBodyFault-of_text : (bytes : List ℕ) (e : FromUtf8Fault) → length bytes ≡ n → Consumes a b bytes
+      → AfterFromUtf8Fault bytes e → AfterBodyFault a b n (of_utf8_fault e)
+  AfterBodyFault-of_text bytes (BytesNotUtf8 e) whole consumed h =
+      record { body = bytes; whole = whole; refused = h; bytes = consumed }
+  AfterBodyFault-of_text bytes NoMemoryForText whole consumed h = (long, (bytes, omega arith, omega arith, consumed))
 
 -- ---- writing: the size of a text as it is found, and the text's bytes
 
@@ -47,6 +83,23 @@ pub prefix_size-of_bytes : (b front prefix : List ℕ) (n : ℕ) → front ≡ t
     → n ≡ from_le_bytes w32 prefix → prefix_size b ≡ n
 unfolding prefix_size
 prefix_size-of_bytes b front prefix n e f is = sym (is ∙ ap (from_le_bytes w32) (f ∙ e))
+
+-- ---- reading: a reader that ended before a size
+
+before_size : (a b : Option (List ℕ)) (P : List ℕ → Type 0) → ((x : List ℕ) → length x < 4 → P x) → EndsBelow a b 4
+    → IfSome a P
+before_size None b P h q = tt
+before_size (Some x) None P h q = absurd q.2
+before_size (Some x) (Some y) P h (bytes, short, consumed, end) =
+    h x (subst (λ x. length x < 4) (sym (consumed ∙ ap (λ y. bytes ++ y) end ∙ append-nil bytes)) short)
+
+pub AfterDecodeFault-of_end : (a b : Option (List ℕ)) → EndsBelow a b 4 → AfterDecodeFault a b Ended
+AfterDecodeFault-of_end a b q = (before_size a b HasEndedEarly (λ x short. inl short) q, q.3)
+
+pub AfterLimitedFault-of_end : (limit : ℕ) (a b : Option (List ℕ)) → EndsBelow a b 4
+    → AfterLimitedFault limit a b (Decode Ended)
+AfterLimitedFault-of_end limit a b q =
+    (AfterDecodeFault-of_end a b q, before_size a b (StatesAtMost limit) (λ x short four. absurd (omega arith)) q)
 
 -- ---- reading: a reader that gave the size n, below 2 ^ 32
 
@@ -167,6 +220,4 @@ module _ (n : ℕ) (fits : n < 2 ^ 32) where
       (fault : DecodeFault) → IsErrAnd r (λ f. f ≡ Decode fault) → Consumes a b (to_le_bytes w32 n) → n ≤ limit
       → AfterBodyFault b c n fault → IfErr r (AfterLimitedFault limit a c)
   AfterLimitedFault-of_body r a b c limit fault failed p l h =
-      let (f, is_err, is) = err_from_is_err_and r failed in
-      subst (λ r. IfErr r (AfterLimitedFault limit a c)) (sym (is_err ∙ ap Err is))
-      (AfterLimitedFault-of_fault a b c limit fault p l h)
+      IfErr-is (AfterLimitedFault limit a c) r (Decode fault) failed (AfterLimitedFault-of_fault a b c limit fault p l h)

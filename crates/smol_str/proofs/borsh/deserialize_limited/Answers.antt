@@ -1,6 +1,15 @@
-use Rattle.std.proofs.Common.{arith}
-use Rattle.smol_str.proofs.WireLemmas.Borsh.{is_read-of_body, Consumes-of_body, size-of_body, AfterLimitedFault-above, AfterLimitedFault-of_body}
+use Rattle.smol_str.proofs.Common.{inl, arith}
+use Rattle.smol_str.proofs.WireLemmas.Borsh.{IfErr-is, AfterLimitedFault-of_end, is_read-of_body, Consumes-of_body, size-of_body, AfterLimitedFault-above, AfterLimitedFault-of_body}
 use Rattle.smol_str.proofs.borsh.deserialize_limited.Goals as goal
+
+pub returns-in_err-size-clause-fault : goal.returns-in_err-size-clause-fault
+returns-in_err-size-clause-fault g c =
+    let (bytes, short, consumed) = c.in_err-size.ensures.failed in
+    IfErr-is _ _ _ c.from_residual.ensures.1 (bytes, inl short, (λ four. absurd (omega (arith, four))), consumed)
+
+pub returns-in_default-clause-fault : goal.returns-in_default-clause-fault
+returns-in_default-clause-fault g c =
+    AfterLimitedFault-of_end _ _ _ (rw c.in_default.is at c.in_ok-size.ensures.ok)
 
 pub returns-then-size-limit-clause-fault : goal.returns-then-size-limit-clause-fault
 returns-then-size-limit-clause-fault g c =

@@ -1,5 +1,7 @@
 use Rattle.smol_str.proofs.Common.{◌≡◌, ◌<◌, ◌^◌, IsTrue, length, arith, sym, ap, ◌∙◌, subst, encode_utf8_all, all_scalars, encodes-chars, scalars-chars, All-from_get_or, Holds}
 use Rattle.smol_str.proofs.WireLemmas.Wire.{Holds-stated}
+use Rattle.smol_str.proofs.WireLemmas.Borsh.{IfErr-is, AfterFromWireFault-of_text}
+use Rattle.smol_str.specs.Faults.{AfterFromUtf8Fault}
 use Rattle.smol_str.proofs.borsh.from_wire.Goals as goal
 
 pub returns-clause-ok : goal.returns-clause-ok
@@ -13,3 +15,9 @@ returns-clause-ok c =
     let scalars = subst (λ t. IsTrue (all_scalars t)) (sym value.text) (scalars-chars found utf8) in
     subst (λ n. Holds b c.in_ok-value.value.text n) (omega (arith, ap length is))
     (Holds-stated b _ bytes c.in-Some.ensures.0 (sym c.in-Some.ensures.1 ∙ is) scalars)
+
+pub returns-in_err-value-clause-fault : goal.returns-in_err-value-clause-fault
+returns-in_err-value-clause-fault c =
+    IfErr-is _ _ _ c.from_residual.ensures.1
+    (AfterFromWireFault-of_text _ c.in_err-value.field-0.0 c.in-Some.ensures.0
+    (subst (λ found. AfterFromUtf8Fault found c.in_err-value.field-0.0) c.in-Some.ensures.1 c.in_err-value.ensures.fault))
