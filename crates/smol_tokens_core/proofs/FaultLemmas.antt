@@ -1,5 +1,5 @@
 -- What stands where an input was not read, or where there is no report on it.
-use Rattle.std.proofs.Common.{◌≡◌, ℕ, List, Option, Some, None, Result, Ok, Err, inl, inr, refl, subst, IsUtf8, arith, rules}
+use Rattle.std.proofs.Common.{◌≡◌, ℕ, List, Option, Some, None, Result, Ok, Err, inl, inr, refl, subst, IsUtf8, encode_utf8_all, arith, rules}
 use Rattle.std.specs.Prelude.{IfSome}
 use Rattle.std.specs.Result.{IsErrAnd, IfErr, OnErr}
 use Rattle.std.specs.Str.{chars}
@@ -11,6 +11,7 @@ use Rattle.smol_str.specs.declared.stream.ReadFault.{ReadFault}
 use Rattle.smol_str.specs.declared.stream.ReadFault.TheVariants as reading
 use Rattle.smol_tokens_core.specs.Faults.{AfterFault}
 use Rattle.smol_tokens_core.specs.ReadFaults.{of_read_fault}
+use Rattle.smol_tokens_core.specs.Report.{report}
 use Rattle.smol_tokens_core.specs.ReportFaults.{HasALineTooOften, WantsMemory, HasNoReport, AfterInputFault}
 use Rattle.smol_tokens_core.specs.declared.mode.Mode.{Mode}
 use Rattle.smol_tokens_core.specs.declared.fault.RunFault.{RunFault}
@@ -52,6 +53,12 @@ after-no_report mode input left held bytes Full end whole none = (
   Keeps-itself held,
 )
 after-no_report mode input left held bytes (Io e) end whole none = absurd none
+
+-- what holds of the bytes of the report holds of those that were written
+pub whole-report : (mode : Mode) (input : Option (List ℕ)) (out : List ℕ) (P : List ℕ → Type 0)
+    → IfSome input (λ bytes. IsUtf8 bytes × (out ≡ encode_utf8_all (report mode (chars bytes)))) → P out
+    → IfSome input (λ bytes. IsUtf8 bytes × P (encode_utf8_all (report mode (chars bytes))))
+whole-report mode input out P is written = IfSome_then input is (λ bytes same. (same.0, subst P same.1 written))
 
 -- the bytes are a text, on which there is no report
 pub after-no_report_on_text : (mode : Mode) (bytes : List ℕ) (fault : RunFault) → IsUtf8 bytes

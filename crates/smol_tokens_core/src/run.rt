@@ -1,9 +1,9 @@
 //! The program, over any reader and writer.
-ghost use Rattle.std.specs.Prelude.{◌≡◌, OnOk, IfOk, IfErr, IsUtf8, encode_utf8_all};
+ghost use Rattle.std.specs.Prelude.{◌≡◌, ℕ, List, Option, OnOk, IfOk, IfErr, IfSome, IsUtf8, encode_utf8_all};
+ghost use Rattle.std.specs.Io.KnownBytes.{IsAtEnd};
 ghost use Rattle.std.specs.Str.{chars};
 ghost use Rattle.std.specs.String.{string_bytes};
 ghost use Rattle.smol_tokens_core.specs.Report.{report};
-ghost use Rattle.smol_tokens_core.specs.ReportFaults.{AfterInputFault};
 ghost use Rattle.smol_tokens_core.specs.Faults.{WroteReport, AfterFault};
 
 use crate::fault::RunFault;
@@ -36,22 +36,24 @@ pub fn run<S: BuildHasher + Drop, R: Read, W: Write>(
         (AfterFault mode (R.remaining reader.old) (R.remaining reader.new)
         (W.contents writer.old) (W.contents writer.new)) }
 {
-    let input = read_all(alloc, reader)?;
-    let report = report_on_owned(alloc, state, mode, input)?;
+    let report = read_report(alloc, state, mode, reader)?;
     write_steps(writer, report.as_bytes())?;
     Ok(())
 }
 
-/// The report on an input that is held no longer: `run` keeps the report alone, so that each of its exits drops little.
-fn report_on_owned<S: BuildHasher + Drop>(
+/// Reads to the end, and puts the report together: apart from the writer, so that no proof of it speaks of what that holds.
+fn read_report<S: BuildHasher + Drop, R: Read>(
     alloc: Global,
     state: S,
     mode: Mode,
-    input: Vec<u8>,
+    reader: &mut R,
 ) -> Result<String, RunFault>
-    ensures utf8 { OnOk result (IsUtf8 input.items) }
-    ensures ok { IfOk result (λ out. string_bytes out ≡ encode_utf8_all (report mode (chars input.items))) }
-    ensures fault { IfErr result (AfterInputFault mode input.items) }
+    ensures end { OnOk result (IsAtEnd (R.remaining reader.new)) }
+    ensures ok { IfOk result (λ out. IfSome (R.remaining reader.old) (λ input.
+        IsUtf8 input × (string_bytes out ≡ encode_utf8_all (report mode (chars input))))) }
+    ensures fault { IfErr result (λ fault. (held : Option (List ℕ))
+        → AfterFault mode (R.remaining reader.old) (R.remaining reader.new) held held fault) }
 {
+    let input = read_all(alloc, reader)?;
     report_on_input(alloc, state, &mode, input.as_slice())
 }
