@@ -41,7 +41,7 @@ pub fn run<S: BuildHasher + Drop, R: Read, W: Write>(
     Ok(())
 }
 
-/// Reads to the end, and puts the report together: apart from the writer, so that no proof of it speaks of what that holds.
+/// Reads to the end, and puts the report together. It has no writer, so no proof of it speaks of what a writer holds.
 fn read_report<S: BuildHasher + Drop, R: Read>(
     alloc: Global,
     state: S,
