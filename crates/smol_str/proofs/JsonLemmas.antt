@@ -1,6 +1,6 @@
 -- JSON strings, for module `json`.
 use Rattle.smol_str.proofs.Common.{String, Global, string_bytes, rules, ◌≡◌, ℕ, ◌<◌, List, [], ◌∷◌, length, None, Some, Result, Ok, Err, refl, sym, ap, ◌∙◌, chars, encodes-chars, encodes_same, IsUtf8-string_bytes, place_of, Meaning, IsValueOf, common_steps, arith}
-use Rattle.std.specs.Result.{IfErr}
+use Rattle.std.specs.Result.{IfOk, IfErr}
 use Rattle.serde_json.specs.Data as json
 use Rattle.serde_json.specs.Read.{read}
 use Rattle.serde_json.specs.View.{view}
@@ -8,7 +8,7 @@ use Rattle.serde_json.proofs.OnLiterals.{serde_json_on_literals}
 use Rattle.serde_json.specs.declared.value.Value as value
 use Rattle.smol_str.specs.declared.json.JsonFault.{JsonFault}
 use Rattle.smol_str.specs.declared.json.JsonFault.TheVariants.{NotString, Json, OutOfMemory}
-use Rattle.smol_str.specs.Json.{json_value, IsJsonOf, AfterValueFault, AfterJsonFault}
+use Rattle.smol_str.specs.Json.{json_value, IsJsonText, IsJsonOf, AfterValueFault, AfterJsonFault}
 
 view-String : (s : String Global) → view (value.String s) ≡ json.string (string_bytes s)
 view-String s = search (rules, value.the_lemmas)
@@ -45,3 +45,8 @@ pub AfterJsonFault-read : {T : Type 0} (r : Result T JsonFault) (bs : List ℕ) 
     → IfErr r (AfterValueFault d) → IfErr r (AfterJsonFault bs)
 AfterJsonFault-read (Ok v) bs d e h = tt
 AfterJsonFault-read (Err fault) bs d e h = AfterJsonFault-of_value bs d fault e h
+
+pub IsJsonText-read : {E : Type 0} (r : Result Meaning E) (bs : List ℕ) (d : json.Data) → read bs ≡ Some d
+    → IfOk r (IsJsonOf d) → IfOk r (λ v. IsJsonText bs v.text)
+IsJsonText-read (Ok v) bs d e h = e ∙ ap Some h.text
+IsJsonText-read (Err fault) bs d e h = tt

@@ -2,7 +2,7 @@
 //!
 //! Collecting is extending an empty builder and finishing it. The items are drawn one at a time and
 //! nothing is gathered first, and size hints are not read: they reserve nothing and decide nothing.
-ghost use Rattle.std.specs.Prelude.{◌≡◌, ℕ, List, IfOk, OnOk, OnErr};
+ghost use Rattle.std.specs.Prelude.{◌≡◌, ℕ, List, [], IfOk, OnOk, OnErr};
 ghost use Rattle.std.specs.Iterator.{IsFinite};
 ghost use Rattle.smol_str.specs.Text.{IsResident};
 ghost use Rattle.smol_str.specs.Meaning.{Meaning, IsValueOf};
@@ -250,6 +250,21 @@ pub(crate) fn append_all<P: Piece, I: Iterator<Item = P>>(
 {
     // So no items at all leave it in its buffer.
     prove!(builder.inline_buffer().is_none() || builder.as_str().len() <= INLINE_CAP);
+    append_each(builder, iter)
+}
+
+/// The loop of [`append_all`].
+#[inline(always)]
+fn append_each<P: Piece, I: Iterator<Item = P>>(
+    builder: &mut SmolStrBuilder,
+    iter: I,
+) -> Result<(), AllocError>
+    requires can { I.can_next iter }
+    requires ends { IsFinite (I.remaining iter) }
+    requires begun { builder.old ≡ appended builder.old [] }
+    ensures ok { OnOk result (AppendedAll P.text I.next_gives iter builder.old builder.new) }
+    ensures stopped { OnErr result (StoppedAt P.text I.next_gives iter builder.old builder.new) }
+{
     for piece in iter {
         piece.append_to(builder)?;
     }

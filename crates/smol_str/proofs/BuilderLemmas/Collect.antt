@@ -1,5 +1,5 @@
 -- For collecting, extending and building by steps: items drawn and appended one after another.
-use Rattle.std.proofs.Common.{true, ◌≡◌, ℕ, List, [], ◌∷◌, ◌++◌, map, length, take, drop, Option, Result, Ok, Err, IfOk, OnOk, refl, sym, ap, ◌∙◌, subst, arith, rules}
+use Rattle.std.proofs.Common.{true, ◌≡◌, ℕ, List, [], ◌∷◌, ◌++◌, map, length, take, drop, Option, None, Result, Ok, Err, IfOk, OnOk, OnErr, refl, sym, ap, ◌∙◌, subst, arith, rules}
 use Rattle.std.specs.Iterator.{Drains, DrainsIf}
 use Rattle.std.specs.Iterator.Runs.{WholeRun}
 use Rattle.std.proofs.iter.Next.{Yields-more}
@@ -39,12 +39,19 @@ appended-last f old now new xs x h a = search (rules, arith, appended-twice, joi
 
 module _ {S A : Type 0} (f : A → List ℕ) (steps : S → Option A → S → Type 0) (s : S) where
   -- where a builder stops, items came with which it would be on the heap
-  pub OutgrownAfter-stopped : (old new : Draft) → StoppedAt f steps s old new → OutgrownAfter f steps s old
-  OutgrownAfter-stopped old new (xs, x, rest, run, is, heap) =
+  pub OutgrownAfter-refused : {T E : Type 0} (old new : Draft) (r : Result T E)
+      → OnErr r (StoppedAt f steps s old new) → OnErr r (OutgrownAfter f steps s old)
+  OutgrownAfter-refused old new (Ok v) _ = tt
+  OutgrownAfter-refused old new (Err e) (xs, x, rest, run, is, heap) =
       let all = xs ++ x ∷ [] in
       let last = appended-last f old new (appended new (f x)) xs x is refl in
       let kind = sym (ap (λ b. b.kind) last) ∙ heap in
       (all, rest, Yields-more steps s xs run.0 x rest run.1 run.2, kind)
+
+-- a step to the end of an iterator, of an item that is none
+pub gives-None : {S A : Type 0} (steps : S → Option A → S → Type 0) (s rest : S) (item : Option A)
+    → item ≡ None → steps s item rest → steps s None rest
+gives-None steps s rest item is step = subst (λ o. steps s o rest) is step
 
 -- what holds of the items that an iterator gave to its end, holds of a whole run
 WholeRun-DrainsIf-drained : {S A : Type 0} (steps : S → Option A → S → Type 0) (s : S) (xs : List A) (Q : List A → Type 0)
