@@ -13,7 +13,7 @@ replace_byte-requires-clause-ascii_to c =
     rw c.as_bytes-then-count-text.ensures.value ((one-byte c.args.to.now c.utf8.to c.if-to-eq1.true).low)
 
 pub returns-then-count-text : goal.returns-then-count-text
-returns-then-count-text c = search (rules, one-byte, each-replaced)
+returns-then-count-text c = search (rules, one-byte, each-replaced) fits 60
 
 pub range_from-requires : goal.range_from-requires
 range_from-requires c = λ _. replacing-boundary _ _ _ _ _ _ _ c.in_ok-place.ensures.ok c.utf8.text
