@@ -12,5 +12,5 @@ returns-clause-fault g c =
     (AfterInputFault c.args.mode.now c.args.input.now)
     (λ fault h. after-no_report_on_text c.args.mode.now c.args.input.now fault text.1 h) none
 
-pub returns-in_default : goal.returns-in_default
-returns-in_default g c = record { utf8 = tt; ok = tt; fault = c.in_default.ensures.cases.0 }
+pub returns-in_default-clause-fault : goal.returns-in_default-clause-fault
+returns-in_default-clause-fault g c = c.in_default.ensures.cases.0
