@@ -9,15 +9,13 @@ use Rattle.smol_str.specs.declared.borsh.fault.DecodeFault.{DecodeFault}
 use Rattle.smol_str.specs.declared.borsh.fault.DecodeFault.TheVariants.{Ended, NotUtf8, OutOfMemory, Io}
 use Rattle.smol_str.specs.declared.borsh.fault.LimitedFault.{LimitedFault}
 use Rattle.smol_str.specs.declared.borsh.fault.LimitedFault.TheVariants.{TooLong, Decode}
-use Rattle.smol_str.specs.declared.stream.ReadFault.{ReadFault}
-use Rattle.smol_str.specs.declared.stream.ReadFault.TheVariants.{OutOfMemory as NoMemoryToRead, Io as ReaderFailed}
 use Rattle.smol_str.specs.declared.value.convert.FromUtf8Fault.{FromUtf8Fault}
 use Rattle.smol_str.specs.declared.value.convert.FromUtf8Fault.TheVariants.{NotUtf8 as BytesNotUtf8, OutOfMemory as NoMemoryForText}
 use Rattle.smol_str.specs.Faults.{AfterFromUtf8Fault}
 use Rattle.smol_str.specs.Wire.{wire, prefix_size}
 use Rattle.std.specs.Prelude.{⊤}
-use Rattle.smol_str.specs.Stream.{AppendsBeginning, EndsBelow, StopsBelow, ConsumesSome, AfterStreamFault}
-use Rattle.smol_str.specs.WireFaults.{AfterEncodeFault, IsRefusedBody, AfterDecodeFault, StopsEarly, StopsInBody, HasReadBody, AfterBodyFault, StatesAtMost, AfterLimitedFault, AfterFromWireFault, of_read_fault, of_utf8_fault}
+use Rattle.smol_str.specs.Stream.{AppendsBeginning, EndsBelow, StopsBelow, ConsumesSome}
+use Rattle.smol_str.specs.WireFaults.{AfterEncodeFault, IsRefusedBody, AfterDecodeFault, StopsEarly, StopsInBody, HasReadBody, AfterBodyFault, StatesAtMost, AfterLimitedFault, AfterFromWireFault, of_utf8_fault}
 use Rattle.smol_str.proofs.WireLemmas.Stream.{beginning-of_first, beginning-of_second}
 
 -- ---- faults that another call's become
@@ -41,10 +39,6 @@ AfterFromWireFault-of_text b NoMemoryForText whole (utf8, large) = (whole, utf8,
 
 -- of a body of n bytes, which is above INLINE_CAP
 module _ (a b : Option (List ℕ)) (n : ℕ) (long : INLINE_CAP < n) where
-  pub AfterBodyFault-of_stream : (e : ReadFault) → AfterStreamFault n a b e → AfterBodyFault a b n (of_read_fault e)
-  AfterBodyFault-of_stream NoMemoryToRead h = (long, h)
-  AfterBodyFault-of_stream (ReaderFailed e) h = h
-
   pub AfterBodyFault-of_text : (bytes : List ℕ) (e : FromUtf8Fault) → length bytes ≡ n → Consumes a b bytes
       → AfterFromUtf8Fault bytes e → AfterBodyFault a b n (of_utf8_fault e)
   AfterBodyFault-of_text bytes (BytesNotUtf8 e) whole consumed h =
