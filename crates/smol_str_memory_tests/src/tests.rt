@@ -6,5 +6,4 @@ mod json;
 mod print;
 mod refused_str_ext;
 mod rows;
-mod same;
 mod without_memory;

@@ -3,7 +3,6 @@
 mod collect;
 mod readers;
 mod rows;
-mod same;
 mod wire;
 mod wire_faults;
 mod wire_memory;

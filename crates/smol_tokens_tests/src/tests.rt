@@ -4,7 +4,7 @@ mod modes;
 mod readers;
 mod refused;
 mod rows;
-mod same;
+mod runs;
 mod show;
 mod tally;
 mod whole;

@@ -1,4 +1,5 @@
-//! What the tests of all crates share: memory refused and counted, readers and writers that fail, and a hasher's state.
+//! What the tests of all crates share: a running test and what its rows compare, memory refused and counted, readers and writers
+//! that fail, and a hasher's state.
 #![tactic(auto)]
 
 pub mod builders;
@@ -7,4 +8,5 @@ pub mod held;
 pub mod refuse;
 pub mod state;
 pub mod streams;
+pub mod test;
 pub mod texts;

@@ -5,6 +5,5 @@ mod lexer;
 mod lists;
 mod ordered;
 mod records;
-mod same;
 mod sources;
 mod symbols;

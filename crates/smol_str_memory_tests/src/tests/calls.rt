@@ -4,17 +4,16 @@ mod inputs;
 mod table;
 mod things;
 
-use super::rows::{failed, ok_string, ok_value, same_asked, same_flag};
-use super::same::{holds, ok};
+use super::rows::{failed, same_asked};
 use inputs::{input_of, run};
 use smol_str::{INLINE_CAP, Place, SmolStr};
 use std::alloc::{AllocError, Global};
-use std::process::Abort;
 use std::test::Fail;
 use table::{Row, Stands, TABLES};
 use test_support::by_std::{Asks, NONE, asked_by_all};
 use test_support::held::is_exact;
 use test_support::refuse::{Asked, can_refuse, count_blocks, each_refused, start_counts};
+use test_support::test::{Test, holds, ok, same_flag};
 use test_support::texts::{full_text, joined, long_text, longest_blank, repeated};
 use things::{Thing, place_of, text_of};
 
@@ -39,25 +38,31 @@ fn requests(rt: HostRuntime) -> Result<(), Fail> {
     let alloc = rt.alloc();
     start_counts(alloc);
     let texts = long_texts(alloc)?;
-    same_flag(
-        &rt,
-        count_blocks(alloc) > 0,
-        can_refuse(alloc),
-        "blocks are counted",
-    );
+    check_counted(alloc)?;
     for rows in &TABLES {
         for row in *rows {
-            check_row(&rt, alloc, &texts, row)?;
+            check_row(alloc, &texts, row)?;
         }
     }
     Ok(())
 }
 
+fn check_counted(alloc: Global) -> Result<(), Fail> {
+    let test = Test::new(alloc);
+    same_flag(
+        &test,
+        count_blocks(alloc) > 0,
+        can_refuse(alloc),
+        "blocks are counted",
+    );
+    test.end()
+}
+
 /// No text, where a full buffer makes no request; a text that fills a buffer; a blank run; and texts that are not
 /// resident.
-fn check_row(rt: &impl Abort, alloc: Global, texts: &Texts, row: &Row) -> Result<(), Fail> {
+fn check_row(alloc: Global, texts: &Texts, row: &Row) -> Result<(), Fail> {
     if row.of_full.is_empty() {
-        check_call(rt, alloc, row, "no text", "", NONE)?;
+        check_call(alloc, row, "no text", "", NONE)?;
     }
     let shapes = [
         ("a full buffer", full_text(), row.of_full),
@@ -67,7 +72,7 @@ fn check_row(rt: &impl Abort, alloc: Global, texts: &Texts, row: &Row) -> Result
         ("2,500 accents", texts.accented.as_str(), row.of_heap),
     ];
     for (shape, text, asks) in shapes {
-        check_call(rt, alloc, row, shape, text, asks)?;
+        check_call(alloc, row, shape, text, asks)?;
     }
     Ok(())
 }
@@ -75,21 +80,33 @@ fn check_row(rt: &impl Abort, alloc: Global, texts: &Texts, row: &Row) -> Result
 /// With each request refused in turn the call is refused, and what it took comes back; with none refused it asks for
 /// exactly what std's calls ask for.
 fn check_call(
-    rt: &impl Abort,
     alloc: Global,
     row: &Row,
     shape: &str,
     text: &str,
     asks: &[Asks],
 ) -> Result<(), Fail> {
-    let name = ok_string(rt, name_of(alloc, row.name, shape));
-    let value = ok_value(rt, SmolStr::new(alloc, text));
+    let name = name_of(alloc, row.name, shape)?;
+    let value = SmolStr::new(alloc, text)?;
     let ample = ample_of(alloc, row, &value);
     let asked = asked_of(alloc, row, name.as_str(), &value, &ample)?;
-    check_held(rt, alloc, name.as_str(), asked.held, &ample);
+    check_asked(alloc, name.as_str(), text, asked, asks, &ample)
+}
+
+/// What is made is held, and what is asked for is what std's calls ask for.
+fn check_asked(
+    alloc: Global,
+    name: &str,
+    text: &str,
+    asked: Asked,
+    asks: &[Asks],
+    ample: &Result<Thing, Thing>,
+) -> Result<(), Fail> {
+    check_held(alloc, name, asked.held, ample)?;
     let wanted = asked_by_all(alloc, asks, text)?;
-    same_asked(rt, asked, wanted, name.as_str());
-    Ok(())
+    let test = Test::new(alloc);
+    same_asked(&test, asked, wanted, name);
+    test.end()
 }
 
 /// The call and the text, in messages.
@@ -130,11 +147,18 @@ fn prepared(alloc: Global, row: &Row, value: &SmolStr) -> Result<Thing, Fail> {
 }
 
 /// A value that is made keeps its text and no more.
-fn check_held(rt: &impl Abort, alloc: Global, name: &str, held: u32, ample: &Result<Thing, Thing>) {
+fn check_held(
+    alloc: Global,
+    name: &str,
+    held: u32,
+    ample: &Result<Thing, Thing>,
+) -> Result<(), Fail> {
+    let test = Test::new(alloc);
     if let Ok(Thing::Value(value)) = ample {
-        let is_kept = ok(rt, keeps_its_text(alloc, held, value));
-        holds(rt, is_kept, &(name, "keeps", held));
+        let is_kept = ok(&test, keeps_its_text(alloc, held, value));
+        holds(&test, is_kept, &(name, "keeps", held));
     }
+    test.end()
 }
 
 fn keeps_its_text(alloc: Global, held: u32, value: &SmolStr) -> Result<bool, AllocError> {

@@ -1,12 +1,11 @@
 //! Case and replacement with memory refused: no value, or the one with ample memory.
-use super::rows::{held_exactly, ok_string, ok_value, same_asked, same_flag};
-use super::same::same_place;
+use super::rows::{held_exactly, same_asked};
 use smol_str::{Place, SmolStr, StrExt};
 use std::alloc::{AllocError, Global};
-use std::process::Abort;
 use std::test::Fail;
 use test_support::by_std::{Asks, asked_by_all};
 use test_support::refuse::{Asked, can_refuse, each_refused, end_refusals, refuse_all};
+use test_support::test::{Test, in_place, ok_string, ok_value, same_flag};
 use test_support::texts::{full_text, joined, long_text, repeated};
 
 /// A call under test.
@@ -48,45 +47,69 @@ static CALLS: [(&str, Call); 10] = [
 #[test]
 fn each_request_in_turn(rt: HostRuntime) -> Result<(), Fail> {
     let alloc = rt.alloc();
-    let long = ok_string(&rt, repeated(alloc, "a", 5000));
-    check_long_refused(&rt, alloc, long.as_str())?;
-    check_short_refused(&rt, alloc)
+    let long = repeated(alloc, "a", 5000)?;
+    check_long_refused(alloc, long.as_str())?;
+    check_short_refused(alloc)
 }
 
-fn check_long_refused(rt: &impl Abort, alloc: Global, long: &str) -> Result<(), Fail> {
+fn check_long_refused(alloc: Global, long: &str) -> Result<(), Fail> {
     for &(name, call) in &CALLS {
-        check_refused(rt, alloc, name, " of a byte too many", call, long_text())?;
-        check_refused(rt, alloc, name, " of 5,000 bytes", call, long)?;
+        check_refused(alloc, name, " of a byte too many", call, long_text())?;
+        check_refused(alloc, name, " of 5,000 bytes", call, long)?;
     }
     Ok(())
 }
 
-fn check_short_refused(rt: &impl Abort, alloc: Global) -> Result<(), Fail> {
+fn check_short_refused(alloc: Global) -> Result<(), Fail> {
     // A short text, of which the result is not short, or which a capital sigma stands in.
     let (twice, parted) = (Call::Replace("a", "bb"), Call::Replace("", "-"));
-    check_refused(rt, alloc, "twice ", "a full buffer", twice, full_text())?;
-    check_refused(rt, alloc, "parted ", "a full buffer", parted, full_text())?;
-    check_refused(rt, alloc, "a capital ", "sigma", Call::Lower, "ΑΣ")
+    check_refused(alloc, "twice ", "a full buffer", twice, full_text())?;
+    check_refused(alloc, "parted ", "a full buffer", parted, full_text())?;
+    check_refused(alloc, "a capital ", "sigma", Call::Lower, "ΑΣ")
 }
 
 fn check_refused(
-    rt: &impl Abort,
     alloc: Global,
     front: &str,
     end: &str,
     call: Call,
     text: &str,
 ) -> Result<(), Fail> {
-    let name = ok_string(rt, joined(alloc, front, end));
-    let ample = ok_value(rt, answer(alloc, call, text));
+    let name = joined(alloc, front, end)?;
+    let ample = answer(alloc, call, text)?;
     let asked = asked_of(alloc, name.as_str(), call, text, &ample)?;
-    same_flag(rt, asked.requests > 0, can_refuse(alloc), name.as_str());
-    held_exactly(rt, alloc, asked.held, &ample, name.as_str());
+    check_asked(alloc, name.as_str(), call, text, asked, &ample)
+}
+
+/// The call makes requests, and asks for one copy where it is made in one.
+fn check_asked(
+    alloc: Global,
+    name: &str,
+    call: Call,
+    text: &str,
+    asked: Asked,
+    ample: &SmolStr,
+) -> Result<(), Fail> {
+    check_held(alloc, name, asked, ample)?;
     if is_one_copy(call) && text.is_ascii() {
-        let wanted = asked_by_all(alloc, ONE_COPY, text)?;
-        same_asked(rt, asked, wanted, name.as_str());
+        return check_one_copy(alloc, name, text, asked);
     }
     Ok(())
+}
+
+/// The call makes requests, and the value keeps its text and no more.
+fn check_held(alloc: Global, name: &str, asked: Asked, ample: &SmolStr) -> Result<(), Fail> {
+    let test = Test::new(alloc);
+    same_flag(&test, asked.requests > 0, can_refuse(alloc), name);
+    held_exactly(&test, alloc, asked.held, ample, name);
+    test.end()
+}
+
+fn check_one_copy(alloc: Global, name: &str, text: &str, asked: Asked) -> Result<(), Fail> {
+    let wanted = asked_by_all(alloc, ONE_COPY, text)?;
+    let test = Test::new(alloc);
+    same_asked(&test, asked, wanted, name);
+    test.end()
 }
 
 /// With each request refused in turn the call is refused, and with none refused it returns what it does with ample memory.
@@ -127,7 +150,8 @@ fn check_made(name: &str, made: &Result<SmolStr, AllocError>, ample: &SmolStr) -
 
 // Not only Ok, but with no request at all, however long the text.
 #[test]
-fn no_request_for_a_short_answer(rt: HostRuntime) {
+fn no_request_for_a_short_answer(rt: HostRuntime) -> Result<(), Fail> {
+    let test = Test::new(rt.alloc());
     let alloc = rt.alloc();
     for &(name, call) in &CALLS {
         let text = match call {
@@ -135,25 +159,32 @@ fn no_request_for_a_short_answer(rt: HostRuntime) {
             Call::Replace("", _) => "ab",
             _ => full_text(),
         };
-        check_no_request(&rt, alloc, name, call, text);
+        check_no_request(&test, alloc, name, call, text);
     }
-    check_removed(&rt, alloc);
-    check_no_request(&rt, alloc, "aa by b", Call::Replace("aa", "b"), long_text());
-    check_no_request(&rt, alloc, "capitals", Call::Upper, "aßΔC");
-    check_no_request(&rt, alloc, "small letters", Call::Lower, "aßΔC")
+    check_removed(&test, alloc);
+    check_no_request(
+        &test,
+        alloc,
+        "aa by b",
+        Call::Replace("aa", "b"),
+        long_text(),
+    );
+    check_no_request(&test, alloc, "capitals", Call::Upper, "aßΔC");
+    check_no_request(&test, alloc, "small letters", Call::Lower, "aßΔC");
+    test.end()
 }
 
-fn check_removed(rt: &impl Abort, alloc: Global) {
-    let long = ok_string(rt, repeated(alloc, "a", 10_000));
+fn check_removed(test: &Test, alloc: Global) {
+    let long = ok_string(test, repeated(alloc, "a", 10_000));
     let (one, four) = (Call::Replace("a", ""), Call::Replace("aaaa", ""));
-    check_no_request(rt, alloc, "a removed", one, long.as_str());
-    check_no_request(rt, alloc, "aaaa removed", four, long.as_str());
+    check_no_request(test, alloc, "a removed", one, long.as_str());
+    check_no_request(test, alloc, "aaaa removed", four, long.as_str());
 }
 
-fn check_no_request(rt: &impl Abort, alloc: Global, name: &str, call: Call, text: &str) {
+fn check_no_request(test: &Test, alloc: Global, name: &str, call: Call, text: &str) {
     refuse_all(alloc);
     let made = answer(alloc, call, text);
     let was_refused = end_refusals(alloc);
-    same_flag(rt, was_refused, false, name);
-    same_place(rt, &ok_value(rt, made), Place::Inline, &name);
+    same_flag(test, was_refused, false, name);
+    in_place(test, &ok_value(test, made), Place::Inline, name);
 }

@@ -1,42 +1,20 @@
-//! What rows compare and expect to be `Ok`, for the types of this crate: a call of a helper of one type costs its caller's
-//! proof less than one of any type does.
-use super::same::{holds, ok, same};
+//! What rows compare, for the types of this crate.
 use smol_str::SmolStr;
-use std::alloc::{AllocError, Global};
-use std::process::Abort;
+use std::alloc::Global;
 use std::test::Fail;
 use test_support::by_std::is_asked;
 use test_support::held::is_exact;
 use test_support::refuse::Asked;
-
-/// Both are so, or neither is.
-pub fn same_flag(rt: &impl Abort, found: bool, wanted: bool, row: &str) {
-    same(rt, &found, &wanted, &row);
-}
-
-/// The counts are equal.
-pub fn same_count(rt: &impl Abort, found: usize, wanted: usize, row: &str) {
-    same(rt, &found, &wanted, &row);
-}
+use test_support::test::{Test, holds, is_so, ok};
 
 /// The requests are as many, for as many bytes.
-pub fn same_asked(rt: &impl Abort, found: Asked, wanted: Asked, row: &str) {
-    holds(rt, is_asked(found, wanted), &(row, found, wanted));
+pub fn same_asked(test: &Test, found: Asked, wanted: Asked, row: &str) {
+    holds(test, is_asked(found, wanted), &(row, found, wanted));
 }
 
 /// So many bytes are what the value holds, and no spare room.
-pub fn held_exactly(rt: &impl Abort, alloc: Global, held: u32, value: &SmolStr, row: &str) {
-    holds(rt, ok(rt, is_exact(alloc, held, value)), &row);
-}
-
-/// The value that a call makes.
-pub fn ok_value(rt: &impl Abort, outcome: Result<SmolStr, AllocError>) -> SmolStr {
-    ok(rt, outcome)
-}
-
-/// The string that a call makes.
-pub fn ok_string(rt: &impl Abort, outcome: Result<String, AllocError>) -> String {
-    ok(rt, outcome)
+pub fn held_exactly(test: &Test, alloc: Global, held: u32, value: &SmolStr, row: &str) {
+    is_so(test, ok(test, is_exact(alloc, held, value)), row);
 }
 
 /// What a test ends with where a row is not as it is to be.

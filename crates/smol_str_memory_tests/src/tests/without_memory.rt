@@ -1,7 +1,5 @@
 //! The calls that take no memory and have no row with `NONE` in `calls/table.rt`: one line a call, by its name, with every
 //! request refused.
-use super::rows::{ok_string, ok_value};
-use super::same::{holds, ok};
 use serde_json::Value;
 use smol_str::borsh::{
     BorshDeserialize, BorshSerialize, deserialize_limited, from_wire, length_prefix, split_wire,
@@ -17,9 +15,10 @@ use std::alloc::Global;
 use std::cmp::Ordering;
 use std::fmt::Write;
 use std::hash::{DefaultHasher, Hash};
-use std::process::Abort;
+use std::test::Fail;
 use test_support::builders::builder_of;
 use test_support::refuse::{end_refusals, refuse_all};
+use test_support::test::{Test, is_so, ok, ok_bytes, ok_string, ok_value};
 use test_support::texts::{full_text, long_text, longest_blank, repeated};
 
 /// Makes each call, by its name, and returns the name of the first that does not do what it is to do. Rows stand in
@@ -34,29 +33,27 @@ macro_rules! rows {
 }
 
 /// Ends the refusals; no row was wrong, and no call made a request.
-fn check_free(rt: &impl Abort, alloc: Global, wrong: Option<&str>) {
+fn check_free(test: &Test, alloc: Global, wrong: Option<&str>) {
     let was_refused = end_refusals(alloc);
-    check_row(rt, wrong.is_none(), wrong.unwrap_or(""));
-    check_row(rt, !was_refused, "a call makes a request");
-}
-
-fn check_row(rt: &impl Abort, is_so: bool, name: &str) {
-    holds(rt, is_so, &name);
+    is_so(test, wrong.is_none(), wrong.unwrap_or(""));
+    is_so(test, !was_refused, "a call makes a request");
 }
 
 #[test]
-fn json(rt: HostRuntime) {
+fn json(rt: HostRuntime) -> Result<(), Fail> {
+    let test = Test::new(rt.alloc());
     let alloc = rt.alloc();
-    let blank = ok_string(&rt, longest_blank(alloc));
+    let blank = ok_string(&test, longest_blank(alloc));
     for text in ["", full_text(), blank.as_str()] {
-        read(&rt, alloc, text);
+        read(&test, alloc, text);
     }
+    test.end()
 }
 
-fn read(rt: &impl Abort, alloc: Global, text: &str) {
-    let json = Value::String(ok_string(rt, String::from_str(alloc, text)));
+fn read(test: &Test, alloc: Global, text: &str) {
+    let json = Value::String(ok_string(test, String::from_str(alloc, text)));
     refuse_all(alloc);
-    check_free(rt, alloc, json_rows(alloc, &json));
+    check_free(test, alloc, json_rows(alloc, &json));
 }
 
 fn json_rows(alloc: Global, json: &Value) -> Option<&'static str> {
@@ -66,13 +63,15 @@ fn json_rows(alloc: Global, json: &Value) -> Option<&'static str> {
 }
 
 #[test]
-fn values(rt: HostRuntime) {
+fn values(rt: HostRuntime) -> Result<(), Fail> {
+    let test = Test::new(rt.alloc());
     let alloc = rt.alloc();
-    let value = ok_value(&rt, SmolStr::new(alloc, long_text()));
-    let mut room = ok_string(&rt, String::with_capacity(alloc, 100));
+    let value = ok_value(&test, SmolStr::new(alloc, long_text()));
+    let mut room = ok_string(&test, String::with_capacity(alloc, 100));
     refuse_all(alloc);
     let wrong = value_rows(&value, &mut room);
-    check_free(&rt, alloc, wrong);
+    check_free(&test, alloc, wrong);
+    test.end()
 }
 
 fn value_rows(value: &SmolStr, room: &mut String) -> Option<&'static str> {
@@ -91,13 +90,15 @@ fn value_rows(value: &SmolStr, room: &mut String) -> Option<&'static str> {
 }
 
 #[test]
-fn values_compared(rt: HostRuntime) {
+fn values_compared(rt: HostRuntime) -> Result<(), Fail> {
+    let test = Test::new(rt.alloc());
     let alloc = rt.alloc();
-    let value = ok_value(&rt, SmolStr::new(alloc, long_text()));
+    let value = ok_value(&test, SmolStr::new(alloc, long_text()));
     let other = SmolStr::new_static(long_text());
-    let string = ok_string(&rt, String::from_str(alloc, long_text()));
+    let string = ok_string(&test, String::from_str(alloc, long_text()));
     refuse_all(alloc);
-    check_free(&rt, alloc, comparison_rows(&value, &other, &string));
+    check_free(&test, alloc, comparison_rows(&value, &other, &string));
+    test.end()
 }
 
 fn comparison_rows(value: &SmolStr, other: &SmolStr, string: &String) -> Option<&'static str> {
@@ -113,10 +114,12 @@ fn comparison_rows(value: &SmolStr, other: &SmolStr, string: &String) -> Option<
 }
 
 #[test]
-fn empty(rt: HostRuntime) {
+fn empty(rt: HostRuntime) -> Result<(), Fail> {
+    let test = Test::new(rt.alloc());
     let alloc = rt.alloc();
     refuse_all(alloc);
-    check_free(&rt, alloc, empty_rows(alloc));
+    check_free(&test, alloc, empty_rows(alloc));
+    test.end()
 }
 
 fn empty_rows(alloc: Global) -> Option<&'static str> {
@@ -130,12 +133,14 @@ fn empty_rows(alloc: Global) -> Option<&'static str> {
 }
 
 #[test]
-fn builders(rt: HostRuntime) {
+fn builders(rt: HostRuntime) -> Result<(), Fail> {
+    let test = Test::new(rt.alloc());
     let alloc = rt.alloc();
-    let builder = ok(&rt, builder_of(alloc, 0, full_text()));
-    let large = ok(&rt, builder_of(alloc, 100, full_text()));
+    let builder = ok(&test, builder_of(alloc, 0, full_text()));
+    let large = ok(&test, builder_of(alloc, 100, full_text()));
     refuse_all(alloc);
-    check_free(&rt, alloc, builder_rows(&builder, &large));
+    check_free(&test, alloc, builder_rows(&builder, &large));
+    test.end()
 }
 
 fn builder_rows(builder: &SmolStrBuilder, large: &SmolStrBuilder) -> Option<&'static str> {
@@ -149,11 +154,13 @@ fn builder_rows(builder: &SmolStrBuilder, large: &SmolStrBuilder) -> Option<&'st
 }
 
 #[test]
-fn collected(rt: HostRuntime) {
+fn collected(rt: HostRuntime) -> Result<(), Fail> {
+    let test = Test::new(rt.alloc());
     let alloc = rt.alloc();
-    let builder = ok(&rt, builder_of(alloc, 100, full_text()));
+    let builder = ok(&test, builder_of(alloc, 100, full_text()));
     refuse_all(alloc);
-    check_free(&rt, alloc, collected_rows(builder));
+    check_free(&test, alloc, collected_rows(builder));
+    test.end()
 }
 
 fn collected_rows(builder: SmolStrBuilder) -> Option<&'static str> {
@@ -163,19 +170,21 @@ fn collected_rows(builder: SmolStrBuilder) -> Option<&'static str> {
 }
 
 #[test]
-fn items(rt: HostRuntime) {
+fn items(rt: HostRuntime) -> Result<(), Fail> {
+    let test = Test::new(rt.alloc());
     let alloc = rt.alloc();
-    let strings = two_strings(&rt, alloc);
+    let strings = two_strings(&test, alloc);
     refuse_all(alloc);
-    check_free(&rt, alloc, item_rows(alloc, &strings));
+    check_free(&test, alloc, item_rows(alloc, &strings));
     refuse_all(alloc);
-    check_free(&rt, alloc, owned_rows(alloc, strings));
+    check_free(&test, alloc, owned_rows(alloc, strings));
+    test.end()
 }
 
-fn two_strings(rt: &impl Abort, alloc: Global) -> [String; 2] {
+fn two_strings(test: &Test, alloc: Global) -> [String; 2] {
     [
-        ok_string(rt, String::from_str(alloc, "ab")),
-        ok_string(rt, String::from_str(alloc, "c")),
+        ok_string(test, String::from_str(alloc, "ab")),
+        ok_string(test, String::from_str(alloc, "c")),
     ]
 }
 
@@ -194,13 +203,15 @@ fn owned_rows(alloc: Global, strings: [String; 2]) -> Option<&'static str> {
 }
 
 #[test]
-fn extended(rt: HostRuntime) {
+fn extended(rt: HostRuntime) -> Result<(), Fail> {
+    let test = Test::new(rt.alloc());
     let alloc = rt.alloc();
-    let strings = [ok_string(&rt, String::from_str(alloc, "ab"))];
+    let strings = [ok_string(&test, String::from_str(alloc, "ab"))];
     refuse_all(alloc);
-    check_free(&rt, alloc, extend_rows(alloc, &strings));
+    check_free(&test, alloc, extend_rows(alloc, &strings));
     refuse_all(alloc);
-    check_free(&rt, alloc, print_rows(alloc));
+    check_free(&test, alloc, print_rows(alloc));
+    test.end()
 }
 
 fn extend_rows(alloc: Global, strings: &[String]) -> Option<&'static str> {
@@ -220,10 +231,12 @@ fn print_rows(alloc: Global) -> Option<&'static str> {
 }
 
 #[test]
-fn cases(rt: HostRuntime) {
+fn cases(rt: HostRuntime) -> Result<(), Fail> {
+    let test = Test::new(rt.alloc());
     let alloc = rt.alloc();
     refuse_all(alloc);
-    check_free(&rt, alloc, case_rows(alloc));
+    check_free(&test, alloc, case_rows(alloc));
+    test.end()
 }
 
 fn case_rows(alloc: Global) -> Option<&'static str> {
@@ -236,11 +249,13 @@ fn case_rows(alloc: Global) -> Option<&'static str> {
 }
 
 #[test]
-fn replaced(rt: HostRuntime) {
+fn replaced(rt: HostRuntime) -> Result<(), Fail> {
+    let test = Test::new(rt.alloc());
     let alloc = rt.alloc();
-    let long = ok_string(&rt, repeated(alloc, "a", 5000));
+    let long = ok_string(&test, repeated(alloc, "a", 5000));
     refuse_all(alloc);
-    check_free(&rt, alloc, replacement_rows(alloc, long.as_str()));
+    check_free(&test, alloc, replacement_rows(alloc, long.as_str()));
+    test.end()
 }
 
 fn replacement_rows(alloc: Global, long: &str) -> Option<&'static str> {
@@ -251,10 +266,12 @@ fn replacement_rows(alloc: Global, long: &str) -> Option<&'static str> {
 }
 
 #[test]
-fn loops_over_bytes(rt: HostRuntime) {
+fn loops_over_bytes(rt: HostRuntime) -> Result<(), Fail> {
+    let test = Test::new(rt.alloc());
     let alloc = rt.alloc();
     refuse_all(alloc);
-    check_free(&rt, alloc, kernel_rows(full_text(), long_text()));
+    check_free(&test, alloc, kernel_rows(full_text(), long_text()));
+    test.end()
 }
 
 fn kernel_rows(full: &str, long: &str) -> Option<&'static str> {
@@ -265,15 +282,17 @@ fn kernel_rows(full: &str, long: &str) -> Option<&'static str> {
 }
 
 #[test]
-fn streams(rt: HostRuntime) {
+fn streams(rt: HostRuntime) -> Result<(), Fail> {
+    let test = Test::new(rt.alloc());
     let alloc = rt.alloc();
-    let value = ok_value(&rt, SmolStr::new(alloc, long_text()));
-    let mut out = ok(&rt, Vec::with_capacity(alloc, 100));
+    let value = ok_value(&test, SmolStr::new(alloc, long_text()));
+    let mut out = ok_bytes(&test, Vec::with_capacity(alloc, 100));
     refuse_all(alloc);
-    check_free(&rt, alloc, read_rows(alloc));
+    check_free(&test, alloc, read_rows(alloc));
     refuse_all(alloc);
     let wrong = write_rows(&value, &mut out);
-    check_free(&rt, alloc, wrong);
+    check_free(&test, alloc, wrong);
+    test.end()
 }
 
 fn read_rows(alloc: Global) -> Option<&'static str> {

@@ -3,16 +3,17 @@ ghost use Rattle.std.specs.Prelude.{◌≡◌, ◌+◌, length};
 ghost use Rattle.std.specs.Iterator.{at_most, YieldsFirst};
 ghost use Rattle.std.specs.Vec.Iter.{into_iter_items};
 
-use super::rows::{ok_text, ok_value, same_count, same_flag};
-use super::same::{holds, ok, same, same_place, same_text, same_value};
 use smol_str::{BLANK_NEWLINES, INLINE_CAP, Place, SmolStr, SmolStrBuilder};
 use std::alloc::{AllocError, Global};
-use std::process::Abort;
 use std::test::Fail;
 use std::vec::IntoIter;
 use test_support::builders::builder_of;
 use test_support::held::is_exact;
 use test_support::refuse::{Asked, can_refuse, each_refused, end_refusals, refuse_all};
+use test_support::test::{
+    Test, holds, ok, ok_string, ok_strings, ok_value, same, same_count, same_flag, same_place,
+    same_text, same_value,
+};
 use test_support::texts::{long_blank, repeated, repeated_and};
 
 /// An iterator whose lower hint may promise more items than come.
@@ -202,7 +203,8 @@ fn finished(
 }
 
 #[test]
-fn test_from_char_iterator(rt: HostRuntime) {
+fn test_from_char_iterator(rt: HostRuntime) -> Result<(), Fail> {
+    let test = Test::new(rt.alloc());
     for (text, len, place) in [
         ("if", 2, Place::Inline),
         ("for", 3, Place::Inline),
@@ -215,10 +217,11 @@ fn test_from_char_iterator(rt: HostRuntime) {
         ("사회과학원 어학연구소", 31, Place::Inline),
         ("表ポあA鷗ŒéＢ逍Üßªąñ丂㐀𠀀", 43, Place::Heap),
     ] {
-        assert_collected(&rt, rt.alloc(), text, len, place);
+        assert_collected(&test, rt.alloc(), text, len, place);
     }
-    let many = ok_text(&rt, repeated(rt.alloc(), "a", 93));
-    assert_collected(&rt, rt.alloc(), many.as_str(), 93, Place::Heap)
+    let many = ok_string(&test, repeated(rt.alloc(), "a", 93));
+    assert_collected(&test, rt.alloc(), many.as_str(), 93, Place::Heap);
+    test.end()
 }
 
 /// What fills a buffer behind characters of three bytes, and what is more than fits there.
@@ -227,48 +230,58 @@ const FILL: [&str; 3] = ["", "a", "aa"];
 const MORE: [&str; 3] = ["é", "aé", "aaé"];
 
 #[test]
-fn characters(rt: HostRuntime) {
+fn characters(rt: HostRuntime) -> Result<(), Fail> {
+    let test = Test::new(rt.alloc());
     let alloc = rt.alloc();
-    assert_collected(&rt, alloc, "                        ", 24, Place::Inline);
-    assert_collected(&rt, alloc, long_blank(), INLINE_CAP + 1, Place::Static);
-    assert_wide(&rt, alloc, FILL[INLINE_CAP % 3], INLINE_CAP, Place::Inline);
+    assert_collected(&test, alloc, "                        ", 24, Place::Inline);
+    assert_collected(&test, alloc, long_blank(), INLINE_CAP + 1, Place::Static);
     assert_wide(
-        &rt,
+        &test,
+        alloc,
+        FILL[INLINE_CAP % 3],
+        INLINE_CAP,
+        Place::Inline,
+    );
+    assert_wide(
+        &test,
         alloc,
         MORE[INLINE_CAP % 3],
         INLINE_CAP + 2,
         Place::Heap,
-    )
+    );
+    test.end()
 }
 
-fn assert_wide(rt: &impl Abort, alloc: Global, end: &str, len: usize, place: Place) {
-    let text = ok_text(rt, repeated_and(alloc, "ア", INLINE_CAP / 3, end));
-    assert_collected(rt, alloc, text.as_str(), len, place)
+fn assert_wide(test: &Test, alloc: Global, end: &str, len: usize, place: Place) {
+    let text = ok_string(test, repeated_and(alloc, "ア", INLINE_CAP / 3, end));
+    assert_collected(test, alloc, text.as_str(), len, place)
 }
 
-fn assert_collected(rt: &impl Abort, alloc: Global, text: &str, len: usize, place: Place) {
-    let value = ok_value(rt, SmolStr::from_chars(alloc, text.chars()));
-    same_value(rt, &value, text, place, &text);
-    same_count(rt, value.len(), len, &text);
+fn assert_collected(test: &Test, alloc: Global, text: &str, len: usize, place: Place) {
+    let value = ok_value(test, SmolStr::from_chars(alloc, text.chars()));
+    same_value(test, &value, text, place, &text);
+    same_count(test, value.len(), len, text);
 }
 
 #[test]
-fn pieces(rt: HostRuntime) {
+fn pieces(rt: HostRuntime) -> Result<(), Fail> {
+    let test = Test::new(rt.alloc());
     for (newlines, place) in [
         (INLINE_CAP, Place::Static),
         (BLANK_NEWLINES, Place::Static),
         (23, Place::Inline),
         (32, Place::Inline),
     ] {
-        assert_blank(&rt, rt.alloc(), newlines, place);
+        assert_blank(&test, rt.alloc(), newlines, place);
     }
+    test.end()
 }
 
-fn assert_blank(rt: &impl Abort, alloc: Global, newlines: usize, place: Place) {
-    let first = ok_text(rt, repeated(alloc, "\n", newlines));
-    let blank = ok_value(rt, of_two(alloc, first.as_str(), " "));
-    same_count(rt, blank.len(), newlines.saturating_add(1), &newlines);
-    same_place(rt, &blank, place, &newlines);
+fn assert_blank(test: &Test, alloc: Global, newlines: usize, place: Place) {
+    let first = ok_string(test, repeated(alloc, "\n", newlines));
+    let blank = ok_value(test, of_two(alloc, first.as_str(), " "));
+    same(test, &blank.len(), &newlines.saturating_add(1), &newlines);
+    same_place(test, &blank, place, &newlines);
 }
 
 fn of_two(alloc: Global, first: &str, second: &str) -> Result<SmolStr, AllocError> {
@@ -276,19 +289,23 @@ fn of_two(alloc: Global, first: &str, second: &str) -> Result<SmolStr, AllocErro
 }
 
 #[test]
-fn no_pieces(rt: HostRuntime) {
+fn no_pieces(rt: HostRuntime) -> Result<(), Fail> {
+    let test = Test::new(rt.alloc());
     let none: Vec<String> = Vec::new(rt.alloc());
-    let empty = ok_value(&rt, SmolStr::from_strings(rt.alloc(), none.into_iter()));
-    same_value(&rt, &empty, "", Place::Inline, &"no pieces");
+    let empty = ok_value(&test, SmolStr::from_strings(rt.alloc(), none.into_iter()));
+    same_value(&test, &empty, "", Place::Inline, &"no pieces");
+    test.end()
 }
 
 #[test]
-fn owned_and_borrowed_pieces(rt: HostRuntime) {
-    let borrowed = ok_value(&rt, of_borrowed(rt.alloc(), &["if", "", "x"]));
-    same_value(&rt, &borrowed, "ifx", Place::Inline, &"borrowed");
-    let owned = ok_value(&rt, of_owned(rt.alloc(), &["if", "", "x"]));
-    same_value(&rt, &owned, "ifx", Place::Inline, &"owned");
-    same(&rt, &borrowed, &owned, &"both");
+fn owned_and_borrowed_pieces(rt: HostRuntime) -> Result<(), Fail> {
+    let test = Test::new(rt.alloc());
+    let borrowed = ok_value(&test, of_borrowed(rt.alloc(), &["if", "", "x"]));
+    same_value(&test, &borrowed, "ifx", Place::Inline, &"borrowed");
+    let owned = ok_value(&test, of_owned(rt.alloc(), &["if", "", "x"]));
+    same_value(&test, &owned, "ifx", Place::Inline, &"owned");
+    same(&test, &borrowed, &owned, &"both");
+    test.end()
 }
 
 fn of_borrowed(alloc: Global, pieces: &[&str]) -> Result<SmolStr, AllocError> {
@@ -301,18 +318,20 @@ fn of_owned(alloc: Global, pieces: &[&str]) -> Result<SmolStr, AllocError> {
 }
 
 #[test]
-fn ordinary_iterators(rt: HostRuntime) {
+fn ordinary_iterators(rt: HostRuntime) -> Result<(), Fail> {
+    let test = Test::new(rt.alloc());
     let alloc = rt.alloc();
     let values = [SmolStr::from('a'), SmolStr::default(), SmolStr::from('é')];
-    assert_text(&rt, of_values(alloc, &values), "aé");
-    assert_text(&rt, of_both(alloc, "ab", "é"), "abé");
-    assert_text(&rt, without_text(alloc, "a, b, é", ", "), "abé");
-    assert_text(&rt, without(alloc, "béa", 'b'), "éa");
-    assert_text(&rt, of_copies(alloc, &["a", "", "é"]), "aé")
+    assert_text(&test, of_values(alloc, &values), "aé");
+    assert_text(&test, of_both(alloc, "ab", "é"), "abé");
+    assert_text(&test, without_text(alloc, "a, b, é", ", "), "abé");
+    assert_text(&test, without(alloc, "béa", 'b'), "éa");
+    assert_text(&test, of_copies(alloc, &["a", "", "é"]), "aé");
+    test.end()
 }
 
-fn assert_text(rt: &impl Abort, answer: Result<SmolStr, AllocError>, text: &str) {
-    same_value(rt, &ok_value(rt, answer), text, Place::Inline, &text);
+fn assert_text(test: &Test, answer: Result<SmolStr, AllocError>, text: &str) {
+    same_value(test, &ok_value(test, answer), text, Place::Inline, &text);
 }
 
 fn of_values(alloc: Global, values: &[SmolStr]) -> Result<SmolStr, AllocError> {
@@ -337,21 +356,25 @@ fn of_copies(alloc: Global, parts: &[&str]) -> Result<SmolStr, AllocError> {
 
 // Upstream's have pieces at random: here piece i, counted from 1, is `é` i mod 5 times.
 #[test]
-fn from_string_iter(rt: HostRuntime) {
+fn from_string_iter(rt: HostRuntime) -> Result<(), Fail> {
+    let test = Test::new(rt.alloc());
     for count in 1..100 {
-        let pieces = ok(&rt, first_pieces(rt.alloc(), count));
-        let value = ok_value(&rt, SmolStr::from_strings(rt.alloc(), pieces.into_iter()));
-        assert_joined(&rt, rt.alloc(), &value, count);
+        let pieces = ok_strings(&test, first_pieces(rt.alloc(), count));
+        let value = ok_value(&test, SmolStr::from_strings(rt.alloc(), pieces.into_iter()));
+        assert_joined(&test, rt.alloc(), &value, count);
     }
+    test.end()
 }
 
 #[test]
-fn from_str_iter(rt: HostRuntime) {
+fn from_str_iter(rt: HostRuntime) -> Result<(), Fail> {
+    let test = Test::new(rt.alloc());
     for count in 1..100 {
-        let pieces = ok(&rt, first_pieces(rt.alloc(), count));
-        let value = ok_value(&rt, SmolStr::from_string_refs(rt.alloc(), pieces.iter()));
-        assert_joined(&rt, rt.alloc(), &value, count);
+        let pieces = ok_strings(&test, first_pieces(rt.alloc(), count));
+        let value = ok_value(&test, SmolStr::from_string_refs(rt.alloc(), pieces.iter()));
+        assert_joined(&test, rt.alloc(), &value, count);
     }
+    test.end()
 }
 
 fn first_pieces(alloc: Global, count: usize) -> Result<Vec<String>, AllocError> {
@@ -375,41 +398,45 @@ fn first_letters(count: usize) -> usize {
     letters
 }
 
-fn assert_joined(rt: &impl Abort, alloc: Global, value: &SmolStr, count: usize) {
-    let text = ok_text(rt, repeated(alloc, "é", first_letters(count)));
+fn assert_joined(test: &Test, alloc: Global, value: &SmolStr, count: usize) {
+    let text = ok_string(test, repeated(alloc, "é", first_letters(count)));
     let place = if text.len() > INLINE_CAP {
         Place::Heap
     } else {
         Place::Inline
     };
-    same_value(rt, value, text.as_str(), place, &count);
-    holds(rt, !value.is_empty(), &count);
+    same_value(test, value, text.as_str(), place, &count);
+    holds(test, !value.is_empty(), &count);
 }
 
 #[test]
-fn from_buf_and_chars_size_hinted_heap(rt: HostRuntime) {
-    let mut builder = ok(&rt, builder_of(rt.alloc(), 0, "abcdefghijklmnopqr"));
+fn from_buf_and_chars_size_hinted_heap(rt: HostRuntime) -> Result<(), Fail> {
+    let test = Test::new(rt.alloc());
+    let mut builder = ok(&test, builder_of(rt.alloc(), 0, "abcdefghijklmnopqr"));
     ok(
-        &rt,
+        &test,
         builder.extend_chars("_0x1x2x3x4x5x6x7x8x9x10x11x12x13".chars()),
     );
     let text = "abcdefghijklmnopqr_0x1x2x3x4x5x6x7x8x9x10x11x12x13";
-    same_text(&rt, builder.as_str(), text, &"builder");
-    assert_finished(&rt, builder, text)
+    same_text(&test, builder.as_str(), text, &"builder");
+    assert_finished(&test, builder, text);
+    test.end()
 }
 
-fn assert_finished(rt: &impl Abort, builder: SmolStrBuilder, text: &str) {
-    let value = ok(rt, builder.finish().ok().ok_or("refused"));
-    same_value(rt, &value, text, Place::Heap, &"value");
+fn assert_finished(test: &Test, builder: SmolStrBuilder, text: &str) {
+    let value = ok(test, builder.finish().ok().ok_or("refused"));
+    same_value(test, &value, text, Place::Heap, &"value");
 }
 
 #[test]
-fn test_bad_size_hint_char_iter(rt: HostRuntime) {
-    let collected = ok_value(&rt, of_chars(rt.alloc(), &["testing"], 1024));
-    same_value(&rt, &collected, "testing", Place::Inline, &"collected");
-    let new = ok_value(&rt, SmolStr::new(rt.alloc(), "testing"));
-    same_place(&rt, &new, Place::Inline, &"new");
-    same(&rt, &new, &collected, &"both");
+fn test_bad_size_hint_char_iter(rt: HostRuntime) -> Result<(), Fail> {
+    let test = Test::new(rt.alloc());
+    let collected = ok_value(&test, of_chars(rt.alloc(), &["testing"], 1024));
+    same_value(&test, &collected, "testing", Place::Inline, &"collected");
+    let new = ok_value(&test, SmolStr::new(rt.alloc(), "testing"));
+    same_place(&test, &new, Place::Inline, &"new");
+    same(&test, &new, &collected, &"both");
+    test.end()
 }
 
 fn of_chars(alloc: Global, pieces: &[&str], lower: usize) -> Result<SmolStr, AllocError> {
@@ -418,33 +445,35 @@ fn of_chars(alloc: Global, pieces: &[&str], lower: usize) -> Result<SmolStr, All
 
 // Hints reserve nothing: the largest would be refused.
 #[test]
-fn hints(rt: HostRuntime) {
+fn hints(rt: HostRuntime) -> Result<(), Fail> {
+    let test = Test::new(rt.alloc());
     for lower in [1024, usize::MAX, 0] {
         let pieces = ["tes", "", "ting"];
-        assert_hinted(&rt, rt.alloc(), &pieces, lower, "testing", Place::Inline);
-        assert_hinted_letters(&rt, rt.alloc(), INLINE_CAP + 1, lower);
-        assert_hinted_letters(&rt, rt.alloc(), 70_000, lower);
+        assert_hinted(&test, rt.alloc(), &pieces, lower, "testing", Place::Inline);
+        assert_hinted_letters(&test, rt.alloc(), INLINE_CAP + 1, lower);
+        assert_hinted_letters(&test, rt.alloc(), 70_000, lower);
     }
+    test.end()
 }
 
-fn assert_hinted_letters(rt: &impl Abort, alloc: Global, letters: usize, lower: usize) {
-    let text = ok_text(rt, repeated(alloc, "a", letters));
+fn assert_hinted_letters(test: &Test, alloc: Global, letters: usize, lower: usize) {
+    let text = ok_string(test, repeated(alloc, "a", letters));
     let pieces = ["", text.as_str(), ""];
-    assert_hinted(rt, alloc, &pieces, lower, text.as_str(), Place::Heap)
+    assert_hinted(test, alloc, &pieces, lower, text.as_str(), Place::Heap)
 }
 
 fn assert_hinted(
-    rt: &impl Abort,
+    test: &Test,
     alloc: Global,
     pieces: &[&str],
     lower: usize,
     text: &str,
     place: Place,
 ) {
-    let strings = ok(rt, strings_of(alloc, pieces));
+    let strings = ok_strings(test, strings_of(alloc, pieces));
     for call in CALLS {
         let made = made_with_hint(alloc, call, pieces, strings.as_slice(), lower);
-        assert_made(rt, made, (call, lower), text, place);
+        assert_made(test, made, (call, lower), text, place);
     }
 }
 
@@ -459,46 +488,40 @@ fn made_with_hint(
 }
 
 fn assert_made(
-    rt: &impl Abort,
+    test: &Test,
     made: Result<SmolStr, AllocError>,
     row: (Call, usize),
     text: &str,
     place: Place,
 ) {
     match made {
-        Ok(value) => same_value(rt, &value, text, place, &row),
-        Err(_) => holds(rt, false, &row),
+        Ok(value) => same_value(test, &value, text, place, &row),
+        Err(_) => holds(test, false, &row),
     }
 }
 
 #[test]
 fn each_request_in_turn(rt: HostRuntime) -> Result<(), Fail> {
     for letters in [INLINE_CAP, 4999] {
-        let first = ok_text(&rt, repeated(rt.alloc(), "a", letters));
-        assert_requests(&rt, rt.alloc(), &[first.as_str(), "a"], true)?;
+        let first = repeated(rt.alloc(), "a", letters)?;
+        assert_requests(rt.alloc(), &[first.as_str(), "a"], true)?;
     }
-    let full = ok_text(&rt, repeated(rt.alloc(), "a", INLINE_CAP));
-    assert_requests(&rt, rt.alloc(), &["", full.as_str()], false)
+    let full = repeated(rt.alloc(), "a", INLINE_CAP)?;
+    assert_requests(rt.alloc(), &["", full.as_str()], false)
 }
 
-fn assert_requests(
-    rt: &impl Abort,
-    alloc: Global,
-    pieces: &[&str; 2],
-    needs_memory: bool,
-) -> Result<(), Fail> {
-    let whole = ok_text(rt, joined(alloc, pieces));
-    let value = ok_value(rt, SmolStr::new(alloc, whole.as_str()));
+fn assert_requests(alloc: Global, pieces: &[&str; 2], needs_memory: bool) -> Result<(), Fail> {
+    let whole = joined(alloc, pieces)?;
+    let value = SmolStr::new(alloc, whole.as_str())?;
     let makes_requests = needs_memory && can_refuse(alloc);
     for call in CALLS {
-        assert_asked(rt, alloc, call, pieces, &value, makes_requests)?;
+        assert_asked(alloc, call, pieces, &value, makes_requests)?;
     }
     Ok(())
 }
 
 /// A call makes requests or none, and what it makes holds its text and no more.
 fn assert_asked(
-    rt: &impl Abort,
     alloc: Global,
     call: Call,
     pieces: &[&str; 2],
@@ -506,10 +529,11 @@ fn assert_asked(
     makes_requests: bool,
 ) -> Result<(), Fail> {
     let asked = asked_by(alloc, call, pieces, value.as_str())?;
-    same_flag(rt, asked.requests > 0, makes_requests, &call);
-    let is_exact = ok(rt, is_exact(alloc, asked.held, value));
-    holds(rt, is_exact, &call);
-    Ok(())
+    let test = Test::new(alloc);
+    same(&test, &(asked.requests > 0), &makes_requests, &call);
+    let is_exact = ok(&test, is_exact(alloc, asked.held, value));
+    holds(&test, is_exact, &call);
+    test.end()
 }
 
 fn joined(alloc: Global, pieces: &[&str; 2]) -> Result<String, AllocError> {
@@ -637,78 +661,86 @@ fn check(is_right: bool, call: Call, text: &str) -> Result<(), Fail> {
 
 // Where two bytes are left, the third text is refused, and those before it stay.
 #[test]
-fn extending_refused(rt: HostRuntime) {
-    let start = ok_text(&rt, repeated(rt.alloc(), "a", INLINE_CAP - 2));
-    assert_stops(&rt, rt.alloc(), start.as_str())
+fn extending_refused(rt: HostRuntime) -> Result<(), Fail> {
+    let test = Test::new(rt.alloc());
+    let start = ok_string(&test, repeated(rt.alloc(), "a", INLINE_CAP - 2));
+    assert_stops(&test, rt.alloc(), start.as_str());
+    test.end()
 }
 
-fn assert_stops(rt: &impl Abort, alloc: Global, start: &str) {
-    let mut builder = ok(rt, builder_of(alloc, 0, start));
+fn assert_stops(test: &Test, alloc: Global, start: &str) {
+    let mut builder = ok(test, builder_of(alloc, 0, start));
     refuse_all(alloc);
     let gave_up = builder
         .extend_strs(["b", "c", "de", "f"].into_iter())
         .is_err();
     end_refusals(alloc);
-    same_flag(rt, gave_up, can_refuse(alloc), &"extend_strs");
+    same_flag(test, gave_up, can_refuse(alloc), "extend_strs");
     if gave_up {
-        assert_stopped(rt, &builder, start);
+        assert_stopped(test, &builder, start);
     }
 }
 
-fn assert_stopped(rt: &impl Abort, builder: &SmolStrBuilder, start: &str) {
+fn assert_stopped(test: &Test, builder: &SmolStrBuilder, start: &str) {
     same(
-        rt,
+        test,
         &builder.as_str().strip_prefix(start),
         &Some("bc"),
         &start,
     );
-    holds(rt, builder.inline_buffer().is_some(), &start);
+    holds(test, builder.inline_buffer().is_some(), &start);
 }
 
 #[test]
-fn builders_compared(rt: HostRuntime) {
-    assert_compared(&rt, rt.alloc(), "ab", true);
-    assert_compared(&rt, rt.alloc(), "b", false)
+fn builders_compared(rt: HostRuntime) -> Result<(), Fail> {
+    let test = Test::new(rt.alloc());
+    assert_compared(&test, rt.alloc(), "ab", true);
+    assert_compared(&test, rt.alloc(), "b", false);
+    test.end()
 }
 
 /// Whether a builder of `ab` on the heap equals one of the text that is inline.
-fn assert_compared(rt: &impl Abort, alloc: Global, text: &str, are_equal: bool) {
-    let heap = ok(rt, builder_of(alloc, 100, "ab"));
-    let inline = ok(rt, builder_of(alloc, 0, text));
-    same_flag(rt, heap == inline, are_equal, &text);
-    same_flag(rt, heap != inline, !are_equal, &text);
+fn assert_compared(test: &Test, alloc: Global, text: &str, are_equal: bool) {
+    let heap = ok(test, builder_of(alloc, 100, "ab"));
+    let inline = ok(test, builder_of(alloc, 0, text));
+    same_flag(test, heap == inline, are_equal, text);
+    same_flag(test, heap != inline, !are_equal, text);
 }
 
 #[test]
-fn builders_cloned(rt: HostRuntime) {
-    let heap = ok(&rt, builder_of(rt.alloc(), 100, "ab"));
-    assert_copied(&rt, &heap);
-    same_text(&rt, heap.as_str(), "ab", &"heap");
+fn builders_cloned(rt: HostRuntime) -> Result<(), Fail> {
+    let test = Test::new(rt.alloc());
+    let heap = ok(&test, builder_of(rt.alloc(), 100, "ab"));
+    assert_copied(&test, &heap);
+    same_text(&test, heap.as_str(), "ab", &"heap");
+    test.end()
 }
 
-fn assert_copied(rt: &impl Abort, heap: &SmolStrBuilder) {
-    let mut copy = ok(rt, heap.clone());
-    holds(rt, copy == *heap, &"ab");
-    ok(rt, copy.push('c'));
-    holds(rt, copy.inline_buffer().is_none(), &"abc");
-    same_text(rt, copy.as_str(), "abc", &"copy");
+fn assert_copied(test: &Test, heap: &SmolStrBuilder) {
+    let mut copy = ok(test, heap.clone());
+    holds(test, copy == *heap, &"ab");
+    ok(test, copy.push('c'));
+    holds(test, copy.inline_buffer().is_none(), &"abc");
+    same_text(test, copy.as_str(), "abc", &"copy");
 }
 
 // Only a clone of a builder on the heap takes memory.
 #[test]
-fn builders_cloned_refused(rt: HostRuntime) {
-    assert_clone_refused(&rt, rt.alloc(), 0, false);
-    assert_clone_refused(&rt, rt.alloc(), 100, can_refuse(rt.alloc()))
+fn builders_cloned_refused(rt: HostRuntime) -> Result<(), Fail> {
+    let test = Test::new(rt.alloc());
+    assert_clone_refused(&test, rt.alloc(), 0, false);
+    assert_clone_refused(&test, rt.alloc(), 100, can_refuse(rt.alloc()));
+    test.end()
 }
 
-fn assert_clone_refused(rt: &impl Abort, alloc: Global, capacity: usize, is_refused: bool) {
-    let builder = ok(rt, builder_of(alloc, capacity, "ab"));
+fn assert_clone_refused(test: &Test, alloc: Global, capacity: usize, is_refused: bool) {
+    let builder = ok(test, builder_of(alloc, capacity, "ab"));
     refuse_all(alloc);
     let copy = builder.clone();
     let was_refused = end_refusals(alloc);
-    same_flag(rt, was_refused, is_refused, &capacity);
+    same(test, &was_refused, &is_refused, &capacity);
     match copy {
-        Ok(copy) => holds(rt, copy == builder && !was_refused, &capacity),
-        Err(_) => holds(rt, was_refused, &capacity),
+        Ok(copy) => holds(test, copy == builder && !was_refused, &capacity),
+        Err(_) => holds(test, was_refused, &capacity),
     }
 }

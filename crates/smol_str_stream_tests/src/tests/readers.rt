@@ -1,6 +1,4 @@
 //! Each call that reads, over readers of every step, which end after each byte and fail at each call.
-use super::rows::same_count;
-use super::same::{holds, ok, same};
 use super::wire::{LETTERS, ROWS, form_of};
 use super::wire_faults::{Kind, kind_of, kind_of_limited};
 use smol_str::SmolStr;
@@ -8,8 +6,9 @@ use smol_str::borsh::{BorshDeserialize, BorshSerialize, deserialize_limited};
 use smol_str::stream::{PIECE, ReadFault, fill, read_all, read_up_to};
 use std::alloc::{AllocError, Global};
 use std::io::ErrorKind;
-use std::process::Abort;
+use std::test::Fail;
 use test_support::streams::{READ_ERRORS, STEPS, Trickle, is_tried, trickle_of};
+use test_support::test::{Test, holds, ok, same, same_count};
 
 /// A call that reads.
 #[derive(Clone, Copy, PartialEq, Eq, Debug)]
@@ -107,90 +106,94 @@ fn written(alloc: Global, value: &SmolStr) -> Result<Vec<u8>, Kind> {
 }
 
 /// No buffer was empty or greater than a piece; that of `fill` is the caller's own.
-fn assert_buffers(rt: &impl Abort, call: Call, reader: &Trickle<'_>, size: usize, row: &Row) {
+fn assert_buffers(test: &Test, call: Call, reader: &Trickle<'_>, size: usize, row: &Row) {
     let most = if call == Call::Fill { size } else { PIECE };
-    row_holds(rt, reader.least >= 1 && reader.most <= most, row);
+    row_holds(test, reader.least >= 1 && reader.most <= most, row);
 }
 
 /// A call, the size of a wire form, how many bytes the reader gives a call, and where it ends or fails.
 type Row = (Call, usize, usize, usize);
 
-fn row_holds(rt: &impl Abort, is_so: bool, row: &Row) {
-    holds(rt, is_so, row);
+fn row_holds(test: &Test, is_so: bool, row: &Row) {
+    holds(test, is_so, row);
 }
 
 /// As many calls.
-fn same_calls(rt: &impl Abort, found: usize, wanted: usize, row: &Row) {
-    same_count(rt, found, wanted, row);
+fn same_calls(test: &Test, found: usize, wanted: usize, row: &Row) {
+    same(test, &found, &wanted, row);
 }
 
 #[test]
-fn end_after_each_byte(rt: HostRuntime) {
-    for form in ok(&rt, forms(rt.alloc())).iter() {
+fn end_after_each_byte(rt: HostRuntime) -> Result<(), Fail> {
+    let test = Test::new(rt.alloc());
+    for form in ok(&test, forms(rt.alloc())).iter() {
         for &call in &CALLS {
             for step in STEPS {
-                assert_ends(&rt, rt.alloc(), call, form.as_slice(), step);
+                assert_ends(&test, rt.alloc(), call, form.as_slice(), step);
             }
         }
     }
+    test.end()
 }
 
-fn assert_ends(rt: &impl Abort, alloc: Global, call: Call, form: &[u8], step: usize) {
+fn assert_ends(test: &Test, alloc: Global, call: Call, form: &[u8], step: usize) {
     for end in 0..=form.len() {
         if is_tried(end, form.len()) {
-            assert_end(rt, alloc, call, &form[..end], form.len(), step);
+            assert_end(test, alloc, call, &form[..end], form.len(), step);
         }
     }
 }
 
 /// All of the front is read; only for a wire form it is too little.
-fn assert_end(rt: &impl Abort, alloc: Global, call: Call, front: &[u8], size: usize, step: usize) {
+fn assert_end(test: &Test, alloc: Global, call: Call, front: &[u8], size: usize, step: usize) {
     let row = (call, size, step, front.len());
     let mut reader = trickle_of(front, step, 0);
-    assert_ended(rt, read_by(alloc, call, &mut reader, size), front, &row);
-    row_holds(rt, reader.rest.is_empty(), &row);
-    assert_buffers(rt, call, &reader, size, &row);
+    assert_ended(test, read_by(alloc, call, &mut reader, size), front, &row);
+    row_holds(test, reader.rest.is_empty(), &row);
+    assert_buffers(test, call, &reader, size, &row);
 }
 
-fn assert_ended(rt: &impl Abort, read: Result<Vec<u8>, Kind>, front: &[u8], row: &Row) {
+fn assert_ended(test: &Test, read: Result<Vec<u8>, Kind>, front: &[u8], row: &Row) {
     let (call, size, ..) = *row;
     let is_of_a_value = call == Call::WireForm || call == Call::LimitedForm;
     let has_ended_early = is_of_a_value && front.len() < size;
     match read {
-        Ok(all) => row_holds(rt, all.as_slice() == front, row),
-        Err(kind) => same(rt, &(kind, has_ended_early), &(Kind::Ended, true), row),
+        Ok(all) => row_holds(test, all.as_slice() == front, row),
+        Err(kind) => same(test, &(kind, has_ended_early), &(Kind::Ended, true), row),
     }
 }
 
 #[test]
-fn fails_at_each_call(rt: HostRuntime) {
-    for form in ok(&rt, forms(rt.alloc())).iter() {
+fn fails_at_each_call(rt: HostRuntime) -> Result<(), Fail> {
+    let test = Test::new(rt.alloc());
+    for form in ok(&test, forms(rt.alloc())).iter() {
         for &call in &CALLS {
             for step in STEPS {
-                assert_fails(&rt, rt.alloc(), call, form.as_slice(), step);
+                assert_fails(&test, rt.alloc(), call, form.as_slice(), step);
             }
         }
     }
+    test.end()
 }
 
 /// The call gives up at once; a failure after its last read is not met.
-fn assert_fails(rt: &impl Abort, alloc: Global, call: Call, form: &[u8], step: usize) {
-    let calls = count_calls(rt, alloc, call, form, step, 0);
+fn assert_fails(test: &Test, alloc: Global, call: Call, form: &[u8], step: usize) {
+    let calls = count_calls(test, alloc, call, form, step, 0);
     for fails_at in 1..=calls {
         if is_tried(fails_at.saturating_mul(step), form.len()) {
             for error in READ_ERRORS {
-                assert_failure(rt, alloc, call, form, step, fails_at, error);
+                assert_failure(test, alloc, call, form, step, fails_at, error);
             }
         }
     }
     let fails_at = calls.saturating_add(1);
-    let after = count_calls(rt, alloc, call, form, step, fails_at);
-    same_calls(rt, after, calls, &(call, form.len(), step, fails_at));
+    let after = count_calls(test, alloc, call, form, step, fails_at);
+    same_calls(test, after, calls, &(call, form.len(), step, fails_at));
 }
 
 /// The call gives up with the reader's own error.
 fn assert_failure(
-    rt: &impl Abort,
+    test: &Test,
     alloc: Global,
     call: Call,
     form: &[u8],
@@ -202,19 +205,19 @@ fn assert_failure(
     let mut reader = trickle_of(form, step, fails_at);
     reader.failure = error;
     let read = read_by(alloc, call, &mut reader, form.len());
-    assert_failed(rt, read, Kind::Io(error), &row);
-    same_calls(rt, reader.calls, fails_at, &row);
-    assert_buffers(rt, call, &reader, form.len(), &row);
+    assert_failed(test, read, Kind::Io(error), &row);
+    same_calls(test, reader.calls, fails_at, &row);
+    assert_buffers(test, call, &reader, form.len(), &row);
 }
 
-fn assert_failed(rt: &impl Abort, read: Result<Vec<u8>, Kind>, kind: Kind, row: &Row) {
-    same(rt, &read.err(), &Some(kind), row);
+fn assert_failed(test: &Test, read: Result<Vec<u8>, Kind>, kind: Kind, row: &Row) {
+    same(test, &read.err(), &Some(kind), row);
 }
 
 /// How often a reader is called that does not fail before all is read: by single bytes once a byte,
 /// and once more where only its end says that it is there.
 fn count_calls(
-    rt: &impl Abort,
+    test: &Test,
     alloc: Global,
     call: Call,
     form: &[u8],
@@ -224,31 +227,33 @@ fn count_calls(
     let row = (call, form.len(), step, fails_at);
     let mut reader = trickle_of(form, step, fails_at);
     assert_reads(
-        rt,
+        test,
         read_by(alloc, call, &mut reader, form.len()),
         form,
         &row,
     );
     if step == 1 {
         let at_end = usize::from(call == Call::ReadAll);
-        same_calls(rt, reader.calls.saturating_sub(at_end), form.len(), &row);
+        same_calls(test, reader.calls.saturating_sub(at_end), form.len(), &row);
     }
     reader.calls
 }
 
-fn assert_reads(rt: &impl Abort, read: Result<Vec<u8>, Kind>, wanted: &[u8], row: &Row) {
+fn assert_reads(test: &Test, read: Result<Vec<u8>, Kind>, wanted: &[u8], row: &Row) {
     match read {
-        Ok(all) => row_holds(rt, all.as_slice() == wanted, row),
-        Err(kind) => holds(rt, false, &(kind, row)),
+        Ok(all) => row_holds(test, all.as_slice() == wanted, row),
+        Err(kind) => holds(test, false, &(kind, row)),
     }
 }
 
 #[test]
-fn no_read_into_nothing(rt: HostRuntime) {
+fn no_read_into_nothing(rt: HostRuntime) -> Result<(), Fail> {
+    let test = Test::new(rt.alloc());
     let mut reader = trickle_of(b"ab", 1, 1);
     for call in [Call::Fill, Call::ReadUpTo] {
         let read = read_by(rt.alloc(), call, &mut reader, 0);
-        assert_reads(&rt, read, b"", &(call, 0, 1, 1));
+        assert_reads(&test, read, b"", &(call, 0, 1, 1));
     }
-    same_count(&rt, reader.calls, 0, &"calls");
+    same_count(&test, reader.calls, 0, "calls");
+    test.end()
 }

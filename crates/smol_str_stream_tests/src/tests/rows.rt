@@ -1,32 +1,21 @@
-//! What rows compare and expect to be `Ok`, for the types of this crate: a call of a helper of one type costs its caller's
-//! proof less than one of any type does.
-use super::same::{holds, ok};
+//! What rows compare and expect to be `Ok`, for the types of this crate alone.
 use smol_str::SmolStr;
-use std::alloc::AllocError;
+use smol_str::borsh::DecodeFault;
 use std::fmt::Debug;
-use std::process::Abort;
+use test_support::test::{Test, holds};
 
 /// The bytes are equal.
-pub fn same_bytes(rt: &impl Abort, found: &[u8], wanted: &[u8], row: &impl Debug) {
-    holds(rt, found == wanted, &(row, found, wanted));
+pub fn same_bytes(test: &Test, found: &[u8], wanted: &[u8], row: &impl Debug) {
+    holds(test, found == wanted, &(row, found, wanted));
 }
 
-/// The counts are equal.
-pub fn same_count(rt: &impl Abort, found: usize, wanted: usize, row: &impl Debug) {
-    holds(rt, found == wanted, &(row, found, wanted));
-}
-
-/// Both are so, or neither is.
-pub fn same_flag(rt: &impl Abort, found: bool, wanted: bool, row: &impl Debug) {
-    holds(rt, found == wanted, &(row, found, wanted));
-}
-
-/// The value that a call makes.
-pub fn ok_value(rt: &impl Abort, outcome: Result<SmolStr, AllocError>) -> SmolStr {
-    ok(rt, outcome)
-}
-
-/// The string that a call makes.
-pub fn ok_text(rt: &impl Abort, outcome: Result<String, AllocError>) -> String {
-    ok(rt, outcome)
+/// The value of a wire form, and how many bytes the form has.
+pub fn ok_found(test: &Test, outcome: Result<(SmolStr, usize), DecodeFault>) -> (SmolStr, usize) {
+    match outcome {
+        Ok(found) => found,
+        Err(fault) => {
+            test.fail(&fault);
+            (SmolStr::default(), 0)
+        }
+    }
 }

@@ -1,12 +1,14 @@
 //! Wire forms, written and read again by readers and writers of every step.
-use super::rows::{ok_text, ok_value, same_bytes, same_count};
-use super::same::{holds, ok, same, same_place, same_text, same_value};
+use super::rows::{ok_found, same_bytes};
 use smol_str::borsh::{BorshDeserialize, BorshSerialize, from_wire, length_prefix};
 use smol_str::stream::PIECE;
 use smol_str::{INLINE_CAP, Place, SmolStr};
 use std::alloc::{AllocError, Global};
-use std::process::Abort;
+use std::test::Fail;
 use test_support::streams::{Failure, STEPS, Trickle, empty_drip, trickle_of};
+use test_support::test::{
+    Test, holds, ok, ok_bytes, ok_string, ok_value, same, same_place, same_text, same_value,
+};
 use test_support::texts::repeated;
 
 /// A text and its wire form: a unit and how many times the text has it; the size's lowest byte, which
@@ -60,31 +62,33 @@ pub fn letters(alloc: Global, size: u32, count: u32) -> Result<Vec<u8>, AllocErr
 }
 
 #[test]
-fn written(rt: HostRuntime) {
+fn written(rt: HostRuntime) -> Result<(), Fail> {
+    let test = Test::new(rt.alloc());
     for row in &ROWS {
-        assert_written(&rt, rt.alloc(), *row);
+        assert_written(&test, rt.alloc(), *row);
     }
+    test.end()
 }
 
-fn assert_written(rt: &impl Abort, alloc: Global, row: Row) {
-    let form = ok(rt, form_of(alloc, row));
-    let value = ok_value(rt, value_of(alloc, row));
+fn assert_written(test: &Test, alloc: Global, row: Row) {
+    let form = ok_bytes(test, form_of(alloc, row));
+    let value = ok_value(test, value_of(alloc, row));
     for step in STEPS {
-        assert_steps(rt, alloc, &value, form.as_slice(), step);
+        assert_steps(test, alloc, &value, form.as_slice(), step);
     }
-    assert_form(rt, alloc, &value, form.as_slice())
+    assert_form(test, alloc, &value, form.as_slice())
 }
 
-fn assert_steps(rt: &impl Abort, alloc: Global, value: &SmolStr, form: &[u8], step: usize) {
+fn assert_steps(test: &Test, alloc: Global, value: &SmolStr, form: &[u8], step: usize) {
     let mut writer = empty_drip(alloc, step, 0, Failure::TakesNone);
-    ok(rt, value.serialize(&mut writer));
-    same_bytes(rt, writer.taken.as_slice(), form, &(value, step));
+    ok(test, value.serialize(&mut writer));
+    same_bytes(test, writer.taken.as_slice(), form, &(step, value));
 }
 
-fn assert_form(rt: &impl Abort, alloc: Global, value: &SmolStr, form: &[u8]) {
+fn assert_form(test: &Test, alloc: Global, value: &SmolStr, form: &[u8]) {
     let mut all = Vec::new(alloc);
-    ok(rt, value.serialize(&mut all));
-    same_bytes(rt, all.as_slice(), form, value);
+    ok(test, value.serialize(&mut all));
+    same_bytes(test, all.as_slice(), form, value);
 }
 
 fn value_of(alloc: Global, row: Row) -> Result<SmolStr, AllocError> {
@@ -93,20 +97,22 @@ fn value_of(alloc: Global, row: Row) -> Result<SmolStr, AllocError> {
 
 // Two bytes follow each form; they are left.
 #[test]
-fn read_again(rt: HostRuntime) {
+fn read_again(rt: HostRuntime) -> Result<(), Fail> {
+    let test = Test::new(rt.alloc());
     for row in &ROWS {
-        assert_read_again(&rt, rt.alloc(), *row);
+        assert_read_again(&test, rt.alloc(), *row);
     }
+    test.end()
 }
 
-fn assert_read_again(rt: &impl Abort, alloc: Global, row: Row) {
-    let text = ok_text(rt, text_of(alloc, row));
-    let mut bytes = ok(rt, form_of(alloc, row));
-    ok(rt, bytes.extend_from_slice(b"a\xff"));
-    assert_found(rt, alloc, bytes.as_slice(), text.as_str(), row.4);
+fn assert_read_again(test: &Test, alloc: Global, row: Row) {
+    let text = ok_string(test, text_of(alloc, row));
+    let mut bytes = ok_bytes(test, form_of(alloc, row));
+    ok(test, bytes.extend_from_slice(b"a\xff"));
+    assert_found(test, alloc, bytes.as_slice(), text.as_str(), row.4);
     for step in STEPS {
         assert_read(
-            rt,
+            test,
             alloc,
             bytes.as_slice(),
             step,
@@ -118,15 +124,15 @@ fn assert_read_again(rt: &impl Abort, alloc: Global, row: Row) {
 }
 
 /// The bytes begin with a form of the text, which two bytes follow.
-fn assert_found(rt: &impl Abort, alloc: Global, bytes: &[u8], text: &str, place: Place) {
-    let (value, taken) = ok(rt, from_wire(alloc, bytes));
-    same_value(rt, &value, text, place, &taken);
-    same_count(rt, taken.saturating_add(2), bytes.len(), &value);
+fn assert_found(test: &Test, alloc: Global, bytes: &[u8], text: &str, place: Place) {
+    let (value, taken) = ok_found(test, from_wire(alloc, bytes));
+    same_value(test, &value, text, place, &taken);
+    same(test, &taken.saturating_add(2), &bytes.len(), &value);
 }
 
 /// A reader of `step` bytes a call gives the text, by buffers that are within a piece, and has the rest left.
 fn assert_read(
-    rt: &impl Abort,
+    test: &Test,
     alloc: Global,
     bytes: &[u8],
     step: usize,
@@ -135,85 +141,97 @@ fn assert_read(
     rest: &[u8],
 ) {
     let mut reader = trickle_of(bytes, step, 0);
-    let value = ok(rt, SmolStr::deserialize_reader(alloc, &mut reader));
-    same_value(rt, &value, text, place, &step);
-    assert_left(rt, &reader, rest, &value, step);
+    let value = ok(test, SmolStr::deserialize_reader(alloc, &mut reader));
+    same_value(test, &value, text, place, &step);
+    assert_left(test, &reader, rest, &value, step);
 }
 
 /// The reader has the rest left, and was given buffers within a piece.
-fn assert_left(rt: &impl Abort, reader: &Trickle<'_>, rest: &[u8], value: &SmolStr, step: usize) {
-    let row = (value, step);
-    same_bytes(rt, reader.rest, rest, &row);
-    holds(rt, reader.least >= 1 && reader.most <= PIECE, &row);
+fn assert_left(test: &Test, reader: &Trickle<'_>, rest: &[u8], value: &SmolStr, step: usize) {
+    let row = (step, value);
+    same_bytes(test, reader.rest, rest, &row);
+    holds(test, reader.least >= 1 && reader.most <= PIECE, &row);
 }
 
 #[test]
-fn borsh_serialize_stack(rt: HostRuntime) {
-    assert_equal_again(&rt, rt.alloc(), OF_12)
+fn borsh_serialize_stack(rt: HostRuntime) -> Result<(), Fail> {
+    let test = Test::new(rt.alloc());
+    assert_equal_again(&test, rt.alloc(), OF_12);
+    test.end()
 }
 
 #[test]
-fn borsh_serialize_heap(rt: HostRuntime) {
-    assert_equal_again(&rt, rt.alloc(), OF_132)
+fn borsh_serialize_heap(rt: HostRuntime) -> Result<(), Fail> {
+    let test = Test::new(rt.alloc());
+    assert_equal_again(&test, rt.alloc(), OF_132);
+    test.end()
 }
 
-fn assert_equal_again(rt: &impl Abort, alloc: Global, row: Row) {
-    let value = ok_value(rt, value_of(alloc, row));
-    let form = ok(rt, form_of(alloc, row));
-    assert_form(rt, alloc, &value, form.as_slice());
-    assert_again(rt, alloc, form.as_slice(), &value, row.4)
+fn assert_equal_again(test: &Test, alloc: Global, row: Row) {
+    let value = ok_value(test, value_of(alloc, row));
+    let form = ok_bytes(test, form_of(alloc, row));
+    assert_form(test, alloc, &value, form.as_slice());
+    assert_again(test, alloc, form.as_slice(), &value, row.4)
 }
 
 /// What is read again of the form is equal to the value, in the place.
-fn assert_again(rt: &impl Abort, alloc: Global, form: &[u8], value: &SmolStr, place: Place) {
-    let (again, _) = ok(rt, from_wire(alloc, form));
-    same(rt, &again, value, &"again");
-    same_place(rt, &again, place, &"again");
+fn assert_again(test: &Test, alloc: Global, form: &[u8], value: &SmolStr, place: Place) {
+    let (again, _) = ok_found(test, from_wire(alloc, form));
+    same(test, &again, value, &"again");
+    same_place(test, &again, place, &"again");
 }
 
 // A pinned value is written as any other, and what is read is where its text belongs.
 #[test]
-fn pinned(rt: HostRuntime) {
+fn pinned(rt: HostRuntime) -> Result<(), Fail> {
+    let test = Test::new(rt.alloc());
     let value = SmolStr::new_static("ab");
-    assert_form(&rt, rt.alloc(), &value, b"\x02\0\0\0ab");
-    assert_again(&rt, rt.alloc(), b"\x02\0\0\0ab", &value, Place::Inline)
+    assert_form(&test, rt.alloc(), &value, b"\x02\0\0\0ab");
+    assert_again(&test, rt.alloc(), b"\x02\0\0\0ab", &value, Place::Inline);
+    test.end()
 }
 
 #[test]
-fn one_after_another(rt: HostRuntime) {
+fn one_after_another(rt: HostRuntime) -> Result<(), Fail> {
+    let test = Test::new(rt.alloc());
     let mut reader = trickle_of(b"\x01\0\0\0a\0\0\0\0", 2, 0);
-    assert_next(&rt, rt.alloc(), &mut reader, "a");
-    assert_next(&rt, rt.alloc(), &mut reader, "");
-    holds(&rt, reader.rest.is_empty(), &"the rest");
+    assert_next(&test, rt.alloc(), &mut reader, "a");
+    assert_next(&test, rt.alloc(), &mut reader, "");
+    holds(&test, reader.rest.is_empty(), &"the rest");
+    test.end()
 }
 
-fn assert_next(rt: &impl Abort, alloc: Global, reader: &mut Trickle<'_>, text: &str) {
-    let value = ok(rt, SmolStr::deserialize_reader(alloc, reader));
-    same_text(rt, value.as_str(), text, &text);
+fn assert_next(test: &Test, alloc: Global, reader: &mut Trickle<'_>, text: &str) {
+    let value = ok(test, SmolStr::deserialize_reader(alloc, reader));
+    same_text(test, value.as_str(), text, &text);
 }
 
 // Characters of three bytes, so that pieces end within one.
 #[test]
-fn characters_across_pieces(rt: HostRuntime) {
+fn characters_across_pieces(rt: HostRuntime) -> Result<(), Fail> {
+    let test = Test::new(rt.alloc());
     for step in [1, 7, PIECE - 1, PIECE, PIECE + 1] {
-        assert_long(&rt, rt.alloc(), [0x98, 0x3a, 0, 0], "€", step);
+        assert_long(&test, rt.alloc(), [0x98, 0x3a, 0, 0], "€", step);
     }
+    test.end()
 }
 
 #[test]
-fn long_body(rt: HostRuntime) {
+fn long_body(rt: HostRuntime) -> Result<(), Fail> {
+    let test = Test::new(rt.alloc());
     for step in [1, usize::MAX] {
-        assert_long(&rt, rt.alloc(), [0x88, 0x13, 0, 0], "a", step);
+        assert_long(&test, rt.alloc(), [0x88, 0x13, 0, 0], "a", step);
     }
+    test.end()
 }
 
 /// A text of 5,000 characters, which has this size.
-fn assert_long(rt: &impl Abort, alloc: Global, size: [u8; 4], character: &str, step: usize) {
-    let text = ok_text(rt, repeated(alloc, character, 5000));
-    let mut form = ok(rt, Vec::from_slice(alloc, &size));
-    ok(rt, form.extend_from_slice(text.as_bytes()));
+fn assert_long(test: &Test, alloc: Global, size: [u8; 4], character: &str, step: usize) {
+    let text = ok_string(test, repeated(alloc, character, 5000));
+    let mut form = ok_bytes(test, Vec::from_slice(alloc, &size));
+    ok(test, form.extend_from_slice(text.as_bytes()));
     assert_read(
-        rt,
+        test,
         alloc,
         form.as_slice(),
         step,
@@ -224,7 +242,8 @@ fn assert_long(rt: &impl Abort, alloc: Global, size: [u8; 4], character: &str, s
 }
 
 #[test]
-fn prefixes(rt: HostRuntime) {
+fn prefixes(rt: HostRuntime) -> Result<(), Fail> {
+    let test = Test::new(rt.alloc());
     for (size, bytes) in [
         (0, Some([0, 0, 0, 0])),
         (388, Some([0x84, 1, 0, 0])),
@@ -232,6 +251,7 @@ fn prefixes(rt: HostRuntime) {
         (4294967296, None),
         (usize::MAX, None),
     ] {
-        same(&rt, &length_prefix(size), &bytes, &size);
+        same(&test, &length_prefix(size), &bytes, &size);
     }
+    test.end()
 }

@@ -1,6 +1,4 @@
 //! Bytes that hold no wire form.
-use super::rows::same_count;
-use super::same::{ok, same};
 use super::wire::{ROWS, form_of, letters};
 use smol_str::borsh::{
     BorshDeserialize, DecodeFault, LimitedFault, deserialize_limited, from_wire, split_wire,
@@ -8,8 +6,9 @@ use smol_str::borsh::{
 use smol_str::{INLINE_CAP, SmolStr};
 use std::alloc::Global;
 use std::io::ErrorKind;
-use std::process::Abort;
+use std::test::Fail;
 use test_support::streams::{STEPS, trickle_of};
+use test_support::test::{Test, holds, ok, ok_bytes};
 use test_support::texts::ABOVE_BUFFERS;
 
 /// A fault of reading a wire form, without what it tells of it.
@@ -58,87 +57,101 @@ static REFUSED: [(&[u8], Kind, usize); 8] = [
 ];
 
 #[test]
-fn refused(rt: HostRuntime) {
+fn refused(rt: HostRuntime) -> Result<(), Fail> {
+    let test = Test::new(rt.alloc());
     for (bytes, kind, left) in &REFUSED {
-        assert_refused(&rt, rt.alloc(), bytes, *kind, *left);
+        assert_refused(&test, rt.alloc(), bytes, *kind, *left);
     }
+    test.end()
 }
 
 #[test]
-fn borsh_non_utf8_stack(rt: HostRuntime) {
-    assert_refused(&rt, rt.alloc(), CUT, Kind::NotUtf8, 0);
+fn borsh_non_utf8_stack(rt: HostRuntime) -> Result<(), Fail> {
+    let test = Test::new(rt.alloc());
+    assert_refused(&test, rt.alloc(), CUT, Kind::NotUtf8, 0);
+    test.end()
 }
 
 // Upstream's bytes are fewer than a value has room for here, so there are longer ones too, whose last is not UTF-8.
 #[test]
-fn borsh_non_utf8_heap(rt: HostRuntime) {
-    assert_refused(&rt, rt.alloc(), NOISE, Kind::NotUtf8, 0);
+fn borsh_non_utf8_heap(rt: HostRuntime) -> Result<(), Fail> {
+    let test = Test::new(rt.alloc());
+    assert_refused(&test, rt.alloc(), NOISE, Kind::NotUtf8, 0);
     for size in [INLINE_CAP as u32 + 1, 64] {
-        let mut bytes = ok(&rt, letters(rt.alloc(), size, size.saturating_sub(1)));
-        ok(&rt, bytes.push(0xff));
-        assert_refused(&rt, rt.alloc(), bytes.as_slice(), Kind::NotUtf8, 0);
+        let mut bytes = ok_bytes(&test, letters(rt.alloc(), size, size.saturating_sub(1)));
+        ok(&test, bytes.push(0xff));
+        assert_refused(&test, rt.alloc(), bytes.as_slice(), Kind::NotUtf8, 0);
     }
+    test.end()
 }
 
 // Each form of the table, cut after every byte.
 #[test]
-fn cut_short(rt: HostRuntime) {
+fn cut_short(rt: HostRuntime) -> Result<(), Fail> {
+    let test = Test::new(rt.alloc());
     for row in &ROWS {
-        let form = ok(&rt, form_of(rt.alloc(), *row));
+        let form = ok_bytes(&test, form_of(rt.alloc(), *row));
         for end in 0..form.len() {
-            assert_refused(&rt, rt.alloc(), &form[..end], Kind::Ended, 0);
+            assert_refused(&test, rt.alloc(), &form[..end], Kind::Ended, 0);
         }
     }
+    test.end()
 }
 
 // Above each buffer, the fault is told as itself: the last byte of a body is not there, or is not UTF-8.
 #[test]
-fn long_bodies(rt: HostRuntime) {
+fn long_bodies(rt: HostRuntime) -> Result<(), Fail> {
+    let test = Test::new(rt.alloc());
     for size in ABOVE_BUFFERS {
         let count = size.saturating_sub(1) as u32;
-        let mut bytes = ok(&rt, letters(rt.alloc(), size as u32, count));
-        assert_long_refused(&rt, rt.alloc(), bytes.as_slice(), Kind::Ended);
-        ok(&rt, bytes.push(0xff));
-        assert_long_refused(&rt, rt.alloc(), bytes.as_slice(), Kind::NotUtf8);
+        let mut bytes = ok_bytes(&test, letters(rt.alloc(), size as u32, count));
+        assert_long_refused(&test, rt.alloc(), bytes.as_slice(), Kind::Ended);
+        ok(&test, bytes.push(0xff));
+        assert_long_refused(&test, rt.alloc(), bytes.as_slice(), Kind::NotUtf8);
     }
+    test.end()
 }
 
 /// Each call returns this fault, and a reader that gives all it is asked for has nothing left.
-fn assert_long_refused(rt: &impl Abort, alloc: Global, bytes: &[u8], kind: Kind) {
-    assert_refused_at_hand(rt, alloc, bytes, kind);
-    assert_reader_refused(rt, alloc, bytes, usize::MAX, kind, 0);
-    assert_limited_refused(rt, alloc, bytes, usize::MAX, kind, 0);
+fn assert_long_refused(test: &Test, alloc: Global, bytes: &[u8], kind: Kind) {
+    assert_refused_at_hand(test, alloc, bytes, kind);
+    assert_reader_refused(test, alloc, bytes, usize::MAX, kind, 0);
+    assert_limited_refused(test, alloc, bytes, usize::MAX, kind, 0);
 }
 
-fn assert_refused_at_hand(rt: &impl Abort, alloc: Global, bytes: &[u8], kind: Kind) {
+fn assert_refused_at_hand(test: &Test, alloc: Global, bytes: &[u8], kind: Kind) {
     let fault = from_wire(alloc, bytes).err();
-    same_fault(rt, fault, kind, bytes, bytes.len());
+    same_fault(test, fault, kind, bytes, bytes.len());
     let fault = split_wire(alloc, bytes).err();
-    same_fault(rt, fault, kind, bytes, bytes.len());
+    same_fault(test, fault, kind, bytes, bytes.len());
 }
 
 /// The fault is of the kind. A reader gave `step` bytes a call; bytes at hand come all at once.
-fn same_fault(rt: &impl Abort, fault: Option<DecodeFault>, kind: Kind, bytes: &[u8], step: usize) {
-    let found = fault.as_ref().map(kind_of);
-    same(rt, &found, &Some(kind), &(bytes, step));
+fn same_fault(test: &Test, fault: Option<DecodeFault>, kind: Kind, bytes: &[u8], step: usize) {
+    same_kind(test, fault.as_ref().map(kind_of), kind, bytes, step);
+}
+
+/// The bytes are told last, since only the front of a long row is told.
+fn same_kind(test: &Test, found: Option<Kind>, kind: Kind, bytes: &[u8], step: usize) {
+    holds(test, found == Some(kind), &(step, found, kind, bytes));
 }
 
 /// So many bytes are left of those that a reader gave, `step` a call.
-fn same_left(rt: &impl Abort, left: usize, wanted: usize, bytes: &[u8], step: usize) {
-    same_count(rt, left, wanted, &(bytes, step));
+fn same_left(test: &Test, left: usize, wanted: usize, bytes: &[u8], step: usize) {
+    holds(test, left == wanted, &(step, left, wanted, bytes));
 }
 
 /// Each call returns this fault, whatever the reader's steps.
-fn assert_refused(rt: &impl Abort, alloc: Global, bytes: &[u8], kind: Kind, left: usize) {
-    assert_refused_at_hand(rt, alloc, bytes, kind);
+fn assert_refused(test: &Test, alloc: Global, bytes: &[u8], kind: Kind, left: usize) {
+    assert_refused_at_hand(test, alloc, bytes, kind);
     for step in STEPS {
-        assert_reader_refused(rt, alloc, bytes, step, kind, left);
-        assert_limited_refused(rt, alloc, bytes, step, kind, left);
+        assert_reader_refused(test, alloc, bytes, step, kind, left);
+        assert_limited_refused(test, alloc, bytes, step, kind, left);
     }
 }
 
 fn assert_reader_refused(
-    rt: &impl Abort,
+    test: &Test,
     alloc: Global,
     bytes: &[u8],
     step: usize,
@@ -147,13 +160,13 @@ fn assert_reader_refused(
 ) {
     let mut reader = trickle_of(bytes, step, 0);
     let fault = SmolStr::deserialize_reader(alloc, &mut reader).err();
-    same_fault(rt, fault, kind, bytes, step);
-    same_left(rt, reader.rest.len(), left, bytes, step);
+    same_fault(test, fault, kind, bytes, step);
+    same_left(test, reader.rest.len(), left, bytes, step);
 }
 
 /// With a limit that no size is above.
 fn assert_limited_refused(
-    rt: &impl Abort,
+    test: &Test,
     alloc: Global,
     bytes: &[u8],
     step: usize,
@@ -163,6 +176,6 @@ fn assert_limited_refused(
     let mut reader = trickle_of(bytes, step, 0);
     let fault = deserialize_limited(alloc, &mut reader, usize::MAX).err();
     let found = fault.as_ref().map(kind_of_limited);
-    same(rt, &found, &Some(kind), &(bytes, step));
-    same_left(rt, reader.rest.len(), left, bytes, step);
+    same_kind(test, found, kind, bytes, step);
+    same_left(test, reader.rest.len(), left, bytes, step);
 }

@@ -1,7 +1,6 @@
 //! Wire forms with memory refused, and with memory counted.
 use super::readers::kind_of_read;
-use super::rows::{ok_text, ok_value, same_bytes, same_count, same_flag};
-use super::same::{holds, ok, same, same_value};
+use super::rows::{ok_found, same_bytes};
 use super::wire::{ROWS, form_of, letters, text_of};
 use super::wire_faults::{Kind, kind_of, kind_of_limited};
 use smol_str::borsh::{
@@ -11,7 +10,6 @@ use smol_str::borsh::{
 use smol_str::stream::{read_all, read_up_to};
 use smol_str::{INLINE_CAP, Place, SmolStr};
 use std::alloc::Global;
-use std::process::Abort;
 use std::test::Fail;
 use test_support::by_std::{SHARED, asked_by_all, is_asked};
 use test_support::held::is_exact;
@@ -19,6 +17,9 @@ use test_support::refuse::{
     Asked, can_refuse, count_bytes, each_refused, end_refusals, refuse_all, start_counts,
 };
 use test_support::streams::trickle_of;
+use test_support::test::{
+    Test, holds, ok, ok_bytes, ok_string, ok_value, same, same_count, same_value,
+};
 use test_support::texts::{full_text, repeated};
 
 /// The most bytes that may be asked for where ten million came.
@@ -140,70 +141,74 @@ fn check(answer: &Result<Made, Kind>, call: Call, wanted: &[u8]) -> Result<(), F
 #[test]
 fn each_request(rt: HostRuntime) -> Result<(), Fail> {
     for count in [INLINE_CAP as u32 + 1, 5000, 20000, 70_000] {
-        assert_requests(&rt, rt.alloc(), count)?;
+        assert_requests(rt.alloc(), count)?;
     }
     Ok(())
 }
 
-fn assert_requests(rt: &impl Abort, alloc: Global, count: u32) -> Result<(), Fail> {
-    let form = ok(rt, letters(alloc, count, count));
-    let text = ok_text(rt, repeated(alloc, "a", count as usize));
+fn assert_requests(alloc: Global, count: u32) -> Result<(), Fail> {
+    let form = letters(alloc, count, count)?;
+    let text = repeated(alloc, "a", count as usize)?;
     for call in OF_FORMS {
-        assert_asked(rt, alloc, call, form.as_slice(), text.as_str())?;
+        assert_asked(alloc, call, form.as_slice(), text.as_str())?;
     }
     Ok(())
 }
 
 /// Bytes at hand are copied once, and the value keeps its text alone.
-fn assert_asked(
-    rt: &impl Abort,
-    alloc: Global,
-    call: Call,
-    form: &[u8],
-    text: &str,
-) -> Result<(), Fail> {
+fn assert_asked(alloc: Global, call: Call, form: &[u8], text: &str) -> Result<(), Fail> {
     let asked = call_refused(alloc, call, form, text.as_bytes())?;
-    assert_makes_requests(rt, alloc, asked, &(call, text.len()));
-    assert_exact(rt, alloc, asked, text, call);
+    assert_kept(alloc, asked, text, call)?;
     if matches!(call, Call::FromWire | Call::SplitWire) {
-        let wanted = asked_by_all(alloc, SHARED, text)?;
-        holds(rt, is_asked(asked, wanted), &(call, text.len()));
+        assert_copied_once(alloc, asked, text, call)?;
     }
     Ok(())
 }
 
+/// The call asks for memory, and what it makes keeps the text alone.
+fn assert_kept(alloc: Global, asked: Asked, text: &str, call: Call) -> Result<(), Fail> {
+    let test = Test::new(alloc);
+    assert_makes_requests(&test, alloc, asked, &(call, text.len()));
+    assert_exact(&test, alloc, asked, text, call);
+    test.end()
+}
+
+/// What is asked for is what a shared text of std asks for.
+fn assert_copied_once(alloc: Global, asked: Asked, text: &str, call: Call) -> Result<(), Fail> {
+    let wanted = asked_by_all(alloc, SHARED, text)?;
+    let test = Test::new(alloc);
+    holds(&test, is_asked(asked, wanted), &(call, text.len()));
+    test.end()
+}
+
 /// A call that needs memory asks for it, where requests are counted.
-fn assert_makes_requests(rt: &impl Abort, alloc: Global, asked: Asked, row: &(Call, usize)) {
-    same_flag(rt, asked.requests > 0, can_refuse(alloc), row);
+fn assert_makes_requests(test: &Test, alloc: Global, asked: Asked, row: &(Call, usize)) {
+    same(test, &(asked.requests > 0), &can_refuse(alloc), row);
 }
 
 /// What is held is the text alone.
-fn assert_exact(rt: &impl Abort, alloc: Global, asked: Asked, text: &str, call: Call) {
-    let value = ok_value(rt, SmolStr::new(alloc, text));
-    let is_exact = ok(rt, is_exact(alloc, asked.held, &value));
-    holds(rt, is_exact, &(call, text.len()));
+fn assert_exact(test: &Test, alloc: Global, asked: Asked, text: &str, call: Call) {
+    let value = ok_value(test, SmolStr::new(alloc, text));
+    let is_exact = ok(test, is_exact(alloc, asked.held, &value));
+    holds(test, is_exact, &(call, text.len()));
 }
 
 // Bytes of resident and of longer texts.
 #[test]
 fn each_request_of_reading(rt: HostRuntime) -> Result<(), Fail> {
     for len in [INLINE_CAP, INLINE_CAP + 1, 5000] {
-        let text = ok_text(&rt, repeated(rt.alloc(), "a", len));
-        assert_reading_asks(&rt, rt.alloc(), Call::ReadUpTo, text.as_bytes())?;
-        assert_reading_asks(&rt, rt.alloc(), Call::ReadAll, text.as_bytes())?;
+        let text = repeated(rt.alloc(), "a", len)?;
+        assert_reading_asks(rt.alloc(), Call::ReadUpTo, text.as_bytes())?;
+        assert_reading_asks(rt.alloc(), Call::ReadAll, text.as_bytes())?;
     }
     Ok(())
 }
 
-fn assert_reading_asks(
-    rt: &impl Abort,
-    alloc: Global,
-    call: Call,
-    bytes: &[u8],
-) -> Result<(), Fail> {
+fn assert_reading_asks(alloc: Global, call: Call, bytes: &[u8]) -> Result<(), Fail> {
     let asked = call_refused(alloc, call, bytes, bytes)?;
-    assert_makes_requests(rt, alloc, asked, &(call, bytes.len()));
-    Ok(())
+    let test = Test::new(alloc);
+    assert_makes_requests(&test, alloc, asked, &(call, bytes.len()));
+    test.end()
 }
 
 // A text of 24 bytes, in a wire form that was written when it lay on the heap, and the longest short text.
@@ -212,87 +217,84 @@ fn short_by_the_limit_of_39(rt: HostRuntime) -> Result<(), Fail> {
     let text = "aaaaaaaaaaaaaaaaaaaaaaaa";
     let form = b"\x18\0\0\0aaaaaaaaaaaaaaaaaaaaaaaa";
     let asked = call_refused(rt.alloc(), Call::FromWire, form, text.as_bytes())?;
-    assert_no_requests(&rt, asked, Call::FromWire, text);
-    assert_found(&rt, rt.alloc(), form, text, 28);
-    assert_full_text_made(&rt, rt.alloc());
-    Ok(())
+    let test = Test::new(rt.alloc());
+    assert_no_requests(&test, asked, Call::FromWire, text);
+    assert_found(&test, rt.alloc(), form, text, 28);
+    assert_full_text_made(&test, rt.alloc());
+    test.end()
 }
 
 /// The form is of the text, which is inline, and has so many bytes.
-fn assert_found(rt: &impl Abort, alloc: Global, form: &[u8], text: &str, len: usize) {
-    let (value, taken) = ok(rt, from_wire(alloc, form));
-    same_value(rt, &value, text, Place::Inline, &text);
-    same_count(rt, taken, len, &text);
+fn assert_found(test: &Test, alloc: Global, form: &[u8], text: &str, len: usize) {
+    let (value, taken) = ok_found(test, from_wire(alloc, form));
+    same_value(test, &value, text, Place::Inline, &text);
+    same_count(test, taken, len, text);
 }
 
-fn assert_full_text_made(rt: &impl Abort, alloc: Global) {
+fn assert_full_text_made(test: &Test, alloc: Global) {
     refuse_all(alloc);
     let made = SmolStr::new(alloc, full_text());
-    holds(rt, !end_refusals(alloc), &"refusals");
-    let value = ok_value(rt, made);
-    same_value(rt, &value, full_text(), Place::Inline, &"full text");
-    same_count(rt, value.len(), 39, &"full text");
+    holds(test, !end_refusals(alloc), &"refusals");
+    let value = ok_value(test, made);
+    same_value(test, &value, full_text(), Place::Inline, &"full text");
+    same_count(test, value.len(), 39, "full text");
 }
 
 // Resident text is found in bytes without memory, short text by a reader too.
 #[test]
 fn no_request(rt: HostRuntime) -> Result<(), Fail> {
     for row in &ROWS {
-        let text = ok_text(&rt, text_of(rt.alloc(), *row));
-        let form = ok(&rt, form_of(rt.alloc(), *row));
-        assert_row_asks_for_nothing(&rt, rt.alloc(), form.as_slice(), text.as_str(), row.4)?;
+        let text = text_of(rt.alloc(), *row)?;
+        let form = form_of(rt.alloc(), *row)?;
+        assert_row_asks_for_nothing(rt.alloc(), form.as_slice(), text.as_str(), row.4)?;
     }
     Ok(())
 }
 
 fn assert_row_asks_for_nothing(
-    rt: &impl Abort,
     alloc: Global,
     form: &[u8],
     text: &str,
     place: Place,
 ) -> Result<(), Fail> {
     if !matches!(place, Place::Heap) {
-        assert_no_request(rt, alloc, Call::FromWire, form, text)?;
-        assert_no_request(rt, alloc, Call::SplitWire, form, text)?;
+        assert_no_request(alloc, Call::FromWire, form, text)?;
+        assert_no_request(alloc, Call::SplitWire, form, text)?;
     }
     if text.len() <= INLINE_CAP {
-        assert_no_request(rt, alloc, Call::Reader, form, text)?;
-        assert_no_request(rt, alloc, Call::Limited, form, text)?;
+        assert_no_request(alloc, Call::Reader, form, text)?;
+        assert_no_request(alloc, Call::Limited, form, text)?;
     }
     Ok(())
 }
 
-fn assert_no_request(
-    rt: &impl Abort,
-    alloc: Global,
-    call: Call,
-    form: &[u8],
-    text: &str,
-) -> Result<(), Fail> {
+fn assert_no_request(alloc: Global, call: Call, form: &[u8], text: &str) -> Result<(), Fail> {
     let asked = call_refused(alloc, call, form, text.as_bytes())?;
-    assert_no_requests(rt, asked, call, text);
-    Ok(())
+    let test = Test::new(alloc);
+    assert_no_requests(&test, asked, call, text);
+    test.end()
 }
 
-fn assert_no_requests(rt: &impl Abort, asked: Asked, call: Call, text: &str) {
-    same(rt, &asked.requests, &0, &(call, text));
+fn assert_no_requests(test: &Test, asked: Asked, call: Call, text: &str) {
+    same(test, &asked.requests, &0, &(call, text));
 }
 
 #[test]
-fn serialize_asks_for_nothing(rt: HostRuntime) {
+fn serialize_asks_for_nothing(rt: HostRuntime) -> Result<(), Fail> {
+    let test = Test::new(rt.alloc());
     for row in &ROWS {
-        let text = ok_text(&rt, text_of(rt.alloc(), *row));
-        let form = ok(&rt, form_of(rt.alloc(), *row));
-        assert_written(&rt, rt.alloc(), text.as_str(), form.as_slice());
+        let text = ok_string(&test, text_of(rt.alloc(), *row));
+        let form = ok_bytes(&test, form_of(rt.alloc(), *row));
+        assert_written(&test, rt.alloc(), text.as_str(), form.as_slice());
     }
+    test.end()
 }
 
-fn assert_written(rt: &impl Abort, alloc: Global, text: &str, form: &[u8]) {
-    let value = ok_value(rt, SmolStr::new(alloc, text));
-    let mut out = ok(rt, Vec::with_capacity(alloc, form.len()));
-    holds(rt, is_written_refused(alloc, &value, &mut out), &text);
-    same_bytes(rt, out.as_slice(), form, &text);
+fn assert_written(test: &Test, alloc: Global, text: &str, form: &[u8]) {
+    let value = ok_value(test, SmolStr::new(alloc, text));
+    let mut out = ok_bytes(test, Vec::with_capacity(alloc, form.len()));
+    holds(test, is_written_refused(alloc, &value, &mut out), &text);
+    same_bytes(test, out.as_slice(), form, &text);
 }
 
 /// Whether the value is written where each request is refused, and makes none.
@@ -305,36 +307,44 @@ fn is_written_refused(alloc: Global, value: &SmolStr, out: &mut Vec<u8>) -> bool
 
 // Neither the stated size nor the buffer of a piece asks for memory.
 #[test]
-fn largest_size_and_no_body(rt: HostRuntime) {
+fn largest_size_and_no_body(rt: HostRuntime) -> Result<(), Fail> {
+    let test = Test::new(rt.alloc());
     let mut reader = trickle_of(b"\xff\xff\xff\xff", usize::MAX, 0);
     refuse_all(rt.alloc());
     let answer = SmolStr::deserialize_reader(rt.alloc(), &mut reader);
-    holds(&rt, !end_refusals(rt.alloc()), &"refusals");
-    holds(&rt, matches!(answer, Err(DecodeFault::Ended)), &"the fault");
-    holds(&rt, reader.rest.is_empty(), &"the rest");
+    holds(&test, !end_refusals(rt.alloc()), &"refusals");
+    holds(
+        &test,
+        matches!(answer, Err(DecodeFault::Ended)),
+        &"the fault",
+    );
+    holds(&test, reader.rest.is_empty(), &"the rest");
+    test.end()
 }
 
 // A size above the limit is refused before memory is asked for, and nothing behind it is read.
 #[test]
-fn size_above_the_limit(rt: HostRuntime) {
+fn size_above_the_limit(rt: HostRuntime) -> Result<(), Fail> {
+    let test = Test::new(rt.alloc());
     for (size, limit) in [
         (6, 5),
         (u32::MAX, INLINE_CAP),
         (u32::MAX, u32::MAX as usize - 1),
     ] {
-        assert_too_long(&rt, rt.alloc(), size, limit);
+        assert_too_long(&test, rt.alloc(), size, limit);
     }
-    assert_at_the_limit(&rt, rt.alloc())
+    assert_at_the_limit(&test, rt.alloc());
+    test.end()
 }
 
-fn assert_at_the_limit(rt: &impl Abort, alloc: Global) {
+fn assert_at_the_limit(test: &Test, alloc: Global) {
     let mut reader = trickle_of(b"\x05\0\0\0abcdef", usize::MAX, 0);
     let is_read = deserialize_limited(alloc, &mut reader, 5).is_ok();
-    holds(rt, is_read, &"the limit");
-    holds(rt, reader.rest.len() == 1, &"the rest");
+    holds(test, is_read, &"the limit");
+    holds(test, reader.rest.len() == 1, &"the rest");
 }
 
-fn assert_too_long(rt: &impl Abort, alloc: Global, size: u32, limit: usize) {
+fn assert_too_long(test: &Test, alloc: Global, size: u32, limit: usize) {
     let [a, b, c, d] = size.to_le_bytes();
     let bytes = [a, b, c, d, b'a', b'b', b'c', b'd', b'e', b'f'];
     let mut reader = trickle_of(&bytes, usize::MAX, 0);
@@ -343,18 +353,25 @@ fn assert_too_long(rt: &impl Abort, alloc: Global, size: u32, limit: usize) {
         deserialize_limited(alloc, &mut reader, limit),
         Err(LimitedFault::TooLong)
     );
-    holds(rt, is_too_long && !end_refusals(alloc), &(size, limit));
-    holds(rt, reader.rest.len() == 6, &(size, limit));
+    let was_refused = end_refusals(alloc);
+    holds(test, is_too_long && !was_refused, &(size, limit));
+    holds(test, reader.rest.len() == 6, &(size, limit));
 }
 
 #[test]
-fn largest_size_and_much_of_a_body(rt: HostRuntime) {
-    let bytes = ok(&rt, letters(rt.alloc(), u32::MAX, 10_000_000));
+fn largest_size_and_much_of_a_body(rt: HostRuntime) -> Result<(), Fail> {
+    let test = Test::new(rt.alloc());
+    let bytes = ok_bytes(&test, letters(rt.alloc(), u32::MAX, 10_000_000));
     let mut reader = trickle_of(bytes.as_slice(), usize::MAX, 0);
     start_counts(rt.alloc());
     let answer = SmolStr::deserialize_reader(rt.alloc(), &mut reader);
     let asked = count_bytes(rt.alloc());
-    holds(&rt, asked <= MOST_BYTES, &asked);
-    holds(&rt, matches!(answer, Err(DecodeFault::Ended)), &"the fault");
-    holds(&rt, reader.rest.is_empty(), &"the rest");
+    holds(&test, asked <= MOST_BYTES, &asked);
+    holds(
+        &test,
+        matches!(answer, Err(DecodeFault::Ended)),
+        &"the fault",
+    );
+    holds(&test, reader.rest.is_empty(), &"the rest");
+    test.end()
 }

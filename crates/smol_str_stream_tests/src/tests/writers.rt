@@ -1,14 +1,14 @@
 //! Each call that writes, over writers of every step, which fail at each call.
 use super::readers::forms;
-use super::rows::same_count;
-use super::same::{holds, ok, same};
+use super::rows::ok_found;
 use smol_str::SmolStr;
 use smol_str::borsh::{BorshSerialize, EncodeFault, from_wire};
 use smol_str::stream::write_steps;
 use std::alloc::Global;
 use std::io::ErrorKind;
-use std::process::Abort;
+use std::test::Fail;
 use test_support::streams::{Drip, Failure, STEPS, WRITE_FAILURES, empty_drip, is_tried};
+use test_support::test::{Test, holds, ok, same};
 
 /// A call that writes a wire form.
 #[derive(Clone, Copy, Debug)]
@@ -20,17 +20,17 @@ enum Call {
 /// A call, the size of a wire form, how many bytes the writer takes a call, and where it fails.
 type Row = (Call, usize, usize, usize);
 
-fn row_holds(rt: &impl Abort, is_so: bool, row: &Row) {
-    holds(rt, is_so, row);
+fn row_holds(test: &Test, is_so: bool, row: &Row) {
+    holds(test, is_so, row);
 }
 
 /// As many calls.
-fn same_calls(rt: &impl Abort, found: usize, wanted: usize, row: &Row) {
-    same_count(rt, found, wanted, row);
+fn same_calls(test: &Test, found: usize, wanted: usize, row: &Row) {
+    same(test, &found, &wanted, row);
 }
 
-fn same_error(rt: &impl Abort, found: Option<ErrorKind>, wanted: Option<ErrorKind>, row: &Row) {
-    same(rt, &found, &wanted, row);
+fn same_error(test: &Test, found: Option<ErrorKind>, wanted: Option<ErrorKind>, row: &Row) {
+    same(test, &found, &wanted, row);
 }
 
 /// A value and its wire form.
@@ -65,35 +65,37 @@ fn serialized(value: &SmolStr, writer: &mut Drip) -> Option<ErrorKind> {
 }
 
 #[test]
-fn fails_at_each_call(rt: HostRuntime) {
-    for form in ok(&rt, forms(rt.alloc())).iter() {
-        assert_form_fails(&rt, rt.alloc(), form.as_slice());
+fn fails_at_each_call(rt: HostRuntime) -> Result<(), Fail> {
+    let test = Test::new(rt.alloc());
+    for form in ok(&test, forms(rt.alloc())).iter() {
+        assert_form_fails(&test, rt.alloc(), form.as_slice());
     }
+    test.end()
 }
 
-fn assert_form_fails(rt: &impl Abort, alloc: Global, form: &[u8]) {
-    let (value, _) = ok(rt, from_wire(alloc, form));
+fn assert_form_fails(test: &Test, alloc: Global, form: &[u8]) {
+    let (value, _) = ok_found(test, from_wire(alloc, form));
     let written = Written { value, form };
     for step in STEPS {
-        assert_fails(rt, alloc, Call::Serialize, &written, step);
-        assert_fails(rt, alloc, Call::WriteSteps, &written, step);
+        assert_fails(test, alloc, Call::Serialize, &written, step);
+        assert_fails(test, alloc, Call::WriteSteps, &written, step);
     }
 }
 
 /// The call gives up at once; a failure after its last write is not met.
-fn assert_fails(rt: &impl Abort, alloc: Global, call: Call, written: &Written<'_>, step: usize) {
-    let calls = count_calls(rt, alloc, call, written, step, 0);
+fn assert_fails(test: &Test, alloc: Global, call: Call, written: &Written<'_>, step: usize) {
+    let calls = count_calls(test, alloc, call, written, step, 0);
     for fails_at in 1..=calls {
         if is_tried(fails_at.saturating_mul(step), written.form.len()) {
             for failure in WRITE_FAILURES {
-                assert_failure(rt, alloc, call, written, step, fails_at, failure);
+                assert_failure(test, alloc, call, written, step, fails_at, failure);
             }
         }
     }
     let fails_at = calls.saturating_add(1);
-    let after = count_calls(rt, alloc, call, written, step, fails_at);
+    let after = count_calls(test, alloc, call, written, step, fails_at);
     same_calls(
-        rt,
+        test,
         after,
         calls,
         &(call, written.form.len(), step, fails_at),
@@ -102,7 +104,7 @@ fn assert_fails(rt: &impl Abort, alloc: Global, call: Call, written: &Written<'_
 
 /// The call gives up with the writer's own error, and what was taken is a beginning.
 fn assert_failure(
-    rt: &impl Abort,
+    test: &Test,
     alloc: Global,
     call: Call,
     written: &Written<'_>,
@@ -113,23 +115,23 @@ fn assert_failure(
     let row = (call, written.form.len(), step, fails_at);
     let (failure, kind) = failure;
     let mut writer = empty_drip(alloc, step, fails_at, failure);
-    same_error(rt, write_by(call, written, &mut writer), Some(kind), &row);
-    same_calls(rt, writer.calls, fails_at, &row);
-    assert_beginning(rt, &writer, written.form, &row);
+    same_error(test, write_by(call, written, &mut writer), Some(kind), &row);
+    same_calls(test, writer.calls, fails_at, &row);
+    assert_beginning(test, &writer, written.form, &row);
 }
 
 /// By single bytes, each call before the failure took one.
-fn assert_beginning(rt: &impl Abort, writer: &Drip, form: &[u8], row: &Row) {
+fn assert_beginning(test: &Test, writer: &Drip, form: &[u8], row: &Row) {
     let taken = writer.taken.as_slice();
-    row_holds(rt, form.starts_with(taken), row);
+    row_holds(test, form.starts_with(taken), row);
     if writer.step == 1 {
-        same_calls(rt, taken.len(), writer.fails_at.saturating_sub(1), row);
+        same_calls(test, taken.len(), writer.fails_at.saturating_sub(1), row);
     }
 }
 
 /// How often a writer is called that does not fail before all is written: by single bytes once a byte.
 fn count_calls(
-    rt: &impl Abort,
+    test: &Test,
     alloc: Global,
     call: Call,
     written: &Written<'_>,
@@ -138,10 +140,10 @@ fn count_calls(
 ) -> usize {
     let row = (call, written.form.len(), step, fails_at);
     let mut writer = empty_drip(alloc, step, fails_at, Failure::TakesNone);
-    same_error(rt, write_by(call, written, &mut writer), None, &row);
-    row_holds(rt, writer.taken.as_slice() == written.form, &row);
+    same_error(test, write_by(call, written, &mut writer), None, &row);
+    row_holds(test, writer.taken.as_slice() == written.form, &row);
     if step == 1 {
-        same_calls(rt, writer.calls, written.form.len(), &row);
+        same_calls(test, writer.calls, written.form.len(), &row);
     }
     writer.calls
 }

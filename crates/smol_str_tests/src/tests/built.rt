@@ -2,14 +2,15 @@
 ghost use Rattle.std.specs.Prelude.{◌≡◌, IfOk};
 ghost use Rattle.std.specs.Str.{chars};
 
-use super::rows::{has_text, in_place, is_so, ok_string, ok_value, same_count, same_str};
-use super::same::{holds, ok, same, same_value};
 use smol_str::{INLINE_CAP, Place, SmolStr, SmolStrBuilder, Step, build};
 use std::alloc::{AllocError, Global};
-use std::process::Abort;
 use std::test::Fail;
 use test_support::builders::builder_of;
 use test_support::refuse::{Asked, can_refuse, each_refused, end_refusals, refuse_all};
+use test_support::test::{
+    Test, has_text, holds, in_place, is_so, ok, ok_string, ok_value, same, same_count, same_flag,
+    same_str, same_value,
+};
 use test_support::texts::{repeated, repeated_and};
 
 /// What a row appends.
@@ -112,53 +113,59 @@ fn rows() -> &'static [Row] {
 }
 
 #[test]
-fn test_builder_push_str(rt: HostRuntime) {
+fn test_builder_push_str(rt: HostRuntime) -> Result<(), Fail> {
+    let test = Test::new(rt.alloc());
     for row in rows() {
-        assert_pieces(&rt, rt.alloc(), SmolStrBuilder::new(rt.alloc()), row);
+        assert_pieces(&test, rt.alloc(), SmolStrBuilder::new(rt.alloc()), row);
     }
+    test.end()
 }
 
 #[test]
-fn test_builder_push(rt: HostRuntime) {
+fn test_builder_push(rt: HostRuntime) -> Result<(), Fail> {
+    let test = Test::new(rt.alloc());
     for row in rows() {
-        let text = ok_string(&rt, text_of(rt.alloc(), row));
-        let builder = ok(&rt, of_characters(rt.alloc(), text.as_str()));
-        assert_finishes(&rt, builder, text.as_str(), row.2);
+        let text = ok_string(&test, text_of(rt.alloc(), row));
+        let builder = ok(&test, of_characters(rt.alloc(), text.as_str()));
+        assert_finishes(&test, builder, text.as_str(), row.2);
     }
+    test.end()
 }
 
 #[test]
-fn every_capacity(rt: HostRuntime) {
+fn every_capacity(rt: HostRuntime) -> Result<(), Fail> {
+    let test = Test::new(rt.alloc());
     for capacity in [0, INLINE_CAP, INLINE_CAP + 1, 100] {
-        assert_rows_at(&rt, rt.alloc(), capacity);
+        assert_rows_at(&test, rt.alloc(), capacity);
     }
+    test.end()
 }
 
-fn assert_rows_at(rt: &impl Abort, alloc: Global, capacity: usize) {
+fn assert_rows_at(test: &Test, alloc: Global, capacity: usize) {
     for row in rows() {
         assert_pieces(
-            rt,
+            test,
             alloc,
-            ok(rt, SmolStrBuilder::with_capacity(alloc, capacity)),
+            ok(test, SmolStrBuilder::with_capacity(alloc, capacity)),
             row,
         );
-        assert_steps_at(rt, alloc, capacity, row);
+        assert_steps_at(test, alloc, capacity, row);
     }
 }
 
-fn assert_pieces(rt: &impl Abort, alloc: Global, mut builder: SmolStrBuilder, row: &Row) {
+fn assert_pieces(test: &Test, alloc: Global, mut builder: SmolStrBuilder, row: &Row) {
     for piece in row.0 {
-        ok(rt, append(alloc, &mut builder, *piece));
+        ok(test, append(alloc, &mut builder, *piece));
     }
-    let text = ok_string(rt, text_of(alloc, row));
-    assert_finishes(rt, builder, text.as_str(), row.2)
+    let text = ok_string(test, text_of(alloc, row));
+    assert_finishes(test, builder, text.as_str(), row.2)
 }
 
-fn assert_steps_at(rt: &impl Abort, alloc: Global, capacity: usize, row: &Row) {
-    let text = ok_string(rt, text_of(alloc, row));
-    let steps = ok(rt, steps_of(alloc, row.0));
-    let value = ok_value(rt, build(alloc, capacity, &steps));
-    same_value(rt, &value, text.as_str(), row.2, &capacity);
+fn assert_steps_at(test: &Test, alloc: Global, capacity: usize, row: &Row) {
+    let text = ok_string(test, text_of(alloc, row));
+    let steps = ok(test, steps_of(alloc, row.0));
+    let value = ok_value(test, build(alloc, capacity, &steps));
+    same_value(test, &value, text.as_str(), row.2, &capacity);
 }
 
 /// A full buffer, a step of each kind that leaves it, and one of each kind behind that.
@@ -191,8 +198,7 @@ fn steps_refused(rt: HostRuntime) -> Result<(), Fail> {
     let alloc = rt.alloc();
     let whole = repeated_and(alloc, "a", INLINE_CAP, "bc")?;
     for pieces in &LEAVING {
-        let asked = build_refused(alloc, pieces, whole.as_str())?;
-        same(&rt, &(asked.requests > 0), &can_refuse(alloc), &"requests");
+        assert_asks(alloc, build_refused(alloc, pieces, whole.as_str())?)?;
     }
     Ok(())
 }
@@ -219,21 +225,23 @@ fn check_built(made: &Result<SmolStr, AllocError>, whole: &str) -> Result<(), Fa
 fn refused_at_the_boundary(rt: HostRuntime) -> Result<(), Fail> {
     let alloc = rt.alloc();
     let text = repeated(alloc, "a", INLINE_CAP - 1)?;
-    let asked = push_refused(&rt, alloc, text.as_str())?;
-    same(&rt, &(asked.requests > 0), &can_refuse(alloc), &"requests");
-    Ok(())
+    assert_asks(alloc, push_refused(alloc, text.as_str())?)
 }
 
-fn push_refused(rt: &impl Abort, alloc: Global, text: &str) -> Result<Asked, Fail> {
+/// A call made requests, where memory can be refused.
+fn assert_asks(alloc: Global, asked: Asked) -> Result<(), Fail> {
+    let test = Test::new(alloc);
+    same_flag(&test, asked.requests > 0, can_refuse(alloc), "requests");
+    test.end()
+}
+
+fn push_refused(alloc: Global, text: &str) -> Result<Asked, Fail> {
     each_refused(
         alloc,
         "push_str of two bytes where one is left",
         || Ok(builder_of(alloc, 0, text)?),
         |builder| append_two_bytes(builder),
-        |answer| {
-            assert_at_boundary(rt, alloc, text, answer);
-            Ok(())
-        },
+        |answer| assert_at_boundary(alloc, text, answer),
     )
 }
 
@@ -246,35 +254,36 @@ fn append_two_bytes(mut builder: SmolStrBuilder) -> Result<SmolStrBuilder, SmolS
 }
 
 fn assert_at_boundary(
-    rt: &impl Abort,
     alloc: Global,
     text: &str,
     answer: &Result<SmolStrBuilder, SmolStrBuilder>,
-) {
+) -> Result<(), Fail> {
+    let test = Test::new(alloc);
     match answer {
-        Ok(builder) => assert_two_bytes_more(rt, alloc, text, builder),
-        Err(back) => assert_comes_back(rt, alloc, text, back),
+        Ok(builder) => assert_two_bytes_more(&test, alloc, text, builder),
+        Err(back) => assert_comes_back(&test, alloc, text, back),
     }
+    test.end()
 }
 
-fn assert_two_bytes_more(rt: &impl Abort, alloc: Global, text: &str, builder: &SmolStrBuilder) {
-    let whole = ok_string(rt, repeated_and(alloc, text, 1, "bc"));
-    same_str(rt, builder.as_str(), whole.as_str(), "two bytes more");
-    is_so(rt, builder.inline_buffer().is_none(), whole.as_str());
+fn assert_two_bytes_more(test: &Test, alloc: Global, text: &str, builder: &SmolStrBuilder) {
+    let whole = ok_string(test, repeated_and(alloc, text, 1, "bc"));
+    same_str(test, builder.as_str(), whole.as_str(), "two bytes more");
+    is_so(test, builder.inline_buffer().is_none(), whole.as_str());
 }
 
-fn assert_comes_back(rt: &impl Abort, alloc: Global, text: &str, back: &SmolStrBuilder) {
-    same_str(rt, back.as_str(), text, "a builder that came back");
-    is_so(rt, back.inline_buffer().is_some(), text);
+fn assert_comes_back(test: &Test, alloc: Global, text: &str, back: &SmolStrBuilder) {
+    same_str(test, back.as_str(), text, "a builder that came back");
+    is_so(test, back.inline_buffer().is_some(), text);
     refuse_all(alloc);
-    let value = ok_value(rt, with_a_byte_more(back));
-    is_so(rt, !end_refusals(alloc), "a byte more takes no memory");
-    assert_a_byte_more(rt, alloc, &value, text)
+    let value = ok_value(test, with_a_byte_more(back));
+    is_so(test, !end_refusals(alloc), "a byte more takes no memory");
+    assert_a_byte_more(test, alloc, &value, text)
 }
 
-fn assert_a_byte_more(rt: &impl Abort, alloc: Global, value: &SmolStr, text: &str) {
-    let whole = ok_string(rt, repeated_and(alloc, text, 1, "d"));
-    has_text(rt, value, whole.as_str(), Place::Inline, "a byte more");
+fn assert_a_byte_more(test: &Test, alloc: Global, value: &SmolStr, text: &str) {
+    let whole = ok_string(test, repeated_and(alloc, text, 1, "d"));
+    has_text(test, value, whole.as_str(), Place::Inline, "a byte more");
 }
 
 fn with_a_byte_more(builder: &SmolStrBuilder) -> Result<SmolStr, AllocError> {
@@ -285,11 +294,13 @@ fn with_a_byte_more(builder: &SmolStrBuilder) -> Result<SmolStr, AllocError> {
 
 // No allocation can have such a capacity.
 #[test]
-fn capacity_too_large(rt: HostRuntime) {
+fn capacity_too_large(rt: HostRuntime) -> Result<(), Fail> {
+    let test = Test::new(rt.alloc());
     for capacity in [usize::MAX, usize::MAX / 2 + 1] {
-        holds(&rt, !is_built(rt.alloc(), capacity), &capacity);
-        holds(&rt, !is_made(rt.alloc(), capacity), &capacity);
+        holds(&test, !is_built(rt.alloc(), capacity), &capacity);
+        holds(&test, !is_made(rt.alloc(), capacity), &capacity);
     }
+    test.end()
 }
 
 fn is_built(alloc: Global, capacity: usize) -> bool {
@@ -301,14 +312,23 @@ fn is_made(alloc: Global, capacity: usize) -> bool {
 }
 
 #[test]
-fn equal_texts(rt: HostRuntime) {
+fn equal_texts(rt: HostRuntime) -> Result<(), Fail> {
+    let test = Test::new(rt.alloc());
     for row in rows() {
-        let text = ok_string(&rt, text_of(rt.alloc(), row));
-        let (one, other) = ok(&rt, made_twice(rt.alloc(), text.as_str()));
-        is_so(&rt, one == other, text.as_str());
-        in_place(&rt, &one, row.2, text.as_str());
-        in_place(&rt, &other, row.2, text.as_str());
+        let text = ok_string(&test, text_of(rt.alloc(), row));
+        match made_twice(rt.alloc(), text.as_str()) {
+            Ok(values) => assert_equal(&test, &values, row.2, text.as_str()),
+            Err(fault) => test.fail(&fault),
+        }
     }
+    test.end()
+}
+
+fn assert_equal(test: &Test, values: &(SmolStr, SmolStr), place: Place, text: &str) {
+    let (one, other) = values;
+    is_so(test, one == other, text);
+    in_place(test, one, place, text);
+    in_place(test, other, place, text);
 }
 
 /// The values of a builder without and of one with capacity.
@@ -378,10 +398,10 @@ fn step_of_text(alloc: Global, text: &str, times: usize) -> Result<Step, AllocEr
 }
 
 /// The builder has the text, and finishes to its value.
-fn assert_finishes(rt: &impl Abort, builder: SmolStrBuilder, text: &str, place: Place) {
-    same_str(rt, builder.as_str(), text, "a builder");
-    same_count(rt, builder.len(), text.len(), text);
-    same(rt, &builder.is_empty(), &text.is_empty(), &text);
-    let value = ok_value(rt, value_of(builder));
-    has_text(rt, &value, text, place, "a builder's value");
+fn assert_finishes(test: &Test, builder: SmolStrBuilder, text: &str, place: Place) {
+    same_str(test, builder.as_str(), text, "a builder");
+    same_count(test, builder.len(), text.len(), text);
+    same(test, &builder.is_empty(), &text.is_empty(), &text);
+    let value = ok_value(test, value_of(builder));
+    has_text(test, &value, text, place, "a builder's value");
 }

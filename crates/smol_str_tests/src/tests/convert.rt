@@ -1,48 +1,52 @@
 //! Values from other texts, and back.
-use super::rows::{
-    has_text, in_place, into_shared, into_string, is_so, ok_shared, ok_string, ok_value,
-    same_count, same_str,
-};
-use super::same::{holds, ok, same};
 use smol_str::{FromUtf8Fault, INLINE_CAP, Place, SmolStr};
 use std::alloc::{AllocError, Global};
 use std::borrow::CowStr;
-use std::process::Abort;
 use std::rc::RcStr;
 use std::test::Fail;
 use test_support::refuse::{Asked, can_refuse, each_refused};
+use test_support::test::{
+    Test, has_text, holds, in_place, is_so, of_shared, ok, ok_string, ok_value, same, same_count,
+    same_str,
+};
 use test_support::texts::{ABOVE_BUFFERS, long_blank, long_text, repeated};
 
 #[test]
-fn test_from_char(rt: HostRuntime) {
-    assert_from_char(&rt, 'a', "a", 1);
-    assert_from_char(&rt, 'ñ', "ñ", 2);
-    assert_from_char(&rt, '€', "€", 3);
-    assert_from_char(&rt, '🦀', "🦀", 4)
+fn test_from_char(rt: HostRuntime) -> Result<(), Fail> {
+    let test = Test::new(rt.alloc());
+    assert_from_char(&test, 'a', "a", 1);
+    assert_from_char(&test, 'ñ', "ñ", 2);
+    assert_from_char(&test, '€', "€", 3);
+    assert_from_char(&test, '🦀', "🦀", 4);
+    test.end()
 }
 
-fn assert_from_char(rt: &impl Abort, character: char, text: &str, len: usize) {
+fn assert_from_char(test: &Test, character: char, text: &str, len: usize) {
     let value = SmolStr::from(character);
-    has_text(rt, &value, text, Place::Inline, text);
-    same_count(rt, value.len(), len, text);
+    has_text(test, &value, text, Place::Inline, text);
+    same_count(test, value.len(), len, text);
 }
 
 #[test]
-fn bytes(rt: HostRuntime) {
+fn bytes(rt: HostRuntime) -> Result<(), Fail> {
+    let test = Test::new(rt.alloc());
     let wrong: [&[u8]; 3] = [b"\xc0\x80", b"\xed\xa0\x80", b"\xf4\x90\x80\x80"];
     for bytes in wrong {
-        holds(&rt, valid_up_to(rt.alloc(), bytes).is_some(), &bytes);
+        holds(&test, valid_up_to(rt.alloc(), bytes).is_some(), &bytes);
     }
+    test.end()
 }
 
 // However long the text before it is, the byte that is not UTF-8 is told, and where.
 #[test]
-fn long_bytes(rt: HostRuntime) {
+fn long_bytes(rt: HostRuntime) -> Result<(), Fail> {
+    let test = Test::new(rt.alloc());
     for size in ABOVE_BUFFERS {
-        let bytes = ok(&rt, wrong_behind(rt.alloc(), size));
+        let bytes = ok(&test, wrong_behind(rt.alloc(), size));
         let valid = valid_up_to(rt.alloc(), bytes.as_slice());
-        same(&rt, &valid, &Some(size), &"from_utf8");
+        same(&test, &valid, &Some(size), &"from_utf8");
     }
+    test.end()
 }
 
 /// So many letters, and a byte that is not UTF-8.
@@ -61,37 +65,35 @@ fn valid_up_to(alloc: Global, bytes: &[u8]) -> Option<usize> {
 }
 
 #[test]
-fn bytes_of_texts(rt: HostRuntime) {
+fn bytes_of_texts(rt: HostRuntime) -> Result<(), Fail> {
+    let test = Test::new(rt.alloc());
     let value = SmolStr::from_utf8(rt.alloc(), b"\xc3\xa9").ok();
-    assert_made(&rt, rt.alloc(), value, ("é", Place::Inline), "from_utf8");
+    assert_made(&test, rt.alloc(), value, ("é", Place::Inline), "from_utf8");
     let value = SmolStr::from_utf8_unchecked(rt.alloc(), "é€".as_bytes()).ok();
-    assert_made(&rt, rt.alloc(), value, ("é€", Place::Inline), "unchecked")
+    assert_made(&test, rt.alloc(), value, ("é€", Place::Inline), "unchecked");
+    test.end()
 }
 
 #[test]
-fn conversions(rt: HostRuntime) {
-    assert_into_string(&rt, rt.alloc(), "Hello, World!");
-    assert_into_rc_str(&rt, rt.alloc(), "Hello, World!")
+fn conversions(rt: HostRuntime) -> Result<(), Fail> {
+    let test = Test::new(rt.alloc());
+    assert_into_string(&test, rt.alloc(), "Hello, World!");
+    assert_into_rc_str(&test, rt.alloc(), "Hello, World!");
+    test.end()
 }
 
-fn assert_into_string(rt: &impl Abort, alloc: Global, text: &str) {
-    let value = ok_value(rt, SmolStr::new(alloc, text));
-    same_str(
-        rt,
-        into_string(rt, alloc, value).as_str(),
-        text,
-        "into_string",
-    );
+fn assert_into_string(test: &Test, alloc: Global, text: &str) {
+    let value = ok_value(test, SmolStr::new(alloc, text));
+    let string = ok(test, value.into_string(alloc));
+    same_str(test, string.as_str(), text, "into_string");
 }
 
-fn assert_into_rc_str(rt: &impl Abort, alloc: Global, text: &str) {
-    let value = SmolStr::from_rc_str(ok_shared(rt, RcStr::from_str(alloc, text)));
-    same_str(
-        rt,
-        into_shared(rt, alloc, value).as_str(),
-        text,
-        "into_rc_str",
-    );
+fn assert_into_rc_str(test: &Test, alloc: Global, text: &str) {
+    let value = of_shared(test, RcStr::from_str(alloc, text));
+    match value.into_rc_str(alloc) {
+        Ok(shared) => same_str(test, shared.as_str(), text, "into_rc_str"),
+        Err(_) => test.fail(&"into_rc_str"),
+    }
 }
 
 /// A text so many times, and the place of the value.
@@ -107,85 +109,87 @@ static INPUTS: [(&str, usize, Place); 7] = [
 
 // Each call that takes a text makes the value that `new` makes, and none gives up.
 #[test]
-fn every_way_in(rt: HostRuntime) {
+fn every_way_in(rt: HostRuntime) -> Result<(), Fail> {
+    let test = Test::new(rt.alloc());
     for &(piece, times, place) in &INPUTS {
-        let text = ok_string(&rt, repeated(rt.alloc(), piece, times));
-        assert_every_way(&rt, rt.alloc(), (text.as_str(), place));
+        let text = ok_string(&test, repeated(rt.alloc(), piece, times));
+        assert_every_way(&test, rt.alloc(), (text.as_str(), place));
     }
+    test.end()
 }
 
-fn assert_every_way(rt: &impl Abort, alloc: Global, wanted: (&str, Place)) {
-    assert_from_text(rt, alloc, wanted);
-    assert_from_bytes(rt, alloc, wanted);
-    assert_from_string(rt, alloc, wanted);
-    assert_from_cow_str(rt, alloc, wanted);
-    assert_from_shared(rt, alloc, wanted)
+fn assert_every_way(test: &Test, alloc: Global, wanted: (&str, Place)) {
+    assert_from_text(test, alloc, wanted);
+    assert_from_bytes(test, alloc, wanted);
+    assert_from_string(test, alloc, wanted);
+    assert_from_cow_str(test, alloc, wanted);
+    assert_from_shared(test, alloc, wanted)
 }
 
-fn assert_from_text(rt: &impl Abort, alloc: Global, wanted: (&str, Place)) {
+fn assert_from_text(test: &Test, alloc: Global, wanted: (&str, Place)) {
     let value = SmolStr::new(alloc, wanted.0).ok();
-    assert_made(rt, alloc, value, wanted, "new");
+    assert_made(test, alloc, value, wanted, "new");
     let value = SmolStr::from_str(alloc, wanted.0).ok();
-    assert_made(rt, alloc, value, wanted, "from_str")
+    assert_made(test, alloc, value, wanted, "from_str")
 }
 
-fn assert_from_bytes(rt: &impl Abort, alloc: Global, wanted: (&str, Place)) {
+fn assert_from_bytes(test: &Test, alloc: Global, wanted: (&str, Place)) {
     let bytes = wanted.0.as_bytes();
     let value = SmolStr::from_utf8(alloc, bytes).ok();
-    assert_made(rt, alloc, value, wanted, "from_utf8");
+    assert_made(test, alloc, value, wanted, "from_utf8");
     let value = SmolStr::from_utf8_unchecked(alloc, bytes).ok();
-    assert_made(rt, alloc, value, wanted, "from_utf8_unchecked")
+    assert_made(test, alloc, value, wanted, "from_utf8_unchecked")
 }
 
-fn assert_from_string(rt: &impl Abort, alloc: Global, wanted: (&str, Place)) {
-    let text = ok_string(rt, String::from_str(alloc, wanted.0));
+fn assert_from_string(test: &Test, alloc: Global, wanted: (&str, Place)) {
+    let text = ok_string(test, String::from_str(alloc, wanted.0));
     let value = SmolStr::from_string_ref(alloc, &text).ok();
-    assert_made(rt, alloc, value, wanted, "from_string_ref");
+    assert_made(test, alloc, value, wanted, "from_string_ref");
     let value = SmolStr::from_string(alloc, text).ok();
-    assert_made(rt, alloc, value, wanted, "from_string")
+    assert_made(test, alloc, value, wanted, "from_string")
 }
 
-fn assert_from_cow_str(rt: &impl Abort, alloc: Global, wanted: (&str, Place)) {
+fn assert_from_cow_str(test: &Test, alloc: Global, wanted: (&str, Place)) {
     let value = SmolStr::from_cow_str(alloc, CowStr::Borrowed(wanted.0)).ok();
-    assert_made(rt, alloc, value, wanted, "from_cow_str, borrowed");
-    let text = ok_string(rt, String::from_str(alloc, wanted.0));
+    assert_made(test, alloc, value, wanted, "from_cow_str, borrowed");
+    let text = ok_string(test, String::from_str(alloc, wanted.0));
     let value = SmolStr::from_cow_str(alloc, CowStr::Owned(text)).ok();
-    assert_made(rt, alloc, value, wanted, "from_cow_str, owned")
+    assert_made(test, alloc, value, wanted, "from_cow_str, owned")
 }
 
-fn assert_from_shared(rt: &impl Abort, alloc: Global, wanted: (&str, Place)) {
-    let boxed = ok_string(rt, String::from_str(alloc, wanted.0)).into_boxed_str();
+fn assert_from_shared(test: &Test, alloc: Global, wanted: (&str, Place)) {
+    let boxed = ok_string(test, String::from_str(alloc, wanted.0)).into_boxed_str();
     let value = SmolStr::from_boxed_str(alloc, boxed).ok();
-    assert_made(rt, alloc, value, wanted, "from_boxed_str");
-    let value = SmolStr::from_rc_str(ok_shared(rt, RcStr::from_str(alloc, wanted.0)));
-    assert_made(rt, alloc, Some(value), wanted, "from_rc_str")
+    assert_made(test, alloc, value, wanted, "from_boxed_str");
+    let value = of_shared(test, RcStr::from_str(alloc, wanted.0));
+    assert_made(test, alloc, Some(value), wanted, "from_rc_str")
 }
 
 /// There is a value, of the text and in the place, and it prints as its text.
 fn assert_made(
-    rt: &impl Abort,
+    test: &Test,
     alloc: Global,
     made: Option<SmolStr>,
     wanted: (&str, Place),
     way: &'static str,
 ) {
-    let value = ok(rt, made.ok_or(way));
+    let value = ok(test, made.ok_or(way));
     let (text, place) = wanted;
-    has_text(rt, &value, text, place, way);
-    assert_prints(rt, alloc, &value, text);
-    assert_prints_quoted(rt, alloc, &value, text)
+    has_text(test, &value, text, place, way);
+    assert_prints(test, alloc, &value, text);
+    assert_prints_quoted(test, alloc, &value, text)
 }
 
-fn assert_prints(rt: &impl Abort, alloc: Global, value: &SmolStr, text: &str) {
-    let printed = ok(rt, format!(in alloc; "{value}"));
-    same_str(rt, printed.as_str(), text, "printed");
+fn assert_prints(test: &Test, alloc: Global, value: &SmolStr, text: &str) {
+    let printed = ok(test, format!(in alloc; "{value}"));
+    same_str(test, printed.as_str(), text, "printed");
 }
 
-fn assert_prints_quoted(rt: &impl Abort, alloc: Global, value: &SmolStr, text: &str) {
-    let quoted = ok(rt, format!(in alloc; "\"{text}\""));
-    let printed = ok(rt, format!(in alloc; "{value:?}"));
+fn assert_prints_quoted(test: &Test, alloc: Global, value: &SmolStr, text: &str) {
+    let quoted = ok(test, format!(in alloc; "\"{text}\""));
+    let printed = ok(test, format!(in alloc; "{value:?}"));
     same_str(
-        rt,
+        test,
         printed.as_str(),
         quoted.as_str(),
         "printed for debugging",
@@ -194,31 +198,37 @@ fn assert_prints_quoted(rt: &impl Abort, alloc: Global, value: &SmolStr, text: &
 
 // A text that is not resident is kept as it was handed in, and handed out again.
 #[test]
-fn keeps_a_shared_text(rt: HostRuntime) {
-    let shared = ok_shared(&rt, RcStr::from_str(rt.alloc(), long_text()));
-    let value = SmolStr::from_rc_str(ok_shared(&rt, shared.clone()));
-    in_place(&rt, &value, Place::Heap, "the long text");
-    assert_hands_out(&rt, rt.alloc(), value, &shared)
+fn keeps_a_shared_text(rt: HostRuntime) -> Result<(), Fail> {
+    let shared = RcStr::from_str(rt.alloc(), long_text())?;
+    let test = Test::new(rt.alloc());
+    let value = of_shared(&test, shared.clone());
+    in_place(&test, &value, Place::Heap, "the long text");
+    assert_hands_out(&test, rt.alloc(), value, &shared);
+    test.end()
 }
 
 /// The value becomes the very text that it shares, which takes no memory.
-fn assert_hands_out(rt: &impl Abort, alloc: Global, value: SmolStr, shared: &RcStr) {
-    let back = into_shared(rt, alloc, value);
-    is_so(rt, RcStr::ptr_eq(&back, shared), "the shared text");
+fn assert_hands_out(test: &Test, alloc: Global, value: SmolStr, shared: &RcStr) {
+    match value.into_rc_str(alloc) {
+        Ok(back) => is_so(test, RcStr::ptr_eq(&back, shared), "the shared text"),
+        Err(_) => test.fail(&"into_rc_str"),
+    }
 }
 
 #[test]
-fn places_of_shared_texts(rt: HostRuntime) {
+fn places_of_shared_texts(rt: HostRuntime) -> Result<(), Fail> {
+    let test = Test::new(rt.alloc());
     let alloc = rt.alloc();
-    assert_place_of_shared(&rt, alloc, "ab", Place::Inline);
-    assert_place_of_shared(&rt, alloc, "aaaaaaaaaaaaaaaaaaaaaaaa", Place::Inline);
-    assert_place_of_shared(&rt, alloc, "                        ", Place::Inline);
-    assert_place_of_shared(&rt, alloc, long_blank(), Place::Static)
+    assert_place_of_shared(&test, alloc, "ab", Place::Inline);
+    assert_place_of_shared(&test, alloc, "aaaaaaaaaaaaaaaaaaaaaaaa", Place::Inline);
+    assert_place_of_shared(&test, alloc, "                        ", Place::Inline);
+    assert_place_of_shared(&test, alloc, long_blank(), Place::Static);
+    test.end()
 }
 
-fn assert_place_of_shared(rt: &impl Abort, alloc: Global, text: &str, place: Place) {
-    let value = SmolStr::from_rc_str(ok_shared(rt, RcStr::from_str(alloc, text)));
-    has_text(rt, &value, text, place, "from_rc_str");
+fn assert_place_of_shared(test: &Test, alloc: Global, text: &str, place: Place) {
+    let value = of_shared(test, RcStr::from_str(alloc, text));
+    has_text(test, &value, text, place, "from_rc_str");
 }
 
 #[test]
@@ -231,8 +241,9 @@ fn refused_borrowed_text_comes_back(rt: HostRuntime) -> Result<(), Fail> {
         from_borrowed,
         check_borrowed,
     )?;
-    assert_asks(&rt, alloc, asked);
-    Ok(())
+    let test = Test::new(alloc);
+    assert_asks(&test, alloc, asked);
+    test.end()
 }
 
 /// An error says whether the argument came back.
@@ -253,16 +264,16 @@ fn check_borrowed(answer: &Result<SmolStr, bool>) -> Result<(), Fail> {
 }
 
 /// A call made requests, where memory can be refused.
-fn assert_asks(rt: &impl Abort, alloc: Global, asked: Asked) {
-    is_so(rt, (asked.requests > 0) == can_refuse(alloc), "requests");
+fn assert_asks(test: &Test, alloc: Global, asked: Asked) {
+    is_so(test, (asked.requests > 0) == can_refuse(alloc), "requests");
 }
 
 // A value on the heap that comes back still has the shared text that it was made of.
 #[test]
 fn refused_value_keeps_its_shared_text(rt: HostRuntime) -> Result<(), Fail> {
     for len in [INLINE_CAP + 1, 5000] {
-        let shared = ok_shared(&rt, shared_letters(rt.alloc(), len));
-        assert_keeps(&rt, rt.alloc(), &shared)?;
+        let shared = shared_letters(rt.alloc(), len)?;
+        assert_keeps(rt.alloc(), &shared)?;
     }
     Ok(())
 }
@@ -272,16 +283,17 @@ fn shared_letters(alloc: Global, len: usize) -> Result<RcStr, AllocError> {
     RcStr::from_str(alloc, text.as_str())
 }
 
-fn assert_keeps(rt: &impl Abort, alloc: Global, shared: &RcStr) -> Result<(), Fail> {
+fn assert_keeps(alloc: Global, shared: &RcStr) -> Result<(), Fail> {
     let asked = each_refused(
         alloc,
         "into_string",
         || Ok(value_of(shared)?),
         |value| value.into_string(alloc),
-        |answer| Ok(assert_shares(rt, alloc, shared, answer)),
+        |answer| assert_shares(alloc, shared, answer),
     )?;
-    assert_asks(rt, alloc, asked);
-    Ok(())
+    let test = Test::new(alloc);
+    assert_asks(&test, alloc, asked);
+    test.end()
 }
 
 /// The value that shares the text.
@@ -289,9 +301,15 @@ fn value_of(shared: &RcStr) -> Result<SmolStr, AllocError> {
     Ok(SmolStr::from_rc_str(shared.clone()?))
 }
 
-fn assert_shares(rt: &impl Abort, alloc: Global, shared: &RcStr, answer: &Result<String, SmolStr>) {
+fn assert_shares(
+    alloc: Global,
+    shared: &RcStr,
+    answer: &Result<String, SmolStr>,
+) -> Result<(), Fail> {
+    let test = Test::new(alloc);
     match answer {
-        Ok(string) => same_str(rt, string.as_str(), shared.as_str(), "a string"),
-        Err(back) => assert_hands_out(rt, alloc, ok_value(rt, back.clone()), shared),
+        Ok(string) => same_str(&test, string.as_str(), shared.as_str(), "a string"),
+        Err(back) => assert_hands_out(&test, alloc, ok_value(&test, back.clone()), shared),
     }
+    test.end()
 }

@@ -1,11 +1,11 @@
 //! The loops over bytes, against outside rows, a plain map and std's search.
-use super::rows::{is_so, ok_string, ok_strings, ok_value, same_count, same_str};
-use super::same::{ok, same};
 use smol_str::kernel::{AsciiCase, convert_while_ascii, next_match};
 use smol_str::{INLINE_CAP, InlineBuffer, SmolStr};
 use std::alloc::Global;
-use std::process::Abort;
 use std::test::Fail;
+use test_support::test::{
+    Test, is_so, ok_string, ok_strings, ok_value, same, same_count, same_str,
+};
 use test_support::texts::{full_capitals, full_text, small_texts};
 
 /// Short texts, a case, the ASCII front in that case, and how many zeros are behind it.
@@ -54,92 +54,96 @@ fn front_rows() -> &'static [(&'static str, AsciiCase, &'static str, usize)] {
 }
 
 #[test]
-fn fronts(rt: HostRuntime) {
+fn fronts(rt: HostRuntime) -> Result<(), Fail> {
+    let test = Test::new(rt.alloc());
     for &(text, case, front, zeros) in front_rows() {
-        assert_front(&rt, text, case, front, zeros);
+        assert_front(&test, text, case, front, zeros);
     }
-    assert_front(&rt, full_text(), AsciiCase::Upper, full_capitals(), 0)
+    assert_front(&test, full_text(), AsciiCase::Upper, full_capitals(), 0);
+    test.end()
 }
 
-fn assert_front(rt: &impl Abort, text: &str, case: AsciiCase, front: &str, zeros: usize) {
+fn assert_front(test: &Test, text: &str, case: AsciiCase, front: &str, zeros: usize) {
     let wanted = padded(front.as_bytes());
-    assert_converted(rt, text, case, &wanted, front.len());
-    same_count(rt, wanted.len().saturating_sub(front.len()), zeros, text);
+    assert_converted(test, text, case, &wanted, front.len());
+    same_count(test, wanted.len().saturating_sub(front.len()), zeros, text);
 }
 
 /// The call gives these bytes, of which the first `len` are the front.
-fn assert_converted(
-    rt: &impl Abort,
-    text: &str,
-    case: AsciiCase,
-    wanted: &InlineBuffer,
-    len: usize,
-) {
+fn assert_converted(test: &Test, text: &str, case: AsciiCase, wanted: &InlineBuffer, len: usize) {
     if text.len() > INLINE_CAP {
-        panic!(rt; "{text} is too long");
+        return test.fail(&(text, "is too long"));
     }
     let (buffer, found) = convert_while_ascii(text, case);
-    same_count(rt, found, len, text);
-    same(rt, &buffer, wanted, &text);
+    same_count(test, found, len, text);
+    same(test, &buffer, wanted, &text);
 }
 
 // As values, which also say whether they are ASCII.
 #[test]
-fn values_in_a_case(rt: HostRuntime) {
+fn values_in_a_case(rt: HostRuntime) -> Result<(), Fail> {
+    let test = Test::new(rt.alloc());
     for &(text, ..) in front_rows() {
-        assert_in_cases(&rt, rt.alloc(), text);
+        assert_in_cases(&test, rt.alloc(), text);
     }
-    assert_in_cases(&rt, rt.alloc(), full_capitals());
+    assert_in_cases(&test, rt.alloc(), full_capitals());
     for text in [
         "a text that is longer than a value has room for",
         "so is this, and not ASCII at its end: é",
     ] {
-        let value = ok_value(&rt, SmolStr::new(rt.alloc(), text));
-        is_so(&rt, value.is_ascii() == text.is_ascii(), text);
+        let value = ok_value(&test, SmolStr::new(rt.alloc(), text));
+        is_so(&test, value.is_ascii() == text.is_ascii(), text);
     }
+    test.end()
 }
 
-fn assert_in_cases(rt: &impl Abort, alloc: Global, text: &str) {
-    let mut wanted = ok_string(rt, String::from_str(alloc, text));
+fn assert_in_cases(test: &Test, alloc: Global, text: &str) {
+    let mut wanted = ok_string(test, String::from_str(alloc, text));
     wanted.make_ascii_lowercase();
-    assert_in_case(rt, text, AsciiCase::Lower, wanted.as_str());
+    assert_in_case(test, text, AsciiCase::Lower, wanted.as_str());
     wanted.make_ascii_uppercase();
-    assert_in_case(rt, text, AsciiCase::Upper, wanted.as_str())
+    assert_in_case(test, text, AsciiCase::Upper, wanted.as_str())
 }
 
-fn assert_in_case(rt: &impl Abort, text: &str, case: AsciiCase, wanted: &str) {
+fn assert_in_case(test: &Test, text: &str, case: AsciiCase, wanted: &str) {
     if text.len() > INLINE_CAP {
-        panic!(rt; "{text} is too long");
+        return test.fail(&(text, "is too long"));
     }
     let value = SmolStr::new_inline_in_case(text, case);
-    same_str(rt, value.as_str(), wanted, text);
-    is_so(rt, value.is_ascii() == text.is_ascii(), text);
+    same_str(test, value.as_str(), wanted, text);
+    is_so(test, value.is_ascii() == text.is_ascii(), text);
 }
 
 // Letters on both sides, so that a byte too many or too few would show.
 #[test]
 fn each_byte_at_each_place(rt: HostRuntime) -> Result<(), Fail> {
+    let test = Test::new(rt.alloc());
     for place in 0..INLINE_CAP {
         for byte in 0..128u8 {
             let mut bytes = letters();
             bytes[place] = byte;
-            let text = str::from_utf8(&bytes)?;
-            assert_mapped(&rt, text, INLINE_CAP);
+            match str::from_utf8(&bytes) {
+                Ok(text) => assert_mapped(&test, text, INLINE_CAP),
+                Err(fault) => test.fail(&fault),
+            }
         }
     }
-    Ok(())
+    test.end()
 }
 
 #[test]
 fn a_wide_character_at_each_place(rt: HostRuntime) -> Result<(), Fail> {
+    let test = Test::new(rt.alloc());
     for place in 0..INLINE_CAP - 1 {
         let mut bytes = letters();
         bytes[place] = 0xC3;
         bytes[place + 1] = 0xA9;
-        let text = str::from_utf8(&bytes)?;
-        assert_mapped(&rt, text, place);
+        match str::from_utf8(&bytes) {
+            Ok(text) => assert_mapped(&test, text, place),
+            Err(fault) => test.fail(&fault),
+        }
     }
-    Ok(())
+    test.end()
 }
 
 /// Large and small letters in turn, as many as the buffer has room for.
@@ -154,12 +158,15 @@ fn letters() -> InlineBuffer {
 }
 
 /// The first `len` bytes are the front, and each is mapped as std maps a byte.
-fn assert_mapped(rt: &impl Abort, text: &str, len: usize) {
-    let mut wanted = padded(ok(rt, text.as_bytes().get(..len).ok_or("a text too short")));
+fn assert_mapped(test: &Test, text: &str, len: usize) {
+    let Some(front) = text.as_bytes().get(..len) else {
+        return test.fail(&"a text too short");
+    };
+    let mut wanted = padded(front);
     wanted.make_ascii_lowercase();
-    assert_converted(rt, text, AsciiCase::Lower, &wanted, len);
+    assert_converted(test, text, AsciiCase::Lower, &wanted, len);
     wanted.make_ascii_uppercase();
-    assert_converted(rt, text, AsciiCase::Upper, &wanted, len)
+    assert_converted(test, text, AsciiCase::Upper, &wanted, len)
 }
 
 /// The bytes, and then zeros.
@@ -184,43 +191,43 @@ static MATCHES: [(&str, usize, &str, Option<usize>); 9] = [
 ];
 
 #[test]
-fn matches(rt: HostRuntime) {
+fn matches(rt: HostRuntime) -> Result<(), Fail> {
+    let test = Test::new(rt.alloc());
     for &(text, from, pattern, wanted) in &MATCHES {
-        let found = found_from(text, from, pattern);
-        let found = ok(&rt, found.ok_or("a place inside a character"));
-        same_match(&rt, found, wanted, (pattern, text, from));
+        match found_from(text, from, pattern) {
+            Some(found) => same_match(&test, found, wanted, (pattern, text, from)),
+            None => test.fail(&"a place inside a character"),
+        }
     }
+    test.end()
 }
 
 // Every place of every small text, with every small pattern.
 #[test]
-fn matches_as_std_finds(rt: HostRuntime) {
-    let texts = ok_strings(&rt, small_texts(rt.alloc(), 5));
-    let patterns = ok_strings(&rt, small_texts(rt.alloc(), 3));
+fn matches_as_std_finds(rt: HostRuntime) -> Result<(), Fail> {
+    let test = Test::new(rt.alloc());
+    let texts = ok_strings(&test, small_texts(rt.alloc(), 5));
+    let patterns = ok_strings(&test, small_texts(rt.alloc(), 3));
     for text in &texts {
         for pattern in &patterns {
-            assert_found(&rt, text.as_str(), pattern.as_str());
+            assert_found(&test, text.as_str(), pattern.as_str());
         }
     }
+    test.end()
 }
 
-fn assert_found(rt: &impl Abort, text: &str, pattern: &str) {
+fn assert_found(test: &Test, text: &str, pattern: &str) {
     for from in 0..=text.len() {
         if let Some(found) = found_from(text, from, pattern) {
             let wanted = std_finds(text, from, pattern);
-            same_match(rt, found, wanted, (pattern, text, from));
+            same_match(test, found, wanted, (pattern, text, from));
         }
     }
 }
 
 /// The pattern is found at the place in the text, from a place on.
-fn same_match(
-    rt: &impl Abort,
-    found: Option<usize>,
-    wanted: Option<usize>,
-    row: (&str, &str, usize),
-) {
-    same(rt, &found, &wanted, &row);
+fn same_match(test: &Test, found: Option<usize>, wanted: Option<usize>, row: (&str, &str, usize)) {
+    same(test, &found, &wanted, &row);
 }
 
 /// Where std finds the pattern.

@@ -1,11 +1,12 @@
 //! Values in containers.
-use super::rows::{is_so, ok_value, same_count, same_str};
-use super::same::{holds, ok, same, same_place};
 use smol_str::{Place, SmolStr};
 use std::alloc::{AllocError, Global};
 use std::collections::{BTreeMap, HashMap};
-use std::process::Abort;
+use std::test::Fail;
 use test_support::builders::builder_of;
+use test_support::test::{
+    Test, holds, is_so, ok, ok_value, same, same_count, same_place, same_str,
+};
 use test_support::texts::long_text;
 
 fn texts() -> [&'static str; 6] {
@@ -13,25 +14,29 @@ fn texts() -> [&'static str; 6] {
 }
 
 #[test]
-fn keys_of_maps(rt: HostRuntime) {
-    let map = ok(&rt, hashed(rt.alloc()));
-    same_count(&rt, map.len(), texts().len(), "entries");
+fn keys_of_maps(rt: HostRuntime) -> Result<(), Fail> {
+    let map = hashed(rt.alloc())?;
+    let test = Test::new(rt.alloc());
+    same_count(&test, map.len(), texts().len(), "entries");
     for (place, text) in texts().iter().enumerate() {
         let key = SmolStr::new_static(text);
-        same(&rt, &map.get(&key).copied(), &Some(place), &key);
+        same(&test, &map.get(&key).copied(), &Some(place), &key);
     }
     let missing = map.get(&SmolStr::new_inline("aa"));
-    is_so(&rt, missing.is_none(), "aa");
+    is_so(&test, missing.is_none(), "aa");
+    test.end()
 }
 
 #[test]
-fn keys_of_sorted_maps(rt: HostRuntime) {
-    let map = ok(&rt, sorted(rt.alloc()));
-    same_count(&rt, map.len(), texts().len(), "entries");
+fn keys_of_sorted_maps(rt: HostRuntime) -> Result<(), Fail> {
+    let map = sorted(rt.alloc())?;
+    let test = Test::new(rt.alloc());
+    same_count(&test, map.len(), texts().len(), "entries");
     for (place, text) in texts().iter().enumerate() {
         let key = SmolStr::new_static(text);
-        same(&rt, &map.get(&key).copied(), &Some(place), &key);
+        same(&test, &map.get(&key).copied(), &Some(place), &key);
     }
+    test.end()
 }
 
 /// The texts' places in a map.
@@ -53,28 +58,30 @@ fn sorted(alloc: Global) -> Result<BTreeMap<SmolStr, usize>, AllocError> {
 }
 
 #[test]
-fn test_search_in_hashmap(rt: HostRuntime) {
+fn test_search_in_hashmap(rt: HostRuntime) -> Result<(), Fail> {
+    let test = Test::new(rt.alloc());
     let mut map = HashMap::new(rt.alloc());
-    ok(
-        &rt,
-        map.insert(ok_value(&rt, SmolStr::new(rt.alloc(), "aaa")), 17),
-    );
+    let key = ok_value(&test, SmolStr::new(rt.alloc(), "aaa"));
+    is_so(&test, map.insert(key, 17).is_ok(), "insert");
     let found = map.get(&SmolStr::new_inline("aaa")).copied();
-    same(&rt, &found, &Some(17), &"aaa");
+    same(&test, &found, &Some(17), &"aaa");
+    test.end()
 }
 
 #[test]
-fn clones_of_containers(rt: HostRuntime) {
-    let values = ok(&rt, values_of(rt.alloc()));
-    let copies = ok(&rt, values.clone());
-    assert_copies(&rt, copies.as_slice(), values.as_slice());
+fn clones_of_containers(rt: HostRuntime) -> Result<(), Fail> {
+    let test = Test::new(rt.alloc());
+    let values = ok(&test, values_of(rt.alloc()));
+    let copies = ok(&test, values.clone());
+    assert_copies(&test, copies.as_slice(), values.as_slice());
+    test.end()
 }
 
-fn assert_copies(rt: &impl Abort, copies: &[SmolStr], values: &[SmolStr]) {
-    same_count(rt, copies.len(), values.len(), "values");
+fn assert_copies(test: &Test, copies: &[SmolStr], values: &[SmolStr]) {
+    same_count(test, copies.len(), values.len(), "values");
     for (copy, value) in copies.iter().zip(values) {
-        holds(rt, copy == value, value);
-        same_place(rt, copy, value.place(), value);
+        holds(test, copy == value, value);
+        same_place(test, copy, value.place(), value);
     }
 }
 
@@ -89,21 +96,28 @@ fn values_of(alloc: Global) -> Result<Vec<SmolStr>, AllocError> {
 
 // A builder on the heap, too.
 #[test]
-fn clones_of_lists_of_builders(rt: HostRuntime) {
+fn clones_of_lists_of_builders(rt: HostRuntime) -> Result<(), Fail> {
+    let test = Test::new(rt.alloc());
     let mut builders = Vec::new(rt.alloc());
     for text in texts() {
-        ok(&rt, builders.push(ok(&rt, builder_of(rt.alloc(), 0, text))));
+        ok(
+            &test,
+            builders.push(ok(&test, builder_of(rt.alloc(), 0, text))),
+        );
     }
-    let copies = ok(&rt, builders.clone());
-    same_count(&rt, copies.len(), builders.len(), "builders");
+    let copies = ok(&test, builders.clone());
+    same_count(&test, copies.len(), builders.len(), "builders");
     for (copy, builder) in copies.iter().zip(builders.iter()) {
-        same_str(&rt, copy.as_str(), builder.as_str(), "builders");
+        same_str(&test, copy.as_str(), builder.as_str(), "builders");
     }
+    test.end()
 }
 
 #[test]
-fn clone_of_an_option(rt: HostRuntime) {
-    let copy = ok(&rt, Some(SmolStr::new_static("ab")).clone());
+fn clone_of_an_option(rt: HostRuntime) -> Result<(), Fail> {
+    let copy = Some(SmolStr::new_static("ab")).clone()?;
+    let test = Test::new(rt.alloc());
     let place = copy.map(|value| value.place());
-    same(&rt, &place, &Some(Place::Static), &"ab");
+    same(&test, &place, &Some(Place::Static), &"ab");
+    test.end()
 }

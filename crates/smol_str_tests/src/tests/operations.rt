@@ -1,13 +1,12 @@
 //! Operations, each on many texts: `bench/instructions` runs these tests one by one and counts what they take.
-use super::rows::same_count;
-use super::same::ok;
 use smol_str::borsh::{BorshDeserialize, BorshSerialize, DecodeFault, EncodeFault, from_wire};
 use smol_str::json::{JsonFault, from_json, to_json};
 use smol_str::kernel::next_match;
 use smol_str::{FormatError, FromUtf8Fault, SmolStr, SmolStrBuilder, StrExt, ToSmolStr};
 use std::alloc::{AllocError, Global};
 use std::fmt::Debug;
-use std::process::Abort;
+use std::test::Fail;
+use test_support::test::{Test, ok, same_count};
 use test_support::texts::repeated;
 
 /// So many texts are in a list, of 0, 1, 2 .. characters.
@@ -18,10 +17,10 @@ const CHARACTERS: usize = 1770;
 const TIMES: usize = 20;
 
 /// Texts of 0, 1, 2 .. characters.
-fn texts(rt: &impl Abort, alloc: Global, character: &str) -> Vec<String> {
+fn texts(test: &Test, alloc: Global, character: &str) -> Vec<String> {
     let mut list = Vec::new(alloc);
     for size in 0..TEXTS {
-        ok(rt, add_text(alloc, &mut list, character, size));
+        ok(test, add_text(alloc, &mut list, character, size));
     }
     list
 }
@@ -37,15 +36,15 @@ fn add_text(
 }
 
 /// The values of such texts.
-fn values(rt: &impl Abort, alloc: Global) -> Vec<SmolStr> {
-    let texts = texts(rt, alloc, "a");
-    values_of(rt, alloc, texts.as_slice())
+fn values(test: &Test, alloc: Global) -> Vec<SmolStr> {
+    let texts = texts(test, alloc, "a");
+    values_of(test, alloc, texts.as_slice())
 }
 
-fn values_of(rt: &impl Abort, alloc: Global, texts: &[String]) -> Vec<SmolStr> {
+fn values_of(test: &Test, alloc: Global, texts: &[String]) -> Vec<SmolStr> {
     let mut list = Vec::new(alloc);
     for text in texts {
-        ok(rt, add_value(alloc, &mut list, text.as_str()));
+        ok(test, add_value(alloc, &mut list, text.as_str()));
     }
     list
 }
@@ -56,8 +55,8 @@ fn add_value(alloc: Global, list: &mut Vec<SmolStr>, text: &str) -> Result<(), A
 }
 
 /// The operation counts this many on a list, each time that the list is gone through.
-fn on_each<T: Drop, E: Debug, F>(
-    rt: &impl Abort,
+fn on_each<T: Drop, E: Debug + Drop, F>(
+    test: &Test,
     alloc: Global,
     list: Vec<T>,
     a_list: usize,
@@ -67,7 +66,11 @@ where
     F: Fn(Global, &T) -> Result<usize, E>,
     requires { F.IsAlwaysCallable operation }
 {
-    check(rt, ok(rt, total(alloc, list.as_slice(), operation)), a_list)
+    check(
+        test,
+        ok(test, total(alloc, list.as_slice(), operation)),
+        a_list,
+    )
 }
 
 fn total<T, E, F>(alloc: Global, list: &[T], operation: F) -> Result<usize, E>
@@ -85,33 +88,37 @@ where
 }
 
 /// The operation counts the characters of a whole list of texts, each time that it is called.
-fn on_whole_list<F>(rt: &impl Abort, alloc: Global, operation: F)
+fn on_whole_list<F>(test: &Test, alloc: Global, operation: F)
 where
     F: Fn(Global, &[String]) -> Result<usize, AllocError>,
     requires { F.IsAlwaysCallable operation }
 {
-    let (list, mut total) = (texts(rt, alloc, "a"), 0usize);
+    let (list, mut total) = (texts(test, alloc, "a"), 0usize);
     for _ in 0..TIMES {
-        total = total.saturating_add(ok(rt, operation(alloc, list.as_slice())));
+        total = total.saturating_add(ok(test, operation(alloc, list.as_slice())));
     }
-    check(rt, total, CHARACTERS)
+    check(test, total, CHARACTERS)
 }
 
 /// Each list was gone through so often that this many came together of `a_list`.
-fn check(rt: &impl Abort, total: usize, a_list: usize) {
-    same_count(rt, total, a_list.saturating_mul(TIMES), "in all");
+fn check(test: &Test, total: usize, a_list: usize) {
+    same_count(test, total, a_list.saturating_mul(TIMES), "in all");
 }
 
 #[test]
-fn nothing(rt: HostRuntime) {
-    let list = values(&rt, rt.alloc());
-    same_count(&rt, list.len(), TEXTS, "values");
+fn nothing(rt: HostRuntime) -> Result<(), Fail> {
+    let test = Test::new(rt.alloc());
+    let list = values(&test, rt.alloc());
+    same_count(&test, list.len(), TEXTS, "values");
+    test.end()
 }
 
 #[test]
-fn made_of_texts(rt: HostRuntime) {
-    let list = texts(&rt, rt.alloc(), "a");
-    on_each(&rt, rt.alloc(), list, CHARACTERS, make)
+fn made_of_texts(rt: HostRuntime) -> Result<(), Fail> {
+    let test = Test::new(rt.alloc());
+    let list = texts(&test, rt.alloc(), "a");
+    on_each(&test, rt.alloc(), list, CHARACTERS, make);
+    test.end()
 }
 
 fn make(alloc: Global, text: &String) -> Result<usize, AllocError> {
@@ -119,9 +126,11 @@ fn make(alloc: Global, text: &String) -> Result<usize, AllocError> {
 }
 
 #[test]
-fn made_of_bytes(rt: HostRuntime) {
-    let list = texts(&rt, rt.alloc(), "é");
-    on_each(&rt, rt.alloc(), list, 2 * CHARACTERS, make_of_bytes)
+fn made_of_bytes(rt: HostRuntime) -> Result<(), Fail> {
+    let test = Test::new(rt.alloc());
+    let list = texts(&test, rt.alloc(), "é");
+    on_each(&test, rt.alloc(), list, 2 * CHARACTERS, make_of_bytes);
+    test.end()
 }
 
 fn make_of_bytes(alloc: Global, text: &String) -> Result<usize, FromUtf8Fault> {
@@ -129,9 +138,11 @@ fn make_of_bytes(alloc: Global, text: &String) -> Result<usize, FromUtf8Fault> {
 }
 
 #[test]
-fn in_ascii_lowercase(rt: HostRuntime) {
-    let list = texts(&rt, rt.alloc(), "A");
-    on_each(&rt, rt.alloc(), list, CHARACTERS, make_ascii_lowercase)
+fn in_ascii_lowercase(rt: HostRuntime) -> Result<(), Fail> {
+    let test = Test::new(rt.alloc());
+    let list = texts(&test, rt.alloc(), "A");
+    on_each(&test, rt.alloc(), list, CHARACTERS, make_ascii_lowercase);
+    test.end()
 }
 
 fn make_ascii_lowercase(alloc: Global, text: &String) -> Result<usize, AllocError> {
@@ -139,9 +150,11 @@ fn make_ascii_lowercase(alloc: Global, text: &String) -> Result<usize, AllocErro
 }
 
 #[test]
-fn replaced_by_a_longer_text(rt: HostRuntime) {
-    let list = texts(&rt, rt.alloc(), "a");
-    on_each(&rt, rt.alloc(), list, 2 * CHARACTERS, replace)
+fn replaced_by_a_longer_text(rt: HostRuntime) -> Result<(), Fail> {
+    let test = Test::new(rt.alloc());
+    let list = texts(&test, rt.alloc(), "a");
+    on_each(&test, rt.alloc(), list, 2 * CHARACTERS, replace);
+    test.end()
 }
 
 fn replace(alloc: Global, text: &String) -> Result<usize, AllocError> {
@@ -149,8 +162,10 @@ fn replace(alloc: Global, text: &String) -> Result<usize, AllocError> {
 }
 
 #[test]
-fn extended_by_texts(rt: HostRuntime) {
-    on_whole_list(&rt, rt.alloc(), extend)
+fn extended_by_texts(rt: HostRuntime) -> Result<(), Fail> {
+    let test = Test::new(rt.alloc());
+    on_whole_list(&test, rt.alloc(), extend);
+    test.end()
 }
 
 fn extend(alloc: Global, list: &[String]) -> Result<usize, AllocError> {
@@ -160,9 +175,11 @@ fn extend(alloc: Global, list: &[String]) -> Result<usize, AllocError> {
 }
 
 #[test]
-fn compared_with_texts(rt: HostRuntime) {
-    let list = values(&rt, rt.alloc());
-    on_each(&rt, rt.alloc(), list, 1, compare_with_text)
+fn compared_with_texts(rt: HostRuntime) -> Result<(), Fail> {
+    let test = Test::new(rt.alloc());
+    let list = values(&test, rt.alloc());
+    on_each(&test, rt.alloc(), list, 1, compare_with_text);
+    test.end()
 }
 
 fn compare_with_text(_alloc: Global, value: &SmolStr) -> Result<usize, AllocError> {
@@ -170,9 +187,11 @@ fn compare_with_text(_alloc: Global, value: &SmolStr) -> Result<usize, AllocErro
 }
 
 #[test]
-fn collected_from_characters(rt: HostRuntime) {
-    let list = texts(&rt, rt.alloc(), "é");
-    on_each(&rt, rt.alloc(), list, 2 * CHARACTERS, collect)
+fn collected_from_characters(rt: HostRuntime) -> Result<(), Fail> {
+    let test = Test::new(rt.alloc());
+    let list = texts(&test, rt.alloc(), "é");
+    on_each(&test, rt.alloc(), list, 2 * CHARACTERS, collect);
+    test.end()
 }
 
 fn collect(alloc: Global, text: &String) -> Result<usize, AllocError> {
@@ -180,9 +199,11 @@ fn collect(alloc: Global, text: &String) -> Result<usize, AllocError> {
 }
 
 #[test]
-fn appended_character_by_character(rt: HostRuntime) {
-    let list = texts(&rt, rt.alloc(), "a");
-    on_each(&rt, rt.alloc(), list, CHARACTERS, append_characters)
+fn appended_character_by_character(rt: HostRuntime) -> Result<(), Fail> {
+    let test = Test::new(rt.alloc());
+    let list = texts(&test, rt.alloc(), "a");
+    on_each(&test, rt.alloc(), list, CHARACTERS, append_characters);
+    test.end()
 }
 
 fn append_characters(alloc: Global, text: &String) -> Result<usize, AllocError> {
@@ -194,8 +215,10 @@ fn append_characters(alloc: Global, text: &String) -> Result<usize, AllocError> 
 }
 
 #[test]
-fn appended_text_by_text(rt: HostRuntime) {
-    on_whole_list(&rt, rt.alloc(), append_texts)
+fn appended_text_by_text(rt: HostRuntime) -> Result<(), Fail> {
+    let test = Test::new(rt.alloc());
+    on_whole_list(&test, rt.alloc(), append_texts);
+    test.end()
 }
 
 fn append_texts(alloc: Global, list: &[String]) -> Result<usize, AllocError> {
@@ -207,9 +230,11 @@ fn append_texts(alloc: Global, list: &[String]) -> Result<usize, AllocError> {
 }
 
 #[test]
-fn in_lowercase(rt: HostRuntime) {
-    let list = texts(&rt, rt.alloc(), "A");
-    on_each(&rt, rt.alloc(), list, CHARACTERS, make_lowercase)
+fn in_lowercase(rt: HostRuntime) -> Result<(), Fail> {
+    let test = Test::new(rt.alloc());
+    let list = texts(&test, rt.alloc(), "A");
+    on_each(&test, rt.alloc(), list, CHARACTERS, make_lowercase);
+    test.end()
 }
 
 fn make_lowercase(alloc: Global, text: &String) -> Result<usize, AllocError> {
@@ -217,9 +242,11 @@ fn make_lowercase(alloc: Global, text: &String) -> Result<usize, AllocError> {
 }
 
 #[test]
-fn in_uppercase_past_ascii(rt: HostRuntime) {
-    let list = texts(&rt, rt.alloc(), "é");
-    on_each(&rt, rt.alloc(), list, 2 * CHARACTERS, make_uppercase)
+fn in_uppercase_past_ascii(rt: HostRuntime) -> Result<(), Fail> {
+    let test = Test::new(rt.alloc());
+    let list = texts(&test, rt.alloc(), "é");
+    on_each(&test, rt.alloc(), list, 2 * CHARACTERS, make_uppercase);
+    test.end()
 }
 
 fn make_uppercase(alloc: Global, text: &String) -> Result<usize, AllocError> {
@@ -227,12 +254,14 @@ fn make_uppercase(alloc: Global, text: &String) -> Result<usize, AllocError> {
 }
 
 #[test]
-fn compared(rt: HostRuntime) {
-    let (list, mut total) = (values(&rt, rt.alloc()), 0usize);
+fn compared(rt: HostRuntime) -> Result<(), Fail> {
+    let test = Test::new(rt.alloc());
+    let (list, mut total) = (values(&test, rt.alloc()), 0usize);
     for _ in 0..TIMES {
         total = total.saturating_add(count_less(list.as_slice()));
     }
-    check(&rt, total, CHARACTERS);
+    check(&test, total, CHARACTERS);
+    test.end()
 }
 
 /// How often a value of the list is less than one of them.
@@ -249,13 +278,15 @@ fn count_less(list: &[SmolStr]) -> usize {
 }
 
 #[test]
-fn equal(rt: HostRuntime) {
-    let (list, others) = (values(&rt, rt.alloc()), values(&rt, rt.alloc()));
+fn equal(rt: HostRuntime) -> Result<(), Fail> {
+    let test = Test::new(rt.alloc());
+    let (list, others) = (values(&test, rt.alloc()), values(&test, rt.alloc()));
     let mut total = 0usize;
     for _ in 0..TIMES {
         total = total.saturating_add(count_equal(list.as_slice(), others.as_slice()));
     }
-    check(&rt, total, TEXTS);
+    check(&test, total, TEXTS);
+    test.end()
 }
 
 /// How many values equal the one at their place in the other list.
@@ -268,9 +299,11 @@ fn count_equal(list: &[SmolStr], others: &[SmolStr]) -> usize {
 }
 
 #[test]
-fn cloned(rt: HostRuntime) {
-    let list = values(&rt, rt.alloc());
-    check(&rt, ok(&rt, clone_all(list.as_slice())), CHARACTERS)
+fn cloned(rt: HostRuntime) -> Result<(), Fail> {
+    let test = Test::new(rt.alloc());
+    let list = values(&test, rt.alloc());
+    check(&test, ok(&test, clone_all(list.as_slice())), CHARACTERS);
+    test.end()
 }
 
 // Its loop is its own: a call of an operation would cost more than a clone does.
@@ -285,9 +318,11 @@ fn clone_all(list: &[SmolStr]) -> Result<usize, AllocError> {
 }
 
 #[test]
-fn through_a_string(rt: HostRuntime) {
-    let list = texts(&rt, rt.alloc(), "a");
-    on_each(&rt, rt.alloc(), list, CHARACTERS, make_string)
+fn through_a_string(rt: HostRuntime) -> Result<(), Fail> {
+    let test = Test::new(rt.alloc());
+    let list = texts(&test, rt.alloc(), "a");
+    on_each(&test, rt.alloc(), list, CHARACTERS, make_string);
+    test.end()
 }
 
 fn make_string(alloc: Global, text: &String) -> Result<usize, AllocError> {
@@ -296,9 +331,11 @@ fn make_string(alloc: Global, text: &String) -> Result<usize, AllocError> {
 }
 
 #[test]
-fn printed(rt: HostRuntime) {
-    let list = values(&rt, rt.alloc());
-    on_each(&rt, rt.alloc(), list, 110, print_length)
+fn printed(rt: HostRuntime) -> Result<(), Fail> {
+    let test = Test::new(rt.alloc());
+    let list = values(&test, rt.alloc());
+    on_each(&test, rt.alloc(), list, 110, print_length);
+    test.end()
 }
 
 fn print_length(alloc: Global, value: &SmolStr) -> Result<usize, FormatError> {
@@ -306,9 +343,11 @@ fn print_length(alloc: Global, value: &SmolStr) -> Result<usize, FormatError> {
 }
 
 #[test]
-fn through_json(rt: HostRuntime) {
-    let list = values(&rt, rt.alloc());
-    on_each(&rt, rt.alloc(), list, CHARACTERS, make_json)
+fn through_json(rt: HostRuntime) -> Result<(), Fail> {
+    let test = Test::new(rt.alloc());
+    let list = values(&test, rt.alloc());
+    on_each(&test, rt.alloc(), list, CHARACTERS, make_json);
+    test.end()
 }
 
 fn make_json(alloc: Global, value: &SmolStr) -> Result<usize, JsonFault> {
@@ -317,9 +356,11 @@ fn make_json(alloc: Global, value: &SmolStr) -> Result<usize, JsonFault> {
 }
 
 #[test]
-fn written_and_read(rt: HostRuntime) {
-    let list = values(&rt, rt.alloc());
-    on_each(&rt, rt.alloc(), list, CHARACTERS, write_and_read)
+fn written_and_read(rt: HostRuntime) -> Result<(), Fail> {
+    let test = Test::new(rt.alloc());
+    let list = values(&test, rt.alloc());
+    on_each(&test, rt.alloc(), list, CHARACTERS, write_and_read);
+    test.end()
 }
 
 fn write_and_read(alloc: Global, value: &SmolStr) -> Result<usize, &'static str> {
@@ -338,9 +379,11 @@ fn form_of(alloc: Global, value: &SmolStr) -> Result<Vec<u8>, EncodeFault> {
 }
 
 #[test]
-fn read_from_bytes(rt: HostRuntime) {
-    let list = forms(&rt, rt.alloc());
-    on_each(&rt, rt.alloc(), list, CHARACTERS, read)
+fn read_from_bytes(rt: HostRuntime) -> Result<(), Fail> {
+    let test = Test::new(rt.alloc());
+    let list = forms(&test, rt.alloc());
+    on_each(&test, rt.alloc(), list, CHARACTERS, read);
+    test.end()
 }
 
 fn read(alloc: Global, form: &Vec<u8>) -> Result<usize, DecodeFault> {
@@ -348,23 +391,25 @@ fn read(alloc: Global, form: &Vec<u8>) -> Result<usize, DecodeFault> {
 }
 
 /// The wire forms of a list of values.
-fn forms(rt: &impl Abort, alloc: Global) -> Vec<Vec<u8>> {
-    let list = values(rt, alloc);
-    forms_of(rt, alloc, list.as_slice())
+fn forms(test: &Test, alloc: Global) -> Vec<Vec<u8>> {
+    let list = values(test, alloc);
+    forms_of(test, alloc, list.as_slice())
 }
 
-fn forms_of(rt: &impl Abort, alloc: Global, list: &[SmolStr]) -> Vec<Vec<u8>> {
+fn forms_of(test: &Test, alloc: Global, list: &[SmolStr]) -> Vec<Vec<u8>> {
     let mut forms = Vec::new(alloc);
     for value in list {
-        ok(rt, forms.push(ok(rt, form_of(alloc, value))));
+        ok(test, forms.push(ok(test, form_of(alloc, value))));
     }
     forms
 }
 
 #[test]
-fn found(rt: HostRuntime) {
-    let list = texts(&rt, rt.alloc(), "ab");
-    on_each(&rt, rt.alloc(), list, TEXTS - 2, find)
+fn found(rt: HostRuntime) -> Result<(), Fail> {
+    let test = Test::new(rt.alloc());
+    let list = texts(&test, rt.alloc(), "ab");
+    on_each(&test, rt.alloc(), list, TEXTS - 2, find);
+    test.end()
 }
 
 fn find(_alloc: Global, text: &String) -> Result<usize, AllocError> {

@@ -1,10 +1,11 @@
 //! Where texts are kept.
-use super::rows::{has_text, in_place, is_so, ok_string, ok_value, same_count, same_str};
-use super::same::{holds, ok};
 use smol_str::{BLANK_NEWLINES, BLANK_SPACES, INLINE_CAP, InlineBuffer, Place, SmolStr};
 use std::alloc::{AllocError, Global};
-use std::process::Abort;
+use std::test::Fail;
 use test_support::builders::builder_of;
+use test_support::test::{
+    Test, has_text, holds, in_place, is_so, ok, ok_string, ok_value, same_count, same_str,
+};
 use test_support::texts::{full_text, long_text, repeated, repeated_and};
 
 /// A text so many times and then an end, and the place of the value.
@@ -43,25 +44,29 @@ static BLANKS: [(usize, usize, usize, Place); 17] = [
 ];
 
 #[test]
-fn new_places(rt: HostRuntime) {
+fn new_places(rt: HostRuntime) -> Result<(), Fail> {
+    let test = Test::new(rt.alloc());
     for &(piece, times, end, place) in &PLACES {
-        let text = ok_string(&rt, repeated_and(rt.alloc(), piece, times, end));
-        assert_new(&rt, rt.alloc(), text.as_str(), place);
+        let text = ok_string(&test, repeated_and(rt.alloc(), piece, times, end));
+        assert_new(&test, rt.alloc(), text.as_str(), place);
     }
+    test.end()
 }
 
 #[test]
-fn blank_places(rt: HostRuntime) {
+fn blank_places(rt: HostRuntime) -> Result<(), Fail> {
+    let test = Test::new(rt.alloc());
     for &(newlines, spaces, more, place) in &BLANKS {
-        let text = ok_string(&rt, blank(rt.alloc(), newlines, spaces, more));
-        assert_new(&rt, rt.alloc(), text.as_str(), place);
+        let text = ok_string(&test, blank(rt.alloc(), newlines, spaces, more));
+        assert_new(&test, rt.alloc(), text.as_str(), place);
     }
+    test.end()
 }
 
-fn assert_new(rt: &impl Abort, alloc: Global, text: &str, place: Place) {
+fn assert_new(test: &Test, alloc: Global, text: &str, place: Place) {
     has_text(
-        rt,
-        &ok_value(rt, SmolStr::new(alloc, text)),
+        test,
+        &ok_value(test, SmolStr::new(alloc, text)),
         text,
         place,
         text,
@@ -80,7 +85,8 @@ fn blank(
 }
 
 #[test]
-fn const_fn_ctor(rt: HostRuntime) {
+fn const_fn_ctor(rt: HostRuntime) -> Result<(), Fail> {
+    let test = Test::new(rt.alloc());
     for text in [
         "",
         "A",
@@ -89,28 +95,35 @@ fn const_fn_ctor(rt: HostRuntime) {
         "                       ",
         full_text(),
     ] {
-        assert_inline(&rt, rt.alloc(), text);
+        assert_inline(&test, rt.alloc(), text);
     }
+    test.end()
 }
 
-fn assert_inline(rt: &impl Abort, alloc: Global, text: &str) {
+fn assert_inline(test: &Test, alloc: Global, text: &str) {
     if text.len() > INLINE_CAP {
-        panic!(rt; "{text} is too long");
+        return test.fail(&(text, "is too long"));
     }
     let value = SmolStr::new_inline(text);
-    assert_equals_new(rt, alloc, &value, text);
-    in_place(rt, &value, Place::Inline, text);
+    assert_equals_new(test, alloc, &value, text);
+    in_place(test, &value, Place::Inline, text);
 }
 
-fn assert_equals_new(rt: &impl Abort, alloc: Global, value: &SmolStr, text: &str) {
-    is_so(rt, *value == ok_value(rt, SmolStr::new(alloc, text)), text);
+fn assert_equals_new(test: &Test, alloc: Global, value: &SmolStr, text: &str) {
+    is_so(
+        test,
+        *value == ok_value(test, SmolStr::new(alloc, text)),
+        text,
+    );
 }
 
 #[test]
-fn default_value(rt: HostRuntime) {
+fn default_value(rt: HostRuntime) -> Result<(), Fail> {
+    let test = Test::new(rt.alloc());
     let value = SmolStr::default();
-    has_text(&rt, &value, "", Place::Inline, "default");
-    assert_equals_new(&rt, rt.alloc(), &value, "")
+    has_text(&test, &value, "", Place::Inline, "default");
+    assert_equals_new(&test, rt.alloc(), &value, "");
+    test.end()
 }
 
 /// The text of so many characters, the given ones in turn.
@@ -125,75 +138,92 @@ fn in_turn(alloc: Global, characters: &[char], count: usize) -> Result<String, A
 }
 
 /// Texts of 0 to 400 characters, the given ones in turn, are kept as they are.
-fn assert_round_trips(rt: &impl Abort, alloc: Global, characters: &[char]) {
+fn assert_round_trips(test: &Test, alloc: Global, characters: &[char]) {
     for count in 0..=400usize {
-        let text = ok_string(rt, in_turn(alloc, characters, count));
-        let value = ok_value(rt, SmolStr::new(alloc, text.as_str()));
-        assert_keeps(rt, &value, text.as_str(), count);
+        let text = ok_string(test, in_turn(alloc, characters, count));
+        let value = ok_value(test, SmolStr::new(alloc, text.as_str()));
+        assert_keeps(test, &value, text.as_str(), count);
     }
 }
 
-fn assert_keeps(rt: &impl Abort, value: &SmolStr, text: &str, count: usize) {
-    same_str(rt, value.as_str(), text, "round trip");
-    same_count(rt, value.len(), text.len(), text);
+fn assert_keeps(test: &Test, value: &SmolStr, text: &str, count: usize) {
+    same_str(test, value.as_str(), text, "round trip");
+    same_count(test, value.len(), text.len(), text);
     is_so(
-        rt,
+        test,
         text.len() > INLINE_CAP || !value.is_heap_allocated(),
         text,
     );
-    is_so(rt, value.is_empty() == (count == 0), text);
+    is_so(test, value.is_empty() == (count == 0), text);
 }
 
 #[test]
-fn roundtrip(rt: HostRuntime) {
-    assert_round_trips(&rt, rt.alloc(), &['a', 'é', '€', '🦀'])
+fn roundtrip(rt: HostRuntime) -> Result<(), Fail> {
+    let test = Test::new(rt.alloc());
+    assert_round_trips(&test, rt.alloc(), &['a', 'é', '€', '🦀']);
+    test.end()
 }
 
 #[test]
-fn roundtrip_spaces(rt: HostRuntime) {
-    assert_round_trips(&rt, rt.alloc(), &[' '])
+fn roundtrip_spaces(rt: HostRuntime) -> Result<(), Fail> {
+    let test = Test::new(rt.alloc());
+    assert_round_trips(&test, rt.alloc(), &[' ']);
+    test.end()
 }
 
 #[test]
-fn roundtrip_newlines(rt: HostRuntime) {
-    assert_round_trips(&rt, rt.alloc(), &['\n'])
+fn roundtrip_newlines(rt: HostRuntime) -> Result<(), Fail> {
+    let test = Test::new(rt.alloc());
+    assert_round_trips(&test, rt.alloc(), &['\n']);
+    test.end()
 }
 
 #[test]
-fn roundtrip_ws(rt: HostRuntime) {
-    assert_round_trips(&rt, rt.alloc(), &['\n', ' '])
+fn roundtrip_ws(rt: HostRuntime) -> Result<(), Fail> {
+    let test = Test::new(rt.alloc());
+    assert_round_trips(&test, rt.alloc(), &['\n', ' ']);
+    test.end()
 }
 
 // The buffer, a byte for the length, and a word for the place.
 #[test]
-fn size_of_a_value(rt: HostRuntime) {
-    same_count(&rt, size_of::<SmolStr>(), INLINE_CAP + 1 + 8, "a value");
+fn size_of_a_value(rt: HostRuntime) -> Result<(), Fail> {
+    let test = Test::new(rt.alloc());
+    same_count(&test, size_of::<SmolStr>(), INLINE_CAP + 1 + 8, "a value");
+    test.end()
 }
 
 // The text's bytes, and zeros: of a value and of a builder that are inline, and of no other.
 #[test]
-fn inline_buffers(rt: HostRuntime) {
-    let value = ok_value(&rt, SmolStr::new(rt.alloc(), "ab"));
-    assert_holds_ab(&rt, value.inline_buffer());
-    let builder = ok(&rt, builder_of(rt.alloc(), 0, "ab"));
-    assert_holds_ab(&rt, builder.inline_buffer());
+fn inline_buffers(rt: HostRuntime) -> Result<(), Fail> {
+    let test = Test::new(rt.alloc());
+    let value = ok_value(&test, SmolStr::new(rt.alloc(), "ab"));
+    assert_holds_ab(&test, value.inline_buffer());
+    let builder = ok(&test, builder_of(rt.alloc(), 0, "ab"));
+    assert_holds_ab(&test, builder.inline_buffer());
+    test.end()
 }
 
 #[test]
-fn no_inline_buffers(rt: HostRuntime) {
-    assert_no_buffer(&rt, SmolStr::new_static("ab"));
-    assert_no_buffer(&rt, ok_value(&rt, SmolStr::new(rt.alloc(), long_text())));
-    let large = ok(&rt, builder_of(rt.alloc(), 100, "ab"));
-    is_so(&rt, large.inline_buffer().is_none(), "a large builder");
+fn no_inline_buffers(rt: HostRuntime) -> Result<(), Fail> {
+    let test = Test::new(rt.alloc());
+    assert_no_buffer(&test, SmolStr::new_static("ab"));
+    assert_no_buffer(
+        &test,
+        ok_value(&test, SmolStr::new(rt.alloc(), long_text())),
+    );
+    let large = ok(&test, builder_of(rt.alloc(), 100, "ab"));
+    is_so(&test, large.inline_buffer().is_none(), "a large builder");
+    test.end()
 }
 
-fn assert_no_buffer(rt: &impl Abort, value: SmolStr) {
-    is_so(rt, value.inline_buffer().is_none(), value.as_str());
+fn assert_no_buffer(test: &Test, value: SmolStr) {
+    is_so(test, value.inline_buffer().is_none(), value.as_str());
 }
 
-fn assert_holds_ab(rt: &impl Abort, buffer: Option<&InlineBuffer>) {
+fn assert_holds_ab(test: &Test, buffer: Option<&InlineBuffer>) {
     let mut wanted = [0; INLINE_CAP];
     wanted[0] = b'a';
     wanted[1] = b'b';
-    holds(rt, buffer == Some(&wanted), &buffer);
+    holds(test, buffer == Some(&wanted), &buffer);
 }

@@ -1,9 +1,8 @@
 //! Replacement, against outside rows and std's own.
-use super::rows::{ok_string, ok_strings, ok_value};
-use super::same::{same_text, same_value};
 use smol_str::{INLINE_CAP, Place, SmolStr, StrExt};
 use std::alloc::{AllocError, Global};
-use std::process::Abort;
+use std::test::Fail;
+use test_support::test::{Test, ok_string, ok_strings, ok_value, same_text, same_value};
 use test_support::texts::{repeated, repeated_and, small_texts};
 
 /// A text, a pattern, what stands in its place, at most how often, and the result.
@@ -49,29 +48,33 @@ pub fn upstream_rows() -> &'static [Row] {
 }
 
 #[test]
-fn rows(rt: HostRuntime) {
-    assert_rows(&rt, rt.alloc(), table())
+fn rows(rt: HostRuntime) -> Result<(), Fail> {
+    let test = Test::new(rt.alloc());
+    assert_rows(&test, rt.alloc(), table());
+    test.end()
 }
 
-pub fn assert_rows(rt: &impl Abort, alloc: Global, rows: &[Row]) {
+pub fn assert_rows(test: &Test, alloc: Global, rows: &[Row]) {
     for &(text, from, to, count, wanted) in rows {
-        let value = ok_value(rt, text.replacen_smolstr(alloc, from, to, count));
-        assert_made(rt, &value, wanted, [from, to, text], count);
+        let value = ok_value(test, text.replacen_smolstr(alloc, from, to, count));
+        assert_made(test, &value, wanted, [from, to, text], count);
     }
 }
 
 #[test]
-fn rows_without_a_limit(rt: HostRuntime) {
+fn rows_without_a_limit(rt: HostRuntime) -> Result<(), Fail> {
+    let test = Test::new(rt.alloc());
     for &(text, from, to, count, wanted) in table() {
         if count == usize::MAX {
-            let value = ok_value(&rt, text.replace_smolstr(rt.alloc(), from, to));
-            assert_made(&rt, &value, wanted, [from, to, text], count);
+            let value = ok_value(&test, text.replace_smolstr(rt.alloc(), from, to));
+            assert_made(&test, &value, wanted, [from, to, text], count);
         }
     }
+    test.end()
 }
 
-fn assert_made(rt: &impl Abort, value: &SmolStr, wanted: &str, texts: [&str; 3], count: usize) {
-    same_value(rt, value, wanted, Place::Inline, &(texts, count));
+fn assert_made(test: &Test, value: &SmolStr, wanted: &str, texts: [&str; 3], count: usize) {
+    same_value(test, value, wanted, Place::Inline, &(texts, count));
 }
 
 /// A text so many times, a pattern, what stands in its place, at most how often, the result as two
@@ -153,18 +156,20 @@ static LONG: [LongRow; 7] = [
 ];
 
 #[test]
-fn long_rows(rt: HostRuntime) {
+fn long_rows(rt: HostRuntime) -> Result<(), Fail> {
+    let test = Test::new(rt.alloc());
     for row in &LONG {
-        assert_long_row(&rt, rt.alloc(), row);
+        assert_long_row(&test, rt.alloc(), row);
     }
+    test.end()
 }
 
-fn assert_long_row(rt: &impl Abort, alloc: Global, row: &LongRow) {
+fn assert_long_row(test: &Test, alloc: Global, row: &LongRow) {
     let (text, from, to, count, front, end, place) = *row;
-    let text = ok_string(rt, repeated(alloc, text.0, text.1));
-    let value = ok_value(rt, text.as_str().replacen_smolstr(alloc, from, to, count));
-    let wanted = ok_string(rt, joined(alloc, front, end));
-    same_value(rt, &value, wanted.as_str(), place, &([from, to], count));
+    let text = ok_string(test, repeated(alloc, text.0, text.1));
+    let value = ok_value(test, text.as_str().replacen_smolstr(alloc, from, to, count));
+    let wanted = ok_string(test, joined(alloc, front, end));
+    same_value(test, &value, wanted.as_str(), place, &([from, to], count));
 }
 
 /// Two texts so many times, one after the other.
@@ -185,34 +190,29 @@ fn case<'a>(text: &'a str, from: &'a str, turn: usize) -> [&'a str; 3] {
 
 /// Every small text and pattern at these limits, where `None` is `replace`; two are a quarter of a million cases: enough
 /// for one test.
-fn assert_at_limits(rt: &impl Abort, alloc: Global, limits: &[Option<usize>]) {
-    let texts = ok_strings(rt, small_texts(alloc, 7));
-    let patterns = ok_strings(rt, small_texts(alloc, 3));
+fn assert_at_limits(test: &Test, alloc: Global, limits: &[Option<usize>]) {
+    let texts = ok_strings(test, small_texts(alloc, 7));
+    let patterns = ok_strings(test, small_texts(alloc, 3));
     for (i, text) in texts.iter().enumerate() {
         for (j, pattern) in patterns.iter().enumerate() {
             let row = (text.as_str(), pattern.as_str(), i.wrapping_add(j));
-            assert_replaced(rt, alloc, row, limits);
+            assert_replaced(test, alloc, row, limits);
         }
     }
 }
 
-fn assert_replaced(
-    rt: &impl Abort,
-    alloc: Global,
-    row: (&str, &str, usize),
-    limits: &[Option<usize>],
-) {
+fn assert_replaced(test: &Test, alloc: Global, row: (&str, &str, usize), limits: &[Option<usize>]) {
     let (text, from, turn) = row;
     for limit in limits {
         let texts = case(text, from, turn.wrapping_add(limit.unwrap_or(0)));
-        assert_replaced_at(rt, alloc, texts, *limit);
+        assert_replaced_at(test, alloc, texts, *limit);
     }
 }
 
-fn assert_replaced_at(rt: &impl Abort, alloc: Global, texts: [&str; 3], limit: Option<usize>) {
-    let value = ok_value(rt, replaced(alloc, texts, limit));
-    let wanted = ok_string(rt, replaced_by_std(alloc, texts, limit));
-    same_text(rt, value.as_str(), wanted.as_str(), &(texts, limit));
+fn assert_replaced_at(test: &Test, alloc: Global, texts: [&str; 3], limit: Option<usize>) {
+    let value = ok_value(test, replaced(alloc, texts, limit));
+    let wanted = ok_string(test, replaced_by_std(alloc, texts, limit));
+    same_text(test, value.as_str(), wanted.as_str(), &(texts, limit));
 }
 
 fn replaced(alloc: Global, texts: [&str; 3], limit: Option<usize>) -> Result<SmolStr, AllocError> {
@@ -236,31 +236,43 @@ fn replaced_by_std(
 }
 
 #[test]
-fn replaces_as_std_does_at_0_and_1(rt: HostRuntime) {
-    assert_at_limits(&rt, rt.alloc(), &[Some(0), Some(1)])
+fn replaces_as_std_does_at_0_and_1(rt: HostRuntime) -> Result<(), Fail> {
+    let test = Test::new(rt.alloc());
+    assert_at_limits(&test, rt.alloc(), &[Some(0), Some(1)]);
+    test.end()
 }
 
 #[test]
-fn replaces_as_std_does_at_2_and_3(rt: HostRuntime) {
-    assert_at_limits(&rt, rt.alloc(), &[Some(2), Some(3)])
+fn replaces_as_std_does_at_2_and_3(rt: HostRuntime) -> Result<(), Fail> {
+    let test = Test::new(rt.alloc());
+    assert_at_limits(&test, rt.alloc(), &[Some(2), Some(3)]);
+    test.end()
 }
 
 #[test]
-fn replaces_as_std_does_at_4_and_5(rt: HostRuntime) {
-    assert_at_limits(&rt, rt.alloc(), &[Some(4), Some(5)])
+fn replaces_as_std_does_at_4_and_5(rt: HostRuntime) -> Result<(), Fail> {
+    let test = Test::new(rt.alloc());
+    assert_at_limits(&test, rt.alloc(), &[Some(4), Some(5)]);
+    test.end()
 }
 
 #[test]
-fn replaces_as_std_does_at_6_and_7(rt: HostRuntime) {
-    assert_at_limits(&rt, rt.alloc(), &[Some(6), Some(7)])
+fn replaces_as_std_does_at_6_and_7(rt: HostRuntime) -> Result<(), Fail> {
+    let test = Test::new(rt.alloc());
+    assert_at_limits(&test, rt.alloc(), &[Some(6), Some(7)]);
+    test.end()
 }
 
 #[test]
-fn replaces_as_std_does_at_8_and_9(rt: HostRuntime) {
-    assert_at_limits(&rt, rt.alloc(), &[Some(8), Some(9)])
+fn replaces_as_std_does_at_8_and_9(rt: HostRuntime) -> Result<(), Fail> {
+    let test = Test::new(rt.alloc());
+    assert_at_limits(&test, rt.alloc(), &[Some(8), Some(9)]);
+    test.end()
 }
 
 #[test]
-fn replaces_all_as_std_does(rt: HostRuntime) {
-    assert_at_limits(&rt, rt.alloc(), &[None])
+fn replaces_all_as_std_does(rt: HostRuntime) -> Result<(), Fail> {
+    let test = Test::new(rt.alloc());
+    assert_at_limits(&test, rt.alloc(), &[None]);
+    test.end()
 }

@@ -1,10 +1,11 @@
 //! Case, against outside rows and std's own mappings, which only tests see printed.
 use super::replace::{assert_rows, upstream_rows};
-use super::rows::{in_place, ok_string, ok_value, same_count, same_str};
-use super::same::{holds, same_value};
 use smol_str::{INLINE_CAP, Place, SmolStr, StrExt};
 use std::alloc::{AllocError, Global};
-use std::process::Abort;
+use std::test::Fail;
+use test_support::test::{
+    Test, holds, in_place, ok_string, ok_value, same_count, same_str, same_value,
+};
 use test_support::texts::{long_blank, long_capitals, long_text, repeated};
 
 /// A case call.
@@ -67,75 +68,78 @@ static ROWS: [(Call, &str, &str, Place); 15] = [
 
 // Upstream's rows are among these.
 #[test]
-fn test_str_ext(rt: HostRuntime) {
+fn test_str_ext(rt: HostRuntime) -> Result<(), Fail> {
+    let test = Test::new(rt.alloc());
     for &(call, text, wanted, place) in &ROWS {
-        assert_answer(&rt, rt.alloc(), call, text, wanted, place);
+        assert_answer(&test, rt.alloc(), call, text, wanted, place);
     }
-    assert_rows(&rt, rt.alloc(), upstream_rows())
+    assert_rows(&test, rt.alloc(), upstream_rows());
+    test.end()
 }
 
 #[test]
-fn long_rows(rt: HostRuntime) {
+fn long_rows(rt: HostRuntime) -> Result<(), Fail> {
+    let test = Test::new(rt.alloc());
     let alloc = rt.alloc();
     let (capitals, text, blank) = (long_capitals(), long_text(), long_blank());
-    assert_answer(&rt, alloc, Call::AsciiLower, capitals, text, Place::Heap);
-    assert_answer(&rt, alloc, Call::AsciiUpper, blank, blank, Place::Static);
-    assert_answer(&rt, alloc, Call::Lower, blank, blank, Place::Static)
+    assert_answer(&test, alloc, Call::AsciiLower, capitals, text, Place::Heap);
+    assert_answer(&test, alloc, Call::AsciiUpper, blank, blank, Place::Static);
+    assert_answer(&test, alloc, Call::Lower, blank, blank, Place::Static);
+    test.end()
 }
 
-fn assert_answer(
-    rt: &impl Abort,
-    alloc: Global,
-    call: Call,
-    text: &str,
-    wanted: &str,
-    place: Place,
-) {
-    let value = ok_value(rt, answer(alloc, call, text));
-    same_value(rt, &value, wanted, place, &(call, text));
+fn assert_answer(test: &Test, alloc: Global, call: Call, text: &str, wanted: &str, place: Place) {
+    let value = ok_value(test, answer(alloc, call, text));
+    same_value(test, &value, wanted, place, &(call, text));
 }
 
 // A short text can become longer than the buffer, and a long one shorter.
 #[test]
-fn sizes_that_grow(rt: HostRuntime) {
-    let text = ok_string(&rt, repeated(rt.alloc(), "ΐ", INLINE_CAP / 2));
+fn sizes_that_grow(rt: HostRuntime) -> Result<(), Fail> {
+    let test = Test::new(rt.alloc());
+    let text = ok_string(&test, repeated(rt.alloc(), "ΐ", INLINE_CAP / 2));
     let upper = text.as_str().to_uppercase_smolstr(rt.alloc());
-    assert_size(&rt, upper, 6 * (INLINE_CAP / 2), Place::Heap, "longer")
+    assert_size(&test, upper, 6 * (INLINE_CAP / 2), Place::Heap, "longer");
+    test.end()
 }
 
 #[test]
-fn sizes_that_shrink(rt: HostRuntime) {
-    let kelvins = ok_string(&rt, repeated(rt.alloc(), "\u{212A}", INLINE_CAP / 3 + 1));
+fn sizes_that_shrink(rt: HostRuntime) -> Result<(), Fail> {
+    let test = Test::new(rt.alloc());
+    let kelvins = ok_string(&test, repeated(rt.alloc(), "\u{212A}", INLINE_CAP / 3 + 1));
     let lower = kelvins.as_str().to_lowercase_smolstr(rt.alloc());
-    assert_size(&rt, lower, INLINE_CAP / 3 + 1, Place::Inline, "shorter")
+    assert_size(&test, lower, INLINE_CAP / 3 + 1, Place::Inline, "shorter");
+    test.end()
 }
 
 fn assert_size(
-    rt: &impl Abort,
+    test: &Test,
     made: Result<SmolStr, AllocError>,
     len: usize,
     place: Place,
     row: &str,
 ) {
-    let value = ok_value(rt, made);
-    in_place(rt, &value, place, row);
-    same_count(rt, value.len(), len, row);
+    let value = ok_value(test, made);
+    in_place(test, &value, place, row);
+    same_count(test, value.len(), len, row);
 }
 
 // Each character that has a mapping: alone, between letters, and behind a text that is not short.
 #[test]
-fn maps_as_std_does(rt: HostRuntime) {
-    let long = ok_string(&rt, repeated(rt.alloc(), "A", INLINE_CAP));
+fn maps_as_std_does(rt: HostRuntime) -> Result<(), Fail> {
+    let test = Test::new(rt.alloc());
+    let long = ok_string(&test, repeated(rt.alloc(), "A", INLINE_CAP));
     let mut mapped = 0u32;
     for number in 0x80..0x2FFFFu32 {
         if let Some(character) = char::from_u32(number) {
             if has_mapping(character) {
-                assert_mappings(&rt, rt.alloc(), character, long.as_str());
+                assert_mappings(&test, rt.alloc(), character, long.as_str());
                 mapped = mapped.saturating_add(1);
             }
         }
     }
-    holds(&rt, mapped > 2500, &mapped);
+    holds(&test, mapped > 2500, &mapped);
+    test.end()
 }
 
 fn has_mapping(character: char) -> bool {
@@ -144,7 +148,7 @@ fn has_mapping(character: char) -> bool {
     lower != Some(character) || upper != Some(character)
 }
 
-fn assert_mappings(rt: &impl Abort, alloc: Global, character: char, long: &str) {
+fn assert_mappings(test: &Test, alloc: Global, character: char, long: &str) {
     let rows = [
         ("", ""),
         ("a", ""),
@@ -154,9 +158,9 @@ fn assert_mappings(rt: &impl Abort, alloc: Global, character: char, long: &str) 
         (long, "a"),
     ];
     for (before, after) in rows {
-        let text = ok_string(rt, around(alloc, before, character, after));
-        assert_lowercase(rt, alloc, text.as_str());
-        assert_uppercase(rt, alloc, text.as_str());
+        let text = ok_string(test, around(alloc, before, character, after));
+        assert_lowercase(test, alloc, text.as_str());
+        assert_uppercase(test, alloc, text.as_str());
     }
 }
 
@@ -168,14 +172,14 @@ fn around(alloc: Global, before: &str, character: char, after: &str) -> Result<S
     Ok(text)
 }
 
-fn assert_lowercase(rt: &impl Abort, alloc: Global, text: &str) {
-    let value = ok_value(rt, text.to_lowercase_smolstr(alloc));
-    let wanted = ok_string(rt, text.to_lowercase(alloc));
-    same_str(rt, value.as_str(), wanted.as_str(), text);
+fn assert_lowercase(test: &Test, alloc: Global, text: &str) {
+    let value = ok_value(test, text.to_lowercase_smolstr(alloc));
+    let wanted = ok_string(test, text.to_lowercase(alloc));
+    same_str(test, value.as_str(), wanted.as_str(), text);
 }
 
-fn assert_uppercase(rt: &impl Abort, alloc: Global, text: &str) {
-    let value = ok_value(rt, text.to_uppercase_smolstr(alloc));
-    let wanted = ok_string(rt, text.to_uppercase(alloc));
-    same_str(rt, value.as_str(), wanted.as_str(), text);
+fn assert_uppercase(test: &Test, alloc: Global, text: &str) {
+    let value = ok_value(test, text.to_uppercase_smolstr(alloc));
+    let wanted = ok_string(test, text.to_uppercase(alloc));
+    same_str(test, value.as_str(), wanted.as_str(), text);
 }

@@ -4,14 +4,15 @@ ghost use Rattle.std.specs.Str.{chars};
 ghost use Rattle.smol_tokens_core.specs.Report.{report};
 
 use super::rows::answer;
-use super::same::{holds_in, ok_report, ok_text, same_bytes};
+use super::runs::{ok_report, same_bytes};
 use smol_str::INLINE_CAP;
 use smol_tokens_core::fault::RunFault;
 use smol_tokens_core::mode::Mode;
 use smol_tokens_core::run::run;
 use std::alloc::Global;
-use std::process::Abort;
+use std::test::Fail;
 use test_support::state::fixed_state;
+use test_support::test::{Test, is_so, ok_string};
 use test_support::texts::{full_text, long_blank, long_text, repeated};
 
 /// The report by std's reader and writer over memory, and by the promise of `run` what it is.
@@ -48,17 +49,19 @@ fn rows() -> &'static [(&'static [u8], &'static [u8])] {
 }
 
 #[test]
-fn reports(rt: HostRuntime) {
+fn reports(rt: HostRuntime) -> Result<(), Fail> {
+    let test = Test::new(rt.alloc());
     for &(input, wanted) in rows() {
-        check_joined(&rt, rt.alloc(), input, wanted);
+        check_joined(&test, rt.alloc(), input, wanted);
     }
     let is_reported = is_not_utf8(joined(rt.alloc(), b"a\n\xff"));
-    holds_in(&rt, is_reported, "byte FF");
+    is_so(&test, is_reported, "byte FF");
+    test.end()
 }
 
-fn check_joined(rt: &impl Abort, alloc: Global, input: &[u8], wanted: &[u8]) {
-    let out = ok_report(rt, joined(alloc, input));
-    same_bytes(rt, out.as_slice(), wanted, input);
+fn check_joined(test: &Test, alloc: Global, input: &[u8], wanted: &[u8]) {
+    let out = ok_report(test, joined(alloc, input));
+    same_bytes(test, out.as_slice(), wanted, input);
 }
 
 fn is_not_utf8(ended: Result<Vec<u8>, RunFault>) -> bool {
@@ -67,28 +70,30 @@ fn is_not_utf8(ended: Result<Vec<u8>, RunFault>) -> bool {
 
 // Two lines whose text together no buffer has room for; of some neither is too long by itself.
 #[test]
-fn long_together(rt: HostRuntime) {
+fn long_together(rt: HostRuntime) -> Result<(), Fail> {
+    let test = Test::new(rt.alloc());
     let alloc = rt.alloc();
-    check_two(&rt, alloc, long_text(), "if", "heap");
-    check_two(&rt, alloc, full_text(), "a", "heap");
-    check_two(&rt, alloc, long_blank(), " ", "static");
-    let spaces = ok_text(&rt, repeated(alloc, " ", INLINE_CAP));
-    check_two(&rt, alloc, " ", spaces.as_str(), "static")
+    check_two(&test, alloc, long_text(), "if", "heap");
+    check_two(&test, alloc, full_text(), "a", "heap");
+    check_two(&test, alloc, long_blank(), " ", "static");
+    let spaces = ok_string(&test, repeated(alloc, " ", INLINE_CAP));
+    check_two(&test, alloc, " ", spaces.as_str(), "static");
+    test.end()
 }
 
 /// The text of both lines is kept in the place.
-fn check_two(rt: &impl Abort, alloc: Global, first: &str, second: &str, place: &str) {
-    let input = ok_text(rt, format!(in alloc; "{first}\n{second}"));
-    let wanted = answer_to_two(rt, alloc, place, first, second);
+fn check_two(test: &Test, alloc: Global, first: &str, second: &str, place: &str) {
+    let input = ok_string(test, format!(in alloc; "{first}\n{second}"));
+    let wanted = answer_to_two(test, alloc, place, first, second);
     check_joined(
-        rt,
+        test,
         alloc,
         input.as_str().as_bytes(),
         wanted.as_str().as_bytes(),
     )
 }
 
-fn answer_to_two(rt: &impl Abort, alloc: Global, place: &str, first: &str, second: &str) -> String {
-    let together = ok_text(rt, format!(in alloc; "{first}{second}"));
-    ok_text(rt, answer(alloc, place, together.as_str()))
+fn answer_to_two(test: &Test, alloc: Global, place: &str, first: &str, second: &str) -> String {
+    let together = ok_string(test, format!(in alloc; "{first}{second}"));
+    ok_string(test, answer(alloc, place, together.as_str()))
 }

@@ -1,17 +1,17 @@
 //! `run` in every mode, over readers of every step, which end after each byte and fail at each call.
 use super::rows::{Row, Words, all_rows, letters};
-use super::same::{holds, holds_in, ok_bytes};
 use super::words::mode_by;
 use smol_str::stream::PIECE;
 use smol_tokens_core::fault::RunFault;
 use smol_tokens_core::run::run;
 use std::alloc::Global;
 use std::io::ErrorKind;
-use std::process::Abort;
+use std::test::Fail;
 use test_support::state::fixed_state;
 use test_support::streams::{
     Drip, Failure, READ_ERRORS, STEPS, Trickle, empty_drip, is_tried, trickle_of,
 };
+use test_support::test::{Test, holds, is_so, ok_bytes};
 
 /// What `run` returns, without what an error says of itself.
 #[derive(Clone, Copy, PartialEq, Eq, Debug)]
@@ -35,13 +35,13 @@ fn answer_of(ended: Result<(), RunFault>) -> Answer {
 
 /// Runs in the mode of these words.
 pub fn run_by(
-    rt: &impl Abort,
+    test: &Test,
     alloc: Global,
     words: &[&str],
     reader: &mut Trickle<'_>,
     writer: &mut Drip,
 ) -> Answer {
-    let mode = mode_by(rt, alloc, words);
+    let mode = mode_by(test, alloc, words);
     answer_of(run(alloc, fixed_state(), mode, reader, writer))
 }
 
@@ -52,26 +52,26 @@ pub type Case = (Words, usize, usize);
 pub type Ended = (Answer, usize, usize);
 
 /// The run ended as it is to.
-pub fn same_ended(rt: &impl Abort, found: Ended, wanted: Ended, case: Case) {
-    holds(rt, found == wanted, &(case, found, wanted));
+pub fn same_ended(test: &Test, found: Ended, wanted: Ended, case: Case) {
+    holds(test, found == wanted, &(case, found, wanted));
 }
 
 /// It is so in this case.
-pub fn holds_at(rt: &impl Abort, is_so: bool, case: Case) {
-    holds(rt, is_so, &case);
+pub fn holds_at(test: &Test, is_so: bool, case: Case) {
+    holds(test, is_so, &case);
 }
 
 /// Runs into a writer that never fails; no buffer was empty or above a piece.
 fn read_by(
-    rt: &impl Abort,
+    test: &Test,
     alloc: Global,
     words: Words,
     reader: &mut Trickle<'_>,
     writer: &mut Drip,
 ) -> Answer {
-    let answer = run_by(rt, alloc, words, reader, writer);
+    let answer = run_by(test, alloc, words, reader, writer);
     let case = (words, reader.step, reader.fails_at);
-    holds_at(rt, reader.least >= 1 && reader.most <= PIECE, case);
+    holds_at(test, reader.least >= 1 && reader.most <= PIECE, case);
     answer
 }
 
@@ -81,27 +81,29 @@ fn sound_drip(alloc: Global) -> Drip {
 }
 
 #[test]
-fn fails_at_each_call(rt: HostRuntime) {
-    for row in all_rows(&rt, rt.alloc()).iter() {
-        check_row(&rt, rt.alloc(), row);
+fn fails_at_each_call(rt: HostRuntime) -> Result<(), Fail> {
+    let test = Test::new(rt.alloc());
+    for row in all_rows(&test, rt.alloc()).iter() {
+        check_row(&test, rt.alloc(), row);
     }
+    test.end()
 }
 
-fn check_row(rt: &impl Abort, alloc: Global, row: &Row) {
+fn check_row(test: &Test, alloc: Global, row: &Row) {
     for step in STEPS {
-        let calls = check_whole(rt, alloc, row, step);
+        let calls = check_whole(test, alloc, row, step);
         for error in READ_ERRORS {
-            check_failures(rt, alloc, row, step, error, calls);
+            check_failures(test, alloc, row, step, error, calls);
         }
     }
 }
 
 /// The report on the input is written whole, after so many calls: by single bytes each is one, and one more says that
 /// the input has ended.
-fn check_whole(rt: &impl Abort, alloc: Global, row: &Row, step: usize) -> usize {
+fn check_whole(test: &Test, alloc: Global, row: &Row, step: usize) -> usize {
     let mut reader = trickle_of(row.input.as_slice(), step, 0);
     let mut writer = sound_drip(alloc);
-    let answer = read_by(rt, alloc, row.words, &mut reader, &mut writer);
+    let answer = read_by(test, alloc, row.words, &mut reader, &mut writer);
     let calls = if step == 1 {
         row.input.len().saturating_add(1)
     } else {
@@ -109,14 +111,14 @@ fn check_whole(rt: &impl Abort, alloc: Global, row: &Row, step: usize) -> usize 
     };
     let found = (answer, reader.calls, writer.taken.len());
     let wanted = (Answer::Done, calls, row.report.len());
-    same_ended(rt, found, wanted, (row.words, step, 0));
+    same_ended(test, found, wanted, (row.words, step, 0));
     let is_whole = writer.taken.as_slice() == row.report.as_slice();
-    holds_at(rt, is_whole, (row.words, step, 0));
+    holds_at(test, is_whole, (row.words, step, 0));
     calls
 }
 
 fn check_failures(
-    rt: &impl Abort,
+    test: &Test,
     alloc: Global,
     row: &Row,
     step: usize,
@@ -127,18 +129,18 @@ fn check_failures(
         if is_tried(fails_at.saturating_mul(step), row.input.len()) {
             let mut reader = trickle_of(row.input.as_slice(), step, fails_at);
             reader.failure = error;
-            check_failure(rt, alloc, row.words, &mut reader);
+            check_failure(test, alloc, row.words, &mut reader);
         }
     }
 }
 
 /// The reader's error is reported at once, and nothing is written.
-fn check_failure(rt: &impl Abort, alloc: Global, words: Words, reader: &mut Trickle<'_>) {
+fn check_failure(test: &Test, alloc: Global, words: Words, reader: &mut Trickle<'_>) {
     let mut writer = sound_drip(alloc);
-    let answer = read_by(rt, alloc, words, reader, &mut writer);
+    let answer = read_by(test, alloc, words, reader, &mut writer);
     let found = (answer, reader.calls, writer.taken.len());
     let wanted = (Answer::Io(reader.failure), reader.fails_at, 0);
-    same_ended(rt, found, wanted, (words, reader.step, reader.fails_at));
+    same_ended(test, found, wanted, (words, reader.step, reader.fails_at));
 }
 
 /// Characters of one to four bytes, in two lines.
@@ -146,13 +148,15 @@ const CHARACTERS: &str = "aßΔ\nC€🦀";
 
 // An input that ends is whole, and not UTF-8 where it ends within a character.
 #[test]
-fn end_after_each_byte(rt: HostRuntime) {
+fn end_after_each_byte(rt: HostRuntime) -> Result<(), Fail> {
+    let test = Test::new(rt.alloc());
     for &(words, ..) in letters() {
-        check_ends(&rt, rt.alloc(), words);
+        check_ends(&test, rt.alloc(), words);
     }
+    test.end()
 }
 
-fn check_ends(rt: &impl Abort, alloc: Global, words: Words) {
+fn check_ends(test: &Test, alloc: Global, words: Words) {
     let input = CHARACTERS.as_bytes();
     for end in 0..=input.len() {
         let wanted = if CHARACTERS.is_char_boundary(end) {
@@ -160,63 +164,67 @@ fn check_ends(rt: &impl Abort, alloc: Global, words: Words) {
         } else {
             Answer::NotUtf8
         };
-        check_answers(rt, alloc, words, &input[..end], wanted);
+        check_answers(test, alloc, words, &input[..end], wanted);
     }
 }
 
 // The only byte, the last of whole pieces and of a part of one, and a surrogate.
 #[test]
-fn not_utf8(rt: HostRuntime) {
+fn not_utf8(rt: HostRuntime) -> Result<(), Fail> {
+    let test = Test::new(rt.alloc());
     for &(words, ..) in letters() {
-        check_not_utf8(&rt, rt.alloc(), words);
+        check_not_utf8(&test, rt.alloc(), words);
     }
+    test.end()
 }
 
-fn check_not_utf8(rt: &impl Abort, alloc: Global, words: Words) {
+fn check_not_utf8(test: &Test, alloc: Global, words: Words) {
     for count in [0, PIECE - 1, 2 * PIECE, 9000] {
-        let input = ending_badly(rt, alloc, count);
-        check_answers(rt, alloc, words, input.as_slice(), Answer::NotUtf8);
+        let input = ending_badly(test, alloc, count);
+        check_answers(test, alloc, words, input.as_slice(), Answer::NotUtf8);
     }
-    check_answers(rt, alloc, words, b"\xed\xa0\x80\n", Answer::NotUtf8)
+    check_answers(test, alloc, words, b"\xed\xa0\x80\n", Answer::NotUtf8)
 }
 
 // An input longer than every buffer is reported as no UTF-8, and not as out of memory.
 #[test]
-fn long_not_utf8(rt: HostRuntime) {
+fn long_not_utf8(rt: HostRuntime) -> Result<(), Fail> {
+    let test = Test::new(rt.alloc());
     for count in [PIECE, 65_536, 5_000_000] {
-        let input = ending_badly(&rt, rt.alloc(), count);
+        let input = ending_badly(&test, rt.alloc(), count);
         let mut reader = trickle_of(input.as_slice(), PIECE, 0);
-        check_answer(&rt, rt.alloc(), &["show"], &mut reader, Answer::NotUtf8);
+        check_answer(&test, rt.alloc(), &["show"], &mut reader, Answer::NotUtf8);
     }
+    test.end()
 }
 
 /// So many letters, and a byte that no text has.
-fn ending_badly(rt: &impl Abort, alloc: Global, count: usize) -> Vec<u8> {
-    let mut input = ok_bytes(rt, vec![in alloc; b'a'; count]);
-    holds_in(rt, input.push(0xff).is_ok(), "a byte");
+fn ending_badly(test: &Test, alloc: Global, count: usize) -> Vec<u8> {
+    let mut input = ok_bytes(test, vec![in alloc; b'a'; count]);
+    is_so(test, input.push(0xff).is_ok(), "a byte");
     input
 }
 
 /// What is returned by every step, after the whole input came; nothing is written after a fault.
-fn check_answers(rt: &impl Abort, alloc: Global, words: Words, input: &[u8], wanted: Answer) {
+fn check_answers(test: &Test, alloc: Global, words: Words, input: &[u8], wanted: Answer) {
     for step in STEPS {
         let mut reader = trickle_of(input, step, 0);
-        check_answer(rt, alloc, words, &mut reader, wanted);
+        check_answer(test, alloc, words, &mut reader, wanted);
     }
 }
 
 fn check_answer(
-    rt: &impl Abort,
+    test: &Test,
     alloc: Global,
     words: Words,
     reader: &mut Trickle<'_>,
     wanted: Answer,
 ) {
     let mut writer = sound_drip(alloc);
-    let answer = read_by(rt, alloc, words, reader, &mut writer);
+    let answer = read_by(test, alloc, words, reader, &mut writer);
     let is_kept_back = wanted == Answer::Done || writer.taken.is_empty();
     holds(
-        rt,
+        test,
         answer == wanted && reader.rest.is_empty() && is_kept_back,
         &(words, reader.step, answer, wanted),
     );

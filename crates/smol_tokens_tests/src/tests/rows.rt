@@ -1,11 +1,11 @@
 //! Inputs in every mode, and the reports on them.
-use super::same::{holds_in, ok_bytes, ok_run, ok_text};
+use super::runs::ok_run;
 use super::words::mode_by;
 use smol_str::INLINE_CAP;
 use smol_tokens_core::run::run;
 use std::alloc::{AllocError, Global};
-use std::process::Abort;
 use test_support::state::fixed_state;
+use test_support::test::{Test, is_so, ok_bytes, ok_string};
 use test_support::texts::{
     full_text, joined, long_blank, long_capitals, long_text, repeated, repeated_and,
 };
@@ -89,67 +89,67 @@ pub struct Row {
 }
 
 /// The reports of the table, those on texts about the limit, and those on a line of 9,000 letters.
-pub fn all_rows(rt: &impl Abort, alloc: Global) -> Vec<Row> {
+pub fn all_rows(test: &Test, alloc: Global) -> Vec<Row> {
     let mut all = Vec::new(alloc);
-    push_reports(rt, &mut all, alloc);
-    push_full(rt, &mut all, alloc);
-    push_tokens(rt, &mut all, alloc);
-    push_letters(rt, &mut all, alloc);
+    push_reports(test, &mut all, alloc);
+    push_full(test, &mut all, alloc);
+    push_tokens(test, &mut all, alloc);
+    push_letters(test, &mut all, alloc);
     all
 }
 
-fn push_reports(rt: &impl Abort, all: &mut Vec<Row>, alloc: Global) {
+fn push_reports(test: &Test, all: &mut Vec<Row>, alloc: Global) {
     for &(words, input, report) in reports() {
-        push_row(rt, all, alloc, words, input, report);
+        push_row(test, all, alloc, words, input, report);
     }
 }
 
-fn push_letters(rt: &impl Abort, all: &mut Vec<Row>, alloc: Global) {
-    let input = ok_text(rt, long_line(alloc, "", "a", 9000));
+fn push_letters(test: &Test, all: &mut Vec<Row>, alloc: Global) {
+    let input = ok_string(test, long_line(alloc, "", "a", 9000));
     for &(words, _, front, letter) in letters() {
         let report = long_line(alloc, front, letter, 9000);
-        push_text(rt, all, alloc, words, input.as_str(), report);
+        push_text(test, all, alloc, words, input.as_str(), report);
     }
 }
 
 /// A line that fills a buffer, and lines that are a byte too long.
-fn push_full(rt: &impl Abort, all: &mut Vec<Row>, alloc: Global) {
+fn push_full(test: &Test, all: &mut Vec<Row>, alloc: Global) {
     let report = answer(alloc, "inline", full_text());
-    push_text(rt, all, alloc, &["show"], full_text(), report);
+    push_text(test, all, alloc, &["show"], full_text(), report);
     let report = answer(alloc, "heap", long_text());
-    push_text(rt, all, alloc, &["show"], long_text(), report);
+    push_text(test, all, alloc, &["show"], long_text(), report);
     let report = answer(alloc, "heap", long_capitals());
-    push_text(rt, all, alloc, &["upper"], long_text(), report);
-    let line = ok_text(rt, repeated(alloc, "x", INLINE_CAP + 1));
+    push_text(test, all, alloc, &["upper"], long_text(), report);
+    let line = ok_string(test, repeated(alloc, "x", INLINE_CAP + 1));
     let line = line.as_str();
     let report = answer(alloc, "static", long_blank());
-    push_text(rt, all, alloc, &["replace", "x", " "], line, report)
+    push_text(test, all, alloc, &["replace", "x", " "], line, report)
 }
 
 /// A token that is a byte too long, among short ones.
-fn push_tokens(rt: &impl Abort, all: &mut Vec<Row>, alloc: Global) {
+fn push_tokens(test: &Test, all: &mut Vec<Row>, alloc: Global) {
     let long = long_text();
-    let input = ok_text(rt, format!(in alloc; "x\n{long}\nx\n{long}\nx\n"));
+    let input = ok_string(test, format!(in alloc; "x\n{long}\nx\n{long}\nx\n"));
     let report = format!(in alloc; "3 x\n2 {long}\n");
-    push_text(rt, all, alloc, &["tokens"], input.as_str(), report)
+    push_text(test, all, alloc, &["tokens"], input.as_str(), report)
 }
 
-/// An input, and the report on it; a fault ends the test.
+/// An input, and the report on it; a fault fails the test.
 fn push_text(
-    rt: &impl Abort,
+    test: &Test,
     all: &mut Vec<Row>,
     alloc: Global,
     words: Words,
     input: &str,
     report: Result<String, AllocError>,
 ) {
-    let report = ok_text(rt, report);
+    let report = ok_string(test, report);
     let report = report.as_str().as_bytes();
-    push_row(rt, all, alloc, words, input.as_bytes(), report)
+    push_row(test, all, alloc, words, input.as_bytes(), report)
 }
 
 fn push_row(
-    rt: &impl Abort,
+    test: &Test,
     all: &mut Vec<Row>,
     alloc: Global,
     words: Words,
@@ -158,10 +158,10 @@ fn push_row(
 ) {
     let row = Row {
         words,
-        input: ok_bytes(rt, Vec::from_slice(alloc, input)),
-        report: ok_bytes(rt, Vec::from_slice(alloc, report)),
+        input: ok_bytes(test, Vec::from_slice(alloc, input)),
+        report: ok_bytes(test, Vec::from_slice(alloc, report)),
     };
-    holds_in(rt, all.push(row).is_ok(), "a row");
+    is_so(test, all.push(row).is_ok(), "a row");
 }
 
 /// The line that says where a text is kept, its size, and the text.
@@ -181,10 +181,10 @@ pub fn long_line(
 }
 
 /// The report in the mode of these words, by std's reader and writer over memory.
-pub fn report_by(rt: &impl Abort, alloc: Global, words: &[&str], input: &[u8]) -> Vec<u8> {
-    let mode = mode_by(rt, alloc, words);
+pub fn report_by(test: &Test, alloc: Global, words: &[&str], input: &[u8]) -> Vec<u8> {
+    let mode = mode_by(test, alloc, words);
     let mut reader = input;
     let mut out = Vec::new(alloc);
-    ok_run(rt, run(alloc, fixed_state(), mode, &mut reader, &mut out));
+    ok_run(test, run(alloc, fixed_state(), mode, &mut reader, &mut out));
     out
 }

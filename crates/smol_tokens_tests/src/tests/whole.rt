@@ -2,13 +2,15 @@
 ghost use Rattle.std.specs.Prelude.{OnOk};
 ghost use Rattle.std.specs.Io.KnownBytes.{IsAtEnd};
 
-use super::same::{holds_in, same_bytes};
+use super::runs::same_bytes;
 use smol_tokens_core::fault::RunFault;
 use smol_tokens_core::mode::Mode;
 use smol_tokens_core::run::run;
 use std::alloc::Global;
 use std::io::{Read, Write};
+use std::test::Fail;
 use test_support::state::fixed_state;
+use test_support::test::{Test, is_so};
 
 /// Runs in mode show; after it the reader is at its end.
 fn run_to_the_end<R: Read, W: Write>(
@@ -22,16 +24,18 @@ fn run_to_the_end<R: Read, W: Write>(
 }
 
 #[test]
-fn nothing_is_left(rt: HostRuntime) {
+fn nothing_is_left(rt: HostRuntime) -> Result<(), Fail> {
+    let test = Test::new(rt.alloc());
     let input = b"if\n\xc3\xa9".as_slice();
     let mut reader = input;
     let mut writer = Vec::new(rt.alloc());
     let is_done = run_to_the_end(rt.alloc(), &mut reader, &mut writer).is_ok();
-    holds_in(&rt, is_done && reader.is_empty(), "one run");
+    is_so(&test, is_done && reader.is_empty(), "one run");
     same_bytes(
-        &rt,
+        &test,
         writer.as_slice(),
         b"inline 2 if\ninline 2 \xc3\xa9\n",
         input,
     );
+    test.end()
 }

@@ -1,30 +1,37 @@
 //! The words of a command line, and the lines that report a fault.
-use super::same::{holds, holds_in, ok_text, same_text};
 use smol_tokens_core::fault::{RunFault, fault_line};
 use smol_tokens_core::mode::{Mode, mode_of};
 use std::alloc::Global;
 use std::io;
 use std::io::ErrorKind;
-use std::process::Abort;
+use std::test::Fail;
 use test_support::refuse::{end_refusals, refuse_all};
+use test_support::test::{Test, holds, is_so, ok_string, same_str};
 
-fn strings(rt: &impl Abort, alloc: Global, words: &[&str]) -> Vec<String> {
+fn strings(test: &Test, alloc: Global, words: &[&str]) -> Vec<String> {
     let mut all = Vec::new(alloc);
     for word in words {
-        push_word(rt, &mut all, ok_text(rt, String::from_str(alloc, word)));
+        push_word(
+            test,
+            &mut all,
+            ok_string(test, String::from_str(alloc, word)),
+        );
     }
     all
 }
 
-fn push_word(rt: &impl Abort, all: &mut Vec<String>, word: String) {
-    holds_in(rt, all.push(word).is_ok(), "a word");
+fn push_word(test: &Test, all: &mut Vec<String>, word: String) {
+    is_so(test, all.push(word).is_ok(), "a word");
 }
 
 /// The mode that these words ask for.
-pub fn mode_by(rt: &impl Abort, alloc: Global, words: &[&str]) -> Mode {
-    match mode_of(strings(rt, alloc, words)) {
+pub fn mode_by(test: &Test, alloc: Global, words: &[&str]) -> Mode {
+    match mode_of(strings(test, alloc, words)) {
         Some(mode) => mode,
-        None => panic!(rt; "no mode: {words:?}"),
+        None => {
+            test.fail(&("no mode", words));
+            Mode::Show
+        }
     }
 }
 
@@ -40,31 +47,35 @@ fn name_of(mode: &Mode) -> &'static str {
 }
 
 #[test]
-fn modes(rt: HostRuntime) {
-    check_name(&rt, rt.alloc(), &[], "show");
+fn modes(rt: HostRuntime) -> Result<(), Fail> {
+    let test = Test::new(rt.alloc());
+    check_name(&test, rt.alloc(), &[], "show");
     for word in ["show", "join", "lower", "upper", "tokens"] {
-        check_name(&rt, rt.alloc(), &[word], word);
+        check_name(&test, rt.alloc(), &[word], word);
     }
+    test.end()
 }
 
-fn check_name(rt: &impl Abort, alloc: Global, words: &[&str], name: &str) {
-    let mode = mode_by(rt, alloc, words);
+fn check_name(test: &Test, alloc: Global, words: &[&str], name: &str) {
+    let mode = mode_by(test, alloc, words);
     let found = name_of(&mode);
-    holds(rt, found == name, &(words, found, name));
+    holds(test, found == name, &(words, found, name));
 }
 
 #[test]
-fn replacements(rt: HostRuntime) {
+fn replacements(rt: HostRuntime) -> Result<(), Fail> {
+    let test = Test::new(rt.alloc());
     let alloc = rt.alloc();
-    check_replacement(&rt, alloc, "", "x");
-    check_replacement(&rt, alloc, "x", "");
-    check_replacement(&rt, alloc, "", "");
-    check_replacement(&rt, alloc, "ba", "do")
+    check_replacement(&test, alloc, "", "x");
+    check_replacement(&test, alloc, "x", "");
+    check_replacement(&test, alloc, "", "");
+    check_replacement(&test, alloc, "ba", "do");
+    test.end()
 }
 
-fn check_replacement(rt: &impl Abort, alloc: Global, from: &str, to: &str) {
-    let mode = mode_by(rt, alloc, &["replace", from, to]);
-    holds(rt, is_replacement(&mode, from, to), &(from, to));
+fn check_replacement(test: &Test, alloc: Global, from: &str, to: &str) {
+    let mode = mode_by(test, alloc, &["replace", from, to]);
+    holds(test, is_replacement(&mode, from, to), &(from, to));
 }
 
 fn is_replacement(mode: &Mode, from: &str, to: &str) -> bool {
@@ -102,33 +113,39 @@ fn wrong() -> &'static [&'static [&'static str]] {
 }
 
 #[test]
-fn wrong_words(rt: HostRuntime) {
+fn wrong_words(rt: HostRuntime) -> Result<(), Fail> {
+    let test = Test::new(rt.alloc());
     for &words in wrong() {
-        let mode = mode_of(strings(&rt, rt.alloc(), words));
-        holds(&rt, mode.is_none(), &words);
+        let mode = mode_of(strings(&test, rt.alloc(), words));
+        holds(&test, mode.is_none(), &words);
     }
+    test.end()
 }
 
 #[test]
-fn fault_lines(rt: HostRuntime) {
-    check_line(&rt, &RunFault::NotUtf8, "not UTF-8");
-    check_line(&rt, &RunFault::OutOfMemory, "out of memory");
-    check_line(&rt, &RunFault::Full, "full");
+fn fault_lines(rt: HostRuntime) -> Result<(), Fail> {
+    let test = Test::new(rt.alloc());
+    check_line(&test, &RunFault::NotUtf8, "not UTF-8");
+    check_line(&test, &RunFault::OutOfMemory, "out of memory");
+    check_line(&test, &RunFault::Full, "full");
     let io = RunFault::Io(io::Error::from(ErrorKind::WriteZero));
-    check_line(&rt, &io, "read or write failed")
+    check_line(&test, &io, "read or write failed");
+    test.end()
 }
 
-fn check_line(rt: &impl Abort, fault: &RunFault, line: &str) {
-    same_text(rt, fault_line(fault), line, line);
+fn check_line(test: &Test, fault: &RunFault, line: &str) {
+    same_str(test, fault_line(fault), line, line);
 }
 
 #[test]
-fn no_request(rt: HostRuntime) {
-    let words = strings(&rt, rt.alloc(), &["replace", "a", "b"]);
+fn no_request(rt: HostRuntime) -> Result<(), Fail> {
+    let test = Test::new(rt.alloc());
+    let words = strings(&test, rt.alloc(), &["replace", "a", "b"]);
     refuse_all(rt.alloc());
     let mode = mode_of(words);
     let line = fault_line(&RunFault::OutOfMemory);
     let was_refused = end_refusals(rt.alloc());
     let holds_all = mode.is_some() && !line.is_empty() && !was_refused;
-    holds_in(&rt, holds_all, "no request");
+    is_so(&test, holds_all, "no request");
+    test.end()
 }

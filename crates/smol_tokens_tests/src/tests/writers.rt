@@ -3,22 +3,25 @@ use super::readers::{Answer, Ended, holds_at, run_by, same_ended};
 use super::rows::{Row, all_rows};
 use std::alloc::Global;
 use std::io::ErrorKind;
-use std::process::Abort;
+use std::test::Fail;
 use test_support::streams::{
     Drip, Failure, STEPS, WRITE_FAILURES, empty_drip, is_tried, trickle_of,
 };
+use test_support::test::Test;
 
 #[test]
-fn fails_at_each_call(rt: HostRuntime) {
-    for row in all_rows(&rt, rt.alloc()).iter() {
-        check_row(&rt, rt.alloc(), row);
+fn fails_at_each_call(rt: HostRuntime) -> Result<(), Fail> {
+    let test = Test::new(rt.alloc());
+    for row in all_rows(&test, rt.alloc()).iter() {
+        check_row(&test, rt.alloc(), row);
     }
+    test.end()
 }
 
-fn check_row(rt: &impl Abort, alloc: Global, row: &Row) {
+fn check_row(test: &Test, alloc: Global, row: &Row) {
     for step in STEPS {
         for failure in WRITE_FAILURES {
-            check_failures(rt, alloc, row, step, failure);
+            check_failures(test, alloc, row, step, failure);
         }
     }
 }
@@ -26,7 +29,7 @@ fn check_row(rt: &impl Abort, alloc: Global, row: &Row) {
 /// The report goes out by as many writes as its steps are; where one fails, its error is reported at
 /// once, and what went out before stays.
 fn check_failures(
-    rt: &impl Abort,
+    test: &Test,
     alloc: Global,
     row: &Row,
     step: usize,
@@ -41,18 +44,18 @@ fn check_failures(
                 None => (Answer::Done, calls, size),
                 Some(before) => (Answer::Io(kind), fails_at, before.saturating_mul(step)),
             };
-            check_run(rt, alloc, row, &mut writer, wanted);
+            check_run(test, alloc, row, &mut writer, wanted);
         }
     }
 }
 
 /// What went out is the front of the report.
-fn check_run(rt: &impl Abort, alloc: Global, row: &Row, writer: &mut Drip, wanted: Ended) {
+fn check_run(test: &Test, alloc: Global, row: &Row, writer: &mut Drip, wanted: Ended) {
     let mut reader = trickle_of(row.input.as_slice(), usize::MAX, 0);
-    let answer = run_by(rt, alloc, row.words, &mut reader, writer);
+    let answer = run_by(test, alloc, row.words, &mut reader, writer);
     let case = (row.words, writer.step, writer.fails_at);
     let taken = writer.taken.as_slice();
-    same_ended(rt, (answer, writer.calls, taken.len()), wanted, case);
+    same_ended(test, (answer, writer.calls, taken.len()), wanted, case);
     let front = row.report.as_slice().get(..taken.len());
-    holds_at(rt, front == Some(taken), case);
+    holds_at(test, front == Some(taken), case);
 }

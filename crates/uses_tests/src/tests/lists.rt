@@ -1,8 +1,9 @@
 //! Lists on the wire: the bytes of one, read back, cut at each place, and memory refused.
-use super::same::{holds, holds_in};
 use smol_str::SmolStr;
 use smol_str::borsh::DecodeFault;
 use std::alloc::Global;
+use std::test::Fail;
+use test_support::test::{Test, holds, is_so};
 use uses::lists::{read_list, write_list};
 
 /// Two of four bytes, and then each size of four bytes and its text, with two bytes after them.
@@ -16,30 +17,36 @@ fn values() -> [SmolStr; 2] {
 }
 
 #[test]
-fn the_bytes_of_a_list(rt: HostRuntime) {
+fn the_bytes_of_a_list(rt: HostRuntime) -> Result<(), Fail> {
+    let test = Test::new(rt.alloc());
     match write_list(rt.alloc(), values().as_slice()) {
-        Ok(written) => holds_in(&rt, Some(written.as_slice()) == BYTES.get(..LEN), "bytes"),
-        Err(_) => holds_in(&rt, false, "the list was not written"),
+        Ok(written) => is_so(&test, Some(written.as_slice()) == BYTES.get(..LEN), "bytes"),
+        Err(_) => is_so(&test, false, "the list was not written"),
     }
+    test.end()
 }
 
 #[test]
-fn a_list_is_read_back(rt: HostRuntime) {
+fn a_list_is_read_back(rt: HostRuntime) -> Result<(), Fail> {
+    let test = Test::new(rt.alloc());
     match read_list(rt.alloc(), BYTES) {
         Ok((read, rest)) => {
-            holds_in(&rt, read.as_slice() == values().as_slice(), "values");
-            holds_in(&rt, rest == b"yz".as_slice(), "rest")
+            is_so(&test, read.as_slice() == values().as_slice(), "values");
+            is_so(&test, rest == b"yz".as_slice(), "rest")
         }
-        Err(_) => holds_in(&rt, false, "the list was not read"),
+        Err(_) => is_so(&test, false, "the list was not read"),
     }
+    test.end()
 }
 
 #[test]
-fn a_cut_list_has_ended(rt: HostRuntime) {
+fn a_cut_list_has_ended(rt: HostRuntime) -> Result<(), Fail> {
+    let test = Test::new(rt.alloc());
     for len in 0..LEN {
         let cut = BYTES.get(..len).unwrap_or(BYTES);
-        holds(&rt, has_ended(rt.alloc(), cut), &len);
+        holds(&test, has_ended(rt.alloc(), cut), &len);
     }
+    test.end()
 }
 
 fn has_ended(alloc: Global, bytes: &[u8]) -> bool {

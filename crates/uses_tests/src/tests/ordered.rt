@@ -1,37 +1,39 @@
 //! Sorted names, in the order of their characters.
-use super::same::{holds, holds_in, ok_value, ok_values, same_size};
 use smol_str::SmolStr;
 use std::alloc::Global;
-use std::process::Abort;
+use std::test::Fail;
+use test_support::test::{Test, holds, is_so, ok, ok_value, same_count};
 use uses::ordered::sorted_union;
 
 #[test]
-fn a_union(rt: HostRuntime) {
+fn a_union(rt: HostRuntime) -> Result<(), Fail> {
+    let test = Test::new(rt.alloc());
     let left = ["b", "aa", "é"];
     let right = ["", "\u{10000}", "b", "\u{ffff}"];
-    let left = values(&rt, rt.alloc(), &left);
-    let right = values(&rt, rt.alloc(), &right);
-    let union = ok_values(&rt, sorted_union(left, right));
+    let left = values(&test, rt.alloc(), &left);
+    let right = values(&test, rt.alloc(), &right);
+    let union = ok(&test, sorted_union(left, right));
     let wanted = ["", "aa", "b", "b", "é", "\u{ffff}", "\u{10000}"];
-    check_texts(&rt, &union, &wanted);
+    check_texts(&test, &union, &wanted);
+    test.end()
 }
 
-fn check_texts(rt: &impl Abort, values: &[SmolStr], texts: &[&str]) {
-    same_size(rt, values.len(), texts.len(), "names");
+fn check_texts(test: &Test, values: &[SmolStr], texts: &[&str]) {
+    same_count(test, values.len(), texts.len(), "names");
     for (index, &text) in texts.iter().enumerate() {
         let is_there = matches!(values.get(index), Some(value) if value.as_str() == text);
-        holds(rt, is_there, &(index, text));
+        holds(test, is_there, &(index, text));
     }
 }
 
-fn values(rt: &impl Abort, alloc: Global, texts: &[&str]) -> Vec<SmolStr> {
+fn values(test: &Test, alloc: Global, texts: &[&str]) -> Vec<SmolStr> {
     let mut values = Vec::new(alloc);
     for text in texts {
-        push(rt, &mut values, ok_value(rt, SmolStr::new(alloc, text)));
+        push(test, &mut values, ok_value(test, SmolStr::new(alloc, text)));
     }
     values
 }
 
-fn push(rt: &impl Abort, values: &mut Vec<SmolStr>, value: SmolStr) {
-    holds_in(rt, values.push(value).is_ok(), "a value");
+fn push(test: &Test, values: &mut Vec<SmolStr>, value: SmolStr) {
+    is_so(test, values.push(value).is_ok(), "a value");
 }

@@ -1,17 +1,17 @@
 //! The symbol table: the ids of names that come again, look-ups without memory, and memory refused.
-use super::same::{holds, holds_in};
 use std::alloc::Global;
-use std::process::Abort;
 use std::test::Fail;
 use test_support::refuse::{can_refuse, each_refused_by_value, end_refusals, refuse_all};
 use test_support::state::{FixedState, fixed_state};
+use test_support::test::{Test, holds, is_so};
 use test_support::texts::long_text;
 use uses::symbols;
 
 type Symbols = symbols::Symbols<FixedState>;
 
 #[test]
-fn each_name_has_its_id(rt: HostRuntime) {
+fn each_name_has_its_id(rt: HostRuntime) -> Result<(), Fail> {
+    let test = Test::new(rt.alloc());
     let mut symbols = Symbols::with_hasher(rt.alloc(), fixed_state());
     // each name and the id that it is to have, in the order in which they come
     let names = [
@@ -23,36 +23,39 @@ fn each_name_has_its_id(rt: HostRuntime) {
         (long_text(), 1),
     ];
     for (name, id) in names {
-        check_id(&rt, &mut symbols, name, id);
+        check_id(&test, &mut symbols, name, id);
     }
+    test.end()
 }
 
-fn check_id(rt: &impl Abort, symbols: &mut Symbols, name: &str, id: usize) {
-    same_id(rt, symbols.intern(name).ok(), Some(id), name);
+fn check_id(test: &Test, symbols: &mut Symbols, name: &str, id: usize) {
+    same_id(test, symbols.intern(name).ok(), Some(id), name);
 }
 
 /// The name has this id, or none.
-fn same_id(rt: &impl Abort, found: Option<usize>, wanted: Option<usize>, name: &str) {
-    holds(rt, found == wanted, &(name, found, wanted));
+fn same_id(test: &Test, found: Option<usize>, wanted: Option<usize>, name: &str) {
+    holds(test, found == wanted, &(name, found, wanted));
 }
 
 // However long a text is, no value is made to look it up, nor to intern it again.
 #[test]
-fn found_without_memory(rt: HostRuntime) {
+fn found_without_memory(rt: HostRuntime) -> Result<(), Fail> {
     let alloc = rt.alloc();
-    let mut symbols = table_of_one(&rt, alloc);
-    check_id(&rt, &mut symbols, long_text(), 1);
+    let mut symbols = table_of_one(alloc)?;
+    let test = Test::new(alloc);
+    check_id(&test, &mut symbols, long_text(), 1);
     refuse_all(alloc);
     let short = symbols.find("if");
     let long = symbols.find(long_text());
     let unknown = symbols.find("else");
     let again = symbols.intern(long_text()).ok();
     let was_refused = end_refusals(alloc);
-    same_id(&rt, short, Some(0), "if");
-    same_id(&rt, long, Some(1), "found");
-    same_id(&rt, unknown, None, "else");
-    same_id(&rt, again, Some(1), "interned again");
-    holds_in(&rt, !was_refused, "a look-up makes a request");
+    same_id(&test, short, Some(0), "if");
+    same_id(&test, long, Some(1), "found");
+    same_id(&test, unknown, None, "else");
+    same_id(&test, again, Some(1), "interned again");
+    is_so(&test, !was_refused, "a look-up makes a request");
+    test.end()
 }
 
 // After a refusal the table is as before, and takes another name.
@@ -62,21 +65,21 @@ fn each_request_in_turn(rt: HostRuntime) -> Result<(), Fail> {
     let asked = each_refused_by_value(
         alloc,
         "Symbols::intern",
-        || Ok(table_of_one(&rt, alloc)),
+        || table_of_one(alloc),
         interned,
-        |ended| {
-            check_interned(&rt, ended);
-            Ok(())
-        },
+        |ended| check_interned(alloc, ended),
     )?;
-    holds_in(&rt, (asked.requests > 0) == can_refuse(alloc), "requests");
-    Ok(())
+    let test = Test::new(alloc);
+    is_so(&test, (asked.requests > 0) == can_refuse(alloc), "requests");
+    test.end()
 }
 
-fn table_of_one(rt: &impl Abort, alloc: Global) -> Symbols {
+fn table_of_one(alloc: Global) -> Result<Symbols, Fail> {
     let mut symbols = Symbols::with_hasher(alloc, fixed_state());
-    check_id(rt, &mut symbols, "if", 0);
-    symbols
+    let test = Test::new(alloc);
+    check_id(&test, &mut symbols, "if", 0);
+    test.end()?;
+    Ok(symbols)
 }
 
 /// The new id, and the table, also where it was refused.
@@ -87,12 +90,14 @@ fn interned(mut symbols: Symbols) -> Result<(Symbols, usize), Symbols> {
     }
 }
 
-fn check_interned(rt: &impl Abort, ended: Result<(Symbols, usize), Symbols>) {
+fn check_interned(alloc: Global, ended: Result<(Symbols, usize), Symbols>) -> Result<(), Fail> {
+    let test = Test::new(alloc);
     match ended {
         Ok((mut symbols, id)) => {
-            same_id(rt, Some(id), Some(1), "the new name");
-            check_id(rt, &mut symbols, "else", 2)
+            same_id(&test, Some(id), Some(1), "the new name");
+            check_id(&test, &mut symbols, "else", 2)
         }
-        Err(mut symbols) => check_id(rt, &mut symbols, "else", 1),
+        Err(mut symbols) => check_id(&test, &mut symbols, "else", 1),
     }
+    test.end()
 }

@@ -1,0 +1,201 @@
+//! A running test: what its rows compare, and what they expect to be `Ok`.
+//!
+//! The first row that is wrong is kept, and the test ends with it; the rows behind it are gone through all the same. So no
+//! helper gives up, and all that a row holds is dropped at one place, which costs the proof of a test far less than an
+//! assertion or a `?` does. A helper of one type costs its caller less than one of any type.
+use smol_str::{Place, SmolStr, SmolStrBuilder};
+use std::alloc::{AllocError, Global};
+use std::cell::Cell;
+use std::fmt::{Debug, InlineText};
+use std::rc::RcStr;
+use std::test::Fail;
+
+/// So many bytes of a wrong row are told.
+const TOLD: usize = 480;
+
+/// A running test. It cannot be dropped: what it ends with is the test's result.
+pub struct Test {
+    alloc: Global,
+    wrong: Cell<Option<InlineText<TOLD>>>,
+}
+
+impl Test {
+    /// A test with no wrong row.
+    pub fn new(alloc: Global) -> Test {
+        Test {
+            alloc,
+            wrong: Cell::new(None),
+        }
+    }
+
+    /// The row is wrong.
+    pub fn fail(&self, row: &impl Debug) {
+        if self.wrong.get().is_none() {
+            self.wrong
+                .set(Some(InlineText::of(format_args!("{row:?}"))));
+        }
+    }
+
+    /// The test's result: its first wrong row, where there is one.
+    pub fn end(self) -> Result<(), Fail> {
+        let Test { alloc: _, wrong } = self;
+        match wrong.into_inner() {
+            Some(row) => Err(Fail::new(row.as_str())),
+            None => Ok(()),
+        }
+    }
+}
+
+/// It is so, in a row of any type.
+pub fn holds(test: &Test, is_so: bool, row: &impl Debug) {
+    if !is_so {
+        test.fail(row);
+    }
+}
+
+/// It is so.
+pub fn is_so(test: &Test, is_so: bool, row: &str) {
+    holds(test, is_so, &row);
+}
+
+/// The two are equal.
+pub fn same<T: PartialEq + Debug>(test: &Test, found: &T, wanted: &T, row: &impl Debug) {
+    holds(test, found == wanted, &(row, found, wanted));
+}
+
+/// The counts are equal.
+pub fn same_count(test: &Test, found: usize, wanted: usize, row: &str) {
+    same(test, &found, &wanted, &row);
+}
+
+/// Both are so, or neither is.
+pub fn same_flag(test: &Test, found: bool, wanted: bool, row: &str) {
+    same(test, &found, &wanted, &row);
+}
+
+/// The texts are equal, in a row of any type.
+pub fn same_text(test: &Test, found: &str, wanted: &str, row: &impl Debug) {
+    holds(test, found == wanted, &(row, found, wanted));
+}
+
+/// The texts are equal.
+pub fn same_str(test: &Test, found: &str, wanted: &str, row: &str) {
+    same_text(test, found, wanted, &row);
+}
+
+/// The value is in the place, in a row of any type.
+pub fn same_place(test: &Test, value: &SmolStr, place: Place, row: &impl Debug) {
+    same(test, &value.place(), &place, row);
+    same(
+        test,
+        &value.is_heap_allocated(),
+        &(place == Place::Heap),
+        row,
+    );
+}
+
+/// The value is in the place.
+pub fn in_place(test: &Test, value: &SmolStr, place: Place, row: &str) {
+    same_place(test, value, place, &row);
+}
+
+/// The value has the text, in the place, in a row of any type.
+pub fn same_value(test: &Test, value: &SmolStr, text: &str, place: Place, row: &impl Debug) {
+    same_text(test, value.as_str(), text, row);
+    same(test, &value.len(), &text.len(), row);
+    same(test, &value.is_empty(), &text.is_empty(), row);
+    same_place(test, value, place, row);
+}
+
+/// The value has the text, in the place.
+pub fn has_text(test: &Test, value: &SmolStr, text: &str, place: Place, row: &str) {
+    same_value(test, value, text, place, &row);
+}
+
+/// What stands for a result that is missing, in a test that has failed by it. It needs no memory.
+pub trait Missing {
+    /// The value.
+    fn missing(alloc: Global) -> Self;
+}
+
+impl Missing for () {
+    fn missing(_alloc: Global) {}
+}
+
+impl Missing for usize {
+    fn missing(_alloc: Global) -> usize {
+        0
+    }
+}
+
+impl Missing for bool {
+    fn missing(_alloc: Global) -> bool {
+        false
+    }
+}
+
+impl Missing for SmolStr {
+    fn missing(_alloc: Global) -> SmolStr {
+        SmolStr::default()
+    }
+}
+
+impl Missing for SmolStrBuilder {
+    fn missing(alloc: Global) -> SmolStrBuilder {
+        SmolStrBuilder::new(alloc)
+    }
+}
+
+impl Missing for String {
+    fn missing(alloc: Global) -> String {
+        String::new(alloc)
+    }
+}
+
+impl<T> Missing for Vec<T> {
+    fn missing(alloc: Global) -> Vec<T> {
+        Vec::new(alloc)
+    }
+}
+
+/// What a call returns; a fault fails the test.
+pub fn ok<T: Missing, E: Debug + Drop>(test: &Test, outcome: Result<T, E>) -> T {
+    match outcome {
+        Ok(value) => value,
+        Err(fault) => {
+            test.fail(&fault);
+            T::missing(test.alloc)
+        }
+    }
+}
+
+/// The value that a call makes.
+pub fn ok_value(test: &Test, outcome: Result<SmolStr, AllocError>) -> SmolStr {
+    ok(test, outcome)
+}
+
+/// The value of the shared text that a call makes. No shared text is made without memory, so a value stands for one.
+pub fn of_shared(test: &Test, outcome: Result<RcStr, AllocError>) -> SmolStr {
+    match outcome {
+        Ok(shared) => SmolStr::from_rc_str(shared),
+        Err(fault) => {
+            test.fail(&fault);
+            SmolStr::default()
+        }
+    }
+}
+
+/// The string that a call makes.
+pub fn ok_string(test: &Test, outcome: Result<String, AllocError>) -> String {
+    ok(test, outcome)
+}
+
+/// The strings that a call makes.
+pub fn ok_strings(test: &Test, outcome: Result<Vec<String>, AllocError>) -> Vec<String> {
+    ok(test, outcome)
+}
+
+/// The bytes that a call makes.
+pub fn ok_bytes(test: &Test, outcome: Result<Vec<u8>, AllocError>) -> Vec<u8> {
+    ok(test, outcome)
+}
