@@ -16,7 +16,7 @@ use test_support::held::is_exact;
 use test_support::refuse::{
     Asked, can_refuse, count_bytes, each_refused, end_refusals, refuse_all, start_counts,
 };
-use test_support::streams::trickle_of;
+use test_support::streams::{Trickle, trickle_of};
 use test_support::test::{
     Test, holds, ok, ok_bytes, ok_string, ok_value, same, same_count, same_value,
 };
@@ -313,13 +313,15 @@ fn largest_size_and_no_body(rt: HostRuntime) -> Result<(), Fail> {
     refuse_all(rt.alloc());
     let answer = SmolStr::deserialize_reader(rt.alloc(), &mut reader);
     holds(&test, !end_refusals(rt.alloc()), &"refusals");
-    holds(
-        &test,
-        matches!(answer, Err(DecodeFault::Ended)),
-        &"the fault",
-    );
-    holds(&test, reader.rest.is_empty(), &"the rest");
+    assert_ended(&test, &answer, &reader);
     test.end()
+}
+
+/// The bytes ended before the body did, and all of them were read.
+fn assert_ended(test: &Test, answer: &Result<SmolStr, DecodeFault>, reader: &Trickle<'_>) {
+    let has_ended = matches!(answer, Err(DecodeFault::Ended));
+    holds(test, has_ended, &"the fault");
+    holds(test, reader.rest.is_empty(), &"the rest");
 }
 
 // A size above the limit is refused before memory is asked for, and nothing behind it is read.
@@ -367,11 +369,6 @@ fn largest_size_and_much_of_a_body(rt: HostRuntime) -> Result<(), Fail> {
     let answer = SmolStr::deserialize_reader(rt.alloc(), &mut reader);
     let asked = count_bytes(rt.alloc());
     holds(&test, asked <= MOST_BYTES, &asked);
-    holds(
-        &test,
-        matches!(answer, Err(DecodeFault::Ended)),
-        &"the fault",
-    );
-    holds(&test, reader.rest.is_empty(), &"the rest");
+    assert_ended(&test, &answer, &reader);
     test.end()
 }

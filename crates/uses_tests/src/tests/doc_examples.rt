@@ -1,368 +1,446 @@
 //! The examples in the documentation of the library's items, by the names of the items. `.ci/pages` sees that each
 //! stands here.
+//!
+//! What an example asserts is expected here: `rt` is the running test, which keeps what is wrong and goes on, so a test
+//! goes through the examples of a subject.
 use smol_str::borsh::{
-    BorshDeserialize, BorshSerialize, LimitedFault, deserialize_limited, from_wire, length_prefix,
-    split_wire,
+    BorshDeserialize, BorshSerialize, DecodeFault, EncodeFault, LimitedFault, deserialize_limited,
+    from_wire, length_prefix, split_wire,
 };
+use smol_str::json::JsonFault;
 use smol_str::kernel::{AsciiCase, convert_while_ascii, next_match};
-use smol_str::stream::{fill, read_up_to, write_steps};
+use smol_str::stream::{ReadFault, fill, read_up_to, write_steps};
 use smol_str::{
     FormatError, FromUtf8Fault, Place, SmolStr, SmolStrBuilder, Step, StrExt, ToSmolStr, build,
     format_smolstr, json,
 };
-use std::alloc::AllocError;
+use std::alloc::{AllocError, Global};
 use std::borrow::CowStr;
 use std::cmp::Ordering;
+use std::fmt::Debug;
+use std::io;
 use std::rc::RcStr;
 use std::test::Fail;
+use test_support::test::{Test, is_so, same};
+
+macro_rules! expect {
+    ($rt:expr; $is_so:expr) => {
+        is_so($rt, $is_so, stringify!($is_so))
+    };
+}
+
+macro_rules! expect_eq {
+    ($rt:expr; $found:expr, $wanted:expr) => {
+        same($rt, &$found, &$wanted, &stringify!($found))
+    };
+}
+
+/// The example has no fault.
+fn ended<E: Debug + Drop>(test: &Test, outcome: Result<(), E>, example: &str) {
+    if let Err(fault) = outcome {
+        test.fail(&(example, fault));
+    }
+}
 
 #[test]
-fn value_example(rt: HostRuntime) -> Result<(), Fail> {
+fn values(rt: HostRuntime) -> Result<(), Fail> {
+    let test = Test::new(rt.alloc());
     let alloc = rt.alloc();
+    ended(&test, value_example(&test, alloc), "value");
+    new_inline_in_case_example(&test);
+    new_static_example(&test);
+    ended(&test, inline_buffer_example(&test), "inline_buffer");
+    ended(&test, from_owned_example(&test, alloc), "from_owned");
+    eq_str_example(&test);
+    cmp_str_example(&test);
+    from_utf8_example(&test, alloc);
+    ended(&test, from_string_example(&test, alloc), "from_string");
+    from_cow_str_example(&test, alloc);
+    ended(&test, from_rc_str_example(&test, alloc), "from_rc_str");
+    test.end()
+}
+
+fn value_example(rt: &Test, alloc: Global) -> Result<(), AllocError> {
     let token = SmolStr::new(alloc, "if")?;
-    assert_eq!(rt; token.as_str(), "if");
-    assert_eq!(rt; token.place(), Place::Inline);
+    expect_eq!(rt; token.as_str(), "if");
+    expect_eq!(rt; token.place(), Place::Inline);
     Ok(())
 }
 
-#[test]
-fn new_inline_in_case_example(rt: HostRuntime) {
+fn new_inline_in_case_example(rt: &Test) {
     let header = SmolStr::new_inline_in_case("Content-Type", AsciiCase::Lower);
-    assert_eq!(rt; header.as_str(), "content-type");
+    expect_eq!(rt; header.as_str(), "content-type");
 }
 
-#[test]
-fn new_static_example(rt: HostRuntime) {
+fn new_static_example(rt: &Test) {
     let name = SmolStr::new_static("a constant");
-    assert_eq!(rt; name.place(), Place::Static);
+    expect_eq!(rt; name.place(), Place::Static);
 }
 
-#[test]
-fn inline_buffer_example(rt: HostRuntime) -> Result<(), Fail> {
+fn inline_buffer_example(rt: &Test) -> Result<(), &'static str> {
     let token = SmolStr::new_inline("if");
     let buffer = token.inline_buffer().ok_or("no buffer")?;
-    assert_eq!(rt; &buffer[..3], b"if\0".as_slice());
+    expect_eq!(rt; &buffer[..3], b"if\0".as_slice());
     Ok(())
 }
 
-#[test]
-fn from_owned_example(rt: HostRuntime) -> Result<(), Fail> {
-    let alloc = rt.alloc();
+fn from_owned_example(rt: &Test, alloc: Global) -> Result<(), AllocError> {
     let token = SmolStr::from_owned(String::from_str(alloc, "if")?)?;
-    assert_eq!(rt; token.place(), Place::Inline);
+    expect_eq!(rt; token.place(), Place::Inline);
     Ok(())
 }
 
-#[test]
-fn eq_str_example(rt: HostRuntime) {
-    assert!(rt; SmolStr::new_inline("if").eq_str("if"));
+fn eq_str_example(rt: &Test) {
+    expect!(rt; SmolStr::new_inline("if").eq_str("if"));
 }
 
-#[test]
-fn cmp_str_example(rt: HostRuntime) {
-    assert_eq!(rt; SmolStr::new_inline("if").cmp_str("of"), Ordering::Less);
+fn cmp_str_example(rt: &Test) {
+    expect_eq!(rt; SmolStr::new_inline("if").cmp_str("of"), Ordering::Less);
 }
 
-#[test]
-fn from_utf8_example(rt: HostRuntime) {
-    let alloc = rt.alloc();
+fn from_utf8_example(rt: &Test, alloc: Global) {
     let fault = SmolStr::from_utf8(alloc, b"ab\xff").err();
-    assert!(rt; matches!(fault, Some(FromUtf8Fault::NotUtf8(_))));
+    expect!(rt; matches!(fault, Some(FromUtf8Fault::NotUtf8(_))));
 }
 
-#[test]
-fn from_string_example(rt: HostRuntime) -> Result<(), Fail> {
-    let alloc = rt.alloc();
+fn from_string_example(rt: &Test, alloc: Global) -> Result<(), AllocError> {
     let owned = String::from_str(alloc, "if")?;
     let token = SmolStr::from_string(alloc, owned).map_err(|_owned| AllocError)?;
-    assert_eq!(rt; token.as_str(), "if");
+    expect_eq!(rt; token.as_str(), "if");
     Ok(())
 }
 
-#[test]
-fn from_cow_str_example(rt: HostRuntime) {
-    let alloc = rt.alloc();
+fn from_cow_str_example(rt: &Test, alloc: Global) {
     let token = SmolStr::from_cow_str(alloc, CowStr::Borrowed("if"));
-    assert_eq!(rt; token.ok().map(|token| token.len()), Some(2));
+    expect_eq!(rt; token.ok().map(|token| token.len()), Some(2));
 }
 
-#[test]
-fn from_rc_str_example(rt: HostRuntime) -> Result<(), Fail> {
-    let alloc = rt.alloc();
+fn from_rc_str_example(rt: &Test, alloc: Global) -> Result<(), AllocError> {
     let shared = RcStr::from_str(alloc, "a text that is longer than any buffer")?;
     let value = SmolStr::from_rc_str(shared);
-    assert_eq!(rt; value.len(), 37);
+    expect_eq!(rt; value.len(), 37);
     Ok(())
 }
 
 #[test]
-fn builder_example(rt: HostRuntime) -> Result<(), Fail> {
+fn builders(rt: HostRuntime) -> Result<(), Fail> {
+    let test = Test::new(rt.alloc());
     let alloc = rt.alloc();
+    ended(&test, builder_example(&test, alloc), "builder");
+    ended(&test, with_capacity_example(&test, alloc), "with_capacity");
+    ended(&test, finish_example(&test, alloc), "finish");
+    ended(&test, into_value_example(&test, alloc), "into_value");
+    ended(&test, build_example(&test, alloc), "build");
+    test.end()
+}
+
+fn builder_example(rt: &Test, alloc: Global) -> Result<(), AllocError> {
     let mut builder = SmolStrBuilder::new(alloc);
     builder.push_str("fn")?;
     builder.push('_')?;
-    assert_eq!(rt; builder.as_str(), "fn_");
+    expect_eq!(rt; builder.as_str(), "fn_");
     Ok(())
 }
 
-#[test]
-fn with_capacity_example(rt: HostRuntime) -> Result<(), Fail> {
-    let alloc = rt.alloc();
+fn with_capacity_example(rt: &Test, alloc: Global) -> Result<(), AllocError> {
     let builder = SmolStrBuilder::with_capacity(alloc, 100)?;
-    assert!(rt; builder.is_empty() && builder.inline_buffer().is_none());
+    expect!(rt; builder.is_empty() && builder.inline_buffer().is_none());
     Ok(())
 }
 
-#[test]
-fn finish_example(rt: HostRuntime) -> Result<(), Fail> {
-    let alloc = rt.alloc();
+fn finish_example(rt: &Test, alloc: Global) -> Result<(), AllocError> {
     let mut builder = SmolStrBuilder::new(alloc);
     builder.push_str("fn")?;
     let value = builder.finish().map_err(|_builder| AllocError)?;
-    assert_eq!(rt; value.as_str(), "fn");
+    expect_eq!(rt; value.as_str(), "fn");
     Ok(())
 }
 
-#[test]
-fn into_value_example(rt: HostRuntime) -> Result<(), Fail> {
-    let alloc = rt.alloc();
+fn into_value_example(rt: &Test, alloc: Global) -> Result<(), AllocError> {
     let mut builder = SmolStrBuilder::new(alloc);
     builder.push_str("fn")?;
-    assert_eq!(rt; builder.into_value()?.as_str(), "fn");
+    expect_eq!(rt; builder.into_value()?.as_str(), "fn");
     Ok(())
 }
 
-#[test]
-fn build_example(rt: HostRuntime) -> Result<(), Fail> {
-    let alloc = rt.alloc();
+fn build_example(rt: &Test, alloc: Global) -> Result<(), AllocError> {
     let steps = vec![in alloc; Step::Push('a'), Step::Push('b')]?;
     let ab = build(alloc, 0, &steps)?;
-    assert_eq!(rt; ab.as_str(), "ab");
+    expect_eq!(rt; ab.as_str(), "ab");
     Ok(())
 }
 
 #[test]
-fn from_chars_example(rt: HostRuntime) -> Result<(), Fail> {
+fn collected(rt: HostRuntime) -> Result<(), Fail> {
+    let test = Test::new(rt.alloc());
     let alloc = rt.alloc();
+    ended(&test, from_chars_example(&test, alloc), "from_chars");
+    ended(&test, from_strs_example(&test, alloc), "from_strs");
+    ended(&test, from_strings_example(&test, alloc), "from_strings");
+    ended(
+        &test,
+        from_string_refs_example(&test, alloc),
+        "from_string_refs",
+    );
+    ended(&test, extend_chars_example(&test, alloc), "extend_chars");
+    ended(&test, extend_strs_example(&test, alloc), "extend_strs");
+    test.end()
+}
+
+fn from_chars_example(rt: &Test, alloc: Global) -> Result<(), AllocError> {
     let shout = SmolStr::from_chars(alloc, "abc".chars().rev())?;
-    assert_eq!(rt; shout.as_str(), "cba");
+    expect_eq!(rt; shout.as_str(), "cba");
     Ok(())
 }
 
-#[test]
-fn from_strs_example(rt: HostRuntime) -> Result<(), Fail> {
-    let alloc = rt.alloc();
+fn from_strs_example(rt: &Test, alloc: Global) -> Result<(), AllocError> {
     let path = SmolStr::from_strs(alloc, "a/b/c".split('/'))?;
-    assert_eq!(rt; path.as_str(), "abc");
+    expect_eq!(rt; path.as_str(), "abc");
     Ok(())
 }
 
-#[test]
-fn from_strings_example(rt: HostRuntime) -> Result<(), Fail> {
-    let alloc = rt.alloc();
+fn from_strings_example(rt: &Test, alloc: Global) -> Result<(), AllocError> {
     let parts = [
         String::from_str(alloc, "ab")?,
         String::from_str(alloc, "c")?,
     ];
     let whole = SmolStr::from_strings(alloc, parts.into_iter())?;
-    assert_eq!(rt; whole.as_str(), "abc");
+    expect_eq!(rt; whole.as_str(), "abc");
     Ok(())
 }
 
-#[test]
-fn from_string_refs_example(rt: HostRuntime) -> Result<(), Fail> {
-    let alloc = rt.alloc();
+fn from_string_refs_example(rt: &Test, alloc: Global) -> Result<(), AllocError> {
     let parts = [
         String::from_str(alloc, "ab")?,
         String::from_str(alloc, "c")?,
     ];
     let whole = SmolStr::from_string_refs(alloc, parts.iter())?;
-    assert_eq!(rt; whole.as_str(), "abc");
+    expect_eq!(rt; whole.as_str(), "abc");
     Ok(())
 }
 
-#[test]
-fn extend_chars_example(rt: HostRuntime) -> Result<(), Fail> {
-    let alloc = rt.alloc();
+fn extend_chars_example(rt: &Test, alloc: Global) -> Result<(), AllocError> {
     let mut builder = SmolStrBuilder::new(alloc);
     builder.extend_chars("abc".chars().rev())?;
-    assert_eq!(rt; builder.as_str(), "cba");
+    expect_eq!(rt; builder.as_str(), "cba");
     Ok(())
 }
 
-#[test]
-fn extend_strs_example(rt: HostRuntime) -> Result<(), Fail> {
-    let alloc = rt.alloc();
+fn extend_strs_example(rt: &Test, alloc: Global) -> Result<(), AllocError> {
     let mut builder = SmolStrBuilder::new(alloc);
     builder.extend_strs("a, b".split(", "))?;
-    assert_eq!(rt; builder.as_str(), "ab");
+    expect_eq!(rt; builder.as_str(), "ab");
     Ok(())
 }
 
 #[test]
-fn write_fmt_example(rt: HostRuntime) -> Result<(), Fail> {
+fn printed(rt: HostRuntime) -> Result<(), Fail> {
+    let test = Test::new(rt.alloc());
     let alloc = rt.alloc();
+    ended(&test, write_fmt_example(&test, alloc), "write_fmt");
+    ended(&test, to_smolstr_example(&test, alloc), "to_smolstr");
+    ended(
+        &test,
+        format_smolstr_example(&test, alloc),
+        "format_smolstr",
+    );
+    test.end()
+}
+
+fn write_fmt_example(rt: &Test, alloc: Global) -> Result<(), FormatError> {
     let mut builder = SmolStrBuilder::new(alloc);
     write!(builder, "{}-{:02}", "a", 7).map_err(|_error| FormatError)?;
-    assert_eq!(rt; builder.as_str(), "a-07");
+    expect_eq!(rt; builder.as_str(), "a-07");
     Ok(())
 }
 
-#[test]
-fn to_smolstr_example(rt: HostRuntime) -> Result<(), Fail> {
-    let alloc = rt.alloc();
+fn to_smolstr_example(rt: &Test, alloc: Global) -> Result<(), FormatError> {
     let number = 42u8.to_smolstr(alloc)?;
-    assert_eq!(rt; number.as_str(), "42");
+    expect_eq!(rt; number.as_str(), "42");
     Ok(())
 }
 
-#[test]
-fn format_smolstr_example(rt: HostRuntime) -> Result<(), Fail> {
-    let alloc = rt.alloc();
+fn format_smolstr_example(rt: &Test, alloc: Global) -> Result<(), FormatError> {
     let name = format_smolstr!(alloc; "{}-{:02}", "a", 7)?;
-    assert_eq!(rt; name.as_str(), "a-07");
+    expect_eq!(rt; name.as_str(), "a-07");
     Ok(())
 }
 
 #[test]
-fn str_ext_example(rt: HostRuntime) -> Result<(), Fail> {
+fn mapped_and_replaced(rt: HostRuntime) -> Result<(), Fail> {
+    let test = Test::new(rt.alloc());
     let alloc = rt.alloc();
+    ended(&test, str_ext_example(&test, alloc), "str_ext");
+    ended(
+        &test,
+        replace_smolstr_example(&test, alloc),
+        "replace_smolstr",
+    );
+    ended(
+        &test,
+        to_ascii_lowercase_smolstr_example(&test, alloc),
+        "to_ascii_lowercase_smolstr",
+    );
+    ended(
+        &test,
+        to_lowercase_smolstr_example(&test, alloc),
+        "to_lowercase_smolstr",
+    );
+    test.end()
+}
+
+fn str_ext_example(rt: &Test, alloc: Global) -> Result<(), AllocError> {
     let line = "Let x = 1";
     let keyword = line.replacen_smolstr(alloc, "Let", "let", 1)?;
-    assert_eq!(rt; keyword.as_str(), "let x = 1");
+    expect_eq!(rt; keyword.as_str(), "let x = 1");
     Ok(())
 }
 
-#[test]
-fn replace_smolstr_example(rt: HostRuntime) -> Result<(), Fail> {
-    let alloc = rt.alloc();
+fn replace_smolstr_example(rt: &Test, alloc: Global) -> Result<(), AllocError> {
     let path = "a\\b\\c".replace_smolstr(alloc, "\\", "/")?;
-    assert_eq!(rt; path.as_str(), "a/b/c");
+    expect_eq!(rt; path.as_str(), "a/b/c");
     Ok(())
 }
 
-#[test]
-fn to_ascii_lowercase_smolstr_example(rt: HostRuntime) -> Result<(), Fail> {
-    let alloc = rt.alloc();
+fn to_ascii_lowercase_smolstr_example(rt: &Test, alloc: Global) -> Result<(), AllocError> {
     let header = "Content-Type".to_ascii_lowercase_smolstr(alloc)?;
-    assert_eq!(rt; header.as_str(), "content-type");
+    expect_eq!(rt; header.as_str(), "content-type");
     Ok(())
 }
 
-#[test]
-fn to_lowercase_smolstr_example(rt: HostRuntime) -> Result<(), Fail> {
-    let alloc = rt.alloc();
+fn to_lowercase_smolstr_example(rt: &Test, alloc: Global) -> Result<(), AllocError> {
     let word = "ΟΔΟΣ".to_lowercase_smolstr(alloc)?;
-    assert_eq!(rt; word.as_str(), "οδος");
+    expect_eq!(rt; word.as_str(), "οδος");
     Ok(())
 }
 
 #[test]
-fn serialize_example(rt: HostRuntime) -> Result<(), Fail> {
+fn wire_forms(rt: HostRuntime) -> Result<(), Fail> {
+    let test = Test::new(rt.alloc());
     let alloc = rt.alloc();
+    ended(&test, serialize_example(&test, alloc), "serialize");
+    ended(
+        &test,
+        deserialize_reader_example(&test, alloc),
+        "deserialize_reader",
+    );
+    length_prefix_example(&test);
+    ended(&test, from_wire_example(&test, alloc), "from_wire");
+    ended(&test, split_wire_example(&test, alloc), "split_wire");
+    deserialize_limited_example(&test, alloc);
+    test.end()
+}
+
+fn serialize_example(rt: &Test, alloc: Global) -> Result<(), EncodeFault> {
     let mut form = Vec::new(alloc);
     SmolStr::new_inline("ab").serialize(&mut form)?;
-    assert_eq!(rt; form.as_slice(), b"\x02\0\0\0ab".as_slice());
+    expect_eq!(rt; form.as_slice(), b"\x02\0\0\0ab".as_slice());
     Ok(())
 }
 
-#[test]
-fn deserialize_reader_example(rt: HostRuntime) -> Result<(), Fail> {
-    let alloc = rt.alloc();
+fn deserialize_reader_example(rt: &Test, alloc: Global) -> Result<(), DecodeFault> {
     let mut reader = b"\x02\0\0\0abc".as_slice();
     let value = SmolStr::deserialize_reader(alloc, &mut reader)?;
-    assert!(rt; value.as_str() == "ab" && reader == b"c".as_slice());
+    expect!(rt; value.as_str() == "ab" && reader == b"c".as_slice());
     Ok(())
 }
 
-#[test]
-fn length_prefix_example(rt: HostRuntime) {
-    assert_eq!(rt; length_prefix(2), Some([2, 0, 0, 0]));
+fn length_prefix_example(rt: &Test) {
+    expect_eq!(rt; length_prefix(2), Some([2, 0, 0, 0]));
 }
 
-#[test]
-fn from_wire_example(rt: HostRuntime) -> Result<(), Fail> {
-    let alloc = rt.alloc();
+fn from_wire_example(rt: &Test, alloc: Global) -> Result<(), DecodeFault> {
     let (value, taken) = from_wire(alloc, b"\x02\0\0\0abc")?;
-    assert!(rt; value.as_str() == "ab" && taken == 6);
+    expect!(rt; value.as_str() == "ab" && taken == 6);
     Ok(())
 }
 
-#[test]
-fn split_wire_example(rt: HostRuntime) -> Result<(), Fail> {
-    let alloc = rt.alloc();
+fn split_wire_example(rt: &Test, alloc: Global) -> Result<(), DecodeFault> {
     let (value, rest) = split_wire(alloc, b"\x02\0\0\0abc")?;
-    assert!(rt; value.as_str() == "ab" && rest == b"c".as_slice());
+    expect!(rt; value.as_str() == "ab" && rest == b"c".as_slice());
     Ok(())
 }
 
-#[test]
-fn deserialize_limited_example(rt: HostRuntime) {
-    let alloc = rt.alloc();
+fn deserialize_limited_example(rt: &Test, alloc: Global) {
     let mut reader = b"\x02\0\0\0ab".as_slice();
     let fault = deserialize_limited(alloc, &mut reader, 1).err();
-    assert!(rt; matches!(fault, Some(LimitedFault::TooLong)));
+    expect!(rt; matches!(fault, Some(LimitedFault::TooLong)));
 }
 
 #[test]
-fn to_value_example(rt: HostRuntime) -> Result<(), Fail> {
+fn json(rt: HostRuntime) -> Result<(), Fail> {
+    let test = Test::new(rt.alloc());
     let alloc = rt.alloc();
+    ended(&test, to_value_example(&test, alloc), "to_value");
+    ended(&test, to_json_example(&test, alloc), "to_json");
+    ended(&test, from_json_example(&test, alloc), "from_json");
+    test.end()
+}
+
+fn to_value_example(rt: &Test, alloc: Global) -> Result<(), AllocError> {
     let name = SmolStr::new_inline("if");
     let value = json::to_value(alloc, &name)?;
-    assert_eq!(rt; value.as_str(), Some("if"));
+    expect_eq!(rt; value.as_str(), Some("if"));
     Ok(())
 }
 
-#[test]
-fn to_json_example(rt: HostRuntime) -> Result<(), Fail> {
-    let alloc = rt.alloc();
+fn to_json_example(rt: &Test, alloc: Global) -> Result<(), AllocError> {
     let quoted = json::to_json(alloc, &SmolStr::new_inline("a\"b"))?;
-    assert_eq!(rt; quoted.as_str(), "\"a\\\"b\"");
+    expect_eq!(rt; quoted.as_str(), "\"a\\\"b\"");
     Ok(())
 }
 
-#[test]
-fn from_json_example(rt: HostRuntime) -> Result<(), Fail> {
-    let alloc = rt.alloc();
+fn from_json_example(rt: &Test, alloc: Global) -> Result<(), JsonFault> {
     let name = json::from_json(alloc, "\"if\"")?;
-    assert_eq!(rt; name.as_str(), "if");
+    expect_eq!(rt; name.as_str(), "if");
     Ok(())
 }
 
 #[test]
-fn fill_example(rt: HostRuntime) -> Result<(), Fail> {
+fn streams(rt: HostRuntime) -> Result<(), Fail> {
+    let test = Test::new(rt.alloc());
+    let alloc = rt.alloc();
+    ended(&test, fill_example(&test), "fill");
+    ended(&test, read_up_to_example(&test, alloc), "read_up_to");
+    ended(&test, write_steps_example(&test, alloc), "write_steps");
+    test.end()
+}
+
+fn fill_example(rt: &Test) -> Result<(), io::Error> {
     let mut reader = b"abc".as_slice();
     let mut buffer = [0; 2];
-    assert_eq!(rt; fill(&mut reader, &mut buffer)?, 2);
-    assert_eq!(rt; reader, b"c".as_slice());
+    expect_eq!(rt; fill(&mut reader, &mut buffer)?, 2);
+    expect_eq!(rt; reader, b"c".as_slice());
     Ok(())
 }
 
-#[test]
-fn read_up_to_example(rt: HostRuntime) -> Result<(), Fail> {
-    let alloc = rt.alloc();
+fn read_up_to_example(rt: &Test, alloc: Global) -> Result<(), ReadFault> {
     let mut reader = b"abc".as_slice();
     let bytes = read_up_to(alloc, &mut reader, 2)?;
-    assert!(rt; bytes.as_slice() == b"ab".as_slice() && reader == b"c".as_slice());
+    expect!(rt; bytes.as_slice() == b"ab".as_slice() && reader == b"c".as_slice());
     Ok(())
 }
 
-#[test]
-fn write_steps_example(rt: HostRuntime) -> Result<(), Fail> {
-    let alloc = rt.alloc();
+fn write_steps_example(rt: &Test, alloc: Global) -> Result<(), io::Error> {
     let mut written = Vec::new(alloc);
     write_steps(&mut written, b"ab")?;
-    assert_eq!(rt; written.as_slice(), b"ab".as_slice());
+    expect_eq!(rt; written.as_slice(), b"ab".as_slice());
     Ok(())
 }
 
 #[test]
-fn convert_while_ascii_example(rt: HostRuntime) {
-    let (buffer, len) = convert_while_ascii("ABCé", AsciiCase::Lower);
-    assert_eq!(rt; &buffer[..len], b"abc".as_slice());
+fn kernel(rt: HostRuntime) -> Result<(), Fail> {
+    let test = Test::new(rt.alloc());
+    convert_while_ascii_example(&test);
+    next_match_example(&test);
+    test.end()
 }
 
-#[test]
-fn next_match_example(rt: HostRuntime) {
-    assert_eq!(rt; next_match("foo_bar_baz", 5, "ba"), Some(8));
+fn convert_while_ascii_example(rt: &Test) {
+    let (buffer, len) = convert_while_ascii("ABCé", AsciiCase::Lower);
+    expect_eq!(rt; &buffer[..len], b"abc".as_slice());
+}
+
+fn next_match_example(rt: &Test) {
+    expect_eq!(rt; next_match("foo_bar_baz", 5, "ba"), Some(8));
 }
