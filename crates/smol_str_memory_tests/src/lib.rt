@@ -1,4 +1,5 @@
-//! Tests of what each call of the library asks the heap for, and of what stands where that is refused.
+//! Tests of what each call of the library asks the heap for, of what stands where that is refused, and of texts that are
+//! printed, written and read.
 #![tactic(auto)]
 
 #[cfg(test)]

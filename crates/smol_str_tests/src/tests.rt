@@ -1,12 +1,13 @@
-//! Tests of what no clause says: outside values and builders, and memory refused.
+//! Tests of what no clause says: outside values and builders, items of iterators, and memory refused.
 
 mod built;
+mod collect;
+mod collect_refused;
 mod compare;
 mod convert;
 mod kernel;
 mod keys;
 mod large;
-mod long_texts;
 mod operations;
 mod places;
 mod replace;

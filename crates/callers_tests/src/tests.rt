@@ -1,0 +1,20 @@
+//! The program over outside values, readers and writers that fail, and memory refused; and the callers, each run once.
+mod doc_examples;
+mod headers;
+mod join;
+mod lexer;
+mod lists;
+mod modes;
+mod ordered;
+mod readers;
+mod records;
+mod refused;
+mod rows;
+mod runs;
+mod show;
+mod sources;
+mod symbols;
+mod tally;
+mod whole;
+mod words;
+mod writers;
