@@ -1,4 +1,4 @@
-use Rattle.smol_str.proofs.Common.{◌≡◌, ℕ, ◌-◌, List, ◌++◌, length, take, drop, sym, ap, ◌∙◌, append_assoc, take-append-drop, take_rest, Appends-trans}
+use Rattle.smol_str.proofs.Common.{◌≡◌, ℕ, ◌-◌, List, ◌++◌, length, take, drop, sym, ap, ◌∙◌, append_assoc, take-append-drop, take_rest, arith, common_steps, Appends-trans}
 use Rattle.smol_str.proofs.stream.write_steps.Goals as goal
 
 -- what a step takes from the front of the rest goes over to what is done
@@ -16,3 +16,6 @@ loop-rest-preserved g c =
       moves_front _ done rest c.in_ok-n.n split,
       Appends-trans _ _ _ _ _ appended c.in_ok-n.ensures.bytes,
     )
+
+pub returns-then-n-eq0-clause-beginning : goal.returns-then-n-eq0-clause-beginning
+returns-then-n-eq0-clause-beginning g c = grind (arith, common_steps)

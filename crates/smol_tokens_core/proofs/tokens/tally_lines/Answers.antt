@@ -19,7 +19,7 @@ returns-in_err-add-clause-fault g c =
     let after = rw c.in_ok-new.ensures.ok.text at c.in_err-add.ensures.fault in
     let none = no_report-add (chars c.args.text.now) (chars line) (map (λ line. chars line.now) c.loop-line.yielded) _ _
     c.loop-line.tally fault c.loop-line.invariant.0 c.loop-line.invariant.1 c.in-Some.ensures.steps after in
-    search (rules, none)
+    search (rules, none) steps 1000000
 
 pub returns-in_err-new-clause-fault : goal.returns-in_err-new-clause-fault
 returns-in_err-new-clause-fault g c =

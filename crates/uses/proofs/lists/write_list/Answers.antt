@@ -1,4 +1,5 @@
-use Rattle.std.proofs.Common.{Some, length}
+use Rattle.std.proofs.Common.{Some, length, arith}
+use Rattle.std.proofs.lemmas.Grind.{common_steps}
 use Rattle.std.specs.Int.{w32, to_le_bytes}
 use Rattle.uses.proofs.ListLemmas.{one_written, not_written}
 use Rattle.uses.proofs.lists.write_list.Goals as goal
@@ -15,3 +16,6 @@ returns-in_err-serialize-clause-fault c =
     not_written c.args.values.now c.loop-value.value-index c.value-item.result c.loop-value-test.true c.value-item.is
     c.from_residual-in_err-serialize.result (Some c.loop-value.bytes.items) (Some c.serialize.new.writer.items)
     c.in_err-serialize.field-0.0 c.from_residual-in_err-serialize.ensures.1 c.in_err-serialize.ensures.fault
+
+pub returns-clause-listed : goal.returns-clause-listed
+returns-clause-listed c = grind (arith, common_steps) steps 2000000

@@ -8,4 +8,4 @@ pub returns-then-newlines-gt-BLANK_NEWLINES-clause-run :
 returns-then-newlines-gt-BLANK_NEWLINES-clause-run c run = search (rules, arith, Passes-from_IsBlankRun, take_rest)
 
 pub returns : goal.returns
-returns c = search (rules, arith, take_rest, IsBlankRun-from_tests, blank_run-from_tests)
+returns c = search (rules, arith, take_rest, IsBlankRun-from_tests, blank_run-from_tests) steps 4000000
