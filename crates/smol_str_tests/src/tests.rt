@@ -20,7 +20,7 @@ use test_support::texts::{full_capitals, full_text, long_blank, long_capitals, l
 
 #[test]
 fn limits(rt: HostRuntime) -> Result<(), Fail> {
-    let test = Test::new(rt.alloc());
+    let test = Test::begin(rt);
     same_count(&test, INLINE_CAP, 39, "INLINE_CAP");
     same_count(&test, BLANK_NEWLINES, 64, "BLANK_NEWLINES");
     same_count(&test, BLANK_SPACES, 256, "BLANK_SPACES");
@@ -29,7 +29,7 @@ fn limits(rt: HostRuntime) -> Result<(), Fail> {
 
 #[test]
 fn texts_at_the_limit(rt: HostRuntime) -> Result<(), Fail> {
-    let test = Test::new(rt.alloc());
+    let test = Test::begin(rt);
     for text in [full_text(), full_capitals()] {
         same_count(&test, text.len(), INLINE_CAP, text);
     }

@@ -1,9 +1,9 @@
 //! What calls of std ask the heap for.
 use crate::refuse::{Asked, can_refuse, count_asked};
+use crate::test::Test;
 use smol_str::INLINE_CAP;
 use std::alloc::Global;
 use std::rc::RcStr;
-use std::test::Fail;
 
 /// A call of std that asks for what a call under test is to ask for.
 #[derive(Clone, Copy)]
@@ -51,21 +51,25 @@ pub const KEPT: &[Asks] = &[Asks::Kept];
 pub const PRINTED: &[Asks] = &[Asks::OwnedAndRoom, Asks::Kept];
 
 /// What std's calls ask for. Each asks for something, so a count of 0 is none.
-pub fn asked_by_all(alloc: Global, asks: &[Asks], text: &str) -> Result<Asked, Fail> {
+pub fn asked_by_all(test: &Test, asks: &[Asks], text: &str) -> Asked {
     let mut wanted = Asked {
         requests: 0,
         bytes: 0,
         held: 0,
     };
     for ask in asks {
-        let asked = asked_by_std(alloc, *ask, text)?;
-        wanted.requests = wanted.requests.wrapping_add(asked.requests);
-        wanted.bytes = wanted.bytes.wrapping_add(asked.bytes);
+        match asked_by_std(test.alloc, *ask, text) {
+            Some(asked) => {
+                wanted.requests = wanted.requests.wrapping_add(asked.requests);
+                wanted.bytes = wanted.bytes.wrapping_add(asked.bytes);
+            }
+            None => test.fail(&"std's calls do not succeed"),
+        }
     }
-    if wanted.requests == 0 && !asks.is_empty() && can_refuse(alloc) {
-        return Err("std's calls ask for nothing".into());
+    if wanted.requests == 0 && !asks.is_empty() && can_refuse(test.alloc) {
+        test.fail(&"std's calls ask for nothing");
     }
-    Ok(wanted)
+    wanted
 }
 
 /// Whether the requests are as many, for as many bytes.
@@ -73,7 +77,8 @@ pub fn is_asked(asked: Asked, wanted: Asked) -> bool {
     asked.requests == wanted.requests && asked.bytes == wanted.bytes
 }
 
-fn asked_by_std(alloc: Global, ask: Asks, text: &str) -> Result<Asked, Fail> {
+/// `None` where the call does not succeed.
+fn asked_by_std(alloc: Global, ask: Asks, text: &str) -> Option<Asked> {
     let room = text.len().saturating_add(INLINE_CAP);
     match ask {
         Asks::Shared => asked_for_shared(alloc, text),
@@ -87,36 +92,36 @@ fn asked_by_std(alloc: Global, ask: Asks, text: &str) -> Result<Asked, Fail> {
     }
 }
 
-fn asked_for_shared(alloc: Global, text: &str) -> Result<Asked, Fail> {
+fn asked_for_shared(alloc: Global, text: &str) -> Option<Asked> {
     let before = count_asked(alloc);
-    drop(RcStr::from_str(alloc, text)?);
-    Ok(count_asked(alloc).since(before))
+    drop(RcStr::from_str(alloc, text).ok()?);
+    Some(count_asked(alloc).since(before))
 }
 
-fn asked_to_keep(alloc: Global, text: &str) -> Result<Asked, Fail> {
-    let owned = String::from_str(alloc, text)?;
+fn asked_to_keep(alloc: Global, text: &str) -> Option<Asked> {
+    let owned = String::from_str(alloc, text).ok()?;
     let before = count_asked(alloc);
-    drop(RcStr::from_string(owned)?);
-    Ok(count_asked(alloc).since(before))
+    drop(RcStr::from_string(owned).ok()?);
+    Some(count_asked(alloc).since(before))
 }
 
-fn asked_for_room(alloc: Global, room: usize) -> Result<Asked, Fail> {
+fn asked_for_room(alloc: Global, room: usize) -> Option<Asked> {
     let before = count_asked(alloc);
-    drop(String::with_capacity(alloc, room)?);
-    Ok(count_asked(alloc).since(before))
+    drop(String::with_capacity(alloc, room).ok()?);
+    Some(count_asked(alloc).since(before))
 }
 
-fn asked_to_append(alloc: Global, text: &str) -> Result<Asked, Fail> {
-    let mut roomy = String::with_capacity(alloc, text.len().saturating_add(INLINE_CAP))?;
-    roomy.push_str(text)?;
+fn asked_to_append(alloc: Global, text: &str) -> Option<Asked> {
+    let mut roomy = String::with_capacity(alloc, text.len().saturating_add(INLINE_CAP)).ok()?;
+    roomy.push_str(text).ok()?;
     let before = count_asked(alloc);
-    roomy.push_str(text)?;
-    Ok(count_asked(alloc).since(before))
+    roomy.push_str(text).ok()?;
+    Some(count_asked(alloc).since(before))
 }
 
-fn asked_to_push(alloc: Global, text: &str) -> Result<Asked, Fail> {
-    let mut owned = String::from_str(alloc, text)?;
+fn asked_to_push(alloc: Global, text: &str) -> Option<Asked> {
+    let mut owned = String::from_str(alloc, text).ok()?;
     let before = count_asked(alloc);
-    owned.push('a')?;
-    Ok(count_asked(alloc).since(before))
+    owned.push('a').ok()?;
+    Some(count_asked(alloc).since(before))
 }

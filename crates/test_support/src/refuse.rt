@@ -5,8 +5,8 @@
 //! the same tests then run with ample memory, and every count is 0.
 ghost use Rattle.std.specs.Prelude.{◌<◌};
 
+use crate::test::{Test, holds};
 use std::alloc::Global;
-use std::test::Fail;
 
 /// Requests from here up are messages to `.ci/refuse.c`: message k is `BASE + k * WORD`, plus its
 /// argument.
@@ -68,110 +68,74 @@ pub struct Asked {
     pub held: u32,
 }
 
+/// A call under test. A trait, since a closure costs the proof of its caller four times as much as a method.
+pub trait Refusable {
+    /// What the call takes.
+    type Input;
+
+    /// What it makes.
+    type Made: Drop;
+
+    /// What it returns where it makes nothing.
+    type Fault: Drop;
+
+    /// What the call takes, made with ample memory.
+    fn input(&self, test: &Test) -> Self::Input;
+
+    /// The call, and nothing else.
+    fn call(&self, alloc: Global, input: Self::Input) -> Result<Self::Made, Self::Fault>;
+
+    /// Compares what the call returned, and sees that what a refusal left behind can be used.
+    fn check(&self, test: &Test, returned: Result<Self::Made, Self::Fault>);
+}
+
 /// Makes a call with each of its requests refused in turn, that one alone and that one with all after it, until a run
 /// meets none. Returns what the call asks for where nothing is refused.
 ///
-/// `prepare` makes what the call takes, with ample memory, and `call` is the call under test and nothing else. A run
-/// fails where the call is `Ok` although a request was refused, where it is `Err` although none was, where it makes
-/// another request after one that was refused, where `holds` fails, and where a block of memory is left once all is
-/// dropped.
-pub fn each_refused<I, T: Drop, E: Drop, P, C, H>(
-    alloc: Global,
-    name: &str,
-    prepare: P,
-    call: C,
-    holds: H,
-) -> Result<Asked, Fail>
-where
-    P: Fn() -> Result<I, Fail>,
-    C: Fn(I) -> Result<T, E>,
-    H: Fn(&Result<T, E>) -> Result<(), Fail>,
-    requires prepares { P.IsAlwaysCallable prepare }
-    requires calls { C.IsAlwaysCallable call }
-    requires compares { H.IsAlwaysCallable holds }
-{
-    each_refused_by_value(
-        alloc,
-        name,
-        prepare,
-        call,
-        |answer: Result<T, E>| holds(&answer),
-    )
-}
-
-/// [`each_refused`] where `holds` takes what the call returned: it sees that what a refusal left behind can be used.
-pub fn each_refused_by_value<I, T: Drop, E: Drop, P, C, H>(
-    alloc: Global,
-    name: &str,
-    prepare: P,
-    call: C,
-    holds: H,
-) -> Result<Asked, Fail>
-where
-    P: Fn() -> Result<I, Fail>,
-    C: Fn(I) -> Result<T, E>,
-    H: Fn(Result<T, E>) -> Result<(), Fail>,
-    requires prepares { P.IsAlwaysCallable prepare }
-    requires calls { C.IsAlwaysCallable call }
-    requires compares { H.IsAlwaysCallable holds }
-{
+/// A run fails the test where the call is `Ok` although a request was refused, where it is `Err` although none was, where
+/// it makes another request after one that was refused, and where a block of memory is left once all is dropped.
+pub fn each_refused<C: Refusable>(test: &Test, name: &str, call: &C) -> Asked {
     for nth in 1..MOST {
-        let alone = run_refused(alloc, name, Refusals::One(nth), &prepare, &call, &holds)?;
-        let with_later = run_refused(alloc, name, Refusals::From(nth), &prepare, &call, &holds)?;
-        match (alone, with_later) {
-            (None, None) => {}
-            (Some(asked), Some(again)) if asked == again => return Ok(asked),
-            _ => return Err(failed(name, "does not always make the same requests")),
+        let alone = run_refused(test, name, Refusals::One(nth), call);
+        let with_later = run_refused(test, name, Refusals::From(nth), call);
+        holds(test, alone == with_later, &(name, alone, with_later));
+        if let Some(asked) = alone {
+            return asked;
         }
     }
-    Err(failed(name, "makes too many requests"))
+    test.fail(&(name, "makes too many requests"));
+    Asked {
+        requests: 0,
+        bytes: 0,
+        held: 0,
+    }
 }
 
 /// One run with these requests refused. Returns what the call asked for, and `None` where a request was refused.
-fn run_refused<I, T: Drop, E: Drop, P, C, H>(
-    alloc: Global,
+fn run_refused<C: Refusable>(
+    test: &Test,
     name: &str,
     refusals: Refusals,
-    prepare: &P,
     call: &C,
-    holds: &H,
-) -> Result<Option<Asked>, Fail>
-where
-    P: Fn() -> Result<I, Fail>,
-    C: Fn(I) -> Result<T, E>,
-    H: Fn(Result<T, E>) -> Result<(), Fail>,
-    requires prepares { P.IsAlwaysCallable prepare.now }
-    requires calls { C.IsAlwaysCallable call.now }
-    requires compares { H.IsAlwaysCallable holds.now }
-{
+) -> Option<Asked> {
+    let alloc = test.alloc;
     start_counts(alloc);
-    let input = prepare()?;
+    let input = call.input(test);
     let before = count_asked(alloc);
     refuse(alloc, refusals);
-    let answer = call(input);
+    let returned = call.call(alloc, input);
     let was_refused = end_refusals(alloc);
     let mut asked = count_asked(alloc).since(before);
     // the counts began before its input was made, which is gone
     asked.held = count_held(alloc);
-    let gave_up = answer.is_err();
-    if was_refused && asked.requests != refusals.first() {
-        return Err(failed(name, "makes a request after one that was refused"));
-    }
-    holds(answer)?;
-    if gave_up && !was_refused {
-        return Err(failed(name, "gives up although no request was refused"));
-    }
-    if was_refused && !gave_up {
-        return Err(failed(name, "hides a refusal"));
-    }
-    if count_blocks(alloc) != 0 {
-        return Err(failed(name, "leaks"));
-    }
-    Ok(if was_refused { None } else { Some(asked) })
-}
-
-fn failed(name: &str, why: &str) -> Fail {
-    Fail::new(format_args!("{name} {why}"))
+    let gave_up = returned.is_err();
+    let is_last = !was_refused || asked.requests == refusals.first();
+    holds(test, is_last, &(name, "makes a request after a refusal"));
+    call.check(test, returned);
+    holds(test, was_refused || !gave_up, &(name, "gives up unrefused"));
+    holds(test, gave_up || !was_refused, &(name, "hides a refusal"));
+    holds(test, count_blocks(alloc) == 0, &(name, "leaks"));
+    if was_refused { None } else { Some(asked) }
 }
 
 /// What was asked for since the counts began.

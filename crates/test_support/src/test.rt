@@ -3,6 +3,8 @@
 //! The first row that is wrong is kept, and the test ends with it; the rows behind it are gone through all the same. So no
 //! helper gives up, and all that a row holds is dropped at one place, which costs the proof of a test far less than an
 //! assertion or a `?` does. A helper of one type costs its caller less than one of any type.
+use crate::builders::builder_of;
+use crate::texts::repeated;
 use smol_str::{Place, SmolStr, SmolStrBuilder};
 use std::alloc::{AllocError, Global};
 use std::cell::Cell;
@@ -13,13 +15,19 @@ use std::test::Fail;
 /// So many bytes of a wrong row are told.
 const TOLD: usize = 480;
 
-/// A running test. It cannot be dropped: what it ends with is the test's result.
+/// A running test. It cannot be dropped: what it ends with is the test's result. It has the memory that its rows ask for, so
+/// a helper takes it alone: each argument more is paid at each call.
 pub struct Test {
-    alloc: Global,
+    pub alloc: Global,
     wrong: Cell<Option<InlineText<TOLD>>>,
 }
 
 impl Test {
+    /// A test of this process, with no wrong row.
+    pub fn begin(rt: HostRuntime) -> Test {
+        Test::new(rt.alloc())
+    }
+
     /// A test with no wrong row.
     pub fn new(alloc: Global) -> Test {
         Test {
@@ -34,6 +42,26 @@ impl Test {
             self.wrong
                 .set(Some(InlineText::of(format_args!("{row:?}"))));
         }
+    }
+
+    /// The value of the text.
+    pub fn value(&self, text: &str) -> SmolStr {
+        ok_value(self, SmolStr::new(self.alloc, text))
+    }
+
+    /// A builder of this capacity that has the text.
+    pub fn builder(&self, capacity: usize, text: &str) -> SmolStrBuilder {
+        ok(self, builder_of(self.alloc, capacity, text))
+    }
+
+    /// A string of the text.
+    pub fn string(&self, text: &str) -> String {
+        ok_string(self, String::from_str(self.alloc, text))
+    }
+
+    /// A text so many times.
+    pub fn repeated(&self, text: &str, times: usize) -> String {
+        ok_string(self, repeated(self.alloc, text, times))
     }
 
     /// The test's result: its first wrong row, where there is one.

@@ -44,8 +44,8 @@ fn ended<E: Debug + Drop>(test: &Test, outcome: Result<(), E>, example: &str) {
 
 #[test]
 fn values(rt: HostRuntime) -> Result<(), Fail> {
-    let test = Test::new(rt.alloc());
-    let alloc = rt.alloc();
+    let test = Test::begin(rt);
+    let alloc = test.alloc;
     ended(&test, value_example(&test, alloc), "value");
     new_inline_in_case_example(&test);
     new_static_example(&test);
@@ -124,8 +124,8 @@ fn from_rc_str_example(rt: &Test, alloc: Global) -> Result<(), AllocError> {
 
 #[test]
 fn builders(rt: HostRuntime) -> Result<(), Fail> {
-    let test = Test::new(rt.alloc());
-    let alloc = rt.alloc();
+    let test = Test::begin(rt);
+    let alloc = test.alloc;
     ended(&test, builder_example(&test, alloc), "builder");
     ended(&test, with_capacity_example(&test, alloc), "with_capacity");
     ended(&test, finish_example(&test, alloc), "finish");
@@ -172,8 +172,8 @@ fn build_example(rt: &Test, alloc: Global) -> Result<(), AllocError> {
 
 #[test]
 fn collected(rt: HostRuntime) -> Result<(), Fail> {
-    let test = Test::new(rt.alloc());
-    let alloc = rt.alloc();
+    let test = Test::begin(rt);
+    let alloc = test.alloc;
     ended(&test, from_chars_example(&test, alloc), "from_chars");
     ended(&test, from_strs_example(&test, alloc), "from_strs");
     ended(&test, from_strings_example(&test, alloc), "from_strings");
@@ -235,8 +235,8 @@ fn extend_strs_example(rt: &Test, alloc: Global) -> Result<(), AllocError> {
 
 #[test]
 fn printed(rt: HostRuntime) -> Result<(), Fail> {
-    let test = Test::new(rt.alloc());
-    let alloc = rt.alloc();
+    let test = Test::begin(rt);
+    let alloc = test.alloc;
     ended(&test, write_fmt_example(&test, alloc), "write_fmt");
     ended(&test, to_smolstr_example(&test, alloc), "to_smolstr");
     ended(
@@ -268,8 +268,8 @@ fn format_smolstr_example(rt: &Test, alloc: Global) -> Result<(), FormatError> {
 
 #[test]
 fn mapped_and_replaced(rt: HostRuntime) -> Result<(), Fail> {
-    let test = Test::new(rt.alloc());
-    let alloc = rt.alloc();
+    let test = Test::begin(rt);
+    let alloc = test.alloc;
     ended(&test, str_ext_example(&test, alloc), "str_ext");
     ended(
         &test,
@@ -316,8 +316,8 @@ fn to_lowercase_smolstr_example(rt: &Test, alloc: Global) -> Result<(), AllocErr
 
 #[test]
 fn wire_forms(rt: HostRuntime) -> Result<(), Fail> {
-    let test = Test::new(rt.alloc());
-    let alloc = rt.alloc();
+    let test = Test::begin(rt);
+    let alloc = test.alloc;
     ended(&test, serialize_example(&test, alloc), "serialize");
     ended(
         &test,
@@ -369,8 +369,8 @@ fn deserialize_limited_example(rt: &Test, alloc: Global) {
 
 #[test]
 fn json(rt: HostRuntime) -> Result<(), Fail> {
-    let test = Test::new(rt.alloc());
-    let alloc = rt.alloc();
+    let test = Test::begin(rt);
+    let alloc = test.alloc;
     ended(&test, to_value_example(&test, alloc), "to_value");
     ended(&test, to_json_example(&test, alloc), "to_json");
     ended(&test, from_json_example(&test, alloc), "from_json");
@@ -398,11 +398,10 @@ fn from_json_example(rt: &Test, alloc: Global) -> Result<(), JsonFault> {
 
 #[test]
 fn streams(rt: HostRuntime) -> Result<(), Fail> {
-    let test = Test::new(rt.alloc());
-    let alloc = rt.alloc();
+    let test = Test::begin(rt);
     ended(&test, fill_example(&test), "fill");
-    ended(&test, read_up_to_example(&test, alloc), "read_up_to");
-    ended(&test, write_steps_example(&test, alloc), "write_steps");
+    ended(&test, read_up_to_example(&test, test.alloc), "read_up_to");
+    ended(&test, write_steps_example(&test, test.alloc), "write_steps");
     test.end()
 }
 
@@ -430,7 +429,7 @@ fn write_steps_example(rt: &Test, alloc: Global) -> Result<(), io::Error> {
 
 #[test]
 fn kernel(rt: HostRuntime) -> Result<(), Fail> {
-    let test = Test::new(rt.alloc());
+    let test = Test::begin(rt);
     convert_while_ascii_example(&test);
     next_match_example(&test);
     test.end()

@@ -13,7 +13,7 @@ use std::alloc::Global;
 use std::test::Fail;
 use test_support::state::fixed_state;
 use test_support::test::{Test, is_so, ok_string};
-use test_support::texts::{full_text, long_blank, long_text, repeated};
+use test_support::texts::{full_text, long_blank, long_text};
 
 /// The report by std's reader and writer over memory, and by the promise of `run` what it is.
 fn joined(alloc: Global, input: &[u8]) -> Result<Vec<u8>, RunFault>
@@ -50,17 +50,17 @@ fn rows() -> &'static [(&'static [u8], &'static [u8])] {
 
 #[test]
 fn reports(rt: HostRuntime) -> Result<(), Fail> {
-    let test = Test::new(rt.alloc());
+    let test = Test::begin(rt);
     for &(input, wanted) in rows() {
-        check_joined(&test, rt.alloc(), input, wanted);
+        check_joined(&test, input, wanted);
     }
-    let is_reported = is_not_utf8(joined(rt.alloc(), b"a\n\xff"));
+    let is_reported = is_not_utf8(joined(test.alloc, b"a\n\xff"));
     is_so(&test, is_reported, "byte FF");
     test.end()
 }
 
-fn check_joined(test: &Test, alloc: Global, input: &[u8], wanted: &[u8]) {
-    let out = ok_report(test, joined(alloc, input));
+fn check_joined(test: &Test, input: &[u8], wanted: &[u8]) {
+    let out = ok_report(test, joined(test.alloc, input));
     same_bytes(test, out.as_slice(), wanted, input);
 }
 
@@ -71,29 +71,27 @@ fn is_not_utf8(ended: Result<Vec<u8>, RunFault>) -> bool {
 // Two lines whose text together no buffer has room for; of some neither is too long by itself.
 #[test]
 fn long_together(rt: HostRuntime) -> Result<(), Fail> {
-    let test = Test::new(rt.alloc());
-    let alloc = rt.alloc();
-    check_two(&test, alloc, long_text(), "if", "heap");
-    check_two(&test, alloc, full_text(), "a", "heap");
-    check_two(&test, alloc, long_blank(), " ", "static");
-    let spaces = ok_string(&test, repeated(alloc, " ", INLINE_CAP));
-    check_two(&test, alloc, " ", spaces.as_str(), "static");
+    let test = Test::begin(rt);
+    check_two(&test, long_text(), "if", "heap");
+    check_two(&test, full_text(), "a", "heap");
+    check_two(&test, long_blank(), " ", "static");
+    let spaces = test.repeated(" ", INLINE_CAP);
+    check_two(&test, " ", spaces.as_str(), "static");
     test.end()
 }
 
 /// The text of both lines is kept in the place.
-fn check_two(test: &Test, alloc: Global, first: &str, second: &str, place: &str) {
-    let input = ok_string(test, format!(in alloc; "{first}\n{second}"));
-    let wanted = answer_to_two(test, alloc, place, first, second);
+fn check_two(test: &Test, first: &str, second: &str, place: &str) {
+    let input = ok_string(test, format!(in test.alloc; "{first}\n{second}"));
+    let wanted = answer_to_two(test, place, first, second);
     check_joined(
         test,
-        alloc,
         input.as_str().as_bytes(),
         wanted.as_str().as_bytes(),
     )
 }
 
-fn answer_to_two(test: &Test, alloc: Global, place: &str, first: &str, second: &str) -> String {
-    let together = ok_string(test, format!(in alloc; "{first}{second}"));
-    ok_string(test, answer(alloc, place, together.as_str()))
+fn answer_to_two(test: &Test, place: &str, first: &str, second: &str) -> String {
+    let together = ok_string(test, format!(in test.alloc; "{first}{second}"));
+    ok_string(test, answer(test.alloc, place, together.as_str()))
 }

@@ -18,8 +18,8 @@ fn values() -> [SmolStr; 2] {
 
 #[test]
 fn the_bytes_of_a_list(rt: HostRuntime) -> Result<(), Fail> {
-    let test = Test::new(rt.alloc());
-    match write_list(rt.alloc(), values().as_slice()) {
+    let test = Test::begin(rt);
+    match write_list(test.alloc, values().as_slice()) {
         Ok(written) => is_so(&test, Some(written.as_slice()) == BYTES.get(..LEN), "bytes"),
         Err(_) => is_so(&test, false, "the list was not written"),
     }
@@ -28,8 +28,8 @@ fn the_bytes_of_a_list(rt: HostRuntime) -> Result<(), Fail> {
 
 #[test]
 fn a_list_is_read_back(rt: HostRuntime) -> Result<(), Fail> {
-    let test = Test::new(rt.alloc());
-    match read_list(rt.alloc(), BYTES) {
+    let test = Test::begin(rt);
+    match read_list(test.alloc, BYTES) {
         Ok((read, rest)) => {
             is_so(&test, read.as_slice() == values().as_slice(), "values");
             is_so(&test, rest == b"yz".as_slice(), "rest")
@@ -41,10 +41,10 @@ fn a_list_is_read_back(rt: HostRuntime) -> Result<(), Fail> {
 
 #[test]
 fn a_cut_list_has_ended(rt: HostRuntime) -> Result<(), Fail> {
-    let test = Test::new(rt.alloc());
+    let test = Test::begin(rt);
     for len in 0..LEN {
         let cut = BYTES.get(..len).unwrap_or(BYTES);
-        holds(&test, has_ended(rt.alloc(), cut), &len);
+        holds(&test, has_ended(test.alloc, cut), &len);
     }
     test.end()
 }

@@ -1,17 +1,16 @@
 //! Sorted names, in the order of their characters.
 use smol_str::SmolStr;
-use std::alloc::Global;
 use std::test::Fail;
-use test_support::test::{Test, holds, is_so, ok, ok_value, same_count};
+use test_support::test::{Test, holds, is_so, ok, same_count};
 use uses::ordered::sorted_union;
 
 #[test]
 fn a_union(rt: HostRuntime) -> Result<(), Fail> {
-    let test = Test::new(rt.alloc());
+    let test = Test::begin(rt);
     let left = ["b", "aa", "é"];
     let right = ["", "\u{10000}", "b", "\u{ffff}"];
-    let left = values(&test, rt.alloc(), &left);
-    let right = values(&test, rt.alloc(), &right);
+    let left = values(&test, &left);
+    let right = values(&test, &right);
     let union = ok(&test, sorted_union(left, right));
     let wanted = ["", "aa", "b", "b", "é", "\u{ffff}", "\u{10000}"];
     check_texts(&test, &union, &wanted);
@@ -26,10 +25,10 @@ fn check_texts(test: &Test, values: &[SmolStr], texts: &[&str]) {
     }
 }
 
-fn values(test: &Test, alloc: Global, texts: &[&str]) -> Vec<SmolStr> {
-    let mut values = Vec::new(alloc);
+fn values(test: &Test, texts: &[&str]) -> Vec<SmolStr> {
+    let mut values = Vec::new(test.alloc);
     for text in texts {
-        push(test, &mut values, ok_value(test, SmolStr::new(alloc, text)));
+        push(test, &mut values, test.value(text));
     }
     values
 }

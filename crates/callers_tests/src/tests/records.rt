@@ -14,22 +14,22 @@ const LEN: usize = 13;
 
 #[test]
 fn a_field_is_read_back(rt: HostRuntime) -> Result<(), Fail> {
-    let test = Test::new(rt.alloc());
+    let test = Test::begin(rt);
     let mut reader = BYTES;
-    check_field(&test, read_field(rt.alloc(), &mut reader));
+    check_field(&test, read_field(test.alloc, &mut reader));
     is_so(&test, reader == b"yz".as_slice(), "rest");
-    check_field(&test, find_field(rt.alloc(), BYTES));
+    check_field(&test, find_field(test.alloc, BYTES));
     test.end()
 }
 
 #[test]
 fn the_bytes_of_a_field(rt: HostRuntime) -> Result<(), Fail> {
-    let test = Test::new(rt.alloc());
+    let test = Test::begin(rt);
     let field = Field {
         name: SmolStr::new_inline("if"),
         value: SmolStr::new_inline("éx"),
     };
-    let mut written = Vec::new(rt.alloc());
+    let mut written = Vec::new(test.alloc);
     let is_written = write_field(&mut written, &field).is_ok();
     is_so(&test, is_written, "written");
     is_so(&test, Some(written.as_slice()) == BYTES.get(..LEN), "bytes");
@@ -54,14 +54,14 @@ fn check_field(test: &Test, read: Result<Field, DecodeFault>) {
 
 #[test]
 fn a_cut_field_has_ended(rt: HostRuntime) -> Result<(), Fail> {
-    let test = Test::new(rt.alloc());
+    let test = Test::begin(rt);
     for len in 0..LEN {
         let cut = BYTES.get(..len).unwrap_or(BYTES);
         let mut reader = cut;
-        let is_ended = has_ended(read_field(rt.alloc(), &mut reader));
+        let is_ended = has_ended(read_field(test.alloc, &mut reader));
         holds(
             &test,
-            is_ended && has_ended(find_field(rt.alloc(), cut)),
+            is_ended && has_ended(find_field(test.alloc, cut)),
             &(len, is_ended),
         );
     }

@@ -7,10 +7,10 @@ use smol_tokens_core::mode::Mode;
 use smol_tokens_core::run::run;
 use std::alloc::Global;
 use std::test::Fail;
-use test_support::refuse::{can_refuse, each_refused_by_value};
+use test_support::refuse::{Refusable, can_refuse, each_refused};
 use test_support::state::fixed_state;
 use test_support::streams::{Drip, Failure, empty_drip, trickle_of};
-use test_support::test::{Test, is_so, ok_bytes, same_count};
+use test_support::test::{Test, is_so, ok_bytes, ok_string, same_count};
 use test_support::texts::{long_blank, long_text, repeated};
 
 /// The lengths of three reports on an input: line by line, in mode join, and in mode tokens.
@@ -31,124 +31,95 @@ fn line_by_line() -> &'static [Words] {
 
 #[test]
 fn each_request_in_turn(rt: HostRuntime) -> Result<(), Fail> {
-    let alloc = rt.alloc();
-    check_modes(alloc, "", [0, 10, 0])?;
-    check_modes(alloc, "if\n\nx\n", [12 + 10 + 11, 13, 5 + 3 + 4])?;
-    check_line(alloc, "aaaaaaaaaaaaaaaaaaaaaaa", "inline")?;
-    check_line(alloc, "                        ", "inline")?;
-    check_line(alloc, "aaaaaaaaaaaaaaaaaaaaaaaa", "inline")?;
-    check_line(alloc, long_blank(), "static")?;
-    check_line(alloc, long_text(), "heap")?;
-    let long = repeated(alloc, "a", 5000)?;
-    check_line(alloc, long.as_str(), "heap")
+    let test = Test::begin(rt);
+    check_modes(&test, "", [0, 10, 0]);
+    check_modes(&test, "if\n\nx\n", [12 + 10 + 11, 13, 5 + 3 + 4]);
+    check_line(&test, "aaaaaaaaaaaaaaaaaaaaaaa", "inline");
+    check_line(&test, "                        ", "inline");
+    check_line(&test, "aaaaaaaaaaaaaaaaaaaaaaaa", "inline");
+    check_line(&test, long_blank(), "static");
+    check_line(&test, long_text(), "heap");
+    check_line(&test, test.repeated("a", 5000).as_str(), "heap");
+    test.end()
 }
 
 /// A line whose text is kept in the place. Mode tokens writes `1`, a space, the line and a newline.
-fn check_line(alloc: Global, line: &str, place: &str) -> Result<(), Fail> {
-    let len = answer(alloc, place, line)?.len();
-    check_modes(alloc, line, [len, len, line.len().saturating_add(3)])
+fn check_line(test: &Test, line: &str, place: &str) {
+    let len = ok_string(test, answer(test.alloc, place, line)).len();
+    check_modes(test, line, [len, len, line.len().saturating_add(3)])
 }
 
-fn check_modes(
-    alloc: Global,
-    input: &str,
-    [by_line, joined, by_token]: Lengths,
-) -> Result<(), Fail> {
+fn check_modes(test: &Test, input: &str, [by_line, joined, by_token]: Lengths) {
     for &words in line_by_line() {
-        check_mode(alloc, words, input, by_line)?;
+        check_mode(test, words, input, by_line);
     }
-    check_mode(alloc, &["join"], input, joined)?;
-    check_mode(alloc, &["tokens"], input, by_token)
+    check_mode(test, &["join"], input, joined);
+    check_mode(test, &["tokens"], input, by_token)
 }
 
 /// The report on the input has the length, and is written whole, or nothing is where a request is refused.
-fn check_mode(alloc: Global, words: Words, input: &str, len: usize) -> Result<(), Fail> {
-    let name = format!(in alloc; "run {words:?} on {} bytes", input.len())?;
-    check_input(alloc, name.as_str(), words, input.as_bytes(), len)
+fn check_mode(test: &Test, words: Words, input: &str, len: usize) {
+    let name = format!(in test.alloc; "run {words:?} on {} bytes", input.len());
+    let name = ok_string(test, name);
+    check_input(test, name.as_str(), words, input.as_bytes(), len)
 }
 
-fn check_input(
-    alloc: Global,
-    name: &str,
-    words: Words,
-    input: &[u8],
-    len: usize,
-) -> Result<(), Fail> {
-    let ample = ample_report(alloc, name, words, input, len)?;
-    let requests = refuse_each(alloc, name, words, input, ample.as_slice())?;
-    let test = Test::new(alloc);
-    let is_met = can_refuse(alloc) && len > 0;
-    is_so(&test, (requests > 0) == is_met, name);
-    test.end()
-}
-
-/// The report where no request is refused.
-fn ample_report(
-    alloc: Global,
-    name: &str,
-    words: Words,
-    input: &[u8],
-    len: usize,
-) -> Result<Vec<u8>, Fail> {
-    let test = Test::new(alloc);
-    let ample = report_by(&test, alloc, words, input);
-    same_count(&test, ample.len(), len, name);
-    test.end()?;
-    Ok(ample)
-}
-
-fn refuse_each(
-    alloc: Global,
-    name: &str,
-    words: Words,
-    input: &[u8],
-    wanted: &[u8],
-) -> Result<u32, Fail> {
-    let asked = each_refused_by_value(
-        alloc,
+fn check_input(test: &Test, name: &str, words: Words, input: &[u8], len: usize) {
+    let ample = report_by(test, words, input);
+    same_count(test, ample.len(), len, name);
+    let run = Run {
         name,
-        || prepared(alloc, words, wanted.len()),
-        |prepared| ended(alloc, input, prepared),
-        |ended| check_ended(alloc, &ended, wanted, name),
-    )?;
-    Ok(asked.requests)
-}
-
-/// The mode of these words, and a writer that has room for the report.
-fn prepared(alloc: Global, words: &[&str], len: usize) -> Result<(Mode, Drip), Fail> {
-    let test = Test::new(alloc);
-    let mut writer = empty_drip(alloc, PIECE, 0, Failure::TakesNone);
-    writer.taken = ok_bytes(&test, Vec::with_capacity(alloc, len));
-    let mode = mode_by(&test, alloc, words);
-    test.end()?;
-    Ok((mode, writer))
-}
-
-/// A fault, and what was written before it.
-type Faulty = (RunFault, Vec<u8>);
-
-fn ended(alloc: Global, input: &[u8], prepared: (Mode, Drip)) -> Result<Vec<u8>, Faulty> {
-    let (mode, mut writer) = prepared;
-    let mut reader = trickle_of(input, PIECE, 0);
-    match run(alloc, fixed_state(), mode, &mut reader, &mut writer) {
-        Ok(()) => Ok(writer.taken),
-        Err(fault) => Err((fault, writer.taken)),
-    }
-}
-
-fn check_ended(
-    alloc: Global,
-    ended: &Result<Vec<u8>, Faulty>,
-    wanted: &[u8],
-    name: &str,
-) -> Result<(), Fail> {
-    let is_whole_or_none = match ended {
-        Ok(taken) => taken.as_slice() == wanted,
-        // nothing is written after out of memory
-        Err((RunFault::OutOfMemory, taken)) => taken.is_empty(),
-        Err((fault, _)) => return Err(Fail::new(format_args!("{name}: {fault:?}"))),
+        words,
+        input,
+        wanted: ample.as_slice(),
     };
-    let test = Test::new(alloc);
-    is_so(&test, is_whole_or_none, name);
-    test.end()
+    let asked = each_refused(test, name, &run);
+    let is_met = can_refuse(test.alloc) && len > 0;
+    is_so(test, (asked.requests > 0) == is_met, name);
+}
+
+/// A run of the program, which has to write these bytes.
+#[derive(Drop)]
+struct Run<'a> {
+    name: &'a str,
+    words: Words,
+    input: &'a [u8],
+    wanted: &'a [u8],
+}
+
+impl Refusable for Run<'_> {
+    /// The mode, and a writer that has room for the report.
+    type Input = (Mode, Drip);
+    /// What was written.
+    type Made = Vec<u8>;
+    /// A fault, and what was written before it.
+    type Fault = (RunFault, Vec<u8>);
+
+    fn input(&self, test: &Test) -> (Mode, Drip) {
+        let mut writer = empty_drip(test.alloc, PIECE, 0, Failure::TakesNone);
+        writer.taken = ok_bytes(test, Vec::with_capacity(test.alloc, self.wanted.len()));
+        (mode_by(test, self.words), writer)
+    }
+
+    fn call(
+        &self,
+        alloc: Global,
+        (mode, mut writer): (Mode, Drip),
+    ) -> Result<Vec<u8>, (RunFault, Vec<u8>)> {
+        let mut reader = trickle_of(self.input, PIECE, 0);
+        match run(alloc, fixed_state(), mode, &mut reader, &mut writer) {
+            Ok(()) => Ok(writer.taken),
+            Err(fault) => Err((fault, writer.taken)),
+        }
+    }
+
+    fn check(&self, test: &Test, ended: Result<Vec<u8>, (RunFault, Vec<u8>)>) {
+        let is_whole_or_none = match &ended {
+            Ok(taken) => taken.as_slice() == self.wanted,
+            // nothing is written after out of memory
+            Err((RunFault::OutOfMemory, taken)) => taken.is_empty(),
+            Err((fault, _)) => return test.fail(&(self.name, fault)),
+        };
+        is_so(test, is_whole_or_none, self.name);
+    }
 }

@@ -6,9 +6,7 @@ use smol_tokens_core::run::run;
 use std::alloc::{AllocError, Global};
 use test_support::state::fixed_state;
 use test_support::test::{Test, is_so, ok_bytes, ok_string};
-use test_support::texts::{
-    full_text, joined, long_blank, long_capitals, long_text, repeated, repeated_and,
-};
+use test_support::texts::{full_text, joined, long_blank, long_capitals, long_text, repeated_and};
 
 /// The words of a mode.
 pub type Words = &'static [&'static str];
@@ -89,77 +87,70 @@ pub struct Row {
 }
 
 /// The reports of the table, those on texts about the limit, and those on a line of 9,000 letters.
-pub fn all_rows(test: &Test, alloc: Global) -> Vec<Row> {
-    let mut all = Vec::new(alloc);
-    push_reports(test, &mut all, alloc);
-    push_full(test, &mut all, alloc);
-    push_tokens(test, &mut all, alloc);
-    push_letters(test, &mut all, alloc);
+pub fn all_rows(test: &Test) -> Vec<Row> {
+    let mut all = Vec::new(test.alloc);
+    push_reports(test, &mut all);
+    push_full(test, &mut all);
+    push_tokens(test, &mut all);
+    push_letters(test, &mut all);
     all
 }
 
-fn push_reports(test: &Test, all: &mut Vec<Row>, alloc: Global) {
+fn push_reports(test: &Test, all: &mut Vec<Row>) {
     for &(words, input, report) in reports() {
-        push_row(test, all, alloc, words, input, report);
+        push_row(test, all, words, input, report);
     }
 }
 
-fn push_letters(test: &Test, all: &mut Vec<Row>, alloc: Global) {
-    let input = ok_string(test, long_line(alloc, "", "a", 9000));
+fn push_letters(test: &Test, all: &mut Vec<Row>) {
+    let input = ok_string(test, long_line(test.alloc, "", "a", 9000));
     for &(words, _, front, letter) in letters() {
-        let report = long_line(alloc, front, letter, 9000);
-        push_text(test, all, alloc, words, input.as_str(), report);
+        let report = long_line(test.alloc, front, letter, 9000);
+        push_text(test, all, words, input.as_str(), report);
     }
 }
 
 /// A line that fills a buffer, and lines that are a byte too long.
-fn push_full(test: &Test, all: &mut Vec<Row>, alloc: Global) {
+fn push_full(test: &Test, all: &mut Vec<Row>) {
+    let alloc = test.alloc;
     let report = answer(alloc, "inline", full_text());
-    push_text(test, all, alloc, &["show"], full_text(), report);
+    push_text(test, all, &["show"], full_text(), report);
     let report = answer(alloc, "heap", long_text());
-    push_text(test, all, alloc, &["show"], long_text(), report);
+    push_text(test, all, &["show"], long_text(), report);
     let report = answer(alloc, "heap", long_capitals());
-    push_text(test, all, alloc, &["upper"], long_text(), report);
-    let line = ok_string(test, repeated(alloc, "x", INLINE_CAP + 1));
+    push_text(test, all, &["upper"], long_text(), report);
+    let line = test.repeated("x", INLINE_CAP + 1);
     let line = line.as_str();
     let report = answer(alloc, "static", long_blank());
-    push_text(test, all, alloc, &["replace", "x", " "], line, report)
+    push_text(test, all, &["replace", "x", " "], line, report)
 }
 
 /// A token that is a byte too long, among short ones.
-fn push_tokens(test: &Test, all: &mut Vec<Row>, alloc: Global) {
+fn push_tokens(test: &Test, all: &mut Vec<Row>) {
     let long = long_text();
-    let input = ok_string(test, format!(in alloc; "x\n{long}\nx\n{long}\nx\n"));
-    let report = format!(in alloc; "3 x\n2 {long}\n");
-    push_text(test, all, alloc, &["tokens"], input.as_str(), report)
+    let input = ok_string(test, format!(in test.alloc; "x\n{long}\nx\n{long}\nx\n"));
+    let report = format!(in test.alloc; "3 x\n2 {long}\n");
+    push_text(test, all, &["tokens"], input.as_str(), report)
 }
 
 /// An input, and the report on it; a fault fails the test.
 fn push_text(
     test: &Test,
     all: &mut Vec<Row>,
-    alloc: Global,
     words: Words,
     input: &str,
     report: Result<String, AllocError>,
 ) {
     let report = ok_string(test, report);
     let report = report.as_str().as_bytes();
-    push_row(test, all, alloc, words, input.as_bytes(), report)
+    push_row(test, all, words, input.as_bytes(), report)
 }
 
-fn push_row(
-    test: &Test,
-    all: &mut Vec<Row>,
-    alloc: Global,
-    words: Words,
-    input: &[u8],
-    report: &[u8],
-) {
+fn push_row(test: &Test, all: &mut Vec<Row>, words: Words, input: &[u8], report: &[u8]) {
     let row = Row {
         words,
-        input: ok_bytes(test, Vec::from_slice(alloc, input)),
-        report: ok_bytes(test, Vec::from_slice(alloc, report)),
+        input: ok_bytes(test, Vec::from_slice(test.alloc, input)),
+        report: ok_bytes(test, Vec::from_slice(test.alloc, report)),
     };
     is_so(test, all.push(row).is_ok(), "a row");
 }
@@ -181,10 +172,13 @@ pub fn long_line(
 }
 
 /// The report in the mode of these words, by std's reader and writer over memory.
-pub fn report_by(test: &Test, alloc: Global, words: &[&str], input: &[u8]) -> Vec<u8> {
-    let mode = mode_by(test, alloc, words);
+pub fn report_by(test: &Test, words: &[&str], input: &[u8]) -> Vec<u8> {
+    let mode = mode_by(test, words);
     let mut reader = input;
-    let mut out = Vec::new(alloc);
-    ok_run(test, run(alloc, fixed_state(), mode, &mut reader, &mut out));
+    let mut out = Vec::new(test.alloc);
+    ok_run(
+        test,
+        run(test.alloc, fixed_state(), mode, &mut reader, &mut out),
+    );
     out
 }

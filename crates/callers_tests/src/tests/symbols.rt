@@ -1,7 +1,7 @@
 //! The symbol table: the ids of names that come again, look-ups without memory, and memory refused.
 use std::alloc::Global;
 use std::test::Fail;
-use test_support::refuse::{can_refuse, each_refused_by_value, end_refusals, refuse_all};
+use test_support::refuse::{Refusable, can_refuse, each_refused, end_refusals, refuse_all};
 use test_support::state::{FixedState, fixed_state};
 use test_support::test::{Test, holds, is_so};
 use test_support::texts::long_text;
@@ -11,8 +11,8 @@ type Symbols = symbols::Symbols<FixedState>;
 
 #[test]
 fn each_name_has_its_id(rt: HostRuntime) -> Result<(), Fail> {
-    let test = Test::new(rt.alloc());
-    let mut symbols = Symbols::with_hasher(rt.alloc(), fixed_state());
+    let test = Test::begin(rt);
+    let mut symbols = Symbols::with_hasher(test.alloc, fixed_state());
     // each name and the id that it is to have, in the order in which they come
     let names = [
         ("if", 0),
@@ -40,9 +40,9 @@ fn same_id(test: &Test, found: Option<usize>, wanted: Option<usize>, name: &str)
 // However long a text is, no value is made to look it up, nor to intern it again.
 #[test]
 fn found_without_memory(rt: HostRuntime) -> Result<(), Fail> {
-    let alloc = rt.alloc();
-    let mut symbols = table_of_one(alloc)?;
-    let test = Test::new(alloc);
+    let test = Test::begin(rt);
+    let alloc = test.alloc;
+    let mut symbols = table_of_one(&test);
     check_id(&test, &mut symbols, long_text(), 1);
     refuse_all(alloc);
     let short = symbols.find("if");
@@ -61,43 +61,47 @@ fn found_without_memory(rt: HostRuntime) -> Result<(), Fail> {
 // After a refusal the table is as before, and takes another name.
 #[test]
 fn each_request_in_turn(rt: HostRuntime) -> Result<(), Fail> {
-    let alloc = rt.alloc();
-    let asked = each_refused_by_value(
-        alloc,
-        "Symbols::intern",
-        || table_of_one(alloc),
-        interned,
-        |ended| check_interned(alloc, ended),
-    )?;
-    let test = Test::new(alloc);
-    is_so(&test, (asked.requests > 0) == can_refuse(alloc), "requests");
+    let test = Test::begin(rt);
+    let asked = each_refused(&test, "Symbols::intern", &Intern);
+    let is_met = asked.requests > 0;
+    is_so(&test, is_met == can_refuse(test.alloc), "requests");
     test.end()
 }
 
-fn table_of_one(alloc: Global) -> Result<Symbols, Fail> {
-    let mut symbols = Symbols::with_hasher(alloc, fixed_state());
-    let test = Test::new(alloc);
-    check_id(&test, &mut symbols, "if", 0);
-    test.end()?;
-    Ok(symbols)
+fn table_of_one(test: &Test) -> Symbols {
+    let mut symbols = Symbols::with_hasher(test.alloc, fixed_state());
+    check_id(test, &mut symbols, "if", 0);
+    symbols
 }
 
-/// The new id, and the table, also where it was refused.
-fn interned(mut symbols: Symbols) -> Result<(Symbols, usize), Symbols> {
-    match symbols.intern(long_text()) {
-        Ok(id) => Ok((symbols, id)),
-        Err(_refused) => Err(symbols),
+/// A new name in a table of one.
+#[derive(Drop)]
+struct Intern;
+
+impl Refusable for Intern {
+    type Input = Symbols;
+    /// The table, and the new id.
+    type Made = (Symbols, usize);
+    type Fault = Symbols;
+
+    fn input(&self, test: &Test) -> Symbols {
+        table_of_one(test)
     }
-}
 
-fn check_interned(alloc: Global, ended: Result<(Symbols, usize), Symbols>) -> Result<(), Fail> {
-    let test = Test::new(alloc);
-    match ended {
-        Ok((mut symbols, id)) => {
-            same_id(&test, Some(id), Some(1), "the new name");
-            check_id(&test, &mut symbols, "else", 2)
+    fn call(&self, _alloc: Global, mut symbols: Symbols) -> Result<(Symbols, usize), Symbols> {
+        match symbols.intern(long_text()) {
+            Ok(id) => Ok((symbols, id)),
+            Err(_refused) => Err(symbols),
         }
-        Err(mut symbols) => check_id(&test, &mut symbols, "else", 1),
     }
-    test.end()
+
+    fn check(&self, test: &Test, ended: Result<(Symbols, usize), Symbols>) {
+        match ended {
+            Ok((mut symbols, id)) => {
+                same_id(test, Some(id), Some(1), "the new name");
+                check_id(test, &mut symbols, "else", 2)
+            }
+            Err(mut symbols) => check_id(test, &mut symbols, "else", 1),
+        }
+    }
 }

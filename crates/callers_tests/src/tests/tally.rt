@@ -6,7 +6,7 @@ use std::rc::RcStr;
 use std::test::Fail;
 use test_support::builders::builder_of;
 use test_support::refuse::{
-    can_refuse, count_blocks, each_refused_by_value, end_refusals, refuse_all, start_counts,
+    Refusable, can_refuse, count_blocks, each_refused, end_refusals, refuse_all, start_counts,
 };
 use test_support::test::{
     Test, holds, is_so, of_shared, ok_string, ok_value, same_count, same_str,
@@ -50,8 +50,8 @@ fn check_tally(test: &Test, tally: &Tally, wanted: &[(&'static str, u64)]) {
 
 #[test]
 fn counted(rt: HostRuntime) -> Result<(), Fail> {
-    let test = Test::new(rt.alloc());
-    let mut tally = Tally::new(rt.alloc());
+    let test = Test::begin(rt);
+    let mut tally = Tally::new(test.alloc);
     check_counted(&test, &mut tally);
     test.end()
 }
@@ -91,8 +91,8 @@ fn check_values(test: &Test, tally: &Tally) {
 
 #[test]
 fn full(rt: HostRuntime) -> Result<(), Fail> {
-    let test = Test::new(rt.alloc());
-    let mut tally = Tally::new(rt.alloc());
+    let test = Test::begin(rt);
+    let mut tally = Tally::new(test.alloc);
     check_full(&test, &mut tally);
     test.end()
 }
@@ -117,23 +117,23 @@ fn check_static(test: &Test, back: &SmolStr, text: &str) {
 // However a value was made, and wherever it lies, its text is one token.
 #[test]
 fn one_text_is_one_token(rt: HostRuntime) -> Result<(), Fail> {
-    let test = Test::new(rt.alloc());
-    let mut tally = Tally::new(rt.alloc());
-    check_one_text(&test, rt.alloc(), &mut tally, long_blank());
+    let test = Test::begin(rt);
+    let mut tally = Tally::new(test.alloc);
+    check_one_text(&test, &mut tally, long_blank());
     test.end()
 }
 
-fn check_one_text(test: &Test, alloc: Global, tally: &mut Tally, text: &'static str) {
-    check_add(test, tally, ok_value(test, SmolStr::new(alloc, text)), 1, 1);
+fn check_one_text(test: &Test, tally: &mut Tally, text: &'static str) {
+    check_add(test, tally, test.value(text), 1, 1);
     check_add(test, tally, SmolStr::new_static(text), 1, 2);
-    check_add(test, tally, converted(test, alloc, text), 1, 3);
-    check_add(test, tally, ok_value(test, built(alloc, text)), 1, 4);
+    check_add(test, tally, converted(test, text), 1, 3);
+    check_add(test, tally, ok_value(test, built(test.alloc, text)), 1, 4);
     check_tally(test, tally, &[(text, 4)])
 }
 
-fn converted(test: &Test, alloc: Global, text: &str) -> SmolStr {
-    let string = ok_string(test, String::from_str(alloc, text));
-    let converted = SmolStr::from_string(alloc, string);
+fn converted(test: &Test, text: &str) -> SmolStr {
+    let string = test.string(text);
+    let converted = SmolStr::from_string(test.alloc, string);
     ok_value(test, converted.ok().ok_or(AllocError))
 }
 
@@ -145,24 +145,24 @@ fn built(alloc: Global, text: &str) -> Result<SmolStr, AllocError> {
 // A token that is there and is added, counted and read again is freed with the tally.
 #[test]
 fn no_token_is_left(rt: HostRuntime) -> Result<(), Fail> {
-    let test = Test::new(rt.alloc());
-    start_counts(rt.alloc());
-    check_counted_again(&test, rt.alloc());
-    is_so(&test, count_blocks(rt.alloc()) == 0, "blocks");
+    let test = Test::begin(rt);
+    start_counts(test.alloc);
+    check_counted_again(&test);
+    is_so(&test, count_blocks(test.alloc) == 0, "blocks");
     test.end()
 }
 
-fn check_counted_again(test: &Test, alloc: Global) {
-    let mut tally = Tally::new(alloc);
-    check_turns(test, alloc, &mut tally)
+fn check_counted_again(test: &Test) {
+    let mut tally = Tally::new(test.alloc);
+    check_turns(test, &mut tally)
 }
 
-fn check_turns(test: &Test, alloc: Global, tally: &mut Tally) {
+fn check_turns(test: &Test, tally: &mut Tally) {
     for turn in 1..4 {
-        let token = ok_value(test, SmolStr::new(alloc, long_text()));
+        let token = test.value(long_text());
         check_add(test, tally, token, 1, turn);
     }
-    let token = ok_value(test, SmolStr::new(alloc, long_text()));
+    let token = test.value(long_text());
     same_times(test, tally.count(&token), Some(3), "again");
     check_at(test, tally, 0, long_text(), 3)
 }
@@ -170,39 +170,33 @@ fn check_turns(test: &Test, alloc: Global, tally: &mut Tally) {
 const MANY: u64 = 200_000;
 
 /// A token of the front and the number.
-fn token(test: &Test, alloc: Global, front: &str, number: u64) -> SmolStr {
-    let text = ok_string(test, format!(in alloc; "{front}{number}"));
-    ok_value(test, SmolStr::new(alloc, text.as_str()))
+fn token(test: &Test, front: &str, number: u64) -> SmolStr {
+    let text = ok_string(test, format!(in test.alloc; "{front}{number}"));
+    test.value(text.as_str())
 }
 
 #[test]
 fn many_different_tokens(rt: HostRuntime) -> Result<(), Fail> {
-    let test = Test::new(rt.alloc());
-    let mut tally = Tally::new(rt.alloc());
-    check_many(&test, rt.alloc(), &mut tally);
+    let test = Test::begin(rt);
+    let mut tally = Tally::new(test.alloc);
+    check_many(&test, &mut tally);
     test.end()
 }
 
-fn check_many(test: &Test, alloc: Global, tally: &mut Tally) {
+fn check_many(test: &Test, tally: &mut Tally) {
     for number in 0..MANY {
-        check_add(
-            test,
-            tally,
-            token(test, alloc, "token ", number),
-            number,
-            number,
-        );
+        check_add(test, tally, token(test, "token ", number), number, number);
     }
     same_count(test, tally.len(), 200_000, "many");
     check_at(test, tally, 123_456, "token 123456", 123_456);
-    let count = tally.count(&token(test, alloc, "token ", 199_999));
+    let count = tally.count(&token(test, "token ", 199_999));
     same_times(test, count, Some(199_999), "the last");
 }
 
 #[test]
 fn many_equal_tokens(rt: HostRuntime) -> Result<(), Fail> {
-    let test = Test::new(rt.alloc());
-    let mut tally = Tally::new(rt.alloc());
+    let test = Test::begin(rt);
+    let mut tally = Tally::new(test.alloc);
     check_equal(&test, &mut tally);
     test.end()
 }
@@ -218,116 +212,104 @@ fn check_equal(test: &Test, tally: &mut Tally) {
 // Not every token makes requests, so it is tried on tallies of 0 to 39 tokens.
 #[test]
 fn each_request_in_turn(rt: HostRuntime) -> Result<(), Fail> {
-    let alloc = rt.alloc();
-    check_token(alloc, "c")?;
-    check_token(alloc, long_text())?;
-    let long = repeated(alloc, "a", 5000)?;
-    check_token(alloc, long.as_str())
-}
-
-fn check_token(alloc: Global, text: &str) -> Result<(), Fail> {
-    let shared = RcStr::from_str(alloc, text)?;
-    let sizes_met = count_met(alloc, &shared)?;
-    let test = Test::new(alloc);
-    is_so(&test, (sizes_met > 1) == can_refuse(alloc), text);
+    let test = Test::begin(rt);
+    check_token(&test, "c");
+    check_token(&test, long_text());
+    check_token(&test, test.repeated("a", 5000).as_str());
     test.end()
 }
 
+fn check_token(test: &Test, text: &str) {
+    match RcStr::from_str(test.alloc, text) {
+        Ok(shared) => {
+            let is_met = count_met(test, &shared) > 1;
+            is_so(test, is_met == can_refuse(test.alloc), text)
+        }
+        Err(fault) => test.fail(&fault),
+    }
+}
+
 /// On how many of the tallies the token makes requests.
-fn count_met(alloc: Global, shared: &RcStr) -> Result<u32, Fail> {
+fn count_met(test: &Test, shared: &RcStr) -> u32 {
     let mut sizes_met = 0u32;
     for there in 0..40u64 {
-        if refuse_each(alloc, shared, there)? > 0 {
+        let asked = each_refused(test, "Tally::add", &Add { shared, there });
+        if asked.requests > 0 {
             sizes_met = sizes_met.saturating_add(1);
         }
     }
-    Ok(sizes_met)
+    sizes_met
 }
 
-fn refuse_each(alloc: Global, shared: &RcStr, there: u64) -> Result<u32, Fail> {
-    let asked = each_refused_by_value(
-        alloc,
-        "Tally::add",
-        || prepared(alloc, shared, there),
-        added,
-        |ended| check_added(alloc, shared, there, ended),
-    )?;
-    Ok(asked.requests)
+/// A token that shares the text, added to a tally of so many others.
+#[derive(Drop)]
+struct Add<'a> {
+    shared: &'a RcStr,
+    there: u64,
 }
 
-/// A tally of so many tokens, and a token that is not there.
-fn prepared(alloc: Global, shared: &RcStr, there: u64) -> Result<(Tally, SmolStr), Fail> {
-    let token = SmolStr::from_rc_str(shared.clone()?);
-    Ok((tally_of_numbers(alloc, there)?, token))
-}
+impl Refusable for Add<'_> {
+    type Input = (Tally, SmolStr);
+    /// The tally, and the token's count.
+    type Made = (Tally, u64);
+    /// The tally, and why the token has no count.
+    type Fault = (Tally, AddFault);
 
-fn tally_of_numbers(alloc: Global, there: u64) -> Result<Tally, Fail> {
-    let test = Test::new(alloc);
-    let mut tally = Tally::new(alloc);
-    add_numbers(&test, alloc, &mut tally, there);
-    test.end()?;
-    Ok(tally)
+    fn input(&self, test: &Test) -> (Tally, SmolStr) {
+        let mut tally = Tally::new(test.alloc);
+        add_numbers(test, &mut tally, self.there);
+        (tally, of_shared(test, self.shared.clone()))
+    }
+
+    fn call(
+        &self,
+        _alloc: Global,
+        (mut tally, token): (Tally, SmolStr),
+    ) -> Result<(Tally, u64), (Tally, AddFault)> {
+        match tally.add(token, TIMES) {
+            Ok(count) => Ok((tally, count)),
+            Err(fault) => Err((tally, fault)),
+        }
+    }
+
+    fn check(&self, test: &Test, ended: Result<(Tally, u64), (Tally, AddFault)>) {
+        let (shared, there) = (self.shared, self.there);
+        match ended {
+            Ok((tally, count)) => {
+                same_times(test, Some(count), Some(TIMES), shared.as_str());
+                check_last(test, &tally, there, shared.as_str())
+            }
+            Err((mut tally, fault)) => check_refused(test, shared, there, &mut tally, fault),
+        }
+    }
 }
 
 /// The tokens `0`, `1` and so on, each counted as often as it says.
-fn add_numbers(test: &Test, alloc: Global, tally: &mut Tally, there: u64) {
+fn add_numbers(test: &Test, tally: &mut Tally, there: u64) {
     for number in 0..there {
-        check_add(test, tally, token(test, alloc, "", number), number, number);
+        check_add(test, tally, token(test, "", number), number, number);
     }
 }
 
 /// How often the new token is added.
 const TIMES: u64 = 7;
 
-/// The token's count, or why it has none, and the tally.
-fn added(input: (Tally, SmolStr)) -> Result<(Tally, u64), (Tally, AddFault)> {
-    let (mut tally, token) = input;
-    match tally.add(token, TIMES) {
-        Ok(count) => Ok((tally, count)),
-        Err(fault) => Err((tally, fault)),
-    }
-}
-
-fn check_added(
-    alloc: Global,
-    shared: &RcStr,
-    there: u64,
-    ended: Result<(Tally, u64), (Tally, AddFault)>,
-) -> Result<(), Fail> {
-    let test = Test::new(alloc);
-    match ended {
-        Ok((tally, count)) => {
-            same_times(&test, Some(count), Some(TIMES), shared.as_str());
-            check_last(&test, alloc, &tally, there, shared.as_str())
-        }
-        Err((mut tally, fault)) => check_refused(&test, alloc, shared, there, &mut tally, fault),
-    }
-    test.end()
-}
-
-fn check_refused(
-    test: &Test,
-    alloc: Global,
-    shared: &RcStr,
-    there: u64,
-    tally: &mut Tally,
-    fault: AddFault,
-) {
+fn check_refused(test: &Test, shared: &RcStr, there: u64, tally: &mut Tally, fault: AddFault) {
     match fault {
         AddFault::OutOfMemory(back) => {
-            check_back(test, alloc, shared, &back);
-            check_again(test, alloc, tally, there, back, shared.as_str())
+            check_back(test, shared, &back);
+            check_again(test, tally, there, back, shared.as_str())
         }
         AddFault::Full(_token) => is_so(test, false, "full"),
     }
 }
 
 /// The token came back as it was: in its place, and on the heap with its shared text.
-fn check_back(test: &Test, alloc: Global, shared: &RcStr, back: &SmolStr) {
+fn check_back(test: &Test, shared: &RcStr, back: &SmolStr) {
     let kept = of_shared(test, shared.clone());
     same_str(test, back.as_str(), shared.as_str(), "back");
     is_so(test, back.place() == kept.place(), "back in its place");
-    let is_shared = shares(test, alloc, back, shared);
+    let is_shared = shares(test, back, shared);
     is_so(
         test,
         is_shared == (back.place() == Place::Heap),
@@ -336,9 +318,9 @@ fn check_back(test: &Test, alloc: Global, shared: &RcStr, back: &SmolStr) {
 }
 
 /// Whether the value's shared text is this one.
-fn shares(test: &Test, alloc: Global, value: &SmolStr, shared: &RcStr) -> bool {
+fn shares(test: &Test, value: &SmolStr, shared: &RcStr) -> bool {
     let copy = ok_value(test, value.clone());
-    match copy.into_rc_str(alloc) {
+    match copy.into_rc_str(test.alloc) {
         Ok(handed_out) => RcStr::ptr_eq(&handed_out, shared),
         Err(_) => {
             test.fail(&AllocError);
@@ -348,44 +330,38 @@ fn shares(test: &Test, alloc: Global, value: &SmolStr, shared: &RcStr) -> bool {
 }
 
 /// The tally is as before, and takes the token now.
-fn check_again(
-    test: &Test,
-    alloc: Global,
-    tally: &mut Tally,
-    there: u64,
-    back: SmolStr,
-    text: &str,
-) {
+fn check_again(test: &Test, tally: &mut Tally, there: u64, back: SmolStr, text: &str) {
     same_count(test, tally.len(), there as usize, "refused");
-    check_first(test, alloc, tally, there);
+    check_first(test, tally, there);
     check_add(test, tally, back, TIMES, TIMES);
-    check_last(test, alloc, tally, there, text)
+    check_last(test, tally, there, text)
 }
 
 /// The tally begins with so many tokens, each counted as often as it says.
-fn check_first(test: &Test, alloc: Global, tally: &Tally, there: u64) {
+fn check_first(test: &Test, tally: &Tally, there: u64) {
     for number in 0..there {
-        let token = token(test, alloc, "", number);
+        let token = token(test, "", number);
         check_at(test, tally, number as usize, token.as_str(), number);
     }
 }
 
 /// Behind these stands the new token, and no other.
-fn check_last(test: &Test, alloc: Global, tally: &Tally, there: u64, text: &str) {
+fn check_last(test: &Test, tally: &Tally, there: u64, text: &str) {
     same_count(test, tally.len(), (there as usize).saturating_add(1), text);
-    check_first(test, alloc, tally, there);
+    check_first(test, tally, there);
     check_at(test, tally, there as usize, text, TIMES)
 }
 
 #[test]
 fn no_request_for_a_token_that_is_there(rt: HostRuntime) -> Result<(), Fail> {
-    let test = Test::new(rt.alloc());
-    let mut tally = Tally::new(rt.alloc());
-    check_no_request(&test, rt.alloc(), &mut tally);
+    let test = Test::begin(rt);
+    let mut tally = Tally::new(test.alloc);
+    check_no_request(&test, &mut tally);
     test.end()
 }
 
-fn check_no_request(test: &Test, alloc: Global, tally: &mut Tally) {
+fn check_no_request(test: &Test, tally: &mut Tally) {
+    let alloc = test.alloc;
     check_add(test, tally, SmolStr::new_inline("a"), 1, 1);
     check_add(test, tally, SmolStr::new_inline("b"), 2, 2);
     refuse_all(alloc);

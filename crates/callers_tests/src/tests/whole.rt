@@ -25,11 +25,11 @@ fn run_to_the_end<R: Read, W: Write>(
 
 #[test]
 fn nothing_is_left(rt: HostRuntime) -> Result<(), Fail> {
-    let test = Test::new(rt.alloc());
+    let test = Test::begin(rt);
     let input = b"if\n\xc3\xa9".as_slice();
     let mut reader = input;
-    let mut writer = Vec::new(rt.alloc());
-    let is_done = run_to_the_end(rt.alloc(), &mut reader, &mut writer).is_ok();
+    let mut writer = Vec::new(test.alloc);
+    let is_done = run_to_the_end(test.alloc, &mut reader, &mut writer).is_ok();
     is_so(&test, is_done && reader.is_empty(), "one run");
     same_bytes(
         &test,

@@ -1,21 +1,16 @@
 //! The words of a command line, and the lines that report a fault.
 use smol_tokens_core::fault::{RunFault, fault_line};
 use smol_tokens_core::mode::{Mode, mode_of};
-use std::alloc::Global;
 use std::io;
 use std::io::ErrorKind;
 use std::test::Fail;
 use test_support::refuse::{end_refusals, refuse_all};
-use test_support::test::{Test, holds, is_so, ok_string, same_str};
+use test_support::test::{Test, holds, is_so, same_str};
 
-fn strings(test: &Test, alloc: Global, words: &[&str]) -> Vec<String> {
-    let mut all = Vec::new(alloc);
+fn strings(test: &Test, words: &[&str]) -> Vec<String> {
+    let mut all = Vec::new(test.alloc);
     for word in words {
-        push_word(
-            test,
-            &mut all,
-            ok_string(test, String::from_str(alloc, word)),
-        );
+        push_word(test, &mut all, test.string(word));
     }
     all
 }
@@ -25,8 +20,8 @@ fn push_word(test: &Test, all: &mut Vec<String>, word: String) {
 }
 
 /// The mode that these words ask for.
-pub fn mode_by(test: &Test, alloc: Global, words: &[&str]) -> Mode {
-    match mode_of(strings(test, alloc, words)) {
+pub fn mode_by(test: &Test, words: &[&str]) -> Mode {
+    match mode_of(strings(test, words)) {
         Some(mode) => mode,
         None => {
             test.fail(&("no mode", words));
@@ -48,33 +43,32 @@ fn name_of(mode: &Mode) -> &'static str {
 
 #[test]
 fn modes(rt: HostRuntime) -> Result<(), Fail> {
-    let test = Test::new(rt.alloc());
-    check_name(&test, rt.alloc(), &[], "show");
+    let test = Test::begin(rt);
+    check_name(&test, &[], "show");
     for word in ["show", "join", "lower", "upper", "tokens"] {
-        check_name(&test, rt.alloc(), &[word], word);
+        check_name(&test, &[word], word);
     }
     test.end()
 }
 
-fn check_name(test: &Test, alloc: Global, words: &[&str], name: &str) {
-    let mode = mode_by(test, alloc, words);
+fn check_name(test: &Test, words: &[&str], name: &str) {
+    let mode = mode_by(test, words);
     let found = name_of(&mode);
     holds(test, found == name, &(words, found, name));
 }
 
 #[test]
 fn replacements(rt: HostRuntime) -> Result<(), Fail> {
-    let test = Test::new(rt.alloc());
-    let alloc = rt.alloc();
-    check_replacement(&test, alloc, "", "x");
-    check_replacement(&test, alloc, "x", "");
-    check_replacement(&test, alloc, "", "");
-    check_replacement(&test, alloc, "ba", "do");
+    let test = Test::begin(rt);
+    check_replacement(&test, "", "x");
+    check_replacement(&test, "x", "");
+    check_replacement(&test, "", "");
+    check_replacement(&test, "ba", "do");
     test.end()
 }
 
-fn check_replacement(test: &Test, alloc: Global, from: &str, to: &str) {
-    let mode = mode_by(test, alloc, &["replace", from, to]);
+fn check_replacement(test: &Test, from: &str, to: &str) {
+    let mode = mode_by(test, &["replace", from, to]);
     holds(test, is_replacement(&mode, from, to), &(from, to));
 }
 
@@ -114,9 +108,9 @@ fn wrong() -> &'static [&'static [&'static str]] {
 
 #[test]
 fn wrong_words(rt: HostRuntime) -> Result<(), Fail> {
-    let test = Test::new(rt.alloc());
+    let test = Test::begin(rt);
     for &words in wrong() {
-        let mode = mode_of(strings(&test, rt.alloc(), words));
+        let mode = mode_of(strings(&test, words));
         holds(&test, mode.is_none(), &words);
     }
     test.end()
@@ -124,7 +118,7 @@ fn wrong_words(rt: HostRuntime) -> Result<(), Fail> {
 
 #[test]
 fn fault_lines(rt: HostRuntime) -> Result<(), Fail> {
-    let test = Test::new(rt.alloc());
+    let test = Test::begin(rt);
     check_line(&test, &RunFault::NotUtf8, "not UTF-8");
     check_line(&test, &RunFault::OutOfMemory, "out of memory");
     check_line(&test, &RunFault::Full, "full");
@@ -139,12 +133,12 @@ fn check_line(test: &Test, fault: &RunFault, line: &str) {
 
 #[test]
 fn no_request(rt: HostRuntime) -> Result<(), Fail> {
-    let test = Test::new(rt.alloc());
-    let words = strings(&test, rt.alloc(), &["replace", "a", "b"]);
-    refuse_all(rt.alloc());
+    let test = Test::begin(rt);
+    let words = strings(&test, &["replace", "a", "b"]);
+    refuse_all(test.alloc);
     let mode = mode_of(words);
     let line = fault_line(&RunFault::OutOfMemory);
-    let was_refused = end_refusals(rt.alloc());
+    let was_refused = end_refusals(test.alloc);
     let holds_all = mode.is_some() && !line.is_empty() && !was_refused;
     is_so(&test, holds_all, "no request");
     test.end()

@@ -4,7 +4,7 @@ mod inputs;
 mod table;
 mod things;
 
-use super::rows::{failed, same_asked};
+use super::rows::same_asked;
 use inputs::{input_of, run};
 use smol_str::{INLINE_CAP, Place, SmolStr};
 use std::alloc::{AllocError, Global};
@@ -12,8 +12,8 @@ use std::test::Fail;
 use table::{Row, Stands, TABLES};
 use test_support::by_std::{Asks, NONE, asked_by_all};
 use test_support::held::is_exact;
-use test_support::refuse::{Asked, can_refuse, count_blocks, each_refused, start_counts};
-use test_support::test::{Test, holds, ok, same_flag};
+use test_support::refuse::{Refusable, can_refuse, count_blocks, each_refused, start_counts};
+use test_support::test::{Test, holds, ok, ok_string, same_flag};
 use test_support::texts::{full_text, joined, long_text, longest_blank, repeated};
 use things::{Thing, place_of, text_of};
 
@@ -25,44 +25,34 @@ struct Texts {
     accented: String,
 }
 
-fn long_texts(alloc: Global) -> Result<Texts, Fail> {
-    Ok(Texts {
-        blank: longest_blank(alloc)?,
-        long: repeated(alloc, "a", 5000)?,
-        accented: repeated(alloc, "é", 2500)?,
-    })
+fn long_texts(test: &Test) -> Texts {
+    Texts {
+        blank: ok_string(test, longest_blank(test.alloc)),
+        long: test.repeated("a", 5000),
+        accented: test.repeated("é", 2500),
+    }
 }
 
 #[test]
 fn requests(rt: HostRuntime) -> Result<(), Fail> {
-    let alloc = rt.alloc();
-    start_counts(alloc);
-    let texts = long_texts(alloc)?;
-    check_counted(alloc)?;
+    let test = Test::begin(rt);
+    start_counts(test.alloc);
+    let texts = long_texts(&test);
+    let is_counted = count_blocks(test.alloc) > 0;
+    same_flag(&test, is_counted, can_refuse(test.alloc), "blocks");
     for rows in &TABLES {
         for row in *rows {
-            check_row(alloc, &texts, row)?;
+            check_row(&test, &texts, row);
         }
     }
-    Ok(())
-}
-
-fn check_counted(alloc: Global) -> Result<(), Fail> {
-    let test = Test::new(alloc);
-    same_flag(
-        &test,
-        count_blocks(alloc) > 0,
-        can_refuse(alloc),
-        "blocks are counted",
-    );
     test.end()
 }
 
 /// No text, where a full buffer makes no request; a text that fills a buffer; a blank run; and texts that are not
 /// resident.
-fn check_row(alloc: Global, texts: &Texts, row: &Row) -> Result<(), Fail> {
+fn check_row(test: &Test, texts: &Texts, row: &Row) {
     if row.of_full.is_empty() {
-        check_call(alloc, row, "no text", "", NONE)?;
+        check_call(test, row, "no text", "", NONE);
     }
     let shapes = [
         ("a full buffer", full_text(), row.of_full),
@@ -72,47 +62,31 @@ fn check_row(alloc: Global, texts: &Texts, row: &Row) -> Result<(), Fail> {
         ("2,500 accents", texts.accented.as_str(), row.of_heap),
     ];
     for (shape, text, asks) in shapes {
-        check_call(alloc, row, shape, text, asks)?;
+        check_call(test, row, shape, text, asks);
     }
-    Ok(())
 }
 
 /// With each request refused in turn the call is refused, and what it took comes back; with none refused it asks for
 /// exactly what std's calls ask for.
-fn check_call(
-    alloc: Global,
-    row: &Row,
-    shape: &str,
-    text: &str,
-    asks: &[Asks],
-) -> Result<(), Fail> {
-    let name = name_of(alloc, row.name, shape)?;
-    let value = SmolStr::new(alloc, text)?;
-    let ample = ample_of(alloc, row, &value);
-    let asked = asked_of(alloc, row, name.as_str(), &value, &ample)?;
-    check_asked(alloc, name.as_str(), text, asked, asks, &ample)
-}
-
-/// What is made is held, and what is asked for is what std's calls ask for.
-fn check_asked(
-    alloc: Global,
-    name: &str,
-    text: &str,
-    asked: Asked,
-    asks: &[Asks],
-    ample: &Result<Thing, Thing>,
-) -> Result<(), Fail> {
-    check_held(alloc, name, asked.held, ample)?;
-    let wanted = asked_by_all(alloc, asks, text)?;
-    let test = Test::new(alloc);
-    same_asked(&test, asked, wanted, name);
-    test.end()
+fn check_call(test: &Test, row: &Row, shape: &str, text: &str, asks: &[Asks]) {
+    let name = name_of(test, row.name, shape);
+    let value = test.value(text);
+    let ample = ample_of(test.alloc, row, &value);
+    let call = Tried {
+        row,
+        name: name.as_str(),
+        value: &value,
+        ample: &ample,
+    };
+    let asked = each_refused(test, name.as_str(), &call);
+    check_held(test, name.as_str(), asked.held, &ample);
+    same_asked(test, asked, asked_by_all(test, asks, text), name.as_str())
 }
 
 /// The call and the text, in messages.
-fn name_of(alloc: Global, call: &str, shape: &str) -> Result<String, AllocError> {
-    let call = joined(alloc, call, " of ")?;
-    joined(alloc, call.as_str(), shape)
+fn name_of(test: &Test, call: &str, shape: &str) -> String {
+    let call = ok_string(test, joined(test.alloc, call, " of "));
+    ok_string(test, joined(test.alloc, call.as_str(), shape))
 }
 
 /// What the call makes of the value's text with ample memory.
@@ -123,42 +97,50 @@ fn ample_of(alloc: Global, row: &Row, value: &SmolStr) -> Result<Thing, Thing> {
     }
 }
 
-fn asked_of(
-    alloc: Global,
-    row: &Row,
-    name: &str,
-    value: &SmolStr,
-    ample: &Result<Thing, Thing>,
-) -> Result<Asked, Fail> {
-    each_refused(
-        alloc,
-        name,
-        || prepared(alloc, row, value),
-        |input| run(alloc, row, value, input),
-        |answer| check_answer(name, row.stands, value, answer, ample),
-    )
+/// A row's call on a value's text, and what it makes of it with ample memory.
+#[derive(Drop)]
+struct Tried<'a> {
+    row: &'a Row,
+    name: &'a str,
+    value: &'a SmolStr,
+    ample: &'a Result<Thing, Thing>,
 }
 
-fn prepared(alloc: Global, row: &Row, value: &SmolStr) -> Result<Thing, Fail> {
-    match input_of(alloc, row.takes, value.as_str()) {
-        Ok(input) => Ok(input),
-        Err(_) => Err(failed(row.name, "is not prepared")),
+impl Refusable for Tried<'_> {
+    type Input = Thing;
+    type Made = Thing;
+    type Fault = Thing;
+
+    fn input(&self, test: &Test) -> Thing {
+        match input_of(test.alloc, self.row.takes, self.value.as_str()) {
+            Ok(input) => input,
+            Err(back) => {
+                test.fail(&(self.name, "is not prepared"));
+                back
+            }
+        }
+    }
+
+    fn call(&self, alloc: Global, input: Thing) -> Result<Thing, Thing> {
+        run(alloc, self.row, self.value, input)
+    }
+
+    /// After a refusal there is what the call took, and otherwise what it makes with ample memory.
+    fn check(&self, test: &Test, ended: Result<Thing, Thing>) {
+        let is_so = match &ended {
+            Ok(made) => is_same(made, self.ample),
+            Err(back) => is_left(back, self.row.stands, self.value),
+        };
+        holds(test, is_so, &(self.name, "leaves something else"));
     }
 }
 
 /// A value that is made keeps its text and no more.
-fn check_held(
-    alloc: Global,
-    name: &str,
-    held: u32,
-    ample: &Result<Thing, Thing>,
-) -> Result<(), Fail> {
-    let test = Test::new(alloc);
+fn check_held(test: &Test, name: &str, held: u32, ample: &Result<Thing, Thing>) {
     if let Ok(Thing::Value(value)) = ample {
-        let is_kept = ok(&test, keeps_its_text(alloc, held, value));
-        holds(&test, is_kept, &(name, "keeps", held));
+        let is_kept = ok(test, keeps_its_text(test.alloc, held, value));
+        holds(test, is_kept, &(name, "keeps", held));
     }
-    test.end()
 }
 
 fn keeps_its_text(alloc: Global, held: u32, value: &SmolStr) -> Result<bool, AllocError> {
@@ -166,24 +148,6 @@ fn keeps_its_text(alloc: Global, held: u32, value: &SmolStr) -> Result<bool, All
         return Ok(held == 0);
     }
     is_exact(alloc, held, &SmolStr::new(alloc, value.as_str())?)
-}
-
-/// After a refusal there is what the call took, and otherwise what it makes with ample memory.
-fn check_answer(
-    name: &str,
-    stands: Stands,
-    value: &SmolStr,
-    answer: &Result<Thing, Thing>,
-    ample: &Result<Thing, Thing>,
-) -> Result<(), Fail> {
-    let is_so = match answer {
-        Ok(made) => is_same(made, ample),
-        Err(back) => is_left(back, stands, value),
-    };
-    if is_so {
-        return Ok(());
-    }
-    Err(failed(name, "leaves something else"))
 }
 
 /// Whether what a refusal leaves has the text that is to stand, where that was.

@@ -1,5 +1,4 @@
 //! Values of what is printed: the texts, prints that give up, and memory refused.
-use super::rows::failed;
 use smol_str::{
     FormatError, INLINE_CAP, Place, SmolStr, SmolStrBuilder, ToSmolStr, format_smolstr,
 };
@@ -7,10 +6,10 @@ use std::alloc::{AllocError, Global};
 use std::fmt::{self, Display, Formatter, Write};
 use std::test::Fail;
 use test_support::refuse::{
-    can_refuse, count_requests, each_refused, end_refusals, refuse_all, start_counts,
+    Refusable, can_refuse, count_requests, each_refused, end_refusals, refuse_all, start_counts,
 };
 use test_support::test::{
-    Test, holds, ok, ok_string, ok_value, same_count, same_flag, same_place, same_text,
+    Test, holds, ok, ok_string, same_count, same_flag, same_place, same_text,
 };
 use test_support::texts::{full_text, long_blank, long_text, repeated, repeated_and};
 
@@ -49,55 +48,55 @@ fn assert_value(test: &Test, made: Result<SmolStr, FormatError>, text: &str, pla
 
 #[test]
 fn rows(rt: HostRuntime) -> Result<(), Fail> {
-    let test = Test::new(rt.alloc());
-    let alloc = rt.alloc();
-    formats(&test, alloc);
-    blank_formats(&test, alloc);
-    values(&test, alloc);
-    assert_copied(&test, alloc, long_blank(), Place::Static);
-    assert_copied(&test, alloc, long_text(), Place::Heap);
+    let test = Test::begin(rt);
+    formats(&test);
+    blank_formats(&test);
+    values(&test);
+    assert_copied(&test, long_blank(), Place::Static);
+    assert_copied(&test, long_text(), Place::Heap);
     test.end()
 }
 
-fn formats(test: &Test, alloc: Global) {
-    let row = format_smolstr!(alloc; "{}-{:02}", "a", 7);
+fn formats(test: &Test) {
+    let row = format_smolstr!(test.alloc; "{}-{:02}", "a", 7);
     assert_value(test, row, "a-07", Place::Inline);
     let full = full_text();
-    let row = format_smolstr!(alloc; "{full}a");
+    let row = format_smolstr!(test.alloc; "{full}a");
     assert_value(test, row, long_text(), Place::Heap)
 }
 
-fn blank_formats(test: &Test, alloc: Global) {
-    let row = format_smolstr!(alloc; "{:>width$}", "", width = INLINE_CAP + 1);
+fn blank_formats(test: &Test) {
+    let row = format_smolstr!(test.alloc; "{:>width$}", "", width = INLINE_CAP + 1);
     assert_value(test, row, long_blank(), Place::Static);
-    let row = format_smolstr!(alloc; "{:>24}", "");
+    let row = format_smolstr!(test.alloc; "{:>24}", "");
     assert_value(test, row, "                        ", Place::Inline)
 }
 
-fn values(test: &Test, alloc: Global) {
+fn values(test: &Test) {
+    let alloc = test.alloc;
     assert_value(test, 42u8.to_smolstr(alloc), "42", Place::Inline);
     assert_value(test, "".to_smolstr(alloc), "", Place::Inline);
-    let value = ok_value(test, SmolStr::new(alloc, "if"));
+    let value = test.value("if");
     assert_value(test, value.to_smolstr(alloc), "if", Place::Inline)
 }
 
 /// A `String` of the text prints as it.
-fn assert_copied(test: &Test, alloc: Global, text: &str, place: Place) {
-    let string = ok_string(test, String::from_str(alloc, text));
-    assert_value(test, string.to_smolstr(alloc), text, place)
+fn assert_copied(test: &Test, text: &str, place: Place) {
+    let string = test.string(text);
+    assert_value(test, string.to_smolstr(test.alloc), text, place)
 }
 
 #[test]
 fn test_to_smolstr(rt: HostRuntime) -> Result<(), Fail> {
-    let test = Test::new(rt.alloc());
+    let test = Test::begin(rt);
     let letters = "abcdefghijklmnopqrstuvwxyz";
     for start in 0..26 {
         let Some(end) = letters.get(start..) else {
             test.fail(&"no such end");
             return test.end();
         };
-        assert_value(&test, end.to_smolstr(rt.alloc()), end, Place::Inline);
-        let made = format_smolstr!(rt.alloc(); "{}", end);
+        assert_value(&test, end.to_smolstr(test.alloc), end, Place::Inline);
+        let made = format_smolstr!(test.alloc; "{}", end);
         assert_value(&test, made, end, Place::Inline);
     }
     test.end()
@@ -127,39 +126,40 @@ fn assert_printed(test: &Test, made: Result<SmolStr, FormatError>, wanted: &str)
 // Widths, fills and precision are those of `format!`.
 #[test]
 fn texts_as_a_string(rt: HostRuntime) -> Result<(), Fail> {
-    let test = Test::new(rt.alloc());
-    let alloc = rt.alloc();
-    assert_values(&test, alloc, &ok_value(&test, SmolStr::new(alloc, "né")));
-    assert_parts_of_texts(&test, alloc);
+    let test = Test::begin(rt);
+    assert_values(&test, &test.value("né"));
+    assert_parts_of_texts(&test);
     test.end()
 }
 
-fn assert_values(test: &Test, alloc: Global, value: &SmolStr) {
+fn assert_values(test: &Test, value: &SmolStr) {
+    let alloc = test.alloc;
     row!(test, alloc; "   né"; "{value:>5}");
     row!(test, alloc; "né**"; "{value:*<4}");
     row!(test, alloc; "  né  "; "{value:^6}");
 }
 
-fn assert_parts_of_texts(test: &Test, alloc: Global) {
-    row!(test, alloc; "éééa"; "{:é>4}", "a");
-    row!(test, alloc; "ab"; "{:.2}", "abc");
-    row!(test, alloc; "   a|"; "{:>4.1}|", "abc");
-    row!(test, alloc; "a                        b"; "a{:24}b", "");
+fn assert_parts_of_texts(test: &Test) {
+    row!(test, test.alloc; "éééa"; "{:é>4}", "a");
+    row!(test, test.alloc; "ab"; "{:.2}", "abc");
+    row!(test, test.alloc; "   a|"; "{:>4.1}|", "abc");
+    row!(test, test.alloc; "a                        b"; "a{:24}b", "");
 }
 
 // Signs and bases too.
 #[test]
 fn numbers_as_a_string(rt: HostRuntime) -> Result<(), Fail> {
-    let test = Test::new(rt.alloc());
-    let alloc = rt.alloc();
+    let test = Test::begin(rt);
+    let alloc = test.alloc;
     row!(&test, alloc; "-0042"; "{:05}", -42i32);
     row!(&test, alloc; "+7"; "{:+}", 7u8);
     row!(&test, alloc; "42  |"; "{:<4}|", 42u16);
-    assert_bases(&test, alloc);
+    assert_bases(&test);
     test.end()
 }
 
-fn assert_bases(test: &Test, alloc: Global) {
+fn assert_bases(test: &Test) {
+    let alloc = test.alloc;
     row!(test, alloc; "0xff"; "{:#x}", 255u8);
     row!(test, alloc; "00000101"; "{:08b}", 5u8);
     row!(test, alloc; "{true}"; "{{{}}}", true);
@@ -168,11 +168,10 @@ fn assert_bases(test: &Test, alloc: Global) {
 
 #[test]
 fn gives_up(rt: HostRuntime) -> Result<(), Fail> {
-    let test = Test::new(rt.alloc());
-    let alloc = rt.alloc();
-    assert_gives_up(&test, GivesUp.to_smolstr(alloc));
-    assert_gives_up(&test, format_smolstr!(alloc; "a{}b", GivesUp));
-    assert_kept(&test, alloc);
+    let test = Test::begin(rt);
+    assert_gives_up(&test, GivesUp.to_smolstr(test.alloc));
+    assert_gives_up(&test, format_smolstr!(test.alloc; "a{}b", GivesUp));
+    assert_kept(&test);
     test.end()
 }
 
@@ -181,8 +180,8 @@ fn assert_gives_up(test: &Test, made: Result<SmolStr, FormatError>) {
 }
 
 /// The builder keeps what was printed before.
-fn assert_kept(test: &Test, alloc: Global) {
-    let mut builder = SmolStrBuilder::new(alloc);
+fn assert_kept(test: &Test) {
+    let mut builder = SmolStrBuilder::new(test.alloc);
     ok(test, builder.push_str("x"));
     let printed = write!(builder, "{}{GivesUp}", 1);
     same_flag(test, printed.is_err(), true, "write!");
@@ -191,17 +190,17 @@ fn assert_kept(test: &Test, alloc: Global) {
 
 #[test]
 fn written_to_a_builder(rt: HostRuntime) -> Result<(), Fail> {
-    let test = Test::new(rt.alloc());
-    let mut builder = SmolStrBuilder::new(rt.alloc());
+    let test = Test::begin(rt);
+    let mut builder = SmolStrBuilder::new(test.alloc);
     ok(&test, print_pieces(&mut builder));
     same_text(&test, builder.as_str(), "éab  7", &"written");
     ok(&test, write!(builder, "{:>width$}", "", width = INLINE_CAP));
-    assert_written(&test, rt.alloc(), &builder);
+    assert_written(&test, &builder);
     test.end()
 }
 
-fn assert_written(test: &Test, alloc: Global, builder: &SmolStrBuilder) {
-    let spaces = ok_string(test, repeated(alloc, " ", INLINE_CAP));
+fn assert_written(test: &Test, builder: &SmolStrBuilder) {
+    let spaces = test.repeated(" ", INLINE_CAP);
     let written = builder.as_str().strip_prefix("éab  7").unwrap_or("");
     same_text(test, written, spaces.as_str(), &"written");
     same_flag(test, builder.inline_buffer().is_none(), true, "on the heap");
@@ -214,64 +213,65 @@ fn print_pieces(builder: &mut SmolStrBuilder) -> fmt::Result {
 }
 
 /// With each request refused in turn there is the whole text or none; returns how many requests there were.
-fn whole_requests<D: Display>(alloc: Global, value: &D, text: &str) -> Result<u32, Fail> {
-    let asked = each_refused(
-        alloc,
-        "to_smolstr",
-        || Ok(()),
-        |()| value.to_smolstr(alloc),
-        |made| check_whole(made, text),
-    )?;
-    Ok(asked.requests)
+fn whole_requests<D: Display>(test: &Test, value: &D, text: &str) -> u32 {
+    each_refused(test, "to_smolstr", &Printed { value, text }).requests
 }
 
-fn check_whole(made: &Result<SmolStr, FormatError>, text: &str) -> Result<(), Fail> {
-    match made {
-        Ok(value) if !value.eq_str(text) => Err(failed("not the whole of", text)),
-        _ => Ok(()),
+/// `to_smolstr` of what prints the text.
+#[derive(Drop)]
+struct Printed<'a, D> {
+    value: &'a D,
+    text: &'a str,
+}
+
+impl<D: Display> Refusable for Printed<'_, D> {
+    type Input = ();
+    type Made = SmolStr;
+    type Fault = FormatError;
+
+    fn input(&self, _test: &Test) {}
+
+    fn call(&self, alloc: Global, _input: ()) -> Result<SmolStr, FormatError> {
+        self.value.to_smolstr(alloc)
+    }
+
+    fn check(&self, test: &Test, made: Result<SmolStr, FormatError>) {
+        if let Ok(value) = made {
+            same_text(test, value.as_str(), self.text, &"to_smolstr");
+        }
     }
 }
 
 #[test]
 fn two_pieces(rt: HostRuntime) -> Result<(), Fail> {
-    assert_short(rt.alloc())?;
-    assert_above_short(rt.alloc())?;
-    assert_long(rt.alloc())
-}
-
-fn assert_short(alloc: Global) -> Result<(), Fail> {
-    let requests = whole_requests(alloc, &TwoPieces("ab", "c"), "abc")?;
-    let test = Test::new(alloc);
-    let made = TwoPieces("ab", "c").to_smolstr(alloc);
-    assert_value(&test, made, "abc", Place::Inline);
+    let test = Test::begin(rt);
+    let pieces = TwoPieces("ab", "c");
+    let requests = whole_requests(&test, &pieces, "abc");
     same_count(&test, requests as usize, 0, "short");
+    assert_value(&test, pieces.to_smolstr(test.alloc), "abc", Place::Inline);
+    assert_above_short(&test);
     test.end()
 }
 
-fn assert_above_short(alloc: Global) -> Result<(), Fail> {
-    let whole = repeated_and(alloc, "a", INLINE_CAP, "b")?;
-    let requests = whole_requests(alloc, &TwoPieces(full_text(), "b"), whole.as_str())?;
-    assert_makes_requests(alloc, requests, "a byte more than short")
-}
-
-fn assert_long(alloc: Global) -> Result<(), Fail> {
-    let long = repeated(alloc, "a", 5000)?;
-    let requests = whole_requests(alloc, &long, long.as_str())?;
-    assert_makes_requests(alloc, requests, "long")
+fn assert_above_short(test: &Test) {
+    let whole = ok_string(test, repeated_and(test.alloc, "a", INLINE_CAP, "b"));
+    let requests = whole_requests(test, &TwoPieces(full_text(), "b"), whole.as_str());
+    assert_makes_requests(test, requests, "a byte more than short");
+    let long = test.repeated("a", 5000);
+    let requests = whole_requests(test, &long, long.as_str());
+    assert_makes_requests(test, requests, "long")
 }
 
 /// There are requests, where they are counted.
-fn assert_makes_requests(alloc: Global, requests: u32, row: &str) -> Result<(), Fail> {
-    let test = Test::new(alloc);
-    same_flag(&test, requests > 0, can_refuse(alloc), row);
-    test.end()
+fn assert_makes_requests(test: &Test, requests: u32, row: &str) {
+    same_flag(test, requests > 0, can_refuse(test.alloc), row);
 }
 
 // Not only Ok, but with no request at all.
 #[test]
 fn short_needs_none(rt: HostRuntime) -> Result<(), Fail> {
-    let test = Test::new(rt.alloc());
-    let alloc = rt.alloc();
+    let test = Test::begin(rt);
+    let alloc = test.alloc;
     start_counts(alloc);
     refuse_all(alloc);
     let number = 42u8.to_smolstr(alloc);

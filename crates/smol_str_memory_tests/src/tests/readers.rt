@@ -125,30 +125,35 @@ fn same_calls(test: &Test, found: usize, wanted: usize, row: &Row) {
 
 #[test]
 fn end_after_each_byte(rt: HostRuntime) -> Result<(), Fail> {
-    let test = Test::new(rt.alloc());
-    for form in ok(&test, forms(rt.alloc())).iter() {
+    let test = Test::begin(rt);
+    for form in ok(&test, forms(test.alloc)).iter() {
         for &call in &CALLS {
             for step in STEPS {
-                assert_ends(&test, rt.alloc(), call, form.as_slice(), step);
+                assert_ends(&test, call, form.as_slice(), step);
             }
         }
     }
     test.end()
 }
 
-fn assert_ends(test: &Test, alloc: Global, call: Call, form: &[u8], step: usize) {
+fn assert_ends(test: &Test, call: Call, form: &[u8], step: usize) {
     for end in 0..=form.len() {
         if is_tried(end, form.len()) {
-            assert_end(test, alloc, call, &form[..end], form.len(), step);
+            assert_end(test, call, &form[..end], form.len(), step);
         }
     }
 }
 
 /// All of the front is read; only for a wire form it is too little.
-fn assert_end(test: &Test, alloc: Global, call: Call, front: &[u8], size: usize, step: usize) {
+fn assert_end(test: &Test, call: Call, front: &[u8], size: usize, step: usize) {
     let row = (call, size, step, front.len());
     let mut reader = trickle_of(front, step, 0);
-    assert_ended(test, read_by(alloc, call, &mut reader, size), front, &row);
+    assert_ended(
+        test,
+        read_by(test.alloc, call, &mut reader, size),
+        front,
+        &row,
+    );
     row_holds(test, reader.rest.is_empty(), &row);
     assert_buffers(test, call, &reader, size, &row);
 }
@@ -165,11 +170,11 @@ fn assert_ended(test: &Test, read: Result<Vec<u8>, Kind>, front: &[u8], row: &Ro
 
 #[test]
 fn fails_at_each_call(rt: HostRuntime) -> Result<(), Fail> {
-    let test = Test::new(rt.alloc());
-    for form in ok(&test, forms(rt.alloc())).iter() {
+    let test = Test::begin(rt);
+    for form in ok(&test, forms(test.alloc)).iter() {
         for &call in &CALLS {
             for step in STEPS {
-                assert_fails(&test, rt.alloc(), call, form.as_slice(), step);
+                assert_fails(&test, call, form.as_slice(), step);
             }
         }
     }
@@ -177,24 +182,23 @@ fn fails_at_each_call(rt: HostRuntime) -> Result<(), Fail> {
 }
 
 /// The call gives up at once; a failure after its last read is not met.
-fn assert_fails(test: &Test, alloc: Global, call: Call, form: &[u8], step: usize) {
-    let calls = count_calls(test, alloc, call, form, step, 0);
+fn assert_fails(test: &Test, call: Call, form: &[u8], step: usize) {
+    let calls = count_calls(test, call, form, step, 0);
     for fails_at in 1..=calls {
         if is_tried(fails_at.saturating_mul(step), form.len()) {
             for error in READ_ERRORS {
-                assert_failure(test, alloc, call, form, step, fails_at, error);
+                assert_failure(test, call, form, step, fails_at, error);
             }
         }
     }
     let fails_at = calls.saturating_add(1);
-    let after = count_calls(test, alloc, call, form, step, fails_at);
+    let after = count_calls(test, call, form, step, fails_at);
     same_calls(test, after, calls, &(call, form.len(), step, fails_at));
 }
 
 /// The call gives up with the reader's own error.
 fn assert_failure(
     test: &Test,
-    alloc: Global,
     call: Call,
     form: &[u8],
     step: usize,
@@ -204,7 +208,7 @@ fn assert_failure(
     let row = (call, form.len(), step, fails_at);
     let mut reader = trickle_of(form, step, fails_at);
     reader.failure = error;
-    let read = read_by(alloc, call, &mut reader, form.len());
+    let read = read_by(test.alloc, call, &mut reader, form.len());
     assert_failed(test, read, Kind::Io(error), &row);
     same_calls(test, reader.calls, fails_at, &row);
     assert_buffers(test, call, &reader, form.len(), &row);
@@ -216,19 +220,12 @@ fn assert_failed(test: &Test, read: Result<Vec<u8>, Kind>, kind: Kind, row: &Row
 
 /// How often a reader is called that does not fail before all is read: by single bytes once a byte,
 /// and once more where only its end says that it is there.
-fn count_calls(
-    test: &Test,
-    alloc: Global,
-    call: Call,
-    form: &[u8],
-    step: usize,
-    fails_at: usize,
-) -> usize {
+fn count_calls(test: &Test, call: Call, form: &[u8], step: usize, fails_at: usize) -> usize {
     let row = (call, form.len(), step, fails_at);
     let mut reader = trickle_of(form, step, fails_at);
     assert_reads(
         test,
-        read_by(alloc, call, &mut reader, form.len()),
+        read_by(test.alloc, call, &mut reader, form.len()),
         form,
         &row,
     );
@@ -248,10 +245,10 @@ fn assert_reads(test: &Test, read: Result<Vec<u8>, Kind>, wanted: &[u8], row: &R
 
 #[test]
 fn no_read_into_nothing(rt: HostRuntime) -> Result<(), Fail> {
-    let test = Test::new(rt.alloc());
+    let test = Test::begin(rt);
     let mut reader = trickle_of(b"ab", 1, 1);
     for call in [Call::Fill, Call::ReadUpTo] {
-        let read = read_by(rt.alloc(), call, &mut reader, 0);
+        let read = read_by(test.alloc, call, &mut reader, 0);
         assert_reads(&test, read, b"", &(call, 0, 1, 1));
     }
     same_count(&test, reader.calls, 0, "calls");

@@ -4,8 +4,8 @@ use smol_str::{Place, SmolStr, StrExt};
 use std::alloc::{AllocError, Global};
 use std::test::Fail;
 use test_support::by_std::{Asks, asked_by_all};
-use test_support::refuse::{Asked, can_refuse, each_refused, end_refusals, refuse_all};
-use test_support::test::{Test, in_place, ok_string, ok_value, same_flag};
+use test_support::refuse::{Asked, Refusable, can_refuse, each_refused, end_refusals, refuse_all};
+use test_support::test::{Test, in_place, ok_string, ok_value, same_flag, same_text};
 use test_support::texts::{full_text, joined, long_text, repeated};
 
 /// A call under test.
@@ -46,87 +46,73 @@ static CALLS: [(&str, Call); 10] = [
 
 #[test]
 fn each_request_in_turn(rt: HostRuntime) -> Result<(), Fail> {
-    let alloc = rt.alloc();
-    let long = repeated(alloc, "a", 5000)?;
-    check_long_refused(alloc, long.as_str())?;
-    check_short_refused(alloc)
-}
-
-fn check_long_refused(alloc: Global, long: &str) -> Result<(), Fail> {
+    let test = Test::begin(rt);
+    let long = test.repeated("a", 5000);
     for &(name, call) in &CALLS {
-        check_refused(alloc, name, " of a byte too many", call, long_text())?;
-        check_refused(alloc, name, " of 5,000 bytes", call, long)?;
+        check_refused(&test, name, " of a byte too many", call, long_text());
+        check_refused(&test, name, " of 5,000 bytes", call, long.as_str());
     }
-    Ok(())
+    check_short_refused(&test);
+    test.end()
 }
 
-fn check_short_refused(alloc: Global) -> Result<(), Fail> {
+fn check_short_refused(test: &Test) {
     // A short text, of which the result is not short, or which a capital sigma stands in.
     let (twice, parted) = (Call::Replace("a", "bb"), Call::Replace("", "-"));
-    check_refused(alloc, "twice ", "a full buffer", twice, full_text())?;
-    check_refused(alloc, "parted ", "a full buffer", parted, full_text())?;
-    check_refused(alloc, "a capital ", "sigma", Call::Lower, "ΑΣ")
+    check_refused(test, "twice ", "a full buffer", twice, full_text());
+    check_refused(test, "parted ", "a full buffer", parted, full_text());
+    check_refused(test, "a capital ", "sigma", Call::Lower, "ΑΣ")
 }
 
-fn check_refused(
-    alloc: Global,
-    front: &str,
-    end: &str,
-    call: Call,
-    text: &str,
-) -> Result<(), Fail> {
-    let name = joined(alloc, front, end)?;
-    let ample = answer(alloc, call, text)?;
-    let asked = asked_of(alloc, name.as_str(), call, text, &ample)?;
-    check_asked(alloc, name.as_str(), call, text, asked, &ample)
+fn check_refused(test: &Test, front: &str, end: &str, call: Call, text: &str) {
+    let name = ok_string(test, joined(test.alloc, front, end));
+    let ample = ok_value(test, answer(test.alloc, call, text));
+    let tried = Tried {
+        name: name.as_str(),
+        call,
+        text,
+        ample: &ample,
+    };
+    let asked = each_refused(test, name.as_str(), &tried);
+    check_asked(test, &tried, asked)
 }
 
-/// The call makes requests, and asks for one copy where it is made in one.
-fn check_asked(
-    alloc: Global,
-    name: &str,
-    call: Call,
-    text: &str,
-    asked: Asked,
-    ample: &SmolStr,
-) -> Result<(), Fail> {
-    check_held(alloc, name, asked, ample)?;
-    if is_one_copy(call) && text.is_ascii() {
-        return check_one_copy(alloc, name, text, asked);
+/// The call makes requests, and asks for one copy where it is made in one; the value keeps its text and no more.
+fn check_asked(test: &Test, tried: &Tried<'_>, asked: Asked) {
+    let name = tried.name;
+    same_flag(test, asked.requests > 0, can_refuse(test.alloc), name);
+    held_exactly(test, asked.held, tried.ample, name);
+    if is_one_copy(tried.call) && tried.text.is_ascii() {
+        let wanted = asked_by_all(test, ONE_COPY, tried.text);
+        same_asked(test, asked, wanted, name);
     }
-    Ok(())
 }
 
-/// The call makes requests, and the value keeps its text and no more.
-fn check_held(alloc: Global, name: &str, asked: Asked, ample: &SmolStr) -> Result<(), Fail> {
-    let test = Test::new(alloc);
-    same_flag(&test, asked.requests > 0, can_refuse(alloc), name);
-    held_exactly(&test, alloc, asked.held, ample, name);
-    test.end()
-}
-
-fn check_one_copy(alloc: Global, name: &str, text: &str, asked: Asked) -> Result<(), Fail> {
-    let wanted = asked_by_all(alloc, ONE_COPY, text)?;
-    let test = Test::new(alloc);
-    same_asked(&test, asked, wanted, name);
-    test.end()
-}
-
-/// With each request refused in turn the call is refused, and with none refused it returns what it does with ample memory.
-fn asked_of(
-    alloc: Global,
-    name: &str,
+/// A call on a text, which returns what it does with ample memory.
+#[derive(Drop)]
+struct Tried<'a> {
+    name: &'a str,
     call: Call,
-    text: &str,
-    ample: &SmolStr,
-) -> Result<Asked, Fail> {
-    each_refused(
-        alloc,
-        name,
-        || Ok(()),
-        |()| answer(alloc, call, text),
-        |made| check_made(name, made, ample),
-    )
+    text: &'a str,
+    ample: &'a SmolStr,
+}
+
+impl Refusable for Tried<'_> {
+    type Input = ();
+    type Made = SmolStr;
+    type Fault = AllocError;
+
+    fn input(&self, _test: &Test) {}
+
+    fn call(&self, alloc: Global, _input: ()) -> Result<SmolStr, AllocError> {
+        answer(alloc, self.call, self.text)
+    }
+
+    fn check(&self, test: &Test, made: Result<SmolStr, AllocError>) {
+        if let Ok(value) = made {
+            same_text(test, value.as_str(), self.ample.as_str(), &self.name);
+        }
+    }
 }
 
 /// A copy of the text, which the value keeps.
@@ -141,47 +127,34 @@ fn is_one_copy(call: Call) -> bool {
     }
 }
 
-fn check_made(name: &str, made: &Result<SmolStr, AllocError>, ample: &SmolStr) -> Result<(), Fail> {
-    match made {
-        Ok(value) if *value != *ample => Err(Fail::new(format_args!("{name} makes {value:?}"))),
-        _ => Ok(()),
-    }
-}
-
 // Not only Ok, but with no request at all, however long the text.
 #[test]
 fn no_request_for_a_short_answer(rt: HostRuntime) -> Result<(), Fail> {
-    let test = Test::new(rt.alloc());
-    let alloc = rt.alloc();
+    let test = Test::begin(rt);
     for &(name, call) in &CALLS {
         let text = match call {
             Call::Replace(_, "éé") => "a",
             Call::Replace("", _) => "ab",
             _ => full_text(),
         };
-        check_no_request(&test, alloc, name, call, text);
+        check_no_request(&test, name, call, text);
     }
-    check_removed(&test, alloc);
-    check_no_request(
-        &test,
-        alloc,
-        "aa by b",
-        Call::Replace("aa", "b"),
-        long_text(),
-    );
-    check_no_request(&test, alloc, "capitals", Call::Upper, "aßΔC");
-    check_no_request(&test, alloc, "small letters", Call::Lower, "aßΔC");
+    check_removed(&test);
+    check_no_request(&test, "aa by b", Call::Replace("aa", "b"), long_text());
+    check_no_request(&test, "capitals", Call::Upper, "aßΔC");
+    check_no_request(&test, "small letters", Call::Lower, "aßΔC");
     test.end()
 }
 
-fn check_removed(test: &Test, alloc: Global) {
-    let long = ok_string(test, repeated(alloc, "a", 10_000));
+fn check_removed(test: &Test) {
+    let long = test.repeated("a", 10_000);
     let (one, four) = (Call::Replace("a", ""), Call::Replace("aaaa", ""));
-    check_no_request(test, alloc, "a removed", one, long.as_str());
-    check_no_request(test, alloc, "aaaa removed", four, long.as_str());
+    check_no_request(test, "a removed", one, long.as_str());
+    check_no_request(test, "aaaa removed", four, long.as_str());
 }
 
-fn check_no_request(test: &Test, alloc: Global, name: &str, call: Call, text: &str) {
+fn check_no_request(test: &Test, name: &str, call: Call, text: &str) {
+    let alloc = test.alloc;
     refuse_all(alloc);
     let made = answer(alloc, call, text);
     let was_refused = end_refusals(alloc);

@@ -1,9 +1,7 @@
 //! What rows compare and expect to be `Ok`, for the types of this crate.
 use smol_str::SmolStr;
 use smol_str::borsh::DecodeFault;
-use std::alloc::Global;
 use std::fmt::Debug;
-use std::test::Fail;
 use test_support::by_std::is_asked;
 use test_support::held::is_exact;
 use test_support::refuse::Asked;
@@ -15,8 +13,8 @@ pub fn same_asked(test: &Test, found: Asked, wanted: Asked, row: &str) {
 }
 
 /// So many bytes are what the value holds, and no spare room.
-pub fn held_exactly(test: &Test, alloc: Global, held: u32, value: &SmolStr, row: &str) {
-    is_so(test, ok(test, is_exact(alloc, held, value)), row);
+pub fn held_exactly(test: &Test, held: u32, value: &SmolStr, row: &str) {
+    is_so(test, ok(test, is_exact(test.alloc, held, value)), row);
 }
 
 /// The bytes are equal.
@@ -33,9 +31,4 @@ pub fn ok_found(test: &Test, outcome: Result<(SmolStr, usize), DecodeFault>) -> 
             (SmolStr::default(), 0)
         }
     }
-}
-
-/// What a test ends with where a row is not as it is to be.
-pub fn failed(row: &str, why: &str) -> Fail {
-    Fail::new(format_args!("{row} {why}"))
 }

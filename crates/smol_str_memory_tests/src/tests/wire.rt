@@ -63,30 +63,30 @@ pub fn letters(alloc: Global, size: u32, count: u32) -> Result<Vec<u8>, AllocErr
 
 #[test]
 fn written(rt: HostRuntime) -> Result<(), Fail> {
-    let test = Test::new(rt.alloc());
+    let test = Test::begin(rt);
     for row in &ROWS {
-        assert_written(&test, rt.alloc(), *row);
+        assert_written(&test, *row);
     }
     test.end()
 }
 
-fn assert_written(test: &Test, alloc: Global, row: Row) {
-    let form = ok_bytes(test, form_of(alloc, row));
-    let value = ok_value(test, value_of(alloc, row));
+fn assert_written(test: &Test, row: Row) {
+    let form = ok_bytes(test, form_of(test.alloc, row));
+    let value = ok_value(test, value_of(test.alloc, row));
     for step in STEPS {
-        assert_steps(test, alloc, &value, form.as_slice(), step);
+        assert_steps(test, &value, form.as_slice(), step);
     }
-    assert_form(test, alloc, &value, form.as_slice())
+    assert_form(test, &value, form.as_slice())
 }
 
-fn assert_steps(test: &Test, alloc: Global, value: &SmolStr, form: &[u8], step: usize) {
-    let mut writer = empty_drip(alloc, step, 0, Failure::TakesNone);
+fn assert_steps(test: &Test, value: &SmolStr, form: &[u8], step: usize) {
+    let mut writer = empty_drip(test.alloc, step, 0, Failure::TakesNone);
     ok(test, value.serialize(&mut writer));
     same_bytes(test, writer.taken.as_slice(), form, &(step, value));
 }
 
-fn assert_form(test: &Test, alloc: Global, value: &SmolStr, form: &[u8]) {
-    let mut all = Vec::new(alloc);
+fn assert_form(test: &Test, value: &SmolStr, form: &[u8]) {
+    let mut all = Vec::new(test.alloc);
     ok(test, value.serialize(&mut all));
     same_bytes(test, all.as_slice(), form, value);
 }
@@ -98,50 +98,34 @@ fn value_of(alloc: Global, row: Row) -> Result<SmolStr, AllocError> {
 // Two bytes follow each form; they are left.
 #[test]
 fn read_again(rt: HostRuntime) -> Result<(), Fail> {
-    let test = Test::new(rt.alloc());
+    let test = Test::begin(rt);
     for row in &ROWS {
-        assert_read_again(&test, rt.alloc(), *row);
+        assert_read_again(&test, *row);
     }
     test.end()
 }
 
-fn assert_read_again(test: &Test, alloc: Global, row: Row) {
-    let text = ok_string(test, text_of(alloc, row));
-    let mut bytes = ok_bytes(test, form_of(alloc, row));
+fn assert_read_again(test: &Test, row: Row) {
+    let text = ok_string(test, text_of(test.alloc, row));
+    let mut bytes = ok_bytes(test, form_of(test.alloc, row));
     ok(test, bytes.extend_from_slice(b"a\xff"));
-    assert_found(test, alloc, bytes.as_slice(), text.as_str(), row.4);
+    assert_found(test, bytes.as_slice(), text.as_str(), row.4);
     for step in STEPS {
-        assert_read(
-            test,
-            alloc,
-            bytes.as_slice(),
-            step,
-            text.as_str(),
-            row.4,
-            b"a\xff",
-        );
+        assert_read(test, bytes.as_slice(), step, text.as_str(), row.4, b"a\xff");
     }
 }
 
 /// The bytes begin with a form of the text, which two bytes follow.
-fn assert_found(test: &Test, alloc: Global, bytes: &[u8], text: &str, place: Place) {
-    let (value, taken) = ok_found(test, from_wire(alloc, bytes));
+fn assert_found(test: &Test, bytes: &[u8], text: &str, place: Place) {
+    let (value, taken) = ok_found(test, from_wire(test.alloc, bytes));
     same_value(test, &value, text, place, &taken);
     same(test, &taken.saturating_add(2), &bytes.len(), &value);
 }
 
 /// A reader of `step` bytes a call gives the text, by buffers that are within a piece, and has the rest left.
-fn assert_read(
-    test: &Test,
-    alloc: Global,
-    bytes: &[u8],
-    step: usize,
-    text: &str,
-    place: Place,
-    rest: &[u8],
-) {
+fn assert_read(test: &Test, bytes: &[u8], step: usize, text: &str, place: Place, rest: &[u8]) {
     let mut reader = trickle_of(bytes, step, 0);
-    let value = ok(test, SmolStr::deserialize_reader(alloc, &mut reader));
+    let value = ok(test, SmolStr::deserialize_reader(test.alloc, &mut reader));
     same_value(test, &value, text, place, &step);
     assert_left(test, &reader, rest, &value, step);
 }
@@ -155,28 +139,28 @@ fn assert_left(test: &Test, reader: &Trickle<'_>, rest: &[u8], value: &SmolStr, 
 
 #[test]
 fn borsh_serialize_stack(rt: HostRuntime) -> Result<(), Fail> {
-    let test = Test::new(rt.alloc());
-    assert_equal_again(&test, rt.alloc(), OF_12);
+    let test = Test::begin(rt);
+    assert_equal_again(&test, OF_12);
     test.end()
 }
 
 #[test]
 fn borsh_serialize_heap(rt: HostRuntime) -> Result<(), Fail> {
-    let test = Test::new(rt.alloc());
-    assert_equal_again(&test, rt.alloc(), OF_132);
+    let test = Test::begin(rt);
+    assert_equal_again(&test, OF_132);
     test.end()
 }
 
-fn assert_equal_again(test: &Test, alloc: Global, row: Row) {
-    let value = ok_value(test, value_of(alloc, row));
-    let form = ok_bytes(test, form_of(alloc, row));
-    assert_form(test, alloc, &value, form.as_slice());
-    assert_again(test, alloc, form.as_slice(), &value, row.4)
+fn assert_equal_again(test: &Test, row: Row) {
+    let value = ok_value(test, value_of(test.alloc, row));
+    let form = ok_bytes(test, form_of(test.alloc, row));
+    assert_form(test, &value, form.as_slice());
+    assert_again(test, form.as_slice(), &value, row.4)
 }
 
 /// What is read again of the form is equal to the value, in the place.
-fn assert_again(test: &Test, alloc: Global, form: &[u8], value: &SmolStr, place: Place) {
-    let (again, _) = ok_found(test, from_wire(alloc, form));
+fn assert_again(test: &Test, form: &[u8], value: &SmolStr, place: Place) {
+    let (again, _) = ok_found(test, from_wire(test.alloc, form));
     same(test, &again, value, &"again");
     same_place(test, &again, place, &"again");
 }
@@ -184,66 +168,58 @@ fn assert_again(test: &Test, alloc: Global, form: &[u8], value: &SmolStr, place:
 // A pinned value is written as any other, and what is read is where its text belongs.
 #[test]
 fn pinned(rt: HostRuntime) -> Result<(), Fail> {
-    let test = Test::new(rt.alloc());
+    let test = Test::begin(rt);
     let value = SmolStr::new_static("ab");
-    assert_form(&test, rt.alloc(), &value, b"\x02\0\0\0ab");
-    assert_again(&test, rt.alloc(), b"\x02\0\0\0ab", &value, Place::Inline);
+    assert_form(&test, &value, b"\x02\0\0\0ab");
+    assert_again(&test, b"\x02\0\0\0ab", &value, Place::Inline);
     test.end()
 }
 
 #[test]
 fn one_after_another(rt: HostRuntime) -> Result<(), Fail> {
-    let test = Test::new(rt.alloc());
+    let test = Test::begin(rt);
     let mut reader = trickle_of(b"\x01\0\0\0a\0\0\0\0", 2, 0);
-    assert_next(&test, rt.alloc(), &mut reader, "a");
-    assert_next(&test, rt.alloc(), &mut reader, "");
+    assert_next(&test, &mut reader, "a");
+    assert_next(&test, &mut reader, "");
     holds(&test, reader.rest.is_empty(), &"the rest");
     test.end()
 }
 
-fn assert_next(test: &Test, alloc: Global, reader: &mut Trickle<'_>, text: &str) {
-    let value = ok(test, SmolStr::deserialize_reader(alloc, reader));
+fn assert_next(test: &Test, reader: &mut Trickle<'_>, text: &str) {
+    let value = ok(test, SmolStr::deserialize_reader(test.alloc, reader));
     same_text(test, value.as_str(), text, &text);
 }
 
 // Characters of three bytes, so that pieces end within one.
 #[test]
 fn characters_across_pieces(rt: HostRuntime) -> Result<(), Fail> {
-    let test = Test::new(rt.alloc());
+    let test = Test::begin(rt);
     for step in [1, 7, PIECE - 1, PIECE, PIECE + 1] {
-        assert_long(&test, rt.alloc(), [0x98, 0x3a, 0, 0], "€", step);
+        assert_long(&test, [0x98, 0x3a, 0, 0], "€", step);
     }
     test.end()
 }
 
 #[test]
 fn long_body(rt: HostRuntime) -> Result<(), Fail> {
-    let test = Test::new(rt.alloc());
+    let test = Test::begin(rt);
     for step in [1, usize::MAX] {
-        assert_long(&test, rt.alloc(), [0x88, 0x13, 0, 0], "a", step);
+        assert_long(&test, [0x88, 0x13, 0, 0], "a", step);
     }
     test.end()
 }
 
 /// A text of 5,000 characters, which has this size.
-fn assert_long(test: &Test, alloc: Global, size: [u8; 4], character: &str, step: usize) {
-    let text = ok_string(test, repeated(alloc, character, 5000));
-    let mut form = ok_bytes(test, Vec::from_slice(alloc, &size));
+fn assert_long(test: &Test, size: [u8; 4], character: &str, step: usize) {
+    let text = test.repeated(character, 5000);
+    let mut form = ok_bytes(test, Vec::from_slice(test.alloc, &size));
     ok(test, form.extend_from_slice(text.as_bytes()));
-    assert_read(
-        test,
-        alloc,
-        form.as_slice(),
-        step,
-        text.as_str(),
-        Place::Heap,
-        b"",
-    )
+    assert_read(test, form.as_slice(), step, text.as_str(), Place::Heap, b"")
 }
 
 #[test]
 fn prefixes(rt: HostRuntime) -> Result<(), Fail> {
-    let test = Test::new(rt.alloc());
+    let test = Test::begin(rt);
     for (size, bytes) in [
         (0, Some([0, 0, 0, 0])),
         (388, Some([0x84, 1, 0, 0])),

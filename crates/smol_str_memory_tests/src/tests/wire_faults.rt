@@ -4,7 +4,6 @@ use smol_str::borsh::{
     BorshDeserialize, DecodeFault, LimitedFault, deserialize_limited, from_wire, split_wire,
 };
 use smol_str::{INLINE_CAP, SmolStr};
-use std::alloc::Global;
 use std::io::ErrorKind;
 use std::test::Fail;
 use test_support::streams::{STEPS, trickle_of};
@@ -58,29 +57,29 @@ static REFUSED: [(&[u8], Kind, usize); 8] = [
 
 #[test]
 fn refused(rt: HostRuntime) -> Result<(), Fail> {
-    let test = Test::new(rt.alloc());
+    let test = Test::begin(rt);
     for (bytes, kind, left) in &REFUSED {
-        assert_refused(&test, rt.alloc(), bytes, *kind, *left);
+        assert_refused(&test, bytes, *kind, *left);
     }
     test.end()
 }
 
 #[test]
 fn borsh_non_utf8_stack(rt: HostRuntime) -> Result<(), Fail> {
-    let test = Test::new(rt.alloc());
-    assert_refused(&test, rt.alloc(), CUT, Kind::NotUtf8, 0);
+    let test = Test::begin(rt);
+    assert_refused(&test, CUT, Kind::NotUtf8, 0);
     test.end()
 }
 
 // Upstream's bytes are fewer than a value has room for here, so there are longer ones too, whose last is not UTF-8.
 #[test]
 fn borsh_non_utf8_heap(rt: HostRuntime) -> Result<(), Fail> {
-    let test = Test::new(rt.alloc());
-    assert_refused(&test, rt.alloc(), NOISE, Kind::NotUtf8, 0);
+    let test = Test::begin(rt);
+    assert_refused(&test, NOISE, Kind::NotUtf8, 0);
     for size in [INLINE_CAP as u32 + 1, 64] {
-        let mut bytes = ok_bytes(&test, letters(rt.alloc(), size, size.saturating_sub(1)));
+        let mut bytes = ok_bytes(&test, letters(test.alloc, size, size.saturating_sub(1)));
         ok(&test, bytes.push(0xff));
-        assert_refused(&test, rt.alloc(), bytes.as_slice(), Kind::NotUtf8, 0);
+        assert_refused(&test, bytes.as_slice(), Kind::NotUtf8, 0);
     }
     test.end()
 }
@@ -88,11 +87,11 @@ fn borsh_non_utf8_heap(rt: HostRuntime) -> Result<(), Fail> {
 // Each form of the table, cut after every byte.
 #[test]
 fn cut_short(rt: HostRuntime) -> Result<(), Fail> {
-    let test = Test::new(rt.alloc());
+    let test = Test::begin(rt);
     for row in &ROWS {
-        let form = ok_bytes(&test, form_of(rt.alloc(), *row));
+        let form = ok_bytes(&test, form_of(test.alloc, *row));
         for end in 0..form.len() {
-            assert_refused(&test, rt.alloc(), &form[..end], Kind::Ended, 0);
+            assert_refused(&test, &form[..end], Kind::Ended, 0);
         }
     }
     test.end()
@@ -101,28 +100,28 @@ fn cut_short(rt: HostRuntime) -> Result<(), Fail> {
 // Above each buffer, the fault is told as itself: the last byte of a body is not there, or is not UTF-8.
 #[test]
 fn long_bodies(rt: HostRuntime) -> Result<(), Fail> {
-    let test = Test::new(rt.alloc());
+    let test = Test::begin(rt);
     for size in ABOVE_BUFFERS {
         let count = size.saturating_sub(1) as u32;
-        let mut bytes = ok_bytes(&test, letters(rt.alloc(), size as u32, count));
-        assert_long_refused(&test, rt.alloc(), bytes.as_slice(), Kind::Ended);
+        let mut bytes = ok_bytes(&test, letters(test.alloc, size as u32, count));
+        assert_long_refused(&test, bytes.as_slice(), Kind::Ended);
         ok(&test, bytes.push(0xff));
-        assert_long_refused(&test, rt.alloc(), bytes.as_slice(), Kind::NotUtf8);
+        assert_long_refused(&test, bytes.as_slice(), Kind::NotUtf8);
     }
     test.end()
 }
 
 /// Each call returns this fault, and a reader that gives all it is asked for has nothing left.
-fn assert_long_refused(test: &Test, alloc: Global, bytes: &[u8], kind: Kind) {
-    assert_refused_at_hand(test, alloc, bytes, kind);
-    assert_reader_refused(test, alloc, bytes, usize::MAX, kind, 0);
-    assert_limited_refused(test, alloc, bytes, usize::MAX, kind, 0);
+fn assert_long_refused(test: &Test, bytes: &[u8], kind: Kind) {
+    assert_refused_at_hand(test, bytes, kind);
+    assert_reader_refused(test, bytes, usize::MAX, kind, 0);
+    assert_limited_refused(test, bytes, usize::MAX, kind, 0);
 }
 
-fn assert_refused_at_hand(test: &Test, alloc: Global, bytes: &[u8], kind: Kind) {
-    let fault = from_wire(alloc, bytes).err();
+fn assert_refused_at_hand(test: &Test, bytes: &[u8], kind: Kind) {
+    let fault = from_wire(test.alloc, bytes).err();
     same_fault(test, fault, kind, bytes, bytes.len());
-    let fault = split_wire(alloc, bytes).err();
+    let fault = split_wire(test.alloc, bytes).err();
     same_fault(test, fault, kind, bytes, bytes.len());
 }
 
@@ -142,39 +141,25 @@ fn same_left(test: &Test, left: usize, wanted: usize, bytes: &[u8], step: usize)
 }
 
 /// Each call returns this fault, whatever the reader's steps.
-fn assert_refused(test: &Test, alloc: Global, bytes: &[u8], kind: Kind, left: usize) {
-    assert_refused_at_hand(test, alloc, bytes, kind);
+fn assert_refused(test: &Test, bytes: &[u8], kind: Kind, left: usize) {
+    assert_refused_at_hand(test, bytes, kind);
     for step in STEPS {
-        assert_reader_refused(test, alloc, bytes, step, kind, left);
-        assert_limited_refused(test, alloc, bytes, step, kind, left);
+        assert_reader_refused(test, bytes, step, kind, left);
+        assert_limited_refused(test, bytes, step, kind, left);
     }
 }
 
-fn assert_reader_refused(
-    test: &Test,
-    alloc: Global,
-    bytes: &[u8],
-    step: usize,
-    kind: Kind,
-    left: usize,
-) {
+fn assert_reader_refused(test: &Test, bytes: &[u8], step: usize, kind: Kind, left: usize) {
     let mut reader = trickle_of(bytes, step, 0);
-    let fault = SmolStr::deserialize_reader(alloc, &mut reader).err();
+    let fault = SmolStr::deserialize_reader(test.alloc, &mut reader).err();
     same_fault(test, fault, kind, bytes, step);
     same_left(test, reader.rest.len(), left, bytes, step);
 }
 
 /// With a limit that no size is above.
-fn assert_limited_refused(
-    test: &Test,
-    alloc: Global,
-    bytes: &[u8],
-    step: usize,
-    kind: Kind,
-    left: usize,
-) {
+fn assert_limited_refused(test: &Test, bytes: &[u8], step: usize, kind: Kind, left: usize) {
     let mut reader = trickle_of(bytes, step, 0);
-    let fault = deserialize_limited(alloc, &mut reader, usize::MAX).err();
+    let fault = deserialize_limited(test.alloc, &mut reader, usize::MAX).err();
     let found = fault.as_ref().map(kind_of_limited);
     same_kind(test, found, kind, bytes, step);
     same_left(test, reader.rest.len(), left, bytes, step);

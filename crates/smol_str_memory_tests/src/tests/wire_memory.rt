@@ -14,7 +14,7 @@ use std::test::Fail;
 use test_support::by_std::{SHARED, asked_by_all, is_asked};
 use test_support::held::is_exact;
 use test_support::refuse::{
-    Asked, can_refuse, count_bytes, each_refused, end_refusals, refuse_all, start_counts,
+    Asked, Refusable, can_refuse, count_bytes, each_refused, end_refusals, refuse_all, start_counts,
 };
 use test_support::streams::{Trickle, trickle_of};
 use test_support::test::{
@@ -103,14 +103,43 @@ fn all_read(alloc: Global, bytes: &[u8]) -> Result<Made, Kind> {
 const OF_FORMS: [Call; 4] = [Call::FromWire, Call::SplitWire, Call::Reader, Call::Limited];
 
 /// What the call asks for that makes these bytes or a value of them, each request refused in turn.
-fn call_refused(alloc: Global, call: Call, form: &[u8], wanted: &[u8]) -> Result<Asked, Fail> {
-    each_refused(
-        alloc,
-        name_of(call),
-        || Ok(()),
-        |()| make(alloc, call, form),
-        |answer| check(answer, call, wanted),
-    )
+fn call_refused(test: &Test, call: Call, form: &[u8], wanted: &[u8]) -> Asked {
+    let tried = Tried { call, form, wanted };
+    each_refused(test, name_of(call), &tried)
+}
+
+/// A call on bytes, and the bytes that are wanted of it.
+#[derive(Drop)]
+struct Tried<'a> {
+    call: Call,
+    form: &'a [u8],
+    wanted: &'a [u8],
+}
+
+impl Refusable for Tried<'_> {
+    type Input = ();
+    type Made = Made;
+    type Fault = Kind;
+
+    fn input(&self, _test: &Test) {}
+
+    fn call(&self, alloc: Global, _input: ()) -> Result<Made, Kind> {
+        make(alloc, self.call, self.form)
+    }
+
+    /// What was made has the bytes, and there is no other fault than out of memory.
+    fn check(&self, test: &Test, made: Result<Made, Kind>) {
+        let is_right = match &made {
+            Ok(Made::Value(value)) => value.as_str().as_bytes() == self.wanted,
+            Ok(Made::Bytes(all)) => all.as_slice() == self.wanted,
+            Err(kind) => *kind == Kind::OutOfMemory,
+        };
+        holds(
+            test,
+            is_right,
+            &(self.call, self.wanted.len(), "others, or another fault"),
+        );
+    }
 }
 
 fn name_of(call: Call) -> &'static str {
@@ -124,114 +153,84 @@ fn name_of(call: Call) -> &'static str {
     }
 }
 
-/// What was made has these bytes, and there is no other fault than out of memory.
-fn check(answer: &Result<Made, Kind>, call: Call, wanted: &[u8]) -> Result<(), Fail> {
-    let is_right = match answer {
-        Ok(Made::Value(value)) => value.as_str().as_bytes() == wanted,
-        Ok(Made::Bytes(all)) => all.as_slice() == wanted,
-        Err(kind) => *kind == Kind::OutOfMemory,
-    };
-    if is_right {
-        return Ok(());
-    }
-    let len = wanted.len();
-    Err(Fail::new(format_args!("{call:?} of {len} bytes: others, or another fault")))
-}
-
 #[test]
 fn each_request(rt: HostRuntime) -> Result<(), Fail> {
+    let test = Test::begin(rt);
     for count in [INLINE_CAP as u32 + 1, 5000, 20000, 70_000] {
-        assert_requests(rt.alloc(), count)?;
+        assert_requests(&test, count);
     }
-    Ok(())
+    test.end()
 }
 
-fn assert_requests(alloc: Global, count: u32) -> Result<(), Fail> {
-    let form = letters(alloc, count, count)?;
-    let text = repeated(alloc, "a", count as usize)?;
+fn assert_requests(test: &Test, count: u32) {
+    let form = ok_bytes(test, letters(test.alloc, count, count));
+    let text = test.repeated("a", count as usize);
     for call in OF_FORMS {
-        assert_asked(alloc, call, form.as_slice(), text.as_str())?;
+        assert_asked(test, call, form.as_slice(), text.as_str());
     }
-    Ok(())
 }
 
-/// Bytes at hand are copied once, and the value keeps its text alone.
-fn assert_asked(alloc: Global, call: Call, form: &[u8], text: &str) -> Result<(), Fail> {
-    let asked = call_refused(alloc, call, form, text.as_bytes())?;
-    assert_kept(alloc, asked, text, call)?;
+/// The call asks for memory, and the value keeps its text alone; bytes at hand are copied once, as std copies a shared text.
+fn assert_asked(test: &Test, call: Call, form: &[u8], text: &str) {
+    let asked = call_refused(test, call, form, text.as_bytes());
+    assert_makes_requests(test, asked, &(call, text.len()));
+    assert_exact(test, asked, text, call);
     if matches!(call, Call::FromWire | Call::SplitWire) {
-        assert_copied_once(alloc, asked, text, call)?;
+        let wanted = asked_by_all(test, SHARED, text);
+        holds(test, is_asked(asked, wanted), &(call, text.len()));
     }
-    Ok(())
-}
-
-/// The call asks for memory, and what it makes keeps the text alone.
-fn assert_kept(alloc: Global, asked: Asked, text: &str, call: Call) -> Result<(), Fail> {
-    let test = Test::new(alloc);
-    assert_makes_requests(&test, alloc, asked, &(call, text.len()));
-    assert_exact(&test, alloc, asked, text, call);
-    test.end()
-}
-
-/// What is asked for is what a shared text of std asks for.
-fn assert_copied_once(alloc: Global, asked: Asked, text: &str, call: Call) -> Result<(), Fail> {
-    let wanted = asked_by_all(alloc, SHARED, text)?;
-    let test = Test::new(alloc);
-    holds(&test, is_asked(asked, wanted), &(call, text.len()));
-    test.end()
 }
 
 /// A call that needs memory asks for it, where requests are counted.
-fn assert_makes_requests(test: &Test, alloc: Global, asked: Asked, row: &(Call, usize)) {
-    same(test, &(asked.requests > 0), &can_refuse(alloc), row);
+fn assert_makes_requests(test: &Test, asked: Asked, row: &(Call, usize)) {
+    same(test, &(asked.requests > 0), &can_refuse(test.alloc), row);
 }
 
 /// What is held is the text alone.
-fn assert_exact(test: &Test, alloc: Global, asked: Asked, text: &str, call: Call) {
-    let value = ok_value(test, SmolStr::new(alloc, text));
-    let is_exact = ok(test, is_exact(alloc, asked.held, &value));
+fn assert_exact(test: &Test, asked: Asked, text: &str, call: Call) {
+    let value = test.value(text);
+    let is_exact = ok(test, is_exact(test.alloc, asked.held, &value));
     holds(test, is_exact, &(call, text.len()));
 }
 
 // Bytes of resident and of longer texts.
 #[test]
 fn each_request_of_reading(rt: HostRuntime) -> Result<(), Fail> {
+    let test = Test::begin(rt);
     for len in [INLINE_CAP, INLINE_CAP + 1, 5000] {
-        let text = repeated(rt.alloc(), "a", len)?;
-        assert_reading_asks(rt.alloc(), Call::ReadUpTo, text.as_bytes())?;
-        assert_reading_asks(rt.alloc(), Call::ReadAll, text.as_bytes())?;
+        let text = test.repeated("a", len);
+        assert_reading_asks(&test, Call::ReadUpTo, text.as_bytes());
+        assert_reading_asks(&test, Call::ReadAll, text.as_bytes());
     }
-    Ok(())
+    test.end()
 }
 
-fn assert_reading_asks(alloc: Global, call: Call, bytes: &[u8]) -> Result<(), Fail> {
-    let asked = call_refused(alloc, call, bytes, bytes)?;
-    let test = Test::new(alloc);
-    assert_makes_requests(&test, alloc, asked, &(call, bytes.len()));
-    test.end()
+fn assert_reading_asks(test: &Test, call: Call, bytes: &[u8]) {
+    let asked = call_refused(test, call, bytes, bytes);
+    assert_makes_requests(test, asked, &(call, bytes.len()));
 }
 
 // A text of 24 bytes, in a wire form that was written when it lay on the heap, and the longest short text.
 #[test]
 fn short_by_the_limit_of_39(rt: HostRuntime) -> Result<(), Fail> {
+    let test = Test::begin(rt);
     let text = "aaaaaaaaaaaaaaaaaaaaaaaa";
     let form = b"\x18\0\0\0aaaaaaaaaaaaaaaaaaaaaaaa";
-    let asked = call_refused(rt.alloc(), Call::FromWire, form, text.as_bytes())?;
-    let test = Test::new(rt.alloc());
-    assert_no_requests(&test, asked, Call::FromWire, text);
-    assert_found(&test, rt.alloc(), form, text, 28);
-    assert_full_text_made(&test, rt.alloc());
+    assert_no_request(&test, Call::FromWire, form, text);
+    assert_found(&test, form, text, 28);
+    assert_full_text_made(&test);
     test.end()
 }
 
 /// The form is of the text, which is inline, and has so many bytes.
-fn assert_found(test: &Test, alloc: Global, form: &[u8], text: &str, len: usize) {
-    let (value, taken) = ok_found(test, from_wire(alloc, form));
+fn assert_found(test: &Test, form: &[u8], text: &str, len: usize) {
+    let (value, taken) = ok_found(test, from_wire(test.alloc, form));
     same_value(test, &value, text, Place::Inline, &text);
     same_count(test, taken, len, text);
 }
 
-fn assert_full_text_made(test: &Test, alloc: Global) {
+fn assert_full_text_made(test: &Test) {
+    let alloc = test.alloc;
     refuse_all(alloc);
     let made = SmolStr::new(alloc, full_text());
     holds(test, !end_refusals(alloc), &"refusals");
@@ -243,55 +242,45 @@ fn assert_full_text_made(test: &Test, alloc: Global) {
 // Resident text is found in bytes without memory, short text by a reader too.
 #[test]
 fn no_request(rt: HostRuntime) -> Result<(), Fail> {
+    let test = Test::begin(rt);
     for row in &ROWS {
-        let text = text_of(rt.alloc(), *row)?;
-        let form = form_of(rt.alloc(), *row)?;
-        assert_row_asks_for_nothing(rt.alloc(), form.as_slice(), text.as_str(), row.4)?;
+        let text = ok_string(&test, text_of(test.alloc, *row));
+        let form = ok_bytes(&test, form_of(test.alloc, *row));
+        assert_row_asks_for_nothing(&test, form.as_slice(), text.as_str(), row.4);
     }
-    Ok(())
-}
-
-fn assert_row_asks_for_nothing(
-    alloc: Global,
-    form: &[u8],
-    text: &str,
-    place: Place,
-) -> Result<(), Fail> {
-    if !matches!(place, Place::Heap) {
-        assert_no_request(alloc, Call::FromWire, form, text)?;
-        assert_no_request(alloc, Call::SplitWire, form, text)?;
-    }
-    if text.len() <= INLINE_CAP {
-        assert_no_request(alloc, Call::Reader, form, text)?;
-        assert_no_request(alloc, Call::Limited, form, text)?;
-    }
-    Ok(())
-}
-
-fn assert_no_request(alloc: Global, call: Call, form: &[u8], text: &str) -> Result<(), Fail> {
-    let asked = call_refused(alloc, call, form, text.as_bytes())?;
-    let test = Test::new(alloc);
-    assert_no_requests(&test, asked, call, text);
     test.end()
 }
 
-fn assert_no_requests(test: &Test, asked: Asked, call: Call, text: &str) {
+fn assert_row_asks_for_nothing(test: &Test, form: &[u8], text: &str, place: Place) {
+    if !matches!(place, Place::Heap) {
+        assert_no_request(test, Call::FromWire, form, text);
+        assert_no_request(test, Call::SplitWire, form, text);
+    }
+    if text.len() <= INLINE_CAP {
+        assert_no_request(test, Call::Reader, form, text);
+        assert_no_request(test, Call::Limited, form, text);
+    }
+}
+
+fn assert_no_request(test: &Test, call: Call, form: &[u8], text: &str) {
+    let asked = call_refused(test, call, form, text.as_bytes());
     same(test, &asked.requests, &0, &(call, text));
 }
 
 #[test]
 fn serialize_asks_for_nothing(rt: HostRuntime) -> Result<(), Fail> {
-    let test = Test::new(rt.alloc());
+    let test = Test::begin(rt);
     for row in &ROWS {
-        let text = ok_string(&test, text_of(rt.alloc(), *row));
-        let form = ok_bytes(&test, form_of(rt.alloc(), *row));
-        assert_written(&test, rt.alloc(), text.as_str(), form.as_slice());
+        let text = ok_string(&test, text_of(test.alloc, *row));
+        let form = ok_bytes(&test, form_of(test.alloc, *row));
+        assert_written(&test, text.as_str(), form.as_slice());
     }
     test.end()
 }
 
-fn assert_written(test: &Test, alloc: Global, text: &str, form: &[u8]) {
-    let value = ok_value(test, SmolStr::new(alloc, text));
+fn assert_written(test: &Test, text: &str, form: &[u8]) {
+    let alloc = test.alloc;
+    let value = test.value(text);
     let mut out = ok_bytes(test, Vec::with_capacity(alloc, form.len()));
     holds(test, is_written_refused(alloc, &value, &mut out), &text);
     same_bytes(test, out.as_slice(), form, &text);
@@ -308,11 +297,11 @@ fn is_written_refused(alloc: Global, value: &SmolStr, out: &mut Vec<u8>) -> bool
 // Neither the stated size nor the buffer of a piece asks for memory.
 #[test]
 fn largest_size_and_no_body(rt: HostRuntime) -> Result<(), Fail> {
-    let test = Test::new(rt.alloc());
+    let test = Test::begin(rt);
     let mut reader = trickle_of(b"\xff\xff\xff\xff", usize::MAX, 0);
-    refuse_all(rt.alloc());
-    let answer = SmolStr::deserialize_reader(rt.alloc(), &mut reader);
-    holds(&test, !end_refusals(rt.alloc()), &"refusals");
+    refuse_all(test.alloc);
+    let answer = SmolStr::deserialize_reader(test.alloc, &mut reader);
+    holds(&test, !end_refusals(test.alloc), &"refusals");
     assert_ended(&test, &answer, &reader);
     test.end()
 }
@@ -327,26 +316,27 @@ fn assert_ended(test: &Test, answer: &Result<SmolStr, DecodeFault>, reader: &Tri
 // A size above the limit is refused before memory is asked for, and nothing behind it is read.
 #[test]
 fn size_above_the_limit(rt: HostRuntime) -> Result<(), Fail> {
-    let test = Test::new(rt.alloc());
+    let test = Test::begin(rt);
     for (size, limit) in [
         (6, 5),
         (u32::MAX, INLINE_CAP),
         (u32::MAX, u32::MAX as usize - 1),
     ] {
-        assert_too_long(&test, rt.alloc(), size, limit);
+        assert_too_long(&test, size, limit);
     }
-    assert_at_the_limit(&test, rt.alloc());
+    assert_at_the_limit(&test);
     test.end()
 }
 
-fn assert_at_the_limit(test: &Test, alloc: Global) {
+fn assert_at_the_limit(test: &Test) {
     let mut reader = trickle_of(b"\x05\0\0\0abcdef", usize::MAX, 0);
-    let is_read = deserialize_limited(alloc, &mut reader, 5).is_ok();
+    let is_read = deserialize_limited(test.alloc, &mut reader, 5).is_ok();
     holds(test, is_read, &"the limit");
     holds(test, reader.rest.len() == 1, &"the rest");
 }
 
-fn assert_too_long(test: &Test, alloc: Global, size: u32, limit: usize) {
+fn assert_too_long(test: &Test, size: u32, limit: usize) {
+    let alloc = test.alloc;
     let [a, b, c, d] = size.to_le_bytes();
     let bytes = [a, b, c, d, b'a', b'b', b'c', b'd', b'e', b'f'];
     let mut reader = trickle_of(&bytes, usize::MAX, 0);
@@ -362,12 +352,12 @@ fn assert_too_long(test: &Test, alloc: Global, size: u32, limit: usize) {
 
 #[test]
 fn largest_size_and_much_of_a_body(rt: HostRuntime) -> Result<(), Fail> {
-    let test = Test::new(rt.alloc());
-    let bytes = ok_bytes(&test, letters(rt.alloc(), u32::MAX, 10_000_000));
+    let test = Test::begin(rt);
+    let bytes = ok_bytes(&test, letters(test.alloc, u32::MAX, 10_000_000));
     let mut reader = trickle_of(bytes.as_slice(), usize::MAX, 0);
-    start_counts(rt.alloc());
-    let answer = SmolStr::deserialize_reader(rt.alloc(), &mut reader);
-    let asked = count_bytes(rt.alloc());
+    start_counts(test.alloc);
+    let answer = SmolStr::deserialize_reader(test.alloc, &mut reader);
+    let asked = count_bytes(test.alloc);
     holds(&test, asked <= MOST_BYTES, &asked);
     assert_ended(&test, &answer, &reader);
     test.end()

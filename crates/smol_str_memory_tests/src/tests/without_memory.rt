@@ -16,10 +16,9 @@ use std::cmp::Ordering;
 use std::fmt::Write;
 use std::hash::{DefaultHasher, Hash};
 use std::test::Fail;
-use test_support::builders::builder_of;
 use test_support::refuse::{end_refusals, refuse_all};
-use test_support::test::{Test, is_so, ok, ok_bytes, ok_string, ok_value};
-use test_support::texts::{full_text, long_text, longest_blank, repeated};
+use test_support::test::{Test, is_so, ok_bytes, ok_string};
+use test_support::texts::{full_text, long_text, longest_blank};
 
 /// Makes each call, by its name, and returns the name of the first that does not do what it is to do. Rows stand in
 /// functions of their own: the proof of a row costs more with each value that its function holds.
@@ -33,27 +32,27 @@ macro_rules! rows {
 }
 
 /// Ends the refusals; no row was wrong, and no call made a request.
-fn check_free(test: &Test, alloc: Global, wrong: Option<&str>) {
-    let was_refused = end_refusals(alloc);
+fn check_free(test: &Test, wrong: Option<&str>) {
+    let was_refused = end_refusals(test.alloc);
     is_so(test, wrong.is_none(), wrong.unwrap_or(""));
     is_so(test, !was_refused, "a call makes a request");
 }
 
 #[test]
 fn json(rt: HostRuntime) -> Result<(), Fail> {
-    let test = Test::new(rt.alloc());
-    let alloc = rt.alloc();
-    let blank = ok_string(&test, longest_blank(alloc));
+    let test = Test::begin(rt);
+    let blank = ok_string(&test, longest_blank(test.alloc));
     for text in ["", full_text(), blank.as_str()] {
-        read(&test, alloc, text);
+        read(&test, text);
     }
     test.end()
 }
 
-fn read(test: &Test, alloc: Global, text: &str) {
-    let json = Value::String(ok_string(test, String::from_str(alloc, text)));
+fn read(test: &Test, text: &str) {
+    let alloc = test.alloc;
+    let json = Value::String(test.string(text));
     refuse_all(alloc);
-    check_free(test, alloc, json_rows(alloc, &json));
+    check_free(test, json_rows(alloc, &json));
 }
 
 fn json_rows(alloc: Global, json: &Value) -> Option<&'static str> {
@@ -64,13 +63,13 @@ fn json_rows(alloc: Global, json: &Value) -> Option<&'static str> {
 
 #[test]
 fn values(rt: HostRuntime) -> Result<(), Fail> {
-    let test = Test::new(rt.alloc());
-    let alloc = rt.alloc();
-    let value = ok_value(&test, SmolStr::new(alloc, long_text()));
+    let test = Test::begin(rt);
+    let alloc = test.alloc;
+    let value = test.value(long_text());
     let mut room = ok_string(&test, String::with_capacity(alloc, 100));
     refuse_all(alloc);
     let wrong = value_rows(&value, &mut room);
-    check_free(&test, alloc, wrong);
+    check_free(&test, wrong);
     test.end()
 }
 
@@ -91,13 +90,13 @@ fn value_rows(value: &SmolStr, room: &mut String) -> Option<&'static str> {
 
 #[test]
 fn values_compared(rt: HostRuntime) -> Result<(), Fail> {
-    let test = Test::new(rt.alloc());
-    let alloc = rt.alloc();
-    let value = ok_value(&test, SmolStr::new(alloc, long_text()));
+    let test = Test::begin(rt);
+    let alloc = test.alloc;
+    let value = test.value(long_text());
     let other = SmolStr::new_static(long_text());
-    let string = ok_string(&test, String::from_str(alloc, long_text()));
+    let string = test.string(long_text());
     refuse_all(alloc);
-    check_free(&test, alloc, comparison_rows(&value, &other, &string));
+    check_free(&test, comparison_rows(&value, &other, &string));
     test.end()
 }
 
@@ -115,10 +114,9 @@ fn comparison_rows(value: &SmolStr, other: &SmolStr, string: &String) -> Option<
 
 #[test]
 fn empty(rt: HostRuntime) -> Result<(), Fail> {
-    let test = Test::new(rt.alloc());
-    let alloc = rt.alloc();
-    refuse_all(alloc);
-    check_free(&test, alloc, empty_rows(alloc));
+    let test = Test::begin(rt);
+    refuse_all(test.alloc);
+    check_free(&test, empty_rows(test.alloc));
     test.end()
 }
 
@@ -134,12 +132,12 @@ fn empty_rows(alloc: Global) -> Option<&'static str> {
 
 #[test]
 fn builders(rt: HostRuntime) -> Result<(), Fail> {
-    let test = Test::new(rt.alloc());
-    let alloc = rt.alloc();
-    let builder = ok(&test, builder_of(alloc, 0, full_text()));
-    let large = ok(&test, builder_of(alloc, 100, full_text()));
+    let test = Test::begin(rt);
+    let alloc = test.alloc;
+    let builder = test.builder(0, full_text());
+    let large = test.builder(100, full_text());
     refuse_all(alloc);
-    check_free(&test, alloc, builder_rows(&builder, &large));
+    check_free(&test, builder_rows(&builder, &large));
     test.end()
 }
 
@@ -155,11 +153,10 @@ fn builder_rows(builder: &SmolStrBuilder, large: &SmolStrBuilder) -> Option<&'st
 
 #[test]
 fn collected(rt: HostRuntime) -> Result<(), Fail> {
-    let test = Test::new(rt.alloc());
-    let alloc = rt.alloc();
-    let builder = ok(&test, builder_of(alloc, 100, full_text()));
-    refuse_all(alloc);
-    check_free(&test, alloc, collected_rows(builder));
+    let test = Test::begin(rt);
+    let builder = test.builder(100, full_text());
+    refuse_all(test.alloc);
+    check_free(&test, collected_rows(builder));
     test.end()
 }
 
@@ -171,20 +168,20 @@ fn collected_rows(builder: SmolStrBuilder) -> Option<&'static str> {
 
 #[test]
 fn items(rt: HostRuntime) -> Result<(), Fail> {
-    let test = Test::new(rt.alloc());
-    let alloc = rt.alloc();
-    let strings = two_strings(&test, alloc);
+    let test = Test::begin(rt);
+    let alloc = test.alloc;
+    let strings = two_strings(&test);
     refuse_all(alloc);
-    check_free(&test, alloc, item_rows(alloc, &strings));
+    check_free(&test, item_rows(alloc, &strings));
     refuse_all(alloc);
-    check_free(&test, alloc, owned_rows(alloc, strings));
+    check_free(&test, owned_rows(alloc, strings));
     test.end()
 }
 
-fn two_strings(test: &Test, alloc: Global) -> [String; 2] {
+fn two_strings(test: &Test) -> [String; 2] {
     [
-        ok_string(test, String::from_str(alloc, "ab")),
-        ok_string(test, String::from_str(alloc, "c")),
+        test.string("ab"),
+        ok_string(test, String::from_str(test.alloc, "c")),
     ]
 }
 
@@ -204,13 +201,13 @@ fn owned_rows(alloc: Global, strings: [String; 2]) -> Option<&'static str> {
 
 #[test]
 fn extended(rt: HostRuntime) -> Result<(), Fail> {
-    let test = Test::new(rt.alloc());
-    let alloc = rt.alloc();
-    let strings = [ok_string(&test, String::from_str(alloc, "ab"))];
+    let test = Test::begin(rt);
+    let alloc = test.alloc;
+    let strings = [test.string("ab")];
     refuse_all(alloc);
-    check_free(&test, alloc, extend_rows(alloc, &strings));
+    check_free(&test, extend_rows(alloc, &strings));
     refuse_all(alloc);
-    check_free(&test, alloc, print_rows(alloc));
+    check_free(&test, print_rows(alloc));
     test.end()
 }
 
@@ -232,10 +229,9 @@ fn print_rows(alloc: Global) -> Option<&'static str> {
 
 #[test]
 fn cases(rt: HostRuntime) -> Result<(), Fail> {
-    let test = Test::new(rt.alloc());
-    let alloc = rt.alloc();
-    refuse_all(alloc);
-    check_free(&test, alloc, case_rows(alloc));
+    let test = Test::begin(rt);
+    refuse_all(test.alloc);
+    check_free(&test, case_rows(test.alloc));
     test.end()
 }
 
@@ -250,11 +246,11 @@ fn case_rows(alloc: Global) -> Option<&'static str> {
 
 #[test]
 fn replaced(rt: HostRuntime) -> Result<(), Fail> {
-    let test = Test::new(rt.alloc());
-    let alloc = rt.alloc();
-    let long = ok_string(&test, repeated(alloc, "a", 5000));
+    let test = Test::begin(rt);
+    let alloc = test.alloc;
+    let long = test.repeated("a", 5000);
     refuse_all(alloc);
-    check_free(&test, alloc, replacement_rows(alloc, long.as_str()));
+    check_free(&test, replacement_rows(alloc, long.as_str()));
     test.end()
 }
 
@@ -267,10 +263,9 @@ fn replacement_rows(alloc: Global, long: &str) -> Option<&'static str> {
 
 #[test]
 fn loops_over_bytes(rt: HostRuntime) -> Result<(), Fail> {
-    let test = Test::new(rt.alloc());
-    let alloc = rt.alloc();
-    refuse_all(alloc);
-    check_free(&test, alloc, kernel_rows(full_text(), long_text()));
+    let test = Test::begin(rt);
+    refuse_all(test.alloc);
+    check_free(&test, kernel_rows(full_text(), long_text()));
     test.end()
 }
 
@@ -283,15 +278,15 @@ fn kernel_rows(full: &str, long: &str) -> Option<&'static str> {
 
 #[test]
 fn streams(rt: HostRuntime) -> Result<(), Fail> {
-    let test = Test::new(rt.alloc());
-    let alloc = rt.alloc();
-    let value = ok_value(&test, SmolStr::new(alloc, long_text()));
+    let test = Test::begin(rt);
+    let alloc = test.alloc;
+    let value = test.value(long_text());
     let mut out = ok_bytes(&test, Vec::with_capacity(alloc, 100));
     refuse_all(alloc);
-    check_free(&test, alloc, read_rows(alloc));
+    check_free(&test, read_rows(alloc));
     refuse_all(alloc);
     let wrong = write_rows(&value, &mut out);
-    check_free(&test, alloc, wrong);
+    check_free(&test, wrong);
     test.end()
 }
 

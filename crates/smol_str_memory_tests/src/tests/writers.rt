@@ -4,7 +4,6 @@ use super::rows::ok_found;
 use smol_str::SmolStr;
 use smol_str::borsh::{BorshSerialize, EncodeFault, from_wire};
 use smol_str::stream::write_steps;
-use std::alloc::Global;
 use std::io::ErrorKind;
 use std::test::Fail;
 use test_support::streams::{Drip, Failure, STEPS, WRITE_FAILURES, empty_drip, is_tried};
@@ -66,34 +65,34 @@ fn serialized(value: &SmolStr, writer: &mut Drip) -> Option<ErrorKind> {
 
 #[test]
 fn fails_at_each_call(rt: HostRuntime) -> Result<(), Fail> {
-    let test = Test::new(rt.alloc());
-    for form in ok(&test, forms(rt.alloc())).iter() {
-        assert_form_fails(&test, rt.alloc(), form.as_slice());
+    let test = Test::begin(rt);
+    for form in ok(&test, forms(test.alloc)).iter() {
+        assert_form_fails(&test, form.as_slice());
     }
     test.end()
 }
 
-fn assert_form_fails(test: &Test, alloc: Global, form: &[u8]) {
-    let (value, _) = ok_found(test, from_wire(alloc, form));
+fn assert_form_fails(test: &Test, form: &[u8]) {
+    let (value, _) = ok_found(test, from_wire(test.alloc, form));
     let written = Written { value, form };
     for step in STEPS {
-        assert_fails(test, alloc, Call::Serialize, &written, step);
-        assert_fails(test, alloc, Call::WriteSteps, &written, step);
+        assert_fails(test, Call::Serialize, &written, step);
+        assert_fails(test, Call::WriteSteps, &written, step);
     }
 }
 
 /// The call gives up at once; a failure after its last write is not met.
-fn assert_fails(test: &Test, alloc: Global, call: Call, written: &Written<'_>, step: usize) {
-    let calls = count_calls(test, alloc, call, written, step, 0);
+fn assert_fails(test: &Test, call: Call, written: &Written<'_>, step: usize) {
+    let calls = count_calls(test, call, written, step, 0);
     for fails_at in 1..=calls {
         if is_tried(fails_at.saturating_mul(step), written.form.len()) {
             for failure in WRITE_FAILURES {
-                assert_failure(test, alloc, call, written, step, fails_at, failure);
+                assert_failure(test, call, written, step, fails_at, failure);
             }
         }
     }
     let fails_at = calls.saturating_add(1);
-    let after = count_calls(test, alloc, call, written, step, fails_at);
+    let after = count_calls(test, call, written, step, fails_at);
     same_calls(
         test,
         after,
@@ -105,7 +104,6 @@ fn assert_fails(test: &Test, alloc: Global, call: Call, written: &Written<'_>, s
 /// The call gives up with the writer's own error, and what was taken is a beginning.
 fn assert_failure(
     test: &Test,
-    alloc: Global,
     call: Call,
     written: &Written<'_>,
     step: usize,
@@ -114,7 +112,7 @@ fn assert_failure(
 ) {
     let row = (call, written.form.len(), step, fails_at);
     let (failure, kind) = failure;
-    let mut writer = empty_drip(alloc, step, fails_at, failure);
+    let mut writer = empty_drip(test.alloc, step, fails_at, failure);
     same_error(test, write_by(call, written, &mut writer), Some(kind), &row);
     same_calls(test, writer.calls, fails_at, &row);
     assert_beginning(test, &writer, written.form, &row);
@@ -132,14 +130,13 @@ fn assert_beginning(test: &Test, writer: &Drip, form: &[u8], row: &Row) {
 /// How often a writer is called that does not fail before all is written: by single bytes once a byte.
 fn count_calls(
     test: &Test,
-    alloc: Global,
     call: Call,
     written: &Written<'_>,
     step: usize,
     fails_at: usize,
 ) -> usize {
     let row = (call, written.form.len(), step, fails_at);
-    let mut writer = empty_drip(alloc, step, fails_at, Failure::TakesNone);
+    let mut writer = empty_drip(test.alloc, step, fails_at, Failure::TakesNone);
     same_error(test, write_by(call, written, &mut writer), None, &row);
     row_holds(test, writer.taken.as_slice() == written.form, &row);
     if step == 1 {

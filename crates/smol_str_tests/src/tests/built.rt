@@ -6,7 +6,7 @@ use smol_str::{INLINE_CAP, Place, SmolStr, SmolStrBuilder, Step, build};
 use std::alloc::{AllocError, Global};
 use std::test::Fail;
 use test_support::builders::builder_of;
-use test_support::refuse::{Asked, can_refuse, each_refused, end_refusals, refuse_all};
+use test_support::refuse::{Refusable, can_refuse, each_refused, end_refusals, refuse_all};
 use test_support::test::{
     Test, has_text, holds, in_place, is_so, ok, ok_string, ok_value, same, same_count, same_flag,
     same_str, same_value,
@@ -114,19 +114,19 @@ fn rows() -> &'static [Row] {
 
 #[test]
 fn test_builder_push_str(rt: HostRuntime) -> Result<(), Fail> {
-    let test = Test::new(rt.alloc());
+    let test = Test::begin(rt);
     for row in rows() {
-        assert_pieces(&test, rt.alloc(), SmolStrBuilder::new(rt.alloc()), row);
+        assert_pieces(&test, SmolStrBuilder::new(test.alloc), row);
     }
     test.end()
 }
 
 #[test]
 fn test_builder_push(rt: HostRuntime) -> Result<(), Fail> {
-    let test = Test::new(rt.alloc());
+    let test = Test::begin(rt);
     for row in rows() {
-        let text = ok_string(&test, text_of(rt.alloc(), row));
-        let builder = ok(&test, of_characters(rt.alloc(), text.as_str()));
+        let text = ok_string(&test, text_of(test.alloc, row));
+        let builder = ok(&test, of_characters(test.alloc, text.as_str()));
         assert_finishes(&test, builder, text.as_str(), row.2);
     }
     test.end()
@@ -134,34 +134,34 @@ fn test_builder_push(rt: HostRuntime) -> Result<(), Fail> {
 
 #[test]
 fn every_capacity(rt: HostRuntime) -> Result<(), Fail> {
-    let test = Test::new(rt.alloc());
+    let test = Test::begin(rt);
     for capacity in [0, INLINE_CAP, INLINE_CAP + 1, 100] {
-        assert_rows_at(&test, rt.alloc(), capacity);
+        assert_rows_at(&test, capacity);
     }
     test.end()
 }
 
-fn assert_rows_at(test: &Test, alloc: Global, capacity: usize) {
+fn assert_rows_at(test: &Test, capacity: usize) {
     for row in rows() {
         assert_pieces(
             test,
-            alloc,
-            ok(test, SmolStrBuilder::with_capacity(alloc, capacity)),
+            ok(test, SmolStrBuilder::with_capacity(test.alloc, capacity)),
             row,
         );
-        assert_steps_at(test, alloc, capacity, row);
+        assert_steps_at(test, capacity, row);
     }
 }
 
-fn assert_pieces(test: &Test, alloc: Global, mut builder: SmolStrBuilder, row: &Row) {
+fn assert_pieces(test: &Test, mut builder: SmolStrBuilder, row: &Row) {
     for piece in row.0 {
-        ok(test, append(alloc, &mut builder, *piece));
+        ok(test, append(test.alloc, &mut builder, *piece));
     }
-    let text = ok_string(test, text_of(alloc, row));
+    let text = ok_string(test, text_of(test.alloc, row));
     assert_finishes(test, builder, text.as_str(), row.2)
 }
 
-fn assert_steps_at(test: &Test, alloc: Global, capacity: usize, row: &Row) {
+fn assert_steps_at(test: &Test, capacity: usize, row: &Row) {
+    let alloc = test.alloc;
     let text = ok_string(test, text_of(alloc, row));
     let steps = ok(test, steps_of(alloc, row.0));
     let value = ok_value(test, build(alloc, capacity, &steps));
@@ -195,94 +195,115 @@ static LEAVING: [&[Piece]; 4] = [
 // A step that is refused ends the call: no step behind it is tried.
 #[test]
 fn steps_refused(rt: HostRuntime) -> Result<(), Fail> {
-    let alloc = rt.alloc();
-    let whole = repeated_and(alloc, "a", INLINE_CAP, "bc")?;
+    let test = Test::begin(rt);
+    let whole = ok_string(&test, repeated_and(test.alloc, "a", INLINE_CAP, "bc"));
     for pieces in &LEAVING {
-        assert_asks(alloc, build_refused(alloc, pieces, whole.as_str())?)?;
+        let call = Build {
+            pieces,
+            whole: whole.as_str(),
+        };
+        assert_asks(&test, "build", &call);
     }
-    Ok(())
+    test.end()
 }
 
-fn build_refused(alloc: Global, pieces: &[Piece], whole: &str) -> Result<Asked, Fail> {
-    each_refused(
-        alloc,
-        "build",
-        || Ok(steps_of(alloc, pieces)?),
-        |steps| build(alloc, 0, &steps),
-        |made| check_built(made, whole),
-    )
+/// `build` by these pieces, which are the whole text.
+#[derive(Drop)]
+struct Build<'a> {
+    pieces: &'a [Piece],
+    whole: &'a str,
 }
 
-fn check_built(made: &Result<SmolStr, AllocError>, whole: &str) -> Result<(), Fail> {
-    match made {
-        Ok(value) if value.as_str() != whole => Err(Fail::new(format_args!("build makes {value}"))),
-        _ => Ok(()),
+impl Refusable for Build<'_> {
+    type Input = Vec<Step>;
+    type Made = SmolStr;
+    type Fault = AllocError;
+
+    fn input(&self, test: &Test) -> Vec<Step> {
+        ok(test, steps_of(test.alloc, self.pieces))
+    }
+
+    fn call(&self, alloc: Global, steps: Vec<Step>) -> Result<SmolStr, AllocError> {
+        build(alloc, 0, &steps)
+    }
+
+    fn check(&self, test: &Test, made: Result<SmolStr, AllocError>) {
+        if let Ok(value) = made {
+            same_str(test, value.as_str(), self.whole, "build");
+        }
     }
 }
 
 // Where one byte is left, a text of two bytes is refused, and a character of one byte then fits.
 #[test]
 fn refused_at_the_boundary(rt: HostRuntime) -> Result<(), Fail> {
-    let alloc = rt.alloc();
-    let text = repeated(alloc, "a", INLINE_CAP - 1)?;
-    assert_asks(alloc, push_refused(alloc, text.as_str())?)
-}
-
-/// A call made requests, where memory can be refused.
-fn assert_asks(alloc: Global, asked: Asked) -> Result<(), Fail> {
-    let test = Test::new(alloc);
-    same_flag(&test, asked.requests > 0, can_refuse(alloc), "requests");
+    let test = Test::begin(rt);
+    let text = test.repeated("a", INLINE_CAP - 1);
+    let call = PushTwoBytes {
+        text: text.as_str(),
+    };
+    let name = "push_str of two bytes where one is left";
+    assert_asks(&test, name, &call);
     test.end()
 }
 
-fn push_refused(alloc: Global, text: &str) -> Result<Asked, Fail> {
-    each_refused(
-        alloc,
-        "push_str of two bytes where one is left",
-        || Ok(builder_of(alloc, 0, text)?),
-        |builder| append_two_bytes(builder),
-        |answer| assert_at_boundary(alloc, text, answer),
-    )
+/// A call makes requests, where memory can be refused.
+fn assert_asks<C: Refusable>(test: &Test, name: &str, call: &C) {
+    let asked = each_refused(test, name, call);
+    same_flag(test, asked.requests > 0, can_refuse(test.alloc), name);
 }
 
-/// A builder that is refused the two bytes comes back.
-fn append_two_bytes(mut builder: SmolStrBuilder) -> Result<SmolStrBuilder, SmolStrBuilder> {
-    match builder.push_str("bc") {
-        Ok(()) => Ok(builder),
-        Err(AllocError) => Err(builder),
+/// Two bytes appended to a builder of the text, which comes back where they are refused.
+#[derive(Drop)]
+struct PushTwoBytes<'a> {
+    text: &'a str,
+}
+
+impl Refusable for PushTwoBytes<'_> {
+    type Input = SmolStrBuilder;
+    type Made = SmolStrBuilder;
+    type Fault = SmolStrBuilder;
+
+    fn input(&self, test: &Test) -> SmolStrBuilder {
+        test.builder(0, self.text)
+    }
+
+    fn call(
+        &self,
+        _alloc: Global,
+        mut builder: SmolStrBuilder,
+    ) -> Result<SmolStrBuilder, SmolStrBuilder> {
+        match builder.push_str("bc") {
+            Ok(()) => Ok(builder),
+            Err(AllocError) => Err(builder),
+        }
+    }
+
+    fn check(&self, test: &Test, ended: Result<SmolStrBuilder, SmolStrBuilder>) {
+        match ended {
+            Ok(builder) => assert_two_bytes_more(test, self.text, &builder),
+            Err(back) => assert_comes_back(test, self.text, &back),
+        }
     }
 }
 
-fn assert_at_boundary(
-    alloc: Global,
-    text: &str,
-    answer: &Result<SmolStrBuilder, SmolStrBuilder>,
-) -> Result<(), Fail> {
-    let test = Test::new(alloc);
-    match answer {
-        Ok(builder) => assert_two_bytes_more(&test, alloc, text, builder),
-        Err(back) => assert_comes_back(&test, alloc, text, back),
-    }
-    test.end()
-}
-
-fn assert_two_bytes_more(test: &Test, alloc: Global, text: &str, builder: &SmolStrBuilder) {
-    let whole = ok_string(test, repeated_and(alloc, text, 1, "bc"));
+fn assert_two_bytes_more(test: &Test, text: &str, builder: &SmolStrBuilder) {
+    let whole = ok_string(test, repeated_and(test.alloc, text, 1, "bc"));
     same_str(test, builder.as_str(), whole.as_str(), "two bytes more");
     is_so(test, builder.inline_buffer().is_none(), whole.as_str());
 }
 
-fn assert_comes_back(test: &Test, alloc: Global, text: &str, back: &SmolStrBuilder) {
+fn assert_comes_back(test: &Test, text: &str, back: &SmolStrBuilder) {
     same_str(test, back.as_str(), text, "a builder that came back");
     is_so(test, back.inline_buffer().is_some(), text);
-    refuse_all(alloc);
+    refuse_all(test.alloc);
     let value = ok_value(test, with_a_byte_more(back));
-    is_so(test, !end_refusals(alloc), "a byte more takes no memory");
-    assert_a_byte_more(test, alloc, &value, text)
+    is_so(test, !end_refusals(test.alloc), "a byte more takes no memory");
+    assert_a_byte_more(test, &value, text)
 }
 
-fn assert_a_byte_more(test: &Test, alloc: Global, value: &SmolStr, text: &str) {
-    let whole = ok_string(test, repeated_and(alloc, text, 1, "d"));
+fn assert_a_byte_more(test: &Test, value: &SmolStr, text: &str) {
+    let whole = ok_string(test, repeated_and(test.alloc, text, 1, "d"));
     has_text(test, value, whole.as_str(), Place::Inline, "a byte more");
 }
 
@@ -295,10 +316,10 @@ fn with_a_byte_more(builder: &SmolStrBuilder) -> Result<SmolStr, AllocError> {
 // No allocation can have such a capacity.
 #[test]
 fn capacity_too_large(rt: HostRuntime) -> Result<(), Fail> {
-    let test = Test::new(rt.alloc());
+    let test = Test::begin(rt);
     for capacity in [usize::MAX, usize::MAX / 2 + 1] {
-        holds(&test, !is_built(rt.alloc(), capacity), &capacity);
-        holds(&test, !is_made(rt.alloc(), capacity), &capacity);
+        holds(&test, !is_built(test.alloc, capacity), &capacity);
+        holds(&test, !is_made(test.alloc, capacity), &capacity);
     }
     test.end()
 }
@@ -313,10 +334,10 @@ fn is_made(alloc: Global, capacity: usize) -> bool {
 
 #[test]
 fn equal_texts(rt: HostRuntime) -> Result<(), Fail> {
-    let test = Test::new(rt.alloc());
+    let test = Test::begin(rt);
     for row in rows() {
-        let text = ok_string(&test, text_of(rt.alloc(), row));
-        match made_twice(rt.alloc(), text.as_str()) {
+        let text = ok_string(&test, text_of(test.alloc, row));
+        match made_twice(test.alloc, text.as_str()) {
             Ok(values) => assert_equal(&test, &values, row.2, text.as_str()),
             Err(fault) => test.fail(&fault),
         }

@@ -7,7 +7,6 @@ use smol_str::{BLANK_NEWLINES, INLINE_CAP, Place, SmolStr, SmolStrBuilder};
 use std::alloc::{AllocError, Global};
 use std::test::Fail;
 use std::vec::IntoIter;
-use test_support::builders::builder_of;
 use test_support::test::{
     Test, holds, ok, ok_string, ok_strings, ok_value, same, same_count, same_flag, same_place,
     same_text, same_value,
@@ -202,7 +201,7 @@ pub fn finished(
 
 #[test]
 fn test_from_char_iterator(rt: HostRuntime) -> Result<(), Fail> {
-    let test = Test::new(rt.alloc());
+    let test = Test::begin(rt);
     for (text, len, place) in [
         ("if", 2, Place::Inline),
         ("for", 3, Place::Inline),
@@ -215,10 +214,10 @@ fn test_from_char_iterator(rt: HostRuntime) -> Result<(), Fail> {
         ("사회과학원 어학연구소", 31, Place::Inline),
         ("表ポあA鷗ŒéＢ逍Üßªąñ丂㐀𠀀", 43, Place::Heap),
     ] {
-        assert_collected(&test, rt.alloc(), text, len, place);
+        assert_collected(&test, text, len, place);
     }
-    let many = ok_string(&test, repeated(rt.alloc(), "a", 93));
-    assert_collected(&test, rt.alloc(), many.as_str(), 93, Place::Heap);
+    let many = test.repeated("a", 93);
+    assert_collected(&test, many.as_str(), 93, Place::Heap);
     test.end()
 }
 
@@ -229,20 +228,17 @@ const MORE: [&str; 3] = ["é", "aé", "aaé"];
 
 #[test]
 fn characters(rt: HostRuntime) -> Result<(), Fail> {
-    let test = Test::new(rt.alloc());
-    let alloc = rt.alloc();
-    assert_collected(&test, alloc, "                        ", 24, Place::Inline);
-    assert_collected(&test, alloc, long_blank(), INLINE_CAP + 1, Place::Static);
+    let test = Test::begin(rt);
+    assert_collected(&test, "                        ", 24, Place::Inline);
+    assert_collected(&test, long_blank(), INLINE_CAP + 1, Place::Static);
     assert_wide(
         &test,
-        alloc,
         FILL[INLINE_CAP % 3],
         INLINE_CAP,
         Place::Inline,
     );
     assert_wide(
         &test,
-        alloc,
         MORE[INLINE_CAP % 3],
         INLINE_CAP + 2,
         Place::Heap,
@@ -250,34 +246,34 @@ fn characters(rt: HostRuntime) -> Result<(), Fail> {
     test.end()
 }
 
-fn assert_wide(test: &Test, alloc: Global, end: &str, len: usize, place: Place) {
-    let text = ok_string(test, repeated_and(alloc, "ア", INLINE_CAP / 3, end));
-    assert_collected(test, alloc, text.as_str(), len, place)
+fn assert_wide(test: &Test, end: &str, len: usize, place: Place) {
+    let text = ok_string(test, repeated_and(test.alloc, "ア", INLINE_CAP / 3, end));
+    assert_collected(test, text.as_str(), len, place)
 }
 
-fn assert_collected(test: &Test, alloc: Global, text: &str, len: usize, place: Place) {
-    let value = ok_value(test, SmolStr::from_chars(alloc, text.chars()));
+fn assert_collected(test: &Test, text: &str, len: usize, place: Place) {
+    let value = ok_value(test, SmolStr::from_chars(test.alloc, text.chars()));
     same_value(test, &value, text, place, &text);
     same_count(test, value.len(), len, text);
 }
 
 #[test]
 fn pieces(rt: HostRuntime) -> Result<(), Fail> {
-    let test = Test::new(rt.alloc());
+    let test = Test::begin(rt);
     for (newlines, place) in [
         (INLINE_CAP, Place::Static),
         (BLANK_NEWLINES, Place::Static),
         (23, Place::Inline),
         (32, Place::Inline),
     ] {
-        assert_blank(&test, rt.alloc(), newlines, place);
+        assert_blank(&test, newlines, place);
     }
     test.end()
 }
 
-fn assert_blank(test: &Test, alloc: Global, newlines: usize, place: Place) {
-    let first = ok_string(test, repeated(alloc, "\n", newlines));
-    let blank = ok_value(test, of_two(alloc, first.as_str(), " "));
+fn assert_blank(test: &Test, newlines: usize, place: Place) {
+    let first = test.repeated("\n", newlines);
+    let blank = ok_value(test, of_two(test.alloc, first.as_str(), " "));
     same(test, &blank.len(), &newlines.saturating_add(1), &newlines);
     same_place(test, &blank, place, &newlines);
 }
@@ -288,19 +284,19 @@ pub fn of_two(alloc: Global, first: &str, second: &str) -> Result<SmolStr, Alloc
 
 #[test]
 fn no_pieces(rt: HostRuntime) -> Result<(), Fail> {
-    let test = Test::new(rt.alloc());
-    let none: Vec<String> = Vec::new(rt.alloc());
-    let empty = ok_value(&test, SmolStr::from_strings(rt.alloc(), none.into_iter()));
+    let test = Test::begin(rt);
+    let none: Vec<String> = Vec::new(test.alloc);
+    let empty = ok_value(&test, SmolStr::from_strings(test.alloc, none.into_iter()));
     same_value(&test, &empty, "", Place::Inline, &"no pieces");
     test.end()
 }
 
 #[test]
 fn owned_and_borrowed_pieces(rt: HostRuntime) -> Result<(), Fail> {
-    let test = Test::new(rt.alloc());
-    let borrowed = ok_value(&test, of_borrowed(rt.alloc(), &["if", "", "x"]));
+    let test = Test::begin(rt);
+    let borrowed = ok_value(&test, of_borrowed(test.alloc, &["if", "", "x"]));
     same_value(&test, &borrowed, "ifx", Place::Inline, &"borrowed");
-    let owned = ok_value(&test, of_owned(rt.alloc(), &["if", "", "x"]));
+    let owned = ok_value(&test, of_owned(test.alloc, &["if", "", "x"]));
     same_value(&test, &owned, "ifx", Place::Inline, &"owned");
     same(&test, &borrowed, &owned, &"both");
     test.end()
@@ -317,8 +313,8 @@ fn of_owned(alloc: Global, pieces: &[&str]) -> Result<SmolStr, AllocError> {
 
 #[test]
 fn ordinary_iterators(rt: HostRuntime) -> Result<(), Fail> {
-    let test = Test::new(rt.alloc());
-    let alloc = rt.alloc();
+    let test = Test::begin(rt);
+    let alloc = test.alloc;
     let values = [SmolStr::from('a'), SmolStr::default(), SmolStr::from('é')];
     assert_text(&test, of_values(alloc, &values), "aé");
     assert_text(&test, of_both(alloc, "ab", "é"), "abé");
@@ -355,22 +351,22 @@ fn of_copies(alloc: Global, parts: &[&str]) -> Result<SmolStr, AllocError> {
 // Upstream's have pieces at random: here piece i, counted from 1, is `é` i mod 5 times.
 #[test]
 fn from_string_iter(rt: HostRuntime) -> Result<(), Fail> {
-    let test = Test::new(rt.alloc());
+    let test = Test::begin(rt);
     for count in 1..100 {
-        let pieces = ok_strings(&test, first_pieces(rt.alloc(), count));
-        let value = ok_value(&test, SmolStr::from_strings(rt.alloc(), pieces.into_iter()));
-        assert_joined(&test, rt.alloc(), &value, count);
+        let pieces = ok_strings(&test, first_pieces(test.alloc, count));
+        let value = ok_value(&test, SmolStr::from_strings(test.alloc, pieces.into_iter()));
+        assert_joined(&test, &value, count);
     }
     test.end()
 }
 
 #[test]
 fn from_str_iter(rt: HostRuntime) -> Result<(), Fail> {
-    let test = Test::new(rt.alloc());
+    let test = Test::begin(rt);
     for count in 1..100 {
-        let pieces = ok_strings(&test, first_pieces(rt.alloc(), count));
-        let value = ok_value(&test, SmolStr::from_string_refs(rt.alloc(), pieces.iter()));
-        assert_joined(&test, rt.alloc(), &value, count);
+        let pieces = ok_strings(&test, first_pieces(test.alloc, count));
+        let value = ok_value(&test, SmolStr::from_string_refs(test.alloc, pieces.iter()));
+        assert_joined(&test, &value, count);
     }
     test.end()
 }
@@ -396,8 +392,8 @@ fn first_letters(count: usize) -> usize {
     letters
 }
 
-fn assert_joined(test: &Test, alloc: Global, value: &SmolStr, count: usize) {
-    let text = ok_string(test, repeated(alloc, "é", first_letters(count)));
+fn assert_joined(test: &Test, value: &SmolStr, count: usize) {
+    let text = test.repeated("é", first_letters(count));
     let place = if text.len() > INLINE_CAP {
         Place::Heap
     } else {
@@ -409,8 +405,8 @@ fn assert_joined(test: &Test, alloc: Global, value: &SmolStr, count: usize) {
 
 #[test]
 fn from_buf_and_chars_size_hinted_heap(rt: HostRuntime) -> Result<(), Fail> {
-    let test = Test::new(rt.alloc());
-    let mut builder = ok(&test, builder_of(rt.alloc(), 0, "abcdefghijklmnopqr"));
+    let test = Test::begin(rt);
+    let mut builder = test.builder(0, "abcdefghijklmnopqr");
     ok(
         &test,
         builder.extend_chars("_0x1x2x3x4x5x6x7x8x9x10x11x12x13".chars()),
@@ -428,10 +424,10 @@ fn assert_finished(test: &Test, builder: SmolStrBuilder, text: &str) {
 
 #[test]
 fn test_bad_size_hint_char_iter(rt: HostRuntime) -> Result<(), Fail> {
-    let test = Test::new(rt.alloc());
-    let collected = ok_value(&test, of_chars(rt.alloc(), &["testing"], 1024));
+    let test = Test::begin(rt);
+    let collected = ok_value(&test, of_chars(test.alloc, &["testing"], 1024));
     same_value(&test, &collected, "testing", Place::Inline, &"collected");
-    let new = ok_value(&test, SmolStr::new(rt.alloc(), "testing"));
+    let new = test.value("testing");
     same_place(&test, &new, Place::Inline, &"new");
     same(&test, &new, &collected, &"both");
     test.end()
@@ -444,33 +440,32 @@ fn of_chars(alloc: Global, pieces: &[&str], lower: usize) -> Result<SmolStr, All
 // Hints reserve nothing: the largest would be refused.
 #[test]
 fn hints(rt: HostRuntime) -> Result<(), Fail> {
-    let test = Test::new(rt.alloc());
+    let test = Test::begin(rt);
     for lower in [1024, usize::MAX, 0] {
         let pieces = ["tes", "", "ting"];
-        assert_hinted(&test, rt.alloc(), &pieces, lower, "testing", Place::Inline);
-        assert_hinted_letters(&test, rt.alloc(), INLINE_CAP + 1, lower);
-        assert_hinted_letters(&test, rt.alloc(), 70_000, lower);
+        assert_hinted(&test, &pieces, lower, "testing", Place::Inline);
+        assert_hinted_letters(&test, INLINE_CAP + 1, lower);
+        assert_hinted_letters(&test, 70_000, lower);
     }
     test.end()
 }
 
-fn assert_hinted_letters(test: &Test, alloc: Global, letters: usize, lower: usize) {
-    let text = ok_string(test, repeated(alloc, "a", letters));
+fn assert_hinted_letters(test: &Test, letters: usize, lower: usize) {
+    let text = test.repeated("a", letters);
     let pieces = ["", text.as_str(), ""];
-    assert_hinted(test, alloc, &pieces, lower, text.as_str(), Place::Heap)
+    assert_hinted(test, &pieces, lower, text.as_str(), Place::Heap)
 }
 
 fn assert_hinted(
     test: &Test,
-    alloc: Global,
     pieces: &[&str],
     lower: usize,
     text: &str,
     place: Place,
 ) {
-    let strings = ok_strings(test, strings_of(alloc, pieces));
+    let strings = ok_strings(test, strings_of(test.alloc, pieces));
     for call in CALLS {
-        let made = made_with_hint(alloc, call, pieces, strings.as_slice(), lower);
+        let made = made_with_hint(test.alloc, call, pieces, strings.as_slice(), lower);
         assert_made(test, made, (call, lower), text, place);
     }
 }
@@ -500,24 +495,24 @@ fn assert_made(
 
 #[test]
 fn builders_compared(rt: HostRuntime) -> Result<(), Fail> {
-    let test = Test::new(rt.alloc());
-    assert_compared(&test, rt.alloc(), "ab", true);
-    assert_compared(&test, rt.alloc(), "b", false);
+    let test = Test::begin(rt);
+    assert_compared(&test, "ab", true);
+    assert_compared(&test, "b", false);
     test.end()
 }
 
 /// Whether a builder of `ab` on the heap equals one of the text that is inline.
-fn assert_compared(test: &Test, alloc: Global, text: &str, are_equal: bool) {
-    let heap = ok(test, builder_of(alloc, 100, "ab"));
-    let inline = ok(test, builder_of(alloc, 0, text));
+fn assert_compared(test: &Test, text: &str, are_equal: bool) {
+    let heap = test.builder(100, "ab");
+    let inline = test.builder(0, text);
     same_flag(test, heap == inline, are_equal, text);
     same_flag(test, heap != inline, !are_equal, text);
 }
 
 #[test]
 fn builders_cloned(rt: HostRuntime) -> Result<(), Fail> {
-    let test = Test::new(rt.alloc());
-    let heap = ok(&test, builder_of(rt.alloc(), 100, "ab"));
+    let test = Test::begin(rt);
+    let heap = test.builder(100, "ab");
     assert_copied(&test, &heap);
     same_text(&test, heap.as_str(), "ab", &"heap");
     test.end()

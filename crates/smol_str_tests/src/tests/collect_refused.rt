@@ -3,81 +3,82 @@ use super::collect::{CALLS, Call, extends, finished, of_two, strings_of, with_hi
 use smol_str::{INLINE_CAP, SmolStr, SmolStrBuilder};
 use std::alloc::{AllocError, Global};
 use std::test::Fail;
-use test_support::builders::builder_of;
 use test_support::held::is_exact;
-use test_support::refuse::{Asked, can_refuse, each_refused, end_refusals, refuse_all};
-use test_support::test::{Test, holds, ok, ok_string, same, same_flag};
-use test_support::texts::repeated;
+use test_support::refuse::{Refusable, can_refuse, each_refused, end_refusals, refuse_all};
+use test_support::test::{Test, holds, ok, ok_string, ok_strings, same, same_flag, same_text};
+use test_support::texts::{joined, repeated};
 
 #[test]
 fn each_request_in_turn(rt: HostRuntime) -> Result<(), Fail> {
+    let test = Test::begin(rt);
     for letters in [INLINE_CAP, 4999] {
-        let first = repeated(rt.alloc(), "a", letters)?;
-        assert_requests(rt.alloc(), &[first.as_str(), "a"], true)?;
+        let first = test.repeated("a", letters);
+        assert_requests(&test, &[first.as_str(), "a"], true);
     }
-    let full = repeated(rt.alloc(), "a", INLINE_CAP)?;
-    assert_requests(rt.alloc(), &["", full.as_str()], false)
-}
-
-fn assert_requests(alloc: Global, pieces: &[&str; 2], needs_memory: bool) -> Result<(), Fail> {
-    let whole = joined(alloc, pieces)?;
-    let value = SmolStr::new(alloc, whole.as_str())?;
-    let makes_requests = needs_memory && can_refuse(alloc);
-    for call in CALLS {
-        assert_asked(alloc, call, pieces, &value, makes_requests)?;
-    }
-    Ok(())
-}
-
-/// A call makes requests or none, and what it makes holds its text and no more.
-fn assert_asked(
-    alloc: Global,
-    call: Call,
-    pieces: &[&str; 2],
-    value: &SmolStr,
-    makes_requests: bool,
-) -> Result<(), Fail> {
-    let asked = asked_by(alloc, call, pieces, value.as_str())?;
-    let test = Test::new(alloc);
-    same(&test, &(asked.requests > 0), &makes_requests, &call);
-    let is_exact = ok(&test, is_exact(alloc, asked.held, value));
-    holds(&test, is_exact, &call);
+    let full = test.repeated("a", INLINE_CAP);
+    assert_requests(&test, &["", full.as_str()], false);
     test.end()
 }
 
-fn joined(alloc: Global, pieces: &[&str; 2]) -> Result<String, AllocError> {
-    let mut whole = String::new(alloc);
-    for piece in pieces {
-        whole.push_str(piece)?;
+fn assert_requests<'a>(test: &Test, pieces: &'a [&'a str; 2], needs_memory: bool) {
+    let whole = ok_string(test, joined(test.alloc, pieces[0], pieces[1]));
+    let makes_requests = needs_memory && can_refuse(test.alloc);
+    for call in CALLS {
+        let items = Items {
+            call,
+            pieces,
+            whole: whole.as_str(),
+        };
+        assert_asked(test, &items, makes_requests);
     }
-    Ok(whole)
 }
 
-/// What the call asks for, each request refused in turn.
-fn asked_by(alloc: Global, call: Call, pieces: &[&str; 2], whole: &str) -> Result<Asked, Fail> {
-    each_refused(
-        alloc,
-        name_of(call),
-        || Ok(strings_of(alloc, pieces)?),
-        |strings| drawn_by(alloc, call, strings, pieces, whole),
-        |answer| check_drawn(answer, call, pieces, whole),
-    )
+/// A call makes requests or none, and what it makes holds its text and no more.
+fn assert_asked(test: &Test, items: &Items<'_, '_>, makes_requests: bool) {
+    let asked = each_refused(test, name_of(items.call), items);
+    same(test, &(asked.requests > 0), &makes_requests, &items.call);
+    let value = test.value(items.whole);
+    let is_exact = ok(test, is_exact(test.alloc, asked.held, &value));
+    holds(test, is_exact, &items.call);
 }
 
-/// What the call makes, or the builder that it leaves, where it extends one.
-fn drawn_by(
-    alloc: Global,
+/// A call on the pieces of a text, or on its characters.
+#[derive(Drop)]
+struct Items<'a, 'w> {
     call: Call,
-    strings: Vec<String>,
-    pieces: &[&str; 2],
-    whole: &str,
-) -> Result<SmolStr, Option<SmolStrBuilder>> {
-    if extends(call) {
-        return extended_by(alloc, call, strings.as_slice(), pieces, whole);
+    pieces: &'a [&'a str; 2],
+    whole: &'w str,
+}
+
+impl Refusable for Items<'_, '_> {
+    type Input = Vec<String>;
+    type Made = SmolStr;
+    /// The builder that the call leaves, where it extends one.
+    type Fault = Option<SmolStrBuilder>;
+
+    fn input(&self, test: &Test) -> Vec<String> {
+        let pieces = self.pieces;
+        ok_strings(test, strings_of(test.alloc, pieces))
     }
-    match made_of(alloc, call, strings, pieces, whole) {
-        Ok(value) => Ok(value),
-        Err(_) => Err(None),
+
+    fn call(&self, alloc: Global, strings: Vec<String>) -> Result<SmolStr, Option<SmolStrBuilder>> {
+        let (call, pieces, whole) = (self.call, self.pieces, self.whole);
+        if extends(call) {
+            return extended_by(alloc, call, strings.as_slice(), pieces, whole);
+        }
+        match made_of(alloc, call, strings, pieces, whole) {
+            Ok(value) => Ok(value),
+            Err(_) => Err(None),
+        }
+    }
+
+    /// A value has the text of all pieces, and a builder that of the first few items.
+    fn check(&self, test: &Test, made: Result<SmolStr, Option<SmolStrBuilder>>) {
+        match made {
+            Ok(value) => same_text(test, value.as_str(), self.whole, &self.call),
+            Err(None) => {}
+            Err(Some(builder)) => check_left(test, builder.as_str(), self),
+        }
     }
 }
 
@@ -136,22 +137,9 @@ fn name_of(call: Call) -> &'static str {
     }
 }
 
-/// A value has the text of all pieces, and a builder that of the first few items.
-fn check_drawn(
-    answer: &Result<SmolStr, Option<SmolStrBuilder>>,
-    call: Call,
-    pieces: &[&str; 2],
-    whole: &str,
-) -> Result<(), Fail> {
-    match answer {
-        Ok(value) => check(value.as_str() == whole, call, value.as_str()),
-        Err(None) => Ok(()),
-        Err(Some(builder)) => check_left(builder.as_str(), call, pieces, whole),
-    }
-}
-
-fn check_left(text: &str, call: Call, pieces: &[&str; 2], whole: &str) -> Result<(), Fail> {
-    check(text == whole || has_stopped(text, call, pieces), call, text)
+fn check_left(test: &Test, text: &str, items: &Items<'_, '_>) {
+    let is_left = text == items.whole || has_stopped(text, items.call, items.pieces);
+    holds(test, is_left, &(items.call, text));
 }
 
 /// Each character of the pieces is an item where characters are drawn.
@@ -161,24 +149,18 @@ fn has_stopped(text: &str, call: Call, pieces: &[&str; 2]) -> bool {
     first.starts_with(text) && (is_between_pieces || call == Call::ExtendChars)
 }
 
-fn check(is_right: bool, call: Call, text: &str) -> Result<(), Fail> {
-    if is_right {
-        return Ok(());
-    }
-    Err(Fail::new(format_args!("{call:?}: {text:?} is not the text of the items")))
-}
-
 // Where two bytes are left, the third text is refused, and those before it stay.
 #[test]
 fn extending_refused(rt: HostRuntime) -> Result<(), Fail> {
-    let test = Test::new(rt.alloc());
-    let start = ok_string(&test, repeated(rt.alloc(), "a", INLINE_CAP - 2));
-    assert_stops(&test, rt.alloc(), start.as_str());
+    let test = Test::begin(rt);
+    let start = test.repeated("a", INLINE_CAP - 2);
+    assert_stops(&test, start.as_str());
     test.end()
 }
 
-fn assert_stops(test: &Test, alloc: Global, start: &str) {
-    let mut builder = ok(test, builder_of(alloc, 0, start));
+fn assert_stops(test: &Test, start: &str) {
+    let alloc = test.alloc;
+    let mut builder = test.builder(0, start);
     refuse_all(alloc);
     let gave_up = builder
         .extend_strs(["b", "c", "de", "f"].into_iter())
@@ -203,14 +185,15 @@ fn assert_stopped(test: &Test, builder: &SmolStrBuilder, start: &str) {
 // Only a clone of a builder on the heap takes memory.
 #[test]
 fn builders_cloned_refused(rt: HostRuntime) -> Result<(), Fail> {
-    let test = Test::new(rt.alloc());
-    assert_clone_refused(&test, rt.alloc(), 0, false);
-    assert_clone_refused(&test, rt.alloc(), 100, can_refuse(rt.alloc()));
+    let test = Test::begin(rt);
+    assert_clone_refused(&test, 0, false);
+    assert_clone_refused(&test, 100, can_refuse(test.alloc));
     test.end()
 }
 
-fn assert_clone_refused(test: &Test, alloc: Global, capacity: usize, is_refused: bool) {
-    let builder = ok(test, builder_of(alloc, capacity, "ab"));
+fn assert_clone_refused(test: &Test, capacity: usize, is_refused: bool) {
+    let alloc = test.alloc;
+    let builder = test.builder(capacity, "ab");
     refuse_all(alloc);
     let copy = builder.clone();
     let was_refused = end_refusals(alloc);

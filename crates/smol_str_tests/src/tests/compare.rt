@@ -22,17 +22,17 @@ static ORDERS: [(&str, &str, Ordering); 7] = [
 
 #[test]
 fn orders(rt: HostRuntime) -> Result<(), Fail> {
-    let test = Test::new(rt.alloc());
+    let test = Test::begin(rt);
     for &(left, right, order) in &ORDERS {
-        assert_orders(&test, rt.alloc(), (left, right), order);
-        assert_order_to_pinned(&test, rt.alloc(), left, right, order);
+        assert_orders(&test, (left, right), order);
+        assert_order_to_pinned(&test, left, right, order);
     }
     test.end()
 }
 
 #[test]
 fn order_of_a_pinned_value(rt: HostRuntime) -> Result<(), Fail> {
-    let test = Test::new(rt.alloc());
+    let test = Test::begin(rt);
     let order = SmolStr::new_static("ab").cmp_str("abc");
     same_order(&test, order, Ordering::Less, ("ab", "abc"));
     test.end()
@@ -41,48 +41,30 @@ fn order_of_a_pinned_value(rt: HostRuntime) -> Result<(), Fail> {
 // Texts that differ in their last byte, and not before it.
 #[test]
 fn orders_of_long_texts(rt: HostRuntime) -> Result<(), Fail> {
-    let test = Test::new(rt.alloc());
-    let alloc = rt.alloc();
+    let test = Test::begin(rt);
     let text = long_text();
-    let other = ok_string(&test, repeated_and(alloc, "a", INLINE_CAP, "b"));
-    assert_orders(&test, alloc, (text, other.as_str()), Ordering::Less);
-    assert_order_to_pinned(&test, alloc, other.as_str(), text, Ordering::Greater);
-    assert_orders(&test, alloc, (text, text), Ordering::Equal);
-    assert_order_to_pinned(&test, alloc, text, text, Ordering::Equal);
+    let other = ok_string(&test, repeated_and(test.alloc, "a", INLINE_CAP, "b"));
+    assert_orders(&test, (text, other.as_str()), Ordering::Less);
+    assert_order_to_pinned(&test, other.as_str(), text, Ordering::Greater);
+    assert_orders(&test, (text, text), Ordering::Equal);
+    assert_order_to_pinned(&test, text, text, Ordering::Equal);
     test.end()
 }
 
-fn assert_orders(test: &Test, alloc: Global, texts: (&str, &str), order: Ordering) {
-    let value = ok_value(test, SmolStr::new(alloc, texts.0));
-    assert_order_to_value(test, alloc, &value, texts.1, order);
-    assert_order_to_text(test, alloc, &value, texts.1, order)
+fn assert_orders(test: &Test, texts: (&str, &str), order: Ordering) {
+    let value = test.value(texts.0);
+    assert_order_to_value(test, &value, texts.1, order);
+    assert_order_to_text(test, &value, texts.1, order)
 }
 
 /// The right side as a pinned value, so that places differ.
-fn assert_order_to_pinned(
-    test: &Test,
-    alloc: Global,
-    left: &str,
-    right: &'static str,
-    order: Ordering,
-) {
-    let value = ok_value(test, SmolStr::new(alloc, left));
+fn assert_order_to_pinned(test: &Test, left: &str, right: &'static str, order: Ordering) {
+    let value = test.value(left);
     assert_order(test, &value, &SmolStr::new_static(right), order);
 }
 
-fn assert_order_to_value(
-    test: &Test,
-    alloc: Global,
-    value: &SmolStr,
-    right: &str,
-    order: Ordering,
-) {
-    assert_order(
-        test,
-        value,
-        &ok_value(test, SmolStr::new(alloc, right)),
-        order,
-    )
+fn assert_order_to_value(test: &Test, value: &SmolStr, right: &str, order: Ordering) {
+    assert_order(test, value, &test.value(right), order)
 }
 
 fn assert_order(test: &Test, value: &SmolStr, other: &SmolStr, order: Ordering) {
@@ -93,11 +75,11 @@ fn assert_order(test: &Test, value: &SmolStr, other: &SmolStr, order: Ordering) 
     same_equality(test, value == other, order, row);
 }
 
-fn assert_order_to_text(test: &Test, alloc: Global, value: &SmolStr, right: &str, order: Ordering) {
+fn assert_order_to_text(test: &Test, value: &SmolStr, right: &str, order: Ordering) {
     let row = (value.as_str(), right);
     same_order(test, value.cmp_str(right), order, row);
     same_equality(test, value.eq_str(right), order, row);
-    let owned = ok_string(test, String::from_str(alloc, right));
+    let owned = test.string(right);
     same_order(test, value.cmp_string(&owned), order, row);
     same_equality(test, value.eq_string(&owned), order, row);
 }
@@ -122,16 +104,16 @@ fn hash_of<T: Hash>(value: &T) -> u64 {
 // every place, that of std's `str`.
 #[test]
 fn pinned_and_new(rt: HostRuntime) -> Result<(), Fail> {
-    let test = Test::new(rt.alloc());
-    assert_pinned_and_new(&test, rt.alloc(), "", Place::Inline);
-    assert_pinned_and_new(&test, rt.alloc(), "ab", Place::Inline);
-    assert_pinned_and_new(&test, rt.alloc(), long_blank(), Place::Static);
-    assert_pinned_and_new(&test, rt.alloc(), long_text(), Place::Heap);
+    let test = Test::begin(rt);
+    assert_pinned_and_new(&test, "", Place::Inline);
+    assert_pinned_and_new(&test, "ab", Place::Inline);
+    assert_pinned_and_new(&test, long_blank(), Place::Static);
+    assert_pinned_and_new(&test, long_text(), Place::Heap);
     test.end()
 }
 
-fn assert_pinned_and_new(test: &Test, alloc: Global, text: &'static str, place: Place) {
-    let value = ok_value(test, SmolStr::new(alloc, text));
+fn assert_pinned_and_new(test: &Test, text: &'static str, place: Place) {
+    let value = test.value(text);
     in_place(test, &value, place, text);
     assert_pinned_equals(test, text, &value)
 }
@@ -158,10 +140,10 @@ fn assert_hash(test: &Test, value: &SmolStr, text: &str) {
 // One text, made in every way: values that are equal in pairs, with one hash, all inline.
 #[test]
 fn one_text_in_every_way(rt: HostRuntime) -> Result<(), Fail> {
-    let test = Test::new(rt.alloc());
-    let mut values = Vec::new(rt.alloc());
-    add_constructed(&test, rt.alloc(), &mut values);
-    add_converted(&test, rt.alloc(), &mut values);
+    let test = Test::begin(rt);
+    let mut values = Vec::new(test.alloc);
+    add_constructed(&test, &mut values);
+    add_converted(&test, &mut values);
     same_count(&test, values.len(), 8, "ways");
     for value in &values {
         assert_equals_all(&test, value, values.as_slice());
@@ -169,14 +151,16 @@ fn one_text_in_every_way(rt: HostRuntime) -> Result<(), Fail> {
     test.end()
 }
 
-fn add_constructed(test: &Test, alloc: Global, values: &mut Vec<SmolStr>) {
+fn add_constructed(test: &Test, values: &mut Vec<SmolStr>) {
+    let alloc = test.alloc;
     add(test, values, SmolStr::new(alloc, "ab").ok());
     add(test, values, Some(SmolStr::new_inline("ab")));
     add(test, values, SmolStr::from_utf8(alloc, b"ab").ok());
     add(test, values, SmolStr::from_chars(alloc, "ab".chars()).ok());
 }
 
-fn add_converted(test: &Test, alloc: Global, values: &mut Vec<SmolStr>) {
+fn add_converted(test: &Test, values: &mut Vec<SmolStr>) {
+    let alloc = test.alloc;
     add(test, values, read(alloc));
     add(test, values, "xb".replace_smolstr(alloc, "x", "a").ok());
     add(test, values, finished(alloc));

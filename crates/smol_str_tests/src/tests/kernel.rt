@@ -1,11 +1,8 @@
 //! The loops over bytes, against outside rows, a plain map and std's search.
 use smol_str::kernel::{AsciiCase, convert_while_ascii, next_match};
 use smol_str::{INLINE_CAP, InlineBuffer, SmolStr};
-use std::alloc::Global;
 use std::test::Fail;
-use test_support::test::{
-    Test, is_so, ok_string, ok_strings, ok_value, same, same_count, same_str,
-};
+use test_support::test::{Test, is_so, ok_strings, same, same_count, same_str};
 use test_support::texts::{full_capitals, full_text, small_texts};
 
 /// Short texts, a case, the ASCII front in that case, and how many zeros are behind it.
@@ -55,7 +52,7 @@ fn front_rows() -> &'static [(&'static str, AsciiCase, &'static str, usize)] {
 
 #[test]
 fn fronts(rt: HostRuntime) -> Result<(), Fail> {
-    let test = Test::new(rt.alloc());
+    let test = Test::begin(rt);
     for &(text, case, front, zeros) in front_rows() {
         assert_front(&test, text, case, front, zeros);
     }
@@ -82,23 +79,23 @@ fn assert_converted(test: &Test, text: &str, case: AsciiCase, wanted: &InlineBuf
 // As values, which also say whether they are ASCII.
 #[test]
 fn values_in_a_case(rt: HostRuntime) -> Result<(), Fail> {
-    let test = Test::new(rt.alloc());
+    let test = Test::begin(rt);
     for &(text, ..) in front_rows() {
-        assert_in_cases(&test, rt.alloc(), text);
+        assert_in_cases(&test, text);
     }
-    assert_in_cases(&test, rt.alloc(), full_capitals());
+    assert_in_cases(&test, full_capitals());
     for text in [
         "a text that is longer than a value has room for",
         "so is this, and not ASCII at its end: é",
     ] {
-        let value = ok_value(&test, SmolStr::new(rt.alloc(), text));
+        let value = test.value(text);
         is_so(&test, value.is_ascii() == text.is_ascii(), text);
     }
     test.end()
 }
 
-fn assert_in_cases(test: &Test, alloc: Global, text: &str) {
-    let mut wanted = ok_string(test, String::from_str(alloc, text));
+fn assert_in_cases(test: &Test, text: &str) {
+    let mut wanted = test.string(text);
     wanted.make_ascii_lowercase();
     assert_in_case(test, text, AsciiCase::Lower, wanted.as_str());
     wanted.make_ascii_uppercase();
@@ -117,7 +114,7 @@ fn assert_in_case(test: &Test, text: &str, case: AsciiCase, wanted: &str) {
 // Letters on both sides, so that a byte too many or too few would show.
 #[test]
 fn each_byte_at_each_place(rt: HostRuntime) -> Result<(), Fail> {
-    let test = Test::new(rt.alloc());
+    let test = Test::begin(rt);
     for place in 0..INLINE_CAP {
         for byte in 0..128u8 {
             let mut bytes = letters();
@@ -133,7 +130,7 @@ fn each_byte_at_each_place(rt: HostRuntime) -> Result<(), Fail> {
 
 #[test]
 fn a_wide_character_at_each_place(rt: HostRuntime) -> Result<(), Fail> {
-    let test = Test::new(rt.alloc());
+    let test = Test::begin(rt);
     for place in 0..INLINE_CAP - 1 {
         let mut bytes = letters();
         bytes[place] = 0xC3;
@@ -192,7 +189,7 @@ static MATCHES: [(&str, usize, &str, Option<usize>); 9] = [
 
 #[test]
 fn matches(rt: HostRuntime) -> Result<(), Fail> {
-    let test = Test::new(rt.alloc());
+    let test = Test::begin(rt);
     for &(text, from, pattern, wanted) in &MATCHES {
         match found_from(text, from, pattern) {
             Some(found) => same_match(&test, found, wanted, (pattern, text, from)),
@@ -205,9 +202,9 @@ fn matches(rt: HostRuntime) -> Result<(), Fail> {
 // Every place of every small text, with every small pattern.
 #[test]
 fn matches_as_std_finds(rt: HostRuntime) -> Result<(), Fail> {
-    let test = Test::new(rt.alloc());
-    let texts = ok_strings(&test, small_texts(rt.alloc(), 5));
-    let patterns = ok_strings(&test, small_texts(rt.alloc(), 3));
+    let test = Test::begin(rt);
+    let texts = ok_strings(&test, small_texts(test.alloc, 5));
+    let patterns = ok_strings(&test, small_texts(test.alloc, 3));
     for text in &texts {
         for pattern in &patterns {
             assert_found(&test, text.as_str(), pattern.as_str());

@@ -3,10 +3,7 @@ use smol_str::{Place, SmolStr};
 use std::alloc::{AllocError, Global};
 use std::collections::{BTreeMap, HashMap};
 use std::test::Fail;
-use test_support::builders::builder_of;
-use test_support::test::{
-    Test, holds, is_so, ok, ok_value, same, same_count, same_place, same_str,
-};
+use test_support::test::{Test, holds, is_so, ok, same, same_count, same_place, same_str};
 use test_support::texts::long_text;
 
 fn texts() -> [&'static str; 6] {
@@ -15,8 +12,9 @@ fn texts() -> [&'static str; 6] {
 
 #[test]
 fn keys_of_maps(rt: HostRuntime) -> Result<(), Fail> {
-    let map = hashed(rt.alloc())?;
-    let test = Test::new(rt.alloc());
+    let alloc = rt.alloc();
+    let map = hashed(alloc)?;
+    let test = Test::new(alloc);
     same_count(&test, map.len(), texts().len(), "entries");
     for (place, text) in texts().iter().enumerate() {
         let key = SmolStr::new_static(text);
@@ -29,8 +27,9 @@ fn keys_of_maps(rt: HostRuntime) -> Result<(), Fail> {
 
 #[test]
 fn keys_of_sorted_maps(rt: HostRuntime) -> Result<(), Fail> {
-    let map = sorted(rt.alloc())?;
-    let test = Test::new(rt.alloc());
+    let alloc = rt.alloc();
+    let map = sorted(alloc)?;
+    let test = Test::new(alloc);
     same_count(&test, map.len(), texts().len(), "entries");
     for (place, text) in texts().iter().enumerate() {
         let key = SmolStr::new_static(text);
@@ -59,9 +58,9 @@ fn sorted(alloc: Global) -> Result<BTreeMap<SmolStr, usize>, AllocError> {
 
 #[test]
 fn test_search_in_hashmap(rt: HostRuntime) -> Result<(), Fail> {
-    let test = Test::new(rt.alloc());
-    let mut map = HashMap::new(rt.alloc());
-    let key = ok_value(&test, SmolStr::new(rt.alloc(), "aaa"));
+    let test = Test::begin(rt);
+    let mut map = HashMap::new(test.alloc);
+    let key = test.value("aaa");
     is_so(&test, map.insert(key, 17).is_ok(), "insert");
     let found = map.get(&SmolStr::new_inline("aaa")).copied();
     same(&test, &found, &Some(17), &"aaa");
@@ -70,8 +69,8 @@ fn test_search_in_hashmap(rt: HostRuntime) -> Result<(), Fail> {
 
 #[test]
 fn clones_of_containers(rt: HostRuntime) -> Result<(), Fail> {
-    let test = Test::new(rt.alloc());
-    let values = ok(&test, values_of(rt.alloc()));
+    let test = Test::begin(rt);
+    let values = ok(&test, values_of(test.alloc));
     let copies = ok(&test, values.clone());
     assert_copies(&test, copies.as_slice(), values.as_slice());
     test.end()
@@ -97,13 +96,10 @@ fn values_of(alloc: Global) -> Result<Vec<SmolStr>, AllocError> {
 // A builder on the heap, too.
 #[test]
 fn clones_of_lists_of_builders(rt: HostRuntime) -> Result<(), Fail> {
-    let test = Test::new(rt.alloc());
-    let mut builders = Vec::new(rt.alloc());
+    let test = Test::begin(rt);
+    let mut builders = Vec::new(test.alloc);
     for text in texts() {
-        ok(
-            &test,
-            builders.push(ok(&test, builder_of(rt.alloc(), 0, text))),
-        );
+        ok(&test, builders.push(test.builder(0, text)));
     }
     let copies = ok(&test, builders.clone());
     same_count(&test, copies.len(), builders.len(), "builders");
@@ -116,7 +112,7 @@ fn clones_of_lists_of_builders(rt: HostRuntime) -> Result<(), Fail> {
 #[test]
 fn clone_of_an_option(rt: HostRuntime) -> Result<(), Fail> {
     let copy = Some(SmolStr::new_static("ab")).clone()?;
-    let test = Test::new(rt.alloc());
+    let test = Test::begin(rt);
     let place = copy.map(|value| value.place());
     same(&test, &place, &Some(Place::Static), &"ab");
     test.end()

@@ -17,10 +17,10 @@ const CHARACTERS: usize = 1770;
 const TIMES: usize = 20;
 
 /// Texts of 0, 1, 2 .. characters.
-fn texts(test: &Test, alloc: Global, character: &str) -> Vec<String> {
-    let mut list = Vec::new(alloc);
+fn texts(test: &Test, character: &str) -> Vec<String> {
+    let mut list = Vec::new(test.alloc);
     for size in 0..TEXTS {
-        ok(test, add_text(alloc, &mut list, character, size));
+        ok(test, add_text(test.alloc, &mut list, character, size));
     }
     list
 }
@@ -36,15 +36,15 @@ fn add_text(
 }
 
 /// The values of such texts.
-fn values(test: &Test, alloc: Global) -> Vec<SmolStr> {
-    let texts = texts(test, alloc, "a");
-    values_of(test, alloc, texts.as_slice())
+fn values(test: &Test) -> Vec<SmolStr> {
+    let texts = texts(test, "a");
+    values_of(test, texts.as_slice())
 }
 
-fn values_of(test: &Test, alloc: Global, texts: &[String]) -> Vec<SmolStr> {
-    let mut list = Vec::new(alloc);
+fn values_of(test: &Test, texts: &[String]) -> Vec<SmolStr> {
+    let mut list = Vec::new(test.alloc);
     for text in texts {
-        ok(test, add_value(alloc, &mut list, text.as_str()));
+        ok(test, add_value(test.alloc, &mut list, text.as_str()));
     }
     list
 }
@@ -54,48 +54,36 @@ fn add_value(alloc: Global, list: &mut Vec<SmolStr>, text: &str) -> Result<(), A
     Ok(())
 }
 
-/// The operation counts this many on a list, each time that the list is gone through.
-fn on_each<T: Drop, E: Debug + Drop, F>(
-    test: &Test,
-    alloc: Global,
-    list: Vec<T>,
-    a_list: usize,
-    operation: F,
-)
-where
-    F: Fn(Global, &T) -> Result<usize, E>,
-    requires { F.IsAlwaysCallable operation }
-{
-    check(
-        test,
-        ok(test, total(alloc, list.as_slice(), operation)),
-        a_list,
-    )
+/// What is counted on an item of a list. A trait, since a function that is passed is proved once more in each way to call it.
+trait Operation<T> {
+    /// Why it counts nothing.
+    type Fault: Debug + Drop;
+
+    /// Its count.
+    fn count(alloc: Global, item: &T) -> Result<usize, Self::Fault>;
 }
 
-fn total<T, E, F>(alloc: Global, list: &[T], operation: F) -> Result<usize, E>
-where
-    F: Fn(Global, &T) -> Result<usize, E>,
-    requires { F.IsAlwaysCallable operation }
-{
+/// The operation counts this many on a list, each time that the list is gone through.
+fn on_each<T: Drop, O: Operation<T>>(test: &Test, list: Vec<T>, a_list: usize) {
+    let total = ok(test, total::<T, O>(test.alloc, list.as_slice()));
+    check(test, total, a_list)
+}
+
+fn total<T, O: Operation<T>>(alloc: Global, list: &[T]) -> Result<usize, O::Fault> {
     let mut total = 0usize;
     for _ in 0..TIMES {
         for item in list {
-            total = total.saturating_add(operation(alloc, item)?);
+            total = total.saturating_add(O::count(alloc, item)?);
         }
     }
     Ok(total)
 }
 
 /// The operation counts the characters of a whole list of texts, each time that it is called.
-fn on_whole_list<F>(test: &Test, alloc: Global, operation: F)
-where
-    F: Fn(Global, &[String]) -> Result<usize, AllocError>,
-    requires { F.IsAlwaysCallable operation }
-{
-    let (list, mut total) = (texts(test, alloc, "a"), 0usize);
+fn on_whole_list<O: Operation<Vec<String>>>(test: &Test) {
+    let (list, mut total) = (texts(test, "a"), 0usize);
     for _ in 0..TIMES {
-        total = total.saturating_add(ok(test, operation(alloc, list.as_slice())));
+        total = total.saturating_add(ok(test, O::count(test.alloc, &list)));
     }
     check(test, total, CHARACTERS)
 }
@@ -107,156 +95,222 @@ fn check(test: &Test, total: usize, a_list: usize) {
 
 #[test]
 fn nothing(rt: HostRuntime) -> Result<(), Fail> {
-    let test = Test::new(rt.alloc());
-    let list = values(&test, rt.alloc());
+    let test = Test::begin(rt);
+    let list = values(&test);
     same_count(&test, list.len(), TEXTS, "values");
     test.end()
 }
 
 #[test]
 fn made_of_texts(rt: HostRuntime) -> Result<(), Fail> {
-    let test = Test::new(rt.alloc());
-    let list = texts(&test, rt.alloc(), "a");
-    on_each(&test, rt.alloc(), list, CHARACTERS, make);
+    let test = Test::begin(rt);
+    let list = texts(&test, "a");
+    on_each::<String, Make>(&test, list, CHARACTERS);
     test.end()
 }
 
-fn make(alloc: Global, text: &String) -> Result<usize, AllocError> {
-    Ok(SmolStr::new(alloc, text.as_str())?.len())
+struct Make;
+
+impl Operation<String> for Make {
+    type Fault = AllocError;
+
+    fn count(alloc: Global, text: &String) -> Result<usize, AllocError> {
+        Ok(SmolStr::new(alloc, text.as_str())?.len())
+    }
 }
 
 #[test]
 fn made_of_bytes(rt: HostRuntime) -> Result<(), Fail> {
-    let test = Test::new(rt.alloc());
-    let list = texts(&test, rt.alloc(), "é");
-    on_each(&test, rt.alloc(), list, 2 * CHARACTERS, make_of_bytes);
+    let test = Test::begin(rt);
+    let list = texts(&test, "é");
+    on_each::<String, MakeOfBytes>(&test, list, 2 * CHARACTERS);
     test.end()
 }
 
-fn make_of_bytes(alloc: Global, text: &String) -> Result<usize, FromUtf8Fault> {
-    Ok(SmolStr::from_utf8(alloc, text.as_bytes())?.len())
+struct MakeOfBytes;
+
+impl Operation<String> for MakeOfBytes {
+    type Fault = FromUtf8Fault;
+
+    fn count(alloc: Global, text: &String) -> Result<usize, FromUtf8Fault> {
+        Ok(SmolStr::from_utf8(alloc, text.as_bytes())?.len())
+    }
 }
 
 #[test]
 fn in_ascii_lowercase(rt: HostRuntime) -> Result<(), Fail> {
-    let test = Test::new(rt.alloc());
-    let list = texts(&test, rt.alloc(), "A");
-    on_each(&test, rt.alloc(), list, CHARACTERS, make_ascii_lowercase);
+    let test = Test::begin(rt);
+    let list = texts(&test, "A");
+    on_each::<String, MakeAsciiLowercase>(&test, list, CHARACTERS);
     test.end()
 }
 
-fn make_ascii_lowercase(alloc: Global, text: &String) -> Result<usize, AllocError> {
-    Ok(text.as_str().to_ascii_lowercase_smolstr(alloc)?.len())
+struct MakeAsciiLowercase;
+
+impl Operation<String> for MakeAsciiLowercase {
+    type Fault = AllocError;
+
+    fn count(alloc: Global, text: &String) -> Result<usize, AllocError> {
+        Ok(text.as_str().to_ascii_lowercase_smolstr(alloc)?.len())
+    }
 }
 
 #[test]
 fn replaced_by_a_longer_text(rt: HostRuntime) -> Result<(), Fail> {
-    let test = Test::new(rt.alloc());
-    let list = texts(&test, rt.alloc(), "a");
-    on_each(&test, rt.alloc(), list, 2 * CHARACTERS, replace);
+    let test = Test::begin(rt);
+    let list = texts(&test, "a");
+    on_each::<String, Replace>(&test, list, 2 * CHARACTERS);
     test.end()
 }
 
-fn replace(alloc: Global, text: &String) -> Result<usize, AllocError> {
-    Ok(text.as_str().replace_smolstr(alloc, "a", "bc")?.len())
+struct Replace;
+
+impl Operation<String> for Replace {
+    type Fault = AllocError;
+
+    fn count(alloc: Global, text: &String) -> Result<usize, AllocError> {
+        Ok(text.as_str().replace_smolstr(alloc, "a", "bc")?.len())
+    }
 }
 
 #[test]
 fn extended_by_texts(rt: HostRuntime) -> Result<(), Fail> {
-    let test = Test::new(rt.alloc());
-    on_whole_list(&test, rt.alloc(), extend);
+    let test = Test::begin(rt);
+    on_whole_list::<Extend>(&test);
     test.end()
 }
 
-fn extend(alloc: Global, list: &[String]) -> Result<usize, AllocError> {
-    let mut builder = SmolStrBuilder::new(alloc);
-    builder.extend_strings(list.iter())?;
-    Ok(builder.len())
+struct Extend;
+
+impl Operation<Vec<String>> for Extend {
+    type Fault = AllocError;
+
+    fn count(alloc: Global, list: &Vec<String>) -> Result<usize, AllocError> {
+        let mut builder = SmolStrBuilder::new(alloc);
+        builder.extend_strings(list.iter())?;
+        Ok(builder.len())
+    }
 }
 
 #[test]
 fn compared_with_texts(rt: HostRuntime) -> Result<(), Fail> {
-    let test = Test::new(rt.alloc());
-    let list = values(&test, rt.alloc());
-    on_each(&test, rt.alloc(), list, 1, compare_with_text);
+    let test = Test::begin(rt);
+    let list = values(&test);
+    on_each::<SmolStr, CompareWithText>(&test, list, 1);
     test.end()
 }
 
-fn compare_with_text(_alloc: Global, value: &SmolStr) -> Result<usize, AllocError> {
-    Ok(usize::from(value.eq_str("aaaaaaaaaa")))
+struct CompareWithText;
+
+impl Operation<SmolStr> for CompareWithText {
+    type Fault = AllocError;
+
+    fn count(_alloc: Global, value: &SmolStr) -> Result<usize, AllocError> {
+        Ok(usize::from(value.eq_str("aaaaaaaaaa")))
+    }
 }
 
 #[test]
 fn collected_from_characters(rt: HostRuntime) -> Result<(), Fail> {
-    let test = Test::new(rt.alloc());
-    let list = texts(&test, rt.alloc(), "é");
-    on_each(&test, rt.alloc(), list, 2 * CHARACTERS, collect);
+    let test = Test::begin(rt);
+    let list = texts(&test, "é");
+    on_each::<String, Collect>(&test, list, 2 * CHARACTERS);
     test.end()
 }
 
-fn collect(alloc: Global, text: &String) -> Result<usize, AllocError> {
-    Ok(SmolStr::from_chars(alloc, text.chars())?.len())
+struct Collect;
+
+impl Operation<String> for Collect {
+    type Fault = AllocError;
+
+    fn count(alloc: Global, text: &String) -> Result<usize, AllocError> {
+        Ok(SmolStr::from_chars(alloc, text.chars())?.len())
+    }
 }
 
 #[test]
 fn appended_character_by_character(rt: HostRuntime) -> Result<(), Fail> {
-    let test = Test::new(rt.alloc());
-    let list = texts(&test, rt.alloc(), "a");
-    on_each(&test, rt.alloc(), list, CHARACTERS, append_characters);
+    let test = Test::begin(rt);
+    let list = texts(&test, "a");
+    on_each::<String, AppendCharacters>(&test, list, CHARACTERS);
     test.end()
 }
 
-fn append_characters(alloc: Global, text: &String) -> Result<usize, AllocError> {
-    let mut builder = SmolStrBuilder::new(alloc);
-    for character in text.chars() {
-        builder.push(character)?;
+struct AppendCharacters;
+
+impl Operation<String> for AppendCharacters {
+    type Fault = AllocError;
+
+    fn count(alloc: Global, text: &String) -> Result<usize, AllocError> {
+        let mut builder = SmolStrBuilder::new(alloc);
+        for character in text.chars() {
+            builder.push(character)?;
+        }
+        Ok(builder.len())
     }
-    Ok(builder.len())
 }
 
 #[test]
 fn appended_text_by_text(rt: HostRuntime) -> Result<(), Fail> {
-    let test = Test::new(rt.alloc());
-    on_whole_list(&test, rt.alloc(), append_texts);
+    let test = Test::begin(rt);
+    on_whole_list::<AppendTexts>(&test);
     test.end()
 }
 
-fn append_texts(alloc: Global, list: &[String]) -> Result<usize, AllocError> {
-    let mut builder = SmolStrBuilder::new(alloc);
-    for text in list {
-        builder.push_str(text.as_str())?;
+struct AppendTexts;
+
+impl Operation<Vec<String>> for AppendTexts {
+    type Fault = AllocError;
+
+    fn count(alloc: Global, list: &Vec<String>) -> Result<usize, AllocError> {
+        let mut builder = SmolStrBuilder::new(alloc);
+        for text in list {
+            builder.push_str(text.as_str())?;
+        }
+        Ok(builder.into_value()?.len())
     }
-    Ok(builder.into_value()?.len())
 }
 
 #[test]
 fn in_lowercase(rt: HostRuntime) -> Result<(), Fail> {
-    let test = Test::new(rt.alloc());
-    let list = texts(&test, rt.alloc(), "A");
-    on_each(&test, rt.alloc(), list, CHARACTERS, make_lowercase);
+    let test = Test::begin(rt);
+    let list = texts(&test, "A");
+    on_each::<String, MakeLowercase>(&test, list, CHARACTERS);
     test.end()
 }
 
-fn make_lowercase(alloc: Global, text: &String) -> Result<usize, AllocError> {
-    Ok(text.as_str().to_lowercase_smolstr(alloc)?.len())
+struct MakeLowercase;
+
+impl Operation<String> for MakeLowercase {
+    type Fault = AllocError;
+
+    fn count(alloc: Global, text: &String) -> Result<usize, AllocError> {
+        Ok(text.as_str().to_lowercase_smolstr(alloc)?.len())
+    }
 }
 
 #[test]
 fn in_uppercase_past_ascii(rt: HostRuntime) -> Result<(), Fail> {
-    let test = Test::new(rt.alloc());
-    let list = texts(&test, rt.alloc(), "é");
-    on_each(&test, rt.alloc(), list, 2 * CHARACTERS, make_uppercase);
+    let test = Test::begin(rt);
+    let list = texts(&test, "é");
+    on_each::<String, MakeUppercase>(&test, list, 2 * CHARACTERS);
     test.end()
 }
 
-fn make_uppercase(alloc: Global, text: &String) -> Result<usize, AllocError> {
-    Ok(text.as_str().to_uppercase_smolstr(alloc)?.len())
+struct MakeUppercase;
+
+impl Operation<String> for MakeUppercase {
+    type Fault = AllocError;
+
+    fn count(alloc: Global, text: &String) -> Result<usize, AllocError> {
+        Ok(text.as_str().to_uppercase_smolstr(alloc)?.len())
+    }
 }
 
 #[test]
 fn compared(rt: HostRuntime) -> Result<(), Fail> {
-    let test = Test::new(rt.alloc());
-    let (list, mut total) = (values(&test, rt.alloc()), 0usize);
+    let test = Test::begin(rt);
+    let (list, mut total) = (values(&test), 0usize);
     for _ in 0..TIMES {
         total = total.saturating_add(count_less(list.as_slice()));
     }
@@ -279,8 +333,8 @@ fn count_less(list: &[SmolStr]) -> usize {
 
 #[test]
 fn equal(rt: HostRuntime) -> Result<(), Fail> {
-    let test = Test::new(rt.alloc());
-    let (list, others) = (values(&test, rt.alloc()), values(&test, rt.alloc()));
+    let test = Test::begin(rt);
+    let (list, others) = (values(&test), values(&test));
     let mut total = 0usize;
     for _ in 0..TIMES {
         total = total.saturating_add(count_equal(list.as_slice(), others.as_slice()));
@@ -300,8 +354,8 @@ fn count_equal(list: &[SmolStr], others: &[SmolStr]) -> usize {
 
 #[test]
 fn cloned(rt: HostRuntime) -> Result<(), Fail> {
-    let test = Test::new(rt.alloc());
-    let list = values(&test, rt.alloc());
+    let test = Test::begin(rt);
+    let list = values(&test);
     check(&test, ok(&test, clone_all(list.as_slice())), CHARACTERS);
     test.end()
 }
@@ -319,56 +373,80 @@ fn clone_all(list: &[SmolStr]) -> Result<usize, AllocError> {
 
 #[test]
 fn through_a_string(rt: HostRuntime) -> Result<(), Fail> {
-    let test = Test::new(rt.alloc());
-    let list = texts(&test, rt.alloc(), "a");
-    on_each(&test, rt.alloc(), list, CHARACTERS, make_string);
+    let test = Test::begin(rt);
+    let list = texts(&test, "a");
+    on_each::<String, MakeString>(&test, list, CHARACTERS);
     test.end()
 }
 
-fn make_string(alloc: Global, text: &String) -> Result<usize, AllocError> {
-    let value = SmolStr::from_string_ref(alloc, text)?;
-    Ok(value.into_string(alloc)?.len())
+struct MakeString;
+
+impl Operation<String> for MakeString {
+    type Fault = AllocError;
+
+    fn count(alloc: Global, text: &String) -> Result<usize, AllocError> {
+        let value = SmolStr::from_string_ref(alloc, text)?;
+        Ok(value.into_string(alloc)?.len())
+    }
 }
 
 #[test]
 fn printed(rt: HostRuntime) -> Result<(), Fail> {
-    let test = Test::new(rt.alloc());
-    let list = values(&test, rt.alloc());
-    on_each(&test, rt.alloc(), list, 110, print_length);
+    let test = Test::begin(rt);
+    let list = values(&test);
+    on_each::<SmolStr, PrintLength>(&test, list, 110);
     test.end()
 }
 
-fn print_length(alloc: Global, value: &SmolStr) -> Result<usize, FormatError> {
-    Ok(value.len().to_smolstr(alloc)?.len())
+struct PrintLength;
+
+impl Operation<SmolStr> for PrintLength {
+    type Fault = FormatError;
+
+    fn count(alloc: Global, value: &SmolStr) -> Result<usize, FormatError> {
+        Ok(value.len().to_smolstr(alloc)?.len())
+    }
 }
 
 #[test]
 fn through_json(rt: HostRuntime) -> Result<(), Fail> {
-    let test = Test::new(rt.alloc());
-    let list = values(&test, rt.alloc());
-    on_each(&test, rt.alloc(), list, CHARACTERS, make_json);
+    let test = Test::begin(rt);
+    let list = values(&test);
+    on_each::<SmolStr, MakeJson>(&test, list, CHARACTERS);
     test.end()
 }
 
-fn make_json(alloc: Global, value: &SmolStr) -> Result<usize, JsonFault> {
-    let json = to_json(alloc, value)?;
-    Ok(from_json(alloc, json.as_str())?.len())
+struct MakeJson;
+
+impl Operation<SmolStr> for MakeJson {
+    type Fault = JsonFault;
+
+    fn count(alloc: Global, value: &SmolStr) -> Result<usize, JsonFault> {
+        let json = to_json(alloc, value)?;
+        Ok(from_json(alloc, json.as_str())?.len())
+    }
 }
 
 #[test]
 fn written_and_read(rt: HostRuntime) -> Result<(), Fail> {
-    let test = Test::new(rt.alloc());
-    let list = values(&test, rt.alloc());
-    on_each(&test, rt.alloc(), list, CHARACTERS, write_and_read);
+    let test = Test::begin(rt);
+    let list = values(&test);
+    on_each::<SmolStr, WriteAndRead>(&test, list, CHARACTERS);
     test.end()
 }
 
-fn write_and_read(alloc: Global, value: &SmolStr) -> Result<usize, &'static str> {
-    let form = form_of(alloc, value).ok().ok_or("not written")?;
-    let mut reader = form.as_slice();
-    match SmolStr::deserialize_reader(alloc, &mut reader) {
-        Ok(value) => Ok(value.len()),
-        Err(_) => Err("not read"),
+struct WriteAndRead;
+
+impl Operation<SmolStr> for WriteAndRead {
+    type Fault = &'static str;
+
+    fn count(alloc: Global, value: &SmolStr) -> Result<usize, &'static str> {
+        let form = form_of(alloc, value).ok().ok_or("not written")?;
+        let mut reader = form.as_slice();
+        match SmolStr::deserialize_reader(alloc, &mut reader) {
+            Ok(value) => Ok(value.len()),
+            Err(_) => Err("not read"),
+        }
     }
 }
 
@@ -380,38 +458,50 @@ fn form_of(alloc: Global, value: &SmolStr) -> Result<Vec<u8>, EncodeFault> {
 
 #[test]
 fn read_from_bytes(rt: HostRuntime) -> Result<(), Fail> {
-    let test = Test::new(rt.alloc());
-    let list = forms(&test, rt.alloc());
-    on_each(&test, rt.alloc(), list, CHARACTERS, read);
+    let test = Test::begin(rt);
+    let list = forms(&test);
+    on_each::<Vec<u8>, Read>(&test, list, CHARACTERS);
     test.end()
 }
 
-fn read(alloc: Global, form: &Vec<u8>) -> Result<usize, DecodeFault> {
-    Ok(from_wire(alloc, form.as_slice())?.0.len())
+struct Read;
+
+impl Operation<Vec<u8>> for Read {
+    type Fault = DecodeFault;
+
+    fn count(alloc: Global, form: &Vec<u8>) -> Result<usize, DecodeFault> {
+        Ok(from_wire(alloc, form.as_slice())?.0.len())
+    }
 }
 
 /// The wire forms of a list of values.
-fn forms(test: &Test, alloc: Global) -> Vec<Vec<u8>> {
-    let list = values(test, alloc);
-    forms_of(test, alloc, list.as_slice())
+fn forms(test: &Test) -> Vec<Vec<u8>> {
+    let list = values(test);
+    forms_of(test, list.as_slice())
 }
 
-fn forms_of(test: &Test, alloc: Global, list: &[SmolStr]) -> Vec<Vec<u8>> {
-    let mut forms = Vec::new(alloc);
+fn forms_of(test: &Test, list: &[SmolStr]) -> Vec<Vec<u8>> {
+    let mut forms = Vec::new(test.alloc);
     for value in list {
-        ok(test, forms.push(ok(test, form_of(alloc, value))));
+        ok(test, forms.push(ok(test, form_of(test.alloc, value))));
     }
     forms
 }
 
 #[test]
 fn found(rt: HostRuntime) -> Result<(), Fail> {
-    let test = Test::new(rt.alloc());
-    let list = texts(&test, rt.alloc(), "ab");
-    on_each(&test, rt.alloc(), list, TEXTS - 2, find);
+    let test = Test::begin(rt);
+    let list = texts(&test, "ab");
+    on_each::<String, Find>(&test, list, TEXTS - 2);
     test.end()
 }
 
-fn find(_alloc: Global, text: &String) -> Result<usize, AllocError> {
-    Ok(next_match(text.as_str(), 0, "ba").unwrap_or(0))
+struct Find;
+
+impl Operation<String> for Find {
+    type Fault = AllocError;
+
+    fn count(_alloc: Global, text: &String) -> Result<usize, AllocError> {
+        Ok(next_match(text.as_str(), 0, "ba").unwrap_or(0))
+    }
 }

@@ -2,10 +2,7 @@
 use smol_str::{BLANK_NEWLINES, BLANK_SPACES, INLINE_CAP, InlineBuffer, Place, SmolStr};
 use std::alloc::{AllocError, Global};
 use std::test::Fail;
-use test_support::builders::builder_of;
-use test_support::test::{
-    Test, has_text, holds, in_place, is_so, ok, ok_string, ok_value, same_count, same_str,
-};
+use test_support::test::{Test, has_text, holds, in_place, is_so, ok_string, same_count, same_str};
 use test_support::texts::{full_text, long_text, repeated, repeated_and};
 
 /// A text so many times and then an end, and the place of the value.
@@ -45,32 +42,26 @@ static BLANKS: [(usize, usize, usize, Place); 17] = [
 
 #[test]
 fn new_places(rt: HostRuntime) -> Result<(), Fail> {
-    let test = Test::new(rt.alloc());
+    let test = Test::begin(rt);
     for &(piece, times, end, place) in &PLACES {
-        let text = ok_string(&test, repeated_and(rt.alloc(), piece, times, end));
-        assert_new(&test, rt.alloc(), text.as_str(), place);
+        let text = ok_string(&test, repeated_and(test.alloc, piece, times, end));
+        assert_new(&test, text.as_str(), place);
     }
     test.end()
 }
 
 #[test]
 fn blank_places(rt: HostRuntime) -> Result<(), Fail> {
-    let test = Test::new(rt.alloc());
+    let test = Test::begin(rt);
     for &(newlines, spaces, more, place) in &BLANKS {
-        let text = ok_string(&test, blank(rt.alloc(), newlines, spaces, more));
-        assert_new(&test, rt.alloc(), text.as_str(), place);
+        let text = ok_string(&test, blank(test.alloc, newlines, spaces, more));
+        assert_new(&test, text.as_str(), place);
     }
     test.end()
 }
 
-fn assert_new(test: &Test, alloc: Global, text: &str, place: Place) {
-    has_text(
-        test,
-        &ok_value(test, SmolStr::new(alloc, text)),
-        text,
-        place,
-        text,
-    )
+fn assert_new(test: &Test, text: &str, place: Place) {
+    has_text(test, &test.value(text), text, place, text)
 }
 
 fn blank(
@@ -86,7 +77,7 @@ fn blank(
 
 #[test]
 fn const_fn_ctor(rt: HostRuntime) -> Result<(), Fail> {
-    let test = Test::new(rt.alloc());
+    let test = Test::begin(rt);
     for text in [
         "",
         "A",
@@ -95,34 +86,30 @@ fn const_fn_ctor(rt: HostRuntime) -> Result<(), Fail> {
         "                       ",
         full_text(),
     ] {
-        assert_inline(&test, rt.alloc(), text);
+        assert_inline(&test, text);
     }
     test.end()
 }
 
-fn assert_inline(test: &Test, alloc: Global, text: &str) {
+fn assert_inline(test: &Test, text: &str) {
     if text.len() > INLINE_CAP {
         return test.fail(&(text, "is too long"));
     }
     let value = SmolStr::new_inline(text);
-    assert_equals_new(test, alloc, &value, text);
+    assert_equals_new(test, &value, text);
     in_place(test, &value, Place::Inline, text);
 }
 
-fn assert_equals_new(test: &Test, alloc: Global, value: &SmolStr, text: &str) {
-    is_so(
-        test,
-        *value == ok_value(test, SmolStr::new(alloc, text)),
-        text,
-    );
+fn assert_equals_new(test: &Test, value: &SmolStr, text: &str) {
+    is_so(test, *value == test.value(text), text);
 }
 
 #[test]
 fn default_value(rt: HostRuntime) -> Result<(), Fail> {
-    let test = Test::new(rt.alloc());
+    let test = Test::begin(rt);
     let value = SmolStr::default();
     has_text(&test, &value, "", Place::Inline, "default");
-    assert_equals_new(&test, rt.alloc(), &value, "");
+    assert_equals_new(&test, &value, "");
     test.end()
 }
 
@@ -138,10 +125,10 @@ fn in_turn(alloc: Global, characters: &[char], count: usize) -> Result<String, A
 }
 
 /// Texts of 0 to 400 characters, the given ones in turn, are kept as they are.
-fn assert_round_trips(test: &Test, alloc: Global, characters: &[char]) {
+fn assert_round_trips(test: &Test, characters: &[char]) {
     for count in 0..=400usize {
-        let text = ok_string(test, in_turn(alloc, characters, count));
-        let value = ok_value(test, SmolStr::new(alloc, text.as_str()));
+        let text = ok_string(test, in_turn(test.alloc, characters, count));
+        let value = test.value(text.as_str());
         assert_keeps(test, &value, text.as_str(), count);
     }
 }
@@ -159,36 +146,36 @@ fn assert_keeps(test: &Test, value: &SmolStr, text: &str, count: usize) {
 
 #[test]
 fn roundtrip(rt: HostRuntime) -> Result<(), Fail> {
-    let test = Test::new(rt.alloc());
-    assert_round_trips(&test, rt.alloc(), &['a', 'é', '€', '🦀']);
+    let test = Test::begin(rt);
+    assert_round_trips(&test, &['a', 'é', '€', '🦀']);
     test.end()
 }
 
 #[test]
 fn roundtrip_spaces(rt: HostRuntime) -> Result<(), Fail> {
-    let test = Test::new(rt.alloc());
-    assert_round_trips(&test, rt.alloc(), &[' ']);
+    let test = Test::begin(rt);
+    assert_round_trips(&test, &[' ']);
     test.end()
 }
 
 #[test]
 fn roundtrip_newlines(rt: HostRuntime) -> Result<(), Fail> {
-    let test = Test::new(rt.alloc());
-    assert_round_trips(&test, rt.alloc(), &['\n']);
+    let test = Test::begin(rt);
+    assert_round_trips(&test, &['\n']);
     test.end()
 }
 
 #[test]
 fn roundtrip_ws(rt: HostRuntime) -> Result<(), Fail> {
-    let test = Test::new(rt.alloc());
-    assert_round_trips(&test, rt.alloc(), &['\n', ' ']);
+    let test = Test::begin(rt);
+    assert_round_trips(&test, &['\n', ' ']);
     test.end()
 }
 
 // The buffer, a byte for the length, and a word for the place.
 #[test]
 fn size_of_a_value(rt: HostRuntime) -> Result<(), Fail> {
-    let test = Test::new(rt.alloc());
+    let test = Test::begin(rt);
     same_count(&test, size_of::<SmolStr>(), INLINE_CAP + 1 + 8, "a value");
     test.end()
 }
@@ -196,23 +183,20 @@ fn size_of_a_value(rt: HostRuntime) -> Result<(), Fail> {
 // The text's bytes, and zeros: of a value and of a builder that are inline, and of no other.
 #[test]
 fn inline_buffers(rt: HostRuntime) -> Result<(), Fail> {
-    let test = Test::new(rt.alloc());
-    let value = ok_value(&test, SmolStr::new(rt.alloc(), "ab"));
+    let test = Test::begin(rt);
+    let value = test.value("ab");
     assert_holds_ab(&test, value.inline_buffer());
-    let builder = ok(&test, builder_of(rt.alloc(), 0, "ab"));
+    let builder = test.builder(0, "ab");
     assert_holds_ab(&test, builder.inline_buffer());
     test.end()
 }
 
 #[test]
 fn no_inline_buffers(rt: HostRuntime) -> Result<(), Fail> {
-    let test = Test::new(rt.alloc());
+    let test = Test::begin(rt);
     assert_no_buffer(&test, SmolStr::new_static("ab"));
-    assert_no_buffer(
-        &test,
-        ok_value(&test, SmolStr::new(rt.alloc(), long_text())),
-    );
-    let large = ok(&test, builder_of(rt.alloc(), 100, "ab"));
+    assert_no_buffer(&test, test.value(long_text()));
+    let large = test.builder(100, "ab");
     is_so(&test, large.inline_buffer().is_none(), "a large builder");
     test.end()
 }

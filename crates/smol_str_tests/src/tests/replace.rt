@@ -49,24 +49,24 @@ pub fn upstream_rows() -> &'static [Row] {
 
 #[test]
 fn rows(rt: HostRuntime) -> Result<(), Fail> {
-    let test = Test::new(rt.alloc());
-    assert_rows(&test, rt.alloc(), table());
+    let test = Test::begin(rt);
+    assert_rows(&test, table());
     test.end()
 }
 
-pub fn assert_rows(test: &Test, alloc: Global, rows: &[Row]) {
+pub fn assert_rows(test: &Test, rows: &[Row]) {
     for &(text, from, to, count, wanted) in rows {
-        let value = ok_value(test, text.replacen_smolstr(alloc, from, to, count));
+        let value = ok_value(test, text.replacen_smolstr(test.alloc, from, to, count));
         assert_made(test, &value, wanted, [from, to, text], count);
     }
 }
 
 #[test]
 fn rows_without_a_limit(rt: HostRuntime) -> Result<(), Fail> {
-    let test = Test::new(rt.alloc());
+    let test = Test::begin(rt);
     for &(text, from, to, count, wanted) in table() {
         if count == usize::MAX {
-            let value = ok_value(&test, text.replace_smolstr(rt.alloc(), from, to));
+            let value = ok_value(&test, text.replace_smolstr(test.alloc, from, to));
             assert_made(&test, &value, wanted, [from, to, text], count);
         }
     }
@@ -157,16 +157,17 @@ static LONG: [LongRow; 7] = [
 
 #[test]
 fn long_rows(rt: HostRuntime) -> Result<(), Fail> {
-    let test = Test::new(rt.alloc());
+    let test = Test::begin(rt);
     for row in &LONG {
-        assert_long_row(&test, rt.alloc(), row);
+        assert_long_row(&test, row);
     }
     test.end()
 }
 
-fn assert_long_row(test: &Test, alloc: Global, row: &LongRow) {
+fn assert_long_row(test: &Test, row: &LongRow) {
+    let alloc = test.alloc;
     let (text, from, to, count, front, end, place) = *row;
-    let text = ok_string(test, repeated(alloc, text.0, text.1));
+    let text = test.repeated(text.0, text.1);
     let value = ok_value(test, text.as_str().replacen_smolstr(alloc, from, to, count));
     let wanted = ok_string(test, joined(alloc, front, end));
     same_value(test, &value, wanted.as_str(), place, &([from, to], count));
@@ -190,28 +191,28 @@ fn case<'a>(text: &'a str, from: &'a str, turn: usize) -> [&'a str; 3] {
 
 /// Every small text and pattern at these limits, where `None` is `replace`; two are a quarter of a million cases: enough
 /// for one test.
-fn assert_at_limits(test: &Test, alloc: Global, limits: &[Option<usize>]) {
-    let texts = ok_strings(test, small_texts(alloc, 7));
-    let patterns = ok_strings(test, small_texts(alloc, 3));
+fn assert_at_limits(test: &Test, limits: &[Option<usize>]) {
+    let texts = ok_strings(test, small_texts(test.alloc, 7));
+    let patterns = ok_strings(test, small_texts(test.alloc, 3));
     for (i, text) in texts.iter().enumerate() {
         for (j, pattern) in patterns.iter().enumerate() {
             let row = (text.as_str(), pattern.as_str(), i.wrapping_add(j));
-            assert_replaced(test, alloc, row, limits);
+            assert_replaced(test, row, limits);
         }
     }
 }
 
-fn assert_replaced(test: &Test, alloc: Global, row: (&str, &str, usize), limits: &[Option<usize>]) {
+fn assert_replaced(test: &Test, row: (&str, &str, usize), limits: &[Option<usize>]) {
     let (text, from, turn) = row;
     for limit in limits {
         let texts = case(text, from, turn.wrapping_add(limit.unwrap_or(0)));
-        assert_replaced_at(test, alloc, texts, *limit);
+        assert_replaced_at(test, texts, *limit);
     }
 }
 
-fn assert_replaced_at(test: &Test, alloc: Global, texts: [&str; 3], limit: Option<usize>) {
-    let value = ok_value(test, replaced(alloc, texts, limit));
-    let wanted = ok_string(test, replaced_by_std(alloc, texts, limit));
+fn assert_replaced_at(test: &Test, texts: [&str; 3], limit: Option<usize>) {
+    let value = ok_value(test, replaced(test.alloc, texts, limit));
+    let wanted = ok_string(test, replaced_by_std(test.alloc, texts, limit));
     same_text(test, value.as_str(), wanted.as_str(), &(texts, limit));
 }
 
@@ -237,42 +238,42 @@ fn replaced_by_std(
 
 #[test]
 fn replaces_as_std_does_at_0_and_1(rt: HostRuntime) -> Result<(), Fail> {
-    let test = Test::new(rt.alloc());
-    assert_at_limits(&test, rt.alloc(), &[Some(0), Some(1)]);
+    let test = Test::begin(rt);
+    assert_at_limits(&test, &[Some(0), Some(1)]);
     test.end()
 }
 
 #[test]
 fn replaces_as_std_does_at_2_and_3(rt: HostRuntime) -> Result<(), Fail> {
-    let test = Test::new(rt.alloc());
-    assert_at_limits(&test, rt.alloc(), &[Some(2), Some(3)]);
+    let test = Test::begin(rt);
+    assert_at_limits(&test, &[Some(2), Some(3)]);
     test.end()
 }
 
 #[test]
 fn replaces_as_std_does_at_4_and_5(rt: HostRuntime) -> Result<(), Fail> {
-    let test = Test::new(rt.alloc());
-    assert_at_limits(&test, rt.alloc(), &[Some(4), Some(5)]);
+    let test = Test::begin(rt);
+    assert_at_limits(&test, &[Some(4), Some(5)]);
     test.end()
 }
 
 #[test]
 fn replaces_as_std_does_at_6_and_7(rt: HostRuntime) -> Result<(), Fail> {
-    let test = Test::new(rt.alloc());
-    assert_at_limits(&test, rt.alloc(), &[Some(6), Some(7)]);
+    let test = Test::begin(rt);
+    assert_at_limits(&test, &[Some(6), Some(7)]);
     test.end()
 }
 
 #[test]
 fn replaces_as_std_does_at_8_and_9(rt: HostRuntime) -> Result<(), Fail> {
-    let test = Test::new(rt.alloc());
-    assert_at_limits(&test, rt.alloc(), &[Some(8), Some(9)]);
+    let test = Test::begin(rt);
+    assert_at_limits(&test, &[Some(8), Some(9)]);
     test.end()
 }
 
 #[test]
 fn replaces_all_as_std_does(rt: HostRuntime) -> Result<(), Fail> {
-    let test = Test::new(rt.alloc());
-    assert_at_limits(&test, rt.alloc(), &[None]);
+    let test = Test::begin(rt);
+    assert_at_limits(&test, &[None]);
     test.end()
 }

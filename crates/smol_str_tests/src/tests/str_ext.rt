@@ -6,7 +6,7 @@ use std::test::Fail;
 use test_support::test::{
     Test, holds, in_place, ok_string, ok_value, same_count, same_str, same_value,
 };
-use test_support::texts::{long_blank, long_capitals, long_text, repeated};
+use test_support::texts::{long_blank, long_capitals, long_text};
 
 /// A case call.
 #[derive(Clone, Copy, Debug)]
@@ -69,45 +69,44 @@ static ROWS: [(Call, &str, &str, Place); 15] = [
 // Upstream's rows are among these.
 #[test]
 fn test_str_ext(rt: HostRuntime) -> Result<(), Fail> {
-    let test = Test::new(rt.alloc());
+    let test = Test::begin(rt);
     for &(call, text, wanted, place) in &ROWS {
-        assert_answer(&test, rt.alloc(), call, text, wanted, place);
+        assert_answer(&test, call, text, wanted, place);
     }
-    assert_rows(&test, rt.alloc(), upstream_rows());
+    assert_rows(&test, upstream_rows());
     test.end()
 }
 
 #[test]
 fn long_rows(rt: HostRuntime) -> Result<(), Fail> {
-    let test = Test::new(rt.alloc());
-    let alloc = rt.alloc();
+    let test = Test::begin(rt);
     let (capitals, text, blank) = (long_capitals(), long_text(), long_blank());
-    assert_answer(&test, alloc, Call::AsciiLower, capitals, text, Place::Heap);
-    assert_answer(&test, alloc, Call::AsciiUpper, blank, blank, Place::Static);
-    assert_answer(&test, alloc, Call::Lower, blank, blank, Place::Static);
+    assert_answer(&test, Call::AsciiLower, capitals, text, Place::Heap);
+    assert_answer(&test, Call::AsciiUpper, blank, blank, Place::Static);
+    assert_answer(&test, Call::Lower, blank, blank, Place::Static);
     test.end()
 }
 
-fn assert_answer(test: &Test, alloc: Global, call: Call, text: &str, wanted: &str, place: Place) {
-    let value = ok_value(test, answer(alloc, call, text));
+fn assert_answer(test: &Test, call: Call, text: &str, wanted: &str, place: Place) {
+    let value = ok_value(test, answer(test.alloc, call, text));
     same_value(test, &value, wanted, place, &(call, text));
 }
 
 // A short text can become longer than the buffer, and a long one shorter.
 #[test]
 fn sizes_that_grow(rt: HostRuntime) -> Result<(), Fail> {
-    let test = Test::new(rt.alloc());
-    let text = ok_string(&test, repeated(rt.alloc(), "ΐ", INLINE_CAP / 2));
-    let upper = text.as_str().to_uppercase_smolstr(rt.alloc());
+    let test = Test::begin(rt);
+    let text = test.repeated("ΐ", INLINE_CAP / 2);
+    let upper = text.as_str().to_uppercase_smolstr(test.alloc);
     assert_size(&test, upper, 6 * (INLINE_CAP / 2), Place::Heap, "longer");
     test.end()
 }
 
 #[test]
 fn sizes_that_shrink(rt: HostRuntime) -> Result<(), Fail> {
-    let test = Test::new(rt.alloc());
-    let kelvins = ok_string(&test, repeated(rt.alloc(), "\u{212A}", INLINE_CAP / 3 + 1));
-    let lower = kelvins.as_str().to_lowercase_smolstr(rt.alloc());
+    let test = Test::begin(rt);
+    let kelvins = test.repeated("\u{212A}", INLINE_CAP / 3 + 1);
+    let lower = kelvins.as_str().to_lowercase_smolstr(test.alloc);
     assert_size(&test, lower, INLINE_CAP / 3 + 1, Place::Inline, "shorter");
     test.end()
 }
@@ -127,13 +126,13 @@ fn assert_size(
 // Each character that has a mapping: alone, between letters, and behind a text that is not short.
 #[test]
 fn maps_as_std_does(rt: HostRuntime) -> Result<(), Fail> {
-    let test = Test::new(rt.alloc());
-    let long = ok_string(&test, repeated(rt.alloc(), "A", INLINE_CAP));
+    let test = Test::begin(rt);
+    let long = test.repeated("A", INLINE_CAP);
     let mut mapped = 0u32;
     for number in 0x80..0x2FFFFu32 {
         if let Some(character) = char::from_u32(number) {
             if has_mapping(character) {
-                assert_mappings(&test, rt.alloc(), character, long.as_str());
+                assert_mappings(&test, character, long.as_str());
                 mapped = mapped.saturating_add(1);
             }
         }
@@ -148,7 +147,7 @@ fn has_mapping(character: char) -> bool {
     lower != Some(character) || upper != Some(character)
 }
 
-fn assert_mappings(test: &Test, alloc: Global, character: char, long: &str) {
+fn assert_mappings(test: &Test, character: char, long: &str) {
     let rows = [
         ("", ""),
         ("a", ""),
@@ -158,9 +157,9 @@ fn assert_mappings(test: &Test, alloc: Global, character: char, long: &str) {
         (long, "a"),
     ];
     for (before, after) in rows {
-        let text = ok_string(test, around(alloc, before, character, after));
-        assert_lowercase(test, alloc, text.as_str());
-        assert_uppercase(test, alloc, text.as_str());
+        let text = ok_string(test, around(test.alloc, before, character, after));
+        assert_lowercase(test, text.as_str());
+        assert_uppercase(test, text.as_str());
     }
 }
 
@@ -172,14 +171,14 @@ fn around(alloc: Global, before: &str, character: char, after: &str) -> Result<S
     Ok(text)
 }
 
-fn assert_lowercase(test: &Test, alloc: Global, text: &str) {
-    let value = ok_value(test, text.to_lowercase_smolstr(alloc));
-    let wanted = ok_string(test, text.to_lowercase(alloc));
+fn assert_lowercase(test: &Test, text: &str) {
+    let value = ok_value(test, text.to_lowercase_smolstr(test.alloc));
+    let wanted = ok_string(test, text.to_lowercase(test.alloc));
     same_str(test, value.as_str(), wanted.as_str(), text);
 }
 
-fn assert_uppercase(test: &Test, alloc: Global, text: &str) {
-    let value = ok_value(test, text.to_uppercase_smolstr(alloc));
-    let wanted = ok_string(test, text.to_uppercase(alloc));
+fn assert_uppercase(test: &Test, text: &str) {
+    let value = ok_value(test, text.to_uppercase_smolstr(test.alloc));
+    let wanted = ok_string(test, text.to_uppercase(test.alloc));
     same_str(test, value.as_str(), wanted.as_str(), text);
 }
