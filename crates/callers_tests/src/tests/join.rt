@@ -84,11 +84,7 @@ fn long_together(rt: HostRuntime) -> Result<(), Fail> {
 fn check_two(test: &Test, first: &str, second: &str, place: &str) {
     let input = ok_string(test, format!(in test.alloc; "{first}\n{second}"));
     let wanted = answer_to_two(test, place, first, second);
-    check_joined(
-        test,
-        input.as_str().as_bytes(),
-        wanted.as_str().as_bytes(),
-    )
+    check_joined(test, input.as_str().as_bytes(), wanted.as_str().as_bytes())
 }
 
 fn answer_to_two(test: &Test, place: &str, first: &str, second: &str) -> String {

@@ -108,11 +108,7 @@ fn at_the_limits(rt: HostRuntime) -> Result<(), Fail> {
 fn check_line(test: &Test, text: &str, place: &str) {
     let input = ok_string(test, joined(test.alloc, text, "\n"));
     let wanted = ok_string(test, answer(test.alloc, place, text));
-    check_shown(
-        test,
-        input.as_str().as_bytes(),
-        wanted.as_str().as_bytes(),
-    )
+    check_shown(test, input.as_str().as_bytes(), wanted.as_str().as_bytes())
 }
 
 // A line of 70,000 bytes, and an input of 200,000 in lines of 100.

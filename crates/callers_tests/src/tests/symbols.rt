@@ -82,6 +82,7 @@ impl Refusable for Intern {
     type Input = Symbols;
     /// The table, and the new id.
     type Made = (Symbols, usize);
+
     type Fault = Symbols;
 
     fn input(&self, test: &Test) -> Symbols {

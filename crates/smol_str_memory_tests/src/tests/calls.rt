@@ -108,7 +108,9 @@ struct Tried<'a> {
 
 impl Refusable for Tried<'_> {
     type Input = Thing;
+
     type Made = Thing;
+
     type Fault = Thing;
 
     fn input(&self, test: &Test) -> Thing {

@@ -226,7 +226,9 @@ struct Printed<'a, D> {
 
 impl<D: Display> Refusable for Printed<'_, D> {
     type Input = ();
+
     type Made = SmolStr;
+
     type Fault = FormatError;
 
     fn input(&self, _test: &Test) {}

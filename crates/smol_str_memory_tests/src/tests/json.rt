@@ -311,7 +311,9 @@ struct Tried<'a> {
 
 impl Refusable for Tried<'_> {
     type Input = ();
+
     type Made = Made;
+
     type Fault = JsonFault;
 
     fn input(&self, _test: &Test) {}

@@ -5,6 +5,7 @@ use smol_str::{FormatError, SmolStr, StrExt, ToSmolStr, format_smolstr};
 use std::alloc::AllocError;
 use std::test::Fail;
 use test_support::test::{Test, holds, is_so, ok, ok_string, ok_value, same_count, same_str};
+
 const LONG: usize = 70_000;
 
 /// The text so many times as makes it long.

@@ -99,7 +99,9 @@ struct Tried<'a> {
 
 impl Refusable for Tried<'_> {
     type Input = ();
+
     type Made = SmolStr;
+
     type Fault = AllocError;
 
     fn input(&self, _test: &Test) {}

@@ -118,7 +118,9 @@ struct Tried<'a> {
 
 impl Refusable for Tried<'_> {
     type Input = ();
+
     type Made = Made;
+
     type Fault = Kind;
 
     fn input(&self, _test: &Test) {}

@@ -216,7 +216,9 @@ struct Build<'a> {
 
 impl Refusable for Build<'_> {
     type Input = Vec<Step>;
+
     type Made = SmolStr;
+
     type Fault = AllocError;
 
     fn input(&self, test: &Test) -> Vec<Step> {
@@ -261,7 +263,9 @@ struct PushTwoBytes<'a> {
 
 impl Refusable for PushTwoBytes<'_> {
     type Input = SmolStrBuilder;
+
     type Made = SmolStrBuilder;
+
     type Fault = SmolStrBuilder;
 
     fn input(&self, test: &Test) -> SmolStrBuilder {
@@ -298,7 +302,11 @@ fn assert_comes_back(test: &Test, text: &str, back: &SmolStrBuilder) {
     is_so(test, back.inline_buffer().is_some(), text);
     refuse_all(test.alloc);
     let value = ok_value(test, with_a_byte_more(back));
-    is_so(test, !end_refusals(test.alloc), "a byte more takes no memory");
+    is_so(
+        test,
+        !end_refusals(test.alloc),
+        "a byte more takes no memory",
+    );
     assert_a_byte_more(test, &value, text)
 }
 

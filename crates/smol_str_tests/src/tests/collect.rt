@@ -231,18 +231,8 @@ fn characters(rt: HostRuntime) -> Result<(), Fail> {
     let test = Test::begin(rt);
     assert_collected(&test, "                        ", 24, Place::Inline);
     assert_collected(&test, long_blank(), INLINE_CAP + 1, Place::Static);
-    assert_wide(
-        &test,
-        FILL[INLINE_CAP % 3],
-        INLINE_CAP,
-        Place::Inline,
-    );
-    assert_wide(
-        &test,
-        MORE[INLINE_CAP % 3],
-        INLINE_CAP + 2,
-        Place::Heap,
-    );
+    assert_wide(&test, FILL[INLINE_CAP % 3], INLINE_CAP, Place::Inline);
+    assert_wide(&test, MORE[INLINE_CAP % 3], INLINE_CAP + 2, Place::Heap);
     test.end()
 }
 
@@ -456,13 +446,7 @@ fn assert_hinted_letters(test: &Test, letters: usize, lower: usize) {
     assert_hinted(test, &pieces, lower, text.as_str(), Place::Heap)
 }
 
-fn assert_hinted(
-    test: &Test,
-    pieces: &[&str],
-    lower: usize,
-    text: &str,
-    place: Place,
-) {
+fn assert_hinted(test: &Test, pieces: &[&str], lower: usize, text: &str, place: Place) {
     let strings = ok_strings(test, strings_of(test.alloc, pieces));
     for call in CALLS {
         let made = made_with_hint(test.alloc, call, pieces, strings.as_slice(), lower);

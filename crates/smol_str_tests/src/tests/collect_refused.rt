@@ -52,6 +52,7 @@ struct Items<'a, 'w> {
 
 impl Refusable for Items<'_, '_> {
     type Input = Vec<String>;
+
     type Made = SmolStr;
     /// The builder that the call leaves, where it extends one.
     type Fault = Option<SmolStrBuilder>;

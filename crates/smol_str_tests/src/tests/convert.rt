@@ -241,6 +241,7 @@ struct FromBorrowed;
 
 impl Refusable for FromBorrowed {
     type Input = ();
+
     type Made = SmolStr;
     /// Whether the text came back.
     type Fault = bool;
@@ -300,7 +301,9 @@ struct IntoString<'a> {
 
 impl Refusable for IntoString<'_> {
     type Input = SmolStr;
+
     type Made = String;
+
     type Fault = SmolStr;
 
     fn input(&self, test: &Test) -> SmolStr {
