@@ -64,6 +64,11 @@ impl Test {
         ok_string(self, repeated(self.alloc, text, times))
     }
 
+    /// Appends an item.
+    pub fn push<T: Drop>(&self, list: &mut Vec<T>, item: T) {
+        is_so(self, list.push(item).is_ok(), "an item");
+    }
+
     /// The test's result: its first wrong row, where there is one.
     pub fn end(self) -> Result<(), Fail> {
         let Test { alloc: _, wrong } = self;

@@ -46,10 +46,16 @@ fn check_value<S: BuildHasher>(
     name: &str,
     wanted: Option<&str>,
 ) {
-    let is_so = match (headers.get(test.alloc, name), wanted) {
-        (Ok(Some(found)), Some(wanted)) => found.as_str() == wanted,
-        (Ok(None), None) => true,
+    match headers.get(test.alloc, name) {
+        Ok(found) => holds(test, is_value(found, wanted), &(name, wanted)),
+        Err(fault) => holds(test, false, &fault),
+    }
+}
+
+fn is_value(found: Option<&SmolStr>, wanted: Option<&str>) -> bool {
+    match (found, wanted) {
+        (Some(found), Some(wanted)) => found.as_str() == wanted,
+        (None, None) => true,
         _ => false,
-    };
-    holds(test, is_so, &(name, wanted));
+    }
 }

@@ -1,7 +1,7 @@
 //! Sorted names, in the order of their characters.
 use smol_str::SmolStr;
 use std::test::Fail;
-use test_support::test::{Test, holds, is_so, ok, same_count};
+use test_support::test::{Test, holds, ok, same_count};
 use uses::ordered::sorted_union;
 
 #[test]
@@ -28,11 +28,7 @@ fn check_texts(test: &Test, values: &[SmolStr], texts: &[&str]) {
 fn values(test: &Test, texts: &[&str]) -> Vec<SmolStr> {
     let mut values = Vec::new(test.alloc);
     for text in texts {
-        push(test, &mut values, test.value(text));
+        test.push(&mut values, test.value(text));
     }
     values
-}
-
-fn push(test: &Test, values: &mut Vec<SmolStr>, value: SmolStr) {
-    is_so(test, values.push(value).is_ok(), "a value");
 }

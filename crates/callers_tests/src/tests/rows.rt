@@ -5,7 +5,7 @@ use smol_str::INLINE_CAP;
 use smol_tokens_core::run::run;
 use std::alloc::{AllocError, Global};
 use test_support::state::fixed_state;
-use test_support::test::{Test, is_so, ok_bytes, ok_string};
+use test_support::test::{Test, ok_bytes, ok_string};
 use test_support::texts::{full_text, joined, long_blank, long_capitals, long_text, repeated_and};
 
 /// The words of a mode.
@@ -152,7 +152,7 @@ fn push_row(test: &Test, all: &mut Vec<Row>, words: Words, input: &[u8], report:
         input: ok_bytes(test, Vec::from_slice(test.alloc, input)),
         report: ok_bytes(test, Vec::from_slice(test.alloc, report)),
     };
-    is_so(test, all.push(row).is_ok(), "a row");
+    test.push(all, row);
 }
 
 /// The line that says where a text is kept, its size, and the text.

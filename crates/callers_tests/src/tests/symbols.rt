@@ -98,11 +98,16 @@ impl Refusable for Intern {
 
     fn check(&self, test: &Test, ended: Result<(Symbols, usize), Symbols>) {
         match ended {
-            Ok((mut symbols, id)) => {
+            Ok((symbols, id)) => {
                 same_id(test, Some(id), Some(1), "the new name");
-                check_id(test, &mut symbols, "else", 2)
+                check_next(test, symbols, 2)
             }
-            Err(mut symbols) => check_id(test, &mut symbols, "else", 1),
+            Err(symbols) => check_next(test, symbols, 1),
         }
     }
+}
+
+/// The table's next name has this id.
+fn check_next(test: &Test, mut symbols: Symbols, id: usize) {
+    check_id(test, &mut symbols, "else", id)
 }

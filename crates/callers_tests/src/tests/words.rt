@@ -10,13 +10,9 @@ use test_support::test::{Test, holds, is_so, same_str};
 fn strings(test: &Test, words: &[&str]) -> Vec<String> {
     let mut all = Vec::new(test.alloc);
     for word in words {
-        push_word(test, &mut all, test.string(word));
+        test.push(&mut all, test.string(word));
     }
     all
-}
-
-fn push_word(test: &Test, all: &mut Vec<String>, word: String) {
-    is_so(test, all.push(word).is_ok(), "a word");
 }
 
 /// The mode that these words ask for.

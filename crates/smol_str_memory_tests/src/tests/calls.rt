@@ -40,12 +40,16 @@ fn requests(rt: HostRuntime) -> Result<(), Fail> {
     let texts = long_texts(&test);
     let is_counted = count_blocks(test.alloc) > 0;
     same_flag(&test, is_counted, can_refuse(test.alloc), "blocks");
+    check_rows(&test, &texts);
+    test.end()
+}
+
+fn check_rows(test: &Test, texts: &Texts) {
     for rows in &TABLES {
         for row in *rows {
-            check_row(&test, &texts, row);
+            check_row(test, texts, row);
         }
     }
-    test.end()
 }
 
 /// No text, where a full buffer makes no request; a text that fills a buffer; a blank run; and texts that are not

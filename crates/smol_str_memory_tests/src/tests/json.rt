@@ -324,15 +324,20 @@ impl Refusable for Tried<'_> {
 
     /// What is made with ample memory, in its place, or out of memory.
     fn check(&self, test: &Test, made: Result<Made, JsonFault>) {
-        let ample = self.ample;
         let is_so = match &made {
-            Ok(Made::Value(value)) => *value == ample.value && value.place() == ample.value.place(),
-            Ok(Made::String(string)) => *string == ample.string,
-            Ok(Made::Json(json)) => json.as_str() == ample.json.as_str(),
+            Ok(made) => is_as(made, self.ample),
             Err(fault) => matches!(fault, JsonFault::OutOfMemory),
         };
         let why = "makes something else, or tells another fault";
         holds(test, is_so, &(self.name, why));
+    }
+}
+
+fn is_as(made: &Made, ample: &Ample) -> bool {
+    match made {
+        Made::Value(value) => *value == ample.value && value.place() == ample.value.place(),
+        Made::String(string) => *string == ample.string,
+        Made::Json(json) => json.as_str() == ample.json.as_str(),
     }
 }
 

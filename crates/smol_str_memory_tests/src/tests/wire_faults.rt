@@ -7,7 +7,7 @@ use smol_str::{INLINE_CAP, SmolStr};
 use std::io::ErrorKind;
 use std::test::Fail;
 use test_support::streams::{STEPS, trickle_of};
-use test_support::test::{Test, holds, ok, ok_bytes};
+use test_support::test::{Test, holds, ok_bytes};
 use test_support::texts::ABOVE_BUFFERS;
 
 /// A fault of reading a wire form, without what it tells of it.
@@ -78,7 +78,7 @@ fn borsh_non_utf8_heap(rt: HostRuntime) -> Result<(), Fail> {
     assert_refused(&test, NOISE, Kind::NotUtf8, 0);
     for size in [INLINE_CAP as u32 + 1, 64] {
         let mut bytes = ok_bytes(&test, letters(test.alloc, size, size.saturating_sub(1)));
-        ok(&test, bytes.push(0xff));
+        test.push(&mut bytes, 0xff);
         assert_refused(&test, bytes.as_slice(), Kind::NotUtf8, 0);
     }
     test.end()
@@ -105,7 +105,7 @@ fn long_bodies(rt: HostRuntime) -> Result<(), Fail> {
         let count = size.saturating_sub(1) as u32;
         let mut bytes = ok_bytes(&test, letters(test.alloc, size as u32, count));
         assert_long_refused(&test, bytes.as_slice(), Kind::Ended);
-        ok(&test, bytes.push(0xff));
+        test.push(&mut bytes, 0xff);
         assert_long_refused(&test, bytes.as_slice(), Kind::NotUtf8);
     }
     test.end()

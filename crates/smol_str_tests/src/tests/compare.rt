@@ -182,7 +182,7 @@ fn built(alloc: Global) -> Option<SmolStr> {
 
 /// A test fails where there is no value.
 fn add(test: &Test, values: &mut Vec<SmolStr>, made: Option<SmolStr>) {
-    ok(test, values.push(ok(test, made.ok_or("no value"))));
+    test.push(values, ok(test, made.ok_or("no value")));
 }
 
 fn assert_equals_all(test: &Test, left: &SmolStr, values: &[SmolStr]) {

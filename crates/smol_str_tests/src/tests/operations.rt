@@ -20,19 +20,9 @@ const TIMES: usize = 20;
 fn texts(test: &Test, character: &str) -> Vec<String> {
     let mut list = Vec::new(test.alloc);
     for size in 0..TEXTS {
-        ok(test, add_text(test.alloc, &mut list, character, size));
+        test.push(&mut list, test.repeated(character, size));
     }
     list
-}
-
-fn add_text(
-    alloc: Global,
-    list: &mut Vec<String>,
-    character: &str,
-    size: usize,
-) -> Result<(), AllocError> {
-    list.push(repeated(alloc, character, size)?)?;
-    Ok(())
 }
 
 /// The values of such texts.
@@ -44,14 +34,9 @@ fn values(test: &Test) -> Vec<SmolStr> {
 fn values_of(test: &Test, texts: &[String]) -> Vec<SmolStr> {
     let mut list = Vec::new(test.alloc);
     for text in texts {
-        ok(test, add_value(test.alloc, &mut list, text.as_str()));
+        test.push(&mut list, test.value(text.as_str()));
     }
     list
-}
-
-fn add_value(alloc: Global, list: &mut Vec<SmolStr>, text: &str) -> Result<(), AllocError> {
-    list.push(SmolStr::new(alloc, text)?)?;
-    Ok(())
 }
 
 /// What is counted on an item of a list. A trait, since a function that is passed is proved once more in each way to call it.
@@ -483,7 +468,7 @@ fn forms(test: &Test) -> Vec<Vec<u8>> {
 fn forms_of(test: &Test, list: &[SmolStr]) -> Vec<Vec<u8>> {
     let mut forms = Vec::new(test.alloc);
     for value in list {
-        ok(test, forms.push(ok(test, form_of(test.alloc, value))));
+        test.push(&mut forms, ok(test, form_of(test.alloc, value)));
     }
     forms
 }
