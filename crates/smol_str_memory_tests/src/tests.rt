@@ -2,6 +2,7 @@
 //! refused.
 
 mod calls;
+mod faulty_calls;
 mod format;
 mod json;
 mod long_texts;

@@ -5,8 +5,9 @@
 //! the same tests then run with ample memory, and every count is 0.
 ghost use Rattle.std.specs.Prelude.{◌<◌};
 
-use crate::test::{Test, holds};
+use crate::test::{Test, holds, same};
 use std::alloc::Global;
+use std::fmt::Debug;
 
 /// Requests from here up are messages to `.ci/refuse.c`: message k is `BASE + k * WORD`, plus its
 /// argument.
@@ -136,6 +137,11 @@ fn run_refused<C: Refusable>(
     holds(test, gave_up || !was_refused, &(name, "hides a refusal"));
     holds(test, count_blocks(alloc) == 0, &(name, "leaks"));
     if was_refused { None } else { Some(asked) }
+}
+
+/// There were requests, where they are counted.
+pub fn made_requests(test: &Test, asked: Asked, row: &impl Debug) {
+    same(test, &(asked.requests > 0), &can_refuse(test.alloc), row);
 }
 
 /// What was asked for since the counts began.

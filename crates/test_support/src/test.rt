@@ -69,10 +69,15 @@ impl Test {
         is_so(self, list.push(item).is_ok(), "an item");
     }
 
+    /// The first wrong row, where there is one.
+    pub fn first_wrong(self) -> Option<InlineText<TOLD>> {
+        let Test { alloc: _, wrong } = self;
+        wrong.into_inner()
+    }
+
     /// The test's result: its first wrong row, where there is one.
     pub fn end(self) -> Result<(), Fail> {
-        let Test { alloc: _, wrong } = self;
-        match wrong.into_inner() {
+        match self.first_wrong() {
             Some(row) => Err(Fail::new(row.as_str())),
             None => Ok(()),
         }

@@ -1,7 +1,7 @@
 //! The symbol table: the ids of names that come again, look-ups without memory, and memory refused.
 use std::alloc::Global;
 use std::test::Fail;
-use test_support::refuse::{Refusable, can_refuse, each_refused, end_refusals, refuse_all};
+use test_support::refuse::{Refusable, each_refused, end_refusals, made_requests, refuse_all};
 use test_support::state::{FixedState, fixed_state};
 use test_support::test::{Test, holds, is_so};
 use test_support::texts::long_text;
@@ -63,8 +63,7 @@ fn found_without_memory(rt: HostRuntime) -> Result<(), Fail> {
 fn each_request_in_turn(rt: HostRuntime) -> Result<(), Fail> {
     let test = Test::begin(rt);
     let asked = each_refused(&test, "Symbols::intern", &Intern);
-    let is_met = asked.requests > 0;
-    is_so(&test, is_met == can_refuse(test.alloc), "requests");
+    made_requests(&test, asked, &"Symbols::intern");
     test.end()
 }
 

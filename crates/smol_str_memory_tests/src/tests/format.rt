@@ -6,7 +6,8 @@ use std::alloc::{AllocError, Global};
 use std::fmt::{self, Display, Formatter, Write};
 use std::test::Fail;
 use test_support::refuse::{
-    Refusable, can_refuse, count_requests, each_refused, end_refusals, refuse_all, start_counts,
+    Asked, Refusable, count_requests, each_refused, end_refusals, made_requests, refuse_all,
+    start_counts,
 };
 use test_support::test::{
     Test, holds, ok, ok_string, same_count, same_flag, same_place, same_text,
@@ -212,9 +213,9 @@ fn print_pieces(builder: &mut SmolStrBuilder) -> fmt::Result {
     write!(builder, "{:>3}", 7)
 }
 
-/// With each request refused in turn there is the whole text or none; returns how many requests there were.
-fn whole_requests<D: Display>(test: &Test, value: &D, text: &str) -> u32 {
-    each_refused(test, "to_smolstr", &Printed { value, text }).requests
+/// With each request refused in turn there is the whole text or none. Returns what was asked for.
+fn whole_or_none<D: Display>(test: &Test, value: &D, text: &str) -> Asked {
+    each_refused(test, "to_smolstr", &Printed { value, text })
 }
 
 /// `to_smolstr` of what prints the text.
@@ -248,8 +249,8 @@ impl<D: Display> Refusable for Printed<'_, D> {
 fn two_pieces(rt: HostRuntime) -> Result<(), Fail> {
     let test = Test::begin(rt);
     let pieces = TwoPieces("ab", "c");
-    let requests = whole_requests(&test, &pieces, "abc");
-    same_count(&test, requests as usize, 0, "short");
+    let asked = whole_or_none(&test, &pieces, "abc");
+    same_count(&test, asked.requests as usize, 0, "short");
     assert_value(&test, pieces.to_smolstr(test.alloc), "abc", Place::Inline);
     assert_above_short(&test);
     test.end()
@@ -257,16 +258,10 @@ fn two_pieces(rt: HostRuntime) -> Result<(), Fail> {
 
 fn assert_above_short(test: &Test) {
     let whole = ok_string(test, repeated_and(test.alloc, "a", INLINE_CAP, "b"));
-    let requests = whole_requests(test, &TwoPieces(full_text(), "b"), whole.as_str());
-    assert_makes_requests(test, requests, "a byte more than short");
+    let asked = whole_or_none(test, &TwoPieces(full_text(), "b"), whole.as_str());
+    made_requests(test, asked, &"a byte more than short");
     let long = test.repeated("a", 5000);
-    let requests = whole_requests(test, &long, long.as_str());
-    assert_makes_requests(test, requests, "long")
-}
-
-/// There are requests, where they are counted.
-fn assert_makes_requests(test: &Test, requests: u32, row: &str) {
-    same_flag(test, requests > 0, can_refuse(test.alloc), row);
+    made_requests(test, whole_or_none(test, &long, long.as_str()), &"long")
 }
 
 // Not only Ok, but with no request at all.

@@ -4,7 +4,9 @@ use smol_str::{Place, SmolStr, StrExt};
 use std::alloc::{AllocError, Global};
 use std::test::Fail;
 use test_support::by_std::{Asks, asked_by_all};
-use test_support::refuse::{Asked, Refusable, can_refuse, each_refused, end_refusals, refuse_all};
+use test_support::refuse::{
+    Asked, Refusable, each_refused, end_refusals, made_requests, refuse_all,
+};
 use test_support::test::{Test, in_place, ok_string, ok_value, same_flag, same_text};
 use test_support::texts::{full_text, joined, long_text, repeated};
 
@@ -80,7 +82,7 @@ fn check_refused(test: &Test, front: &str, end: &str, call: Call, text: &str) {
 /// The call makes requests, and asks for one copy where it is made in one; the value keeps its text and no more.
 fn check_asked(test: &Test, tried: &Tried<'_>, asked: Asked) {
     let name = tried.name;
-    same_flag(test, asked.requests > 0, can_refuse(test.alloc), name);
+    made_requests(test, asked, &name);
     held_exactly(test, asked.held, tried.ample, name);
     if is_one_copy(tried.call) && tried.text.is_ascii() {
         let wanted = asked_by_all(test, ONE_COPY, tried.text);

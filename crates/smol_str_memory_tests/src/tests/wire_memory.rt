@@ -14,7 +14,8 @@ use std::test::Fail;
 use test_support::by_std::{SHARED, asked_by_all, is_asked};
 use test_support::held::is_exact;
 use test_support::refuse::{
-    Asked, Refusable, can_refuse, count_bytes, each_refused, end_refusals, refuse_all, start_counts,
+    Asked, Refusable, count_bytes, each_refused, end_refusals, made_requests, refuse_all,
+    start_counts,
 };
 use test_support::streams::{Trickle, trickle_of};
 use test_support::test::{
@@ -175,17 +176,12 @@ fn assert_requests(test: &Test, count: u32) {
 /// The call asks for memory, and the value keeps its text alone; bytes at hand are copied once, as std copies a shared text.
 fn assert_asked(test: &Test, call: Call, form: &[u8], text: &str) {
     let asked = call_refused(test, call, form, text.as_bytes());
-    assert_makes_requests(test, asked, &(call, text.len()));
+    made_requests(test, asked, &(call, text.len()));
     assert_exact(test, asked, text, call);
     if matches!(call, Call::FromWire | Call::SplitWire) {
         let wanted = asked_by_all(test, SHARED, text);
         holds(test, is_asked(asked, wanted), &(call, text.len()));
     }
-}
-
-/// A call that needs memory asks for it, where requests are counted.
-fn assert_makes_requests(test: &Test, asked: Asked, row: &(Call, usize)) {
-    same(test, &(asked.requests > 0), &can_refuse(test.alloc), row);
 }
 
 /// What is held is the text alone.
@@ -209,7 +205,7 @@ fn each_request_of_reading(rt: HostRuntime) -> Result<(), Fail> {
 
 fn assert_reading_asks(test: &Test, call: Call, bytes: &[u8]) {
     let asked = call_refused(test, call, bytes, bytes);
-    assert_makes_requests(test, asked, &(call, bytes.len()));
+    made_requests(test, asked, &(call, bytes.len()));
 }
 
 // A text of 24 bytes, in a wire form that was written when it lay on the heap, and the longest short text.

@@ -6,10 +6,10 @@ use smol_str::{INLINE_CAP, Place, SmolStr, SmolStrBuilder, Step, build};
 use std::alloc::{AllocError, Global};
 use std::test::Fail;
 use test_support::builders::builder_of;
-use test_support::refuse::{Refusable, can_refuse, each_refused, end_refusals, refuse_all};
+use test_support::refuse::{Refusable, each_refused, end_refusals, made_requests, refuse_all};
 use test_support::test::{
-    Test, has_text, holds, in_place, is_so, ok, ok_string, ok_value, same, same_count, same_flag,
-    same_str, same_value,
+    Test, has_text, holds, in_place, is_so, ok, ok_string, ok_value, same, same_count, same_str,
+    same_value,
 };
 use test_support::texts::{repeated, repeated_and};
 
@@ -202,7 +202,7 @@ fn steps_refused(rt: HostRuntime) -> Result<(), Fail> {
             pieces,
             whole: whole.as_str(),
         };
-        assert_asks(&test, "build", &call);
+        made_requests(&test, each_refused(&test, "build", &call), &"build");
     }
     test.end()
 }
@@ -245,14 +245,8 @@ fn refused_at_the_boundary(rt: HostRuntime) -> Result<(), Fail> {
         text: text.as_str(),
     };
     let name = "push_str of two bytes where one is left";
-    assert_asks(&test, name, &call);
+    made_requests(&test, each_refused(&test, name, &call), &name);
     test.end()
-}
-
-/// A call makes requests, where memory can be refused.
-fn assert_asks<C: Refusable>(test: &Test, name: &str, call: &C) {
-    let asked = each_refused(test, name, call);
-    same_flag(test, asked.requests > 0, can_refuse(test.alloc), name);
 }
 
 /// Two bytes appended to a builder of the text, which comes back where they are refused.

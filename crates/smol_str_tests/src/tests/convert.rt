@@ -4,7 +4,7 @@ use std::alloc::{AllocError, Global};
 use std::borrow::CowStr;
 use std::rc::RcStr;
 use std::test::Fail;
-use test_support::refuse::{Asked, Refusable, can_refuse, each_refused};
+use test_support::refuse::{Refusable, each_refused, made_requests};
 use test_support::test::{
     Test, has_text, holds, in_place, is_so, of_shared, ok, same, same_count, same_str,
 };
@@ -231,7 +231,7 @@ fn assert_place_of_shared(test: &Test, text: &str, place: Place) {
 fn refused_borrowed_text_comes_back(rt: HostRuntime) -> Result<(), Fail> {
     let test = Test::begin(rt);
     let asked = each_refused(&test, "from_cow_str", &FromBorrowed);
-    assert_asks(&test, asked);
+    made_requests(&test, asked, &"from_cow_str");
     test.end()
 }
 
@@ -263,15 +263,6 @@ impl Refusable for FromBorrowed {
     }
 }
 
-/// A call made requests, where memory can be refused.
-fn assert_asks(test: &Test, asked: Asked) {
-    is_so(
-        test,
-        (asked.requests > 0) == can_refuse(test.alloc),
-        "requests",
-    );
-}
-
 // A value on the heap that comes back still has the shared text that it was made of.
 #[test]
 fn refused_value_keeps_its_shared_text(rt: HostRuntime) -> Result<(), Fail> {
@@ -287,7 +278,7 @@ fn assert_keeps(test: &Test, len: usize) {
     match RcStr::from_str(test.alloc, text.as_str()) {
         Ok(shared) => {
             let call = IntoString { shared: &shared };
-            assert_asks(test, each_refused(test, "into_string", &call))
+            made_requests(test, each_refused(test, "into_string", &call), &len)
         }
         Err(fault) => test.fail(&fault),
     }

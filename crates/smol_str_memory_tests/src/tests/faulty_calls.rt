@@ -1,0 +1,94 @@
+//! Calls that do wrong where memory is refused: each fails its test.
+use std::alloc::{AllocError, Global};
+use std::cell::Cell;
+use std::test::Fail;
+use test_support::refuse::{Refusable, can_refuse, each_refused};
+use test_support::test::{Test, holds};
+
+/// What a call does wrong.
+#[derive(Clone, Copy, PartialEq, Eq, Debug)]
+enum Mistake {
+    HidesARefusal,
+    GivesUp,
+    AsksAgain,
+    Leaks,
+}
+
+const ALL: [(Mistake, &str); 4] = [
+    (Mistake::HidesARefusal, "hides a refusal"),
+    (Mistake::GivesUp, "gives up unrefused"),
+    (Mistake::AsksAgain, "makes a request after a refusal"),
+    (Mistake::Leaks, "leaks"),
+];
+
+// Where memory cannot be refused, only a call that gives up is known.
+#[test]
+fn each_faulty_call_is_seen(rt: HostRuntime) -> Result<(), Fail> {
+    let test = Test::begin(rt);
+    for (mistake, told) in ALL {
+        let is_known = can_refuse(test.alloc) || mistake == Mistake::GivesUp;
+        check_told(&test, mistake, is_known, told);
+    }
+    test.end()
+}
+
+/// The test of the call fails, and its first wrong row tells why.
+fn check_told(test: &Test, mistake: Mistake, is_known: bool, told: &str) {
+    let tried = Test::new(test.alloc);
+    let call = FaultyCall {
+        mistake,
+        kept: Cell::new(None),
+    };
+    each_refused(&tried, "a call", &call);
+    let is_told = match tried.first_wrong() {
+        Some(row) => row.as_str().contains(told),
+        None => false,
+    };
+    holds(test, is_told == is_known, &mistake);
+}
+
+/// A call that asks for memory, and makes this mistake.
+#[derive(Drop)]
+struct FaultyCall {
+    mistake: Mistake,
+    kept: Cell<Option<String>>,
+}
+
+impl Refusable for FaultyCall {
+    type Input = ();
+
+    type Made = ();
+
+    type Fault = AllocError;
+
+    fn input(&self, _test: &Test) {}
+
+    fn call(&self, alloc: Global, _input: ()) -> Result<(), AllocError> {
+        match String::with_capacity(alloc, 1) {
+            Ok(text) => self.end(text),
+            Err(fault) => self.end_refused(alloc, fault),
+        }
+    }
+
+    fn check(&self, _test: &Test, _ended: Result<(), AllocError>) {}
+}
+
+impl FaultyCall {
+    fn end(&self, text: String) -> Result<(), AllocError> {
+        match self.mistake {
+            Mistake::GivesUp => return Err(AllocError),
+            Mistake::Leaks => self.kept.set(Some(text)),
+            _ => {}
+        }
+        Ok(())
+    }
+
+    fn end_refused(&self, alloc: Global, fault: AllocError) -> Result<(), AllocError> {
+        match self.mistake {
+            Mistake::HidesARefusal => return Ok(()),
+            Mistake::AsksAgain => drop(String::with_capacity(alloc, 1)),
+            _ => {}
+        }
+        Err(fault)
+    }
+}
