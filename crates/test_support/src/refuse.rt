@@ -94,7 +94,8 @@ pub trait Refusable {
 /// meets none. Returns what the call asks for where nothing is refused.
 ///
 /// A run fails the test where the call is `Ok` although a request was refused, where it is `Err` although none was, where
-/// it makes another request after one that was refused, and where a block of memory is left once all is dropped.
+/// it makes another request after one that was refused, and where a block of memory is left once all is dropped. So do two
+/// runs of which one is refused and the other is not, and a call that is refused in each of `MOST` runs.
 pub fn each_refused<C: Refusable>(test: &Test, name: &str, call: &C) -> Asked {
     for nth in 1..MOST {
         let alone = run_refused(test, name, Refusals::One(nth), call);

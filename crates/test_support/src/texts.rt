@@ -81,16 +81,19 @@ pub fn small_texts(alloc: Global, longest: usize) -> Result<Vec<String>, AllocEr
     for _ in 0..longest {
         let end = texts.len();
         for at in begin..end {
-            for character in ['a', 'b', 'é'] {
-                let mut text = String::new(alloc);
-                if let Some(shorter) = texts.get(at) {
-                    text.push_str(shorter.as_str())?;
-                }
-                text.push(character)?;
-                texts.push(text)?;
-            }
+            push_longer(alloc, &mut texts, at)?;
         }
         begin = end;
     }
     Ok(texts)
+}
+
+/// Appends the texts that are the one at an index and a character.
+fn push_longer(alloc: Global, texts: &mut Vec<String>, at: usize) -> Result<(), AllocError> {
+    for character in ["a", "b", "é"] {
+        let shorter = texts.get(at).map_or("", String::as_str);
+        let longer = joined(alloc, shorter, character)?;
+        texts.push(longer)?;
+    }
+    Ok(())
 }

@@ -19,7 +19,7 @@ fn the_same_of_a_peer(rt: HostRuntime) -> Result<(), Fail> {
     let test = Test::new(rt.alloc());
     match headers_of_peer(test.alloc, &rt) {
         Ok(mut headers) => check_headers(&test, &mut headers),
-        Err(fault) => holds(&test, false, &fault),
+        Err(fault) => test.fail(&fault),
     }
     test.end()
 }
@@ -48,7 +48,7 @@ fn check_value<S: BuildHasher>(
 ) {
     match headers.get(test.alloc, name) {
         Ok(found) => holds(test, is_value(found, wanted), &(name, wanted)),
-        Err(fault) => holds(test, false, &fault),
+        Err(fault) => test.fail(&fault),
     }
 }
 

@@ -239,7 +239,7 @@ fn count_calls(test: &Test, call: Call, form: &[u8], step: usize, fails_at: usiz
 fn assert_reads(test: &Test, read: Result<Vec<u8>, Kind>, wanted: &[u8], row: &Row) {
     match read {
         Ok(all) => row_holds(test, all.as_slice() == wanted, row),
-        Err(kind) => holds(test, false, &(kind, row)),
+        Err(kind) => test.fail(&(kind, row)),
     }
 }
 

@@ -473,7 +473,7 @@ fn assert_made(
 ) {
     match made {
         Ok(value) => same_value(test, &value, text, place, &row),
-        Err(_) => holds(test, false, &row),
+        Err(_) => test.fail(&row),
     }
 }
 

@@ -1,5 +1,5 @@
 //! Values in containers.
-use smol_str::{Place, SmolStr};
+use smol_str::{Place, SmolStr, SmolStrBuilder};
 use std::alloc::{AllocError, Global};
 use std::collections::{BTreeMap, HashMap};
 use std::test::Fail;
@@ -17,12 +17,16 @@ fn keys_of_maps(rt: HostRuntime) -> Result<(), Fail> {
     let test = Test::new(alloc);
     same_count(&test, map.len(), texts().len(), "entries");
     for (place, text) in texts().iter().enumerate() {
-        let key = SmolStr::new_static(text);
-        same(&test, &map.get(&key).copied(), &Some(place), &key);
+        let found = map.get(&SmolStr::new_static(text)).copied();
+        same_entry(&test, found, Some(place), text);
     }
-    let missing = map.get(&SmolStr::new_inline("aa"));
-    is_so(&test, missing.is_none(), "aa");
+    let missing = map.get(&SmolStr::new_inline("aa")).copied();
+    same_entry(&test, missing, None, "aa");
     test.end()
+}
+
+fn same_entry(test: &Test, found: Option<usize>, wanted: Option<usize>, text: &str) {
+    same(test, &found, &wanted, &text);
 }
 
 #[test]
@@ -32,8 +36,8 @@ fn keys_of_sorted_maps(rt: HostRuntime) -> Result<(), Fail> {
     let test = Test::new(alloc);
     same_count(&test, map.len(), texts().len(), "entries");
     for (place, text) in texts().iter().enumerate() {
-        let key = SmolStr::new_static(text);
-        same(&test, &map.get(&key).copied(), &Some(place), &key);
+        let found = map.get(&SmolStr::new_static(text)).copied();
+        same_entry(&test, found, Some(place), text);
     }
     test.end()
 }
@@ -63,7 +67,7 @@ fn test_search_in_hashmap(rt: HostRuntime) -> Result<(), Fail> {
     let key = test.value("aaa");
     is_so(&test, map.insert(key, 17).is_ok(), "insert");
     let found = map.get(&SmolStr::new_inline("aaa")).copied();
-    same(&test, &found, &Some(17), &"aaa");
+    same_entry(&test, found, Some(17), "aaa");
     test.end()
 }
 
@@ -97,16 +101,25 @@ fn values_of(alloc: Global) -> Result<Vec<SmolStr>, AllocError> {
 #[test]
 fn clones_of_lists_of_builders(rt: HostRuntime) -> Result<(), Fail> {
     let test = Test::begin(rt);
+    let builders = builders(&test);
+    let copies = ok(&test, builders.clone());
+    assert_copied(&test, copies.as_slice(), builders.as_slice());
+    test.end()
+}
+
+fn builders(test: &Test) -> Vec<SmolStrBuilder> {
     let mut builders = Vec::new(test.alloc);
     for text in texts() {
-        ok(&test, builders.push(test.builder(0, text)));
+        test.push(&mut builders, test.builder(0, text));
     }
-    let copies = ok(&test, builders.clone());
-    same_count(&test, copies.len(), builders.len(), "builders");
-    for (copy, builder) in copies.iter().zip(builders.iter()) {
-        same_str(&test, copy.as_str(), builder.as_str(), "builders");
+    builders
+}
+
+fn assert_copied(test: &Test, copies: &[SmolStrBuilder], builders: &[SmolStrBuilder]) {
+    same_count(test, copies.len(), builders.len(), "builders");
+    for (copy, builder) in copies.iter().zip(builders) {
+        same_str(test, copy.as_str(), builder.as_str(), "builders");
     }
-    test.end()
 }
 
 #[test]
