@@ -4,17 +4,18 @@ mod inputs;
 mod table;
 mod things;
 
-use super::rows::{held_exactly, same_asked};
+use super::rows::same_asked;
 use inputs::{input_of, run};
 use smol_str::{INLINE_CAP, Place, SmolStr};
-use std::alloc::Global;
+use std::alloc::{AllocError, Global};
 use std::test::Fail;
 use table::{Row, Stands, TABLES};
 use test_support::by_std::{Asks, NONE, asked_by_all};
+use test_support::held::is_exact;
 use test_support::refuse::{
     Asked, Refusable, can_refuse, count_blocks, each_refused, start_counts,
 };
-use test_support::test::{Test, holds, ok_string, same_flag};
+use test_support::test::{Test, holds, ok, ok_string, same_flag};
 use test_support::texts::{full_text, joined, long_text, longest_blank, repeated};
 use things::{Thing, place_of, text_of};
 
@@ -149,8 +150,16 @@ impl Refusable for Tried<'_> {
 /// A value that is made keeps its text and no more.
 fn check_held(test: &Test, name: &str, held: u32, ample: &Result<Thing, Thing>) {
     if let Ok(Thing::Value(value)) = ample {
-        held_exactly(test, held, value, name);
+        let is_kept = ok(test, keeps_its_text(test.alloc, held, value));
+        holds(test, is_kept, &(name, "keeps", held));
     }
+}
+
+fn keeps_its_text(alloc: Global, held: u32, value: &SmolStr) -> Result<bool, AllocError> {
+    if !value.is_heap_allocated() {
+        return Ok(held == 0);
+    }
+    is_exact(alloc, held, &SmolStr::new(alloc, value.as_str())?)
 }
 
 /// Whether what a refusal leaves has the text that is to stand, where that was.

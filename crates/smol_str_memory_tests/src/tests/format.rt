@@ -136,7 +136,7 @@ fn is_centered(test: &Test, value: &SmolStr) {
     row!(test; "  né  "; "{value:^6}");
 }
 
-fn is_filled_by_its_first(test: &Test, text: &str) {
+fn is_filled_by_an_accent(test: &Test, text: &str) {
     row!(test; "éééa"; "{text:é>4}");
 }
 
@@ -160,7 +160,7 @@ fn texts_as_a_string(rt: HostRuntime) -> Result<(), Fail> {
     is_aligned_right(&test, &value);
     is_filled_to_the_right(&test, &value);
     is_centered(&test, &value);
-    is_filled_by_its_first(&test, "a");
+    is_filled_by_an_accent(&test, "a");
     is_cut(&test, "abc");
     is_cut_and_aligned(&test, "abc");
     is_wide(&test, "");
