@@ -1,11 +1,17 @@
 """Names the function that each line of a crate's sources belongs to, as the prover names it: `Functions` is what the
 scripts beside this one use. The sources are in the layout of `rt fmt`."""
+import collections
 import itertools
 import pathlib
 import re
 
 FUNCTION = re.compile(r"( *)(?:pub(?:\([^)]*\))? )?(?:const )?(?:unsafe )?fn (\w+)")
 TYPE = re.compile(r"(?:pub(?:\([^)]*\))? )?(?:struct|enum|trait) (\w+)")
+
+# A copy of a function: its first and last line, the line after which the copy stands, the lines that stand above and below
+# the function's in it, the word that a copy has another one for, whether that is a trait's, the function's name there, and a
+# clause that its signature has there.
+Form = collections.namedtuple("Form", "first last ends above below word is_trait name clause", defaults=[""])
 
 
 class Functions:
@@ -58,23 +64,39 @@ class Functions:
                 found |= {name} if name and not is_trait else set()
         return found
 
-    def beside(self, path):
-        """The lines of each function of a file that another function can stand beside, by its name: from its first
-        attribute to its last line. Those of impls of traits, and of traits, are not among them."""
-        lines, found, is_open = (self.crate / path).read_text(encoding="utf-8").split("\n"), {}, True
-        for at, (line, name) in enumerate(zip(lines, self.named(path))):
-            if line.startswith(("impl", "pub trait ", "trait ")):
-                is_open = line.startswith("impl") and " for " not in _header(lines, at)
-            elif line == "}":
-                is_open = True
+    def wholes(self, path):
+        """The lines of each function of a file, by its name: from its first attribute to its last line."""
+        lines, found = (self.crate / path).read_text(encoding="utf-8").split("\n"), {}
+        for at, name in enumerate(self.named(path)):
             if name in found:
                 found[name] = found[name][0], at
-            elif name and is_open:
+            elif name:
                 first = at
                 while lines[first - 1].strip().startswith("#["):
                     first -= 1
                 found[name] = first, at
         return found
+
+    def form_of_copy(self, path, name):
+        """How a function of a file can be copied, so that both stand in it; None where it cannot."""
+        lines, (first, last) = (self.crate / path).read_text(encoding="utf-8").split("\n"), self.wholes(path)[name]
+        plain = name.rpartition("::")[2]
+        opens = max((it for it in range(first) if lines[it].startswith(("impl", "pub trait ", "trait ", "}"))), default=0)
+        of_trait = re.match(r"impl (?:\w+::)*(\w+)(?:<\w+>)? for (.+)$", _header(lines, opens))
+        if not _header(lines, opens).startswith("impl") or " for " not in _header(lines, opens):
+            is_beside = not lines[opens].startswith(("pub trait ", "trait "))
+            return Form(first, last, last, [], [], plain, False, name) if is_beside else None
+        closes = lines.index("}", last)
+        trait = next((it for it, line in enumerate(lines) if of_trait and re.match(rf"(pub )?trait {of_trait[1]}\b", line)), -1)
+        if trait >= 0:
+            above = [*_with_one(lines[trait:lines.index("}", trait) + 1], plain), "", *_with_one(lines[opens:first], plain)]
+            return Form(first, last, closes, above, ["}"], of_trait[1], True, name)
+        has_clauses = any(line.strip().startswith("ensures ") for line in lines[first:last])
+        clause = "" if has_clauses else _from_clause(lines[opens:last])
+        if of_trait and of_trait[2] in self.homes and (has_clauses or clause):
+            own = f"{self.homes[of_trait[2]]}::{of_trait[2]}::{plain}"
+            return Form(first, last, closes, [f"impl {of_trait[2]} {{"], ["}"], plain, False, own, clause)
+        return None
 
     def bodies(self, path):
         """The lines of a file that stand between the braces of each function, by its name: the first, and the one after
@@ -100,19 +122,6 @@ class Functions:
         own = _parameters(head[re.search(r"fn \w+", head).end():])[0]
         return bool(parameters or own or re.search(r"\bimpl\b", head))
 
-    def impl_alone(self, path, name):
-        """Of a method that is the only function of its impl, of a trait of the same file: the trait's name, the lines of
-        the impl, and those of the trait, the one after its last. None of any other function."""
-        lines, names = (self.crate / path).read_text(encoding="utf-8").split("\n"), [*self.named(path)]
-        at = names.index(name)
-        first = max(it for it in range(at) if lines[it].startswith(("impl", "}")))
-        last = lines.index("}", at)
-        found = re.match(r"impl (\w+) for ", lines[first])
-        opens = next((it for it, line in enumerate(lines) if found and re.match(rf"(pub )?trait {found[1]}\b", line)), -1)
-        if opens < 0 or len({*names[first:last]} - {None}) > 1:
-            return None
-        return found[1], (first, last), (opens, lines.index("}", opens) + 1)
-
     def owner(self, module, header):
         """The path below which the functions of an impl or a trait stand."""
         declared = TYPE.match(header)
@@ -131,6 +140,27 @@ def _header(lines, at):
     """An impl's or a trait's first line, with those after it up to its brace."""
     end = next((to for to in range(at, len(lines)) if lines[to].endswith("{")), at)
     return " ".join(line.strip() for line in lines[at:end + 1]).removesuffix("{").strip()
+
+
+def _from_clause(lines):
+    """What an impl of `From` states of its `from`, as a clause; nothing where it is not one, or not in one line."""
+    text = "\n".join(lines)
+    gives, taken = re.search(r"^ *ghost from_gives = \{ (.*) \};$", text, re.M), re.search(r"^ *fn from\((\w+): .* \{$", text, re.M)
+    return f"({gives[1]}) {taken[1]} result" if gives and taken else ""
+
+
+def _with_one(lines, plain):
+    """The lines of a trait, or of the beginning of an impl, without those of other functions than one."""
+    lines, at = [*lines], 0
+    while at < len(lines):
+        found, first = FUNCTION.match(lines[at]), at
+        if found and found[2] != plain:
+            end = _braces(lines, at, found[1])[1]
+            while lines[first - 1].strip().startswith(("#[", "///")):
+                first -= 1
+            lines[first:end + 1] = []
+        at = first + 1
+    return lines
 
 
 def _braces(lines, at, indent):
