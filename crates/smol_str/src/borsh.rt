@@ -7,9 +7,9 @@ ghost use Rattle.std.specs.Prelude.{◌≡◌, ◌<◌, ◌≤◌, ◌^◌, ◌+
 ghost use Rattle.std.specs.Int.{w32, to_le_bytes, from_le_bytes};
 ghost use Rattle.std.specs.Io.KnownBytes.{Appends, Consumes};
 ghost use Rattle.smol_str.specs.Text.{size, place_of};
-ghost use Rattle.smol_str.specs.Stream.{EndsBelow, StopsBelow};
 ghost use Rattle.smol_str.specs.Wire.{HasWire, wire, Holds, HasEndedEarly, body};
-ghost use Rattle.smol_str.specs.WireFaults.{AfterEncodeFault, AfterFromWireFault, AfterLimitedFault};
+ghost use Rattle.smol_str.specs.declared.borsh.fault.LimitedFault.TheVariants.{Decode};
+ghost use Rattle.smol_str.specs.WireFaults.{AfterEncodeFault, AfterDecodeFault, AfterFromWireFault, AfterLimitedFault};
 ghost use Rattle.smol_str.specs.WireFaults.{HasReadSize, HasReadBody, AfterBodyFault};
 
 mod fault;
@@ -154,9 +154,7 @@ pub fn deserialize_limited<R: Read>(
     ensures fault { IfErr result
         (AfterLimitedFault limit (R.remaining reader.old) (R.remaining reader.new)) }
 {
-    let Some(size) = read_size(reader)? else {
-        return Err(LimitedFault::Decode(DecodeFault::Ended));
-    };
+    let size = read_size(reader)?;
     if size > limit {
         return Err(LimitedFault::TooLong);
     }
@@ -190,18 +188,18 @@ fn size_in(prefix: &[u8; 4]) -> usize
     u32::from_le_bytes(*prefix) as usize
 }
 
-/// Reads the size, `None` where fewer than four bytes were left.
-fn read_size<R: Read>(reader: &mut R) -> Result<Option<usize>, io::Error>
-    ensures ok { IfOk result (λ found.
-        MatchOption found (EndsBelow (R.remaining reader.old) (R.remaining reader.new) 4)
-        (HasReadSize (R.remaining reader.old) (R.remaining reader.new))) }
-    ensures failed { OnErr result (StopsBelow (R.remaining reader.old) (R.remaining reader.new) 4) }
+/// Reads the size: an early end where fewer than its four bytes are left.
+fn read_size<R: Read>(reader: &mut R) -> Result<usize, DecodeFault>
+    ensures ok { IfOk result (HasReadSize (R.remaining reader.old) (R.remaining reader.new)) }
+    ensures fault { IfErr result (AfterDecodeFault (R.remaining reader.old) (R.remaining reader.new)) }
+    ensures limited { IfErr result (λ fault. (limit : ℕ) →
+        AfterLimitedFault limit (R.remaining reader.old) (R.remaining reader.new) (Decode fault)) }
 {
     let mut prefix = [0; 4];
     if fill(reader, &mut prefix)? < 4 {
-        return Ok(None);
+        return Err(DecodeFault::Ended);
     }
-    Ok(Some(size_in(&prefix)))
+    Ok(size_in(&prefix))
 }
 
 /// Fills `body`, or says why not all of it came.
@@ -326,7 +324,6 @@ impl BorshDeserialize for SmolStr {
     ghost use Rattle.std.specs.Prelude.{◌≡◌};
     ghost use Rattle.smol_str.specs.Text.{place_of};
     ghost use Rattle.smol_str.specs.Wire.{HasWire, wire};
-    ghost use Rattle.smol_str.specs.WireFaults.{AfterDecodeFault};
 
     ghost form_read = { λ s. wire s.text };
 
@@ -335,9 +332,7 @@ impl BorshDeserialize for SmolStr {
     ghost after_fault = { λ input left fault. AfterDecodeFault input left fault };
 
     fn deserialize_reader<R: Read>(alloc: Global, reader: &mut R) -> Result<SmolStr, DecodeFault> {
-        let Some(size) = read_size(reader)? else {
-            return Err(DecodeFault::Ended);
-        };
-        read_body(alloc, reader, size)
+        let stated = read_size(reader)?;
+        read_body(alloc, reader, stated)
     }
 }

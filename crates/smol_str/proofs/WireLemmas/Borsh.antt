@@ -78,23 +78,6 @@ pub prefix_size-of_bytes : (b front prefix : List ℕ) (n : ℕ) → front ≡ t
 unfolding prefix_size
 prefix_size-of_bytes b front prefix n e f is = sym (is ∙ ap (from_le_bytes w32) (f ∙ e))
 
--- ---- reading: a reader that ended before a size
-
-before_size : (a b : Option (List ℕ)) (P : List ℕ → Type 0) → ((x : List ℕ) → length x < 4 → P x) → EndsBelow a b 4
-    → IfSome a P
-before_size None b P h q = tt
-before_size (Some x) None P h q = absurd q.2
-before_size (Some x) (Some y) P h (bytes, short, consumed, end) =
-    h x (subst (λ x. length x < 4) (sym (consumed ∙ ap (λ y. bytes ++ y) end ∙ append-nil bytes)) short)
-
-pub AfterDecodeFault-of_end : (a b : Option (List ℕ)) → EndsBelow a b 4 → AfterDecodeFault a b Ended
-AfterDecodeFault-of_end a b q = (before_size a b HasEndedEarly (λ x short. inl short) q, q.3)
-
-pub AfterLimitedFault-of_end : (limit : ℕ) (a b : Option (List ℕ)) → EndsBelow a b 4
-    → AfterLimitedFault limit a b (Decode Ended)
-AfterLimitedFault-of_end limit a b q =
-    (AfterDecodeFault-of_end a b q, before_size a b (StatesAtMost limit) (λ x short four. absurd (omega arith)) q)
-
 -- ---- reading: a reader that gave the size n, below 2 ^ 32
 
 module _ (n : ℕ) (fits : n < 2 ^ 32) where
