@@ -1,12 +1,16 @@
 -- For `tally_lines`: lines counted one after another, and what a count that is full says of all lines.
-use Rattle.std.proofs.Common.{◌≡◌, ℕ, ◌+◌, ◌<◌, length, inr, List, [], ◌∷◌, ◌++◌, cond, map, refl, sym, ap, ◌∙◌, arith, rules}
+use Rattle.std.proofs.Common.{◌≡◌, ℕ, ◌+◌, ◌<◌, ◌≤◌, ◌^◌, length, ◌⊎◌, inl, inr, List, [], ◌∷◌, ◌++◌, cond, map, Result, Ok, Err}
+use Rattle.std.proofs.Common.{refl, sym, ap, subst, ◌∙◌, arith, rules}
 use Rattle.std.specs.Prelude.{count_by}
+use Rattle.std.specs.Result.{IsErrAnd, IfErr}
 use Rattle.std.proofs.lemmas.List.{map-append, append_assoc, length-append}
 use Rattle.std.proofs.lemmas.List.Sums.{sum_by-cons, sum_by-append}
 use Rattle.smol_tokens_core.specs.Lines.{lines}
 use Rattle.smol_tokens_core.specs.Tally.{is_same, times_of, tally, seen_once}
 use Rattle.smol_tokens_core.specs.TallyFaults.{AfterAddFault, of_add_fault}
-use Rattle.smol_tokens_core.specs.ReportFaults.{HasNoReport}
+use Rattle.smol_tokens_core.specs.ReportFaults.{HasALineTooOften, HasNoReport}
+use Rattle.smol_tokens_core.specs.declared.fault.RunFault.{RunFault}
+use Rattle.smol_tokens_core.specs.declared.fault.RunFault.TheVariants as run
 use Rattle.smol_tokens_core.specs.declared.mode.Mode.TheVariants.{Tokens}
 use Rattle.smol_tokens_core.specs.declared.tally.AddFault.{AddFault}
 use Rattle.smol_tokens_core.specs.declared.tally.AddFault.TheVariants.{OutOfMemory, Full}
@@ -51,12 +55,19 @@ some_counts [] counts is some =
     absurd (omega (arith, none, some))
 some_counts (c ∷ cs) counts is some = omega arith
 
+-- what the fault of one add makes of a run
+pub of_add_fault-after : {T : Type 0} (r : Result T RunFault) (pairs : List (List ℕ × ℕ)) (t : List ℕ) (fault : AddFault)
+    → IsErrAnd r (λ made. made ≡ of_add_fault fault) → AfterAddFault pairs t 1 fault
+    → IfErr r (λ made. (made ≡ run.OutOfMemory) ⊎ ((made ≡ run.Full) × (2 ^ 64 ≤ times_of t pairs + 1)))
+of_add_fault-after (Ok v) pairs t fault is after = tt
+of_add_fault-after (Err made) pairs t (OutOfMemory token) is after = inl is
+of_add_fault-after (Err made) pairs t (Full token) is after = inr (is, after)
+
 -- the lines so far with the one that was not counted are a front of the lines
-pub no_report-add : (t line : List ℕ) (seen rest left : List (List ℕ)) (old : List (List ℕ × ℕ)) (fault : AddFault)
-    → old ≡ tally (seen_once seen) → lines t ≡ seen ++ left → left ≡ line ∷ rest → AfterAddFault old line 1 fault
-    → HasNoReport Tokens t (of_add_fault fault)
-no_report-add t line seen rest left old (OutOfMemory token) so_far is next new = inr (some_text t seen left rest line is next)
-no_report-add t line seen rest left old (Full token) so_far is next full =
+pub no_report-add : (t line : List ℕ) (seen rest left : List (List ℕ)) (old : List (List ℕ × ℕ))
+    → old ≡ tally (seen_once seen) → lines t ≡ seen ++ left → left ≡ line ∷ rest → 2 ^ 64 ≤ times_of line old + 1
+    → HasALineTooOften t
+no_report-add t line seen rest left old so_far is next full =
     let before : times_of line old ≡ count_by (is_same line) seen =
     ap (times_of line) so_far ∙ times_of-tally line (seen_once seen) ∙ times_of-seen_once line seen in
     let worth : List ℕ → ℕ = λ u. cond (is_same line u) 1 0 in
@@ -65,4 +76,16 @@ no_report-add t line seen rest left old (Full token) so_far is next full =
     let whole : count_by (is_same line) (lines t)
     ≡ count_by (is_same line) seen + count_by (is_same line) (line ∷ rest) =
     ap (count_by (is_same line)) (is ∙ ap (λ us. seen ++ us) next) ∙ sum_by-append worth seen (line ∷ rest) in
-    (refl, (line, omega (arith, before, first, whole)))
+    (line, omega (arith, before, first, whole))
+
+-- the same of the fault of such a line
+pub no_report-line : {T : Type 0} (r : Result T RunFault) (t line : List ℕ) (seen rest left : List (List ℕ))
+    (old : List (List ℕ × ℕ)) (fault : RunFault) → IsErrAnd r (λ made. made ≡ fault) → old ≡ tally (seen_once seen)
+    → lines t ≡ seen ++ left → left ≡ line ∷ rest
+    → (fault ≡ run.OutOfMemory) ⊎ ((fault ≡ run.Full) × (2 ^ 64 ≤ times_of line old + 1))
+    → IfErr r (HasNoReport Tokens t)
+no_report-line (Ok v) t line seen rest left old fault made so_far is next after = tt
+no_report-line (Err e) t line seen rest left old fault made so_far is next (inl refused) =
+    subst (HasNoReport Tokens t) (sym (made ∙ refused)) (inr (some_text t seen left rest line is next))
+no_report-line (Err e) t line seen rest left old fault made so_far is next (inr full) =
+    subst (HasNoReport Tokens t) (sym (made ∙ full.0)) (refl, no_report-add t line seen rest left old so_far is next full.1)

@@ -1,11 +1,12 @@
 //! The report of mode tokens: how often each line stands.
-ghost use Rattle.std.specs.Prelude.{◌≡◌, ◌<◌, ◌++◌, length, IfOk, IfErr, OnOk, OnErr, encode_utf8_all};
+ghost use Rattle.std.specs.Prelude.{◌≡◌, ◌<◌, ◌≤◌, ◌+◌, ◌^◌, ◌⊎◌, [], ◌∷◌, ◌++◌, length, IfOk, IfErr, OnOk, OnErr, encode_utf8_all};
 ghost use Rattle.std.specs.List.{flat_map};
 ghost use Rattle.std.specs.Str.{chars};
 ghost use Rattle.std.specs.String.{string_bytes};
+ghost use Rattle.smol_tokens_core.specs.declared.fault.RunFault.TheVariants.{OutOfMemory, Full};
 ghost use Rattle.smol_tokens_core.specs.declared.mode.Mode.TheVariants.{Tokens};
 ghost use Rattle.smol_tokens_core.specs.Lines.{lines};
-ghost use Rattle.smol_tokens_core.specs.Tally.{tally, seen_once};
+ghost use Rattle.smol_tokens_core.specs.Tally.{times_of, tally, seen_once};
 ghost use Rattle.smol_tokens_core.specs.Report.{count_line, tokens_report};
 ghost use Rattle.smol_tokens_core.specs.ReportFaults.{HasNoReport};
 
@@ -42,9 +43,24 @@ fn tally_lines<S: BuildHasher + Drop>(
 {
     let mut tally = Tally::with_hasher(alloc, state);
     for line in Lines::of(text) {
-        tally.add(SmolStr::new(alloc, line)?, 1)?;
+        add_line(alloc, &mut tally, line)?;
     }
     Ok(tally)
+}
+
+/// Counts a line once more.
+fn add_line<S: BuildHasher>(
+    alloc: Global,
+    counts: &mut Tally<S>,
+    line: &str,
+) -> Result<(), RunFault>
+    ensures ok { OnOk result (counts.new ≡ tally (counts.old ++ (chars line.now, 1) ∷ [])) }
+    ensures fault { IfErr result (λ fault. (fault ≡ OutOfMemory)
+        ⊎ ((fault ≡ Full) × (2 ^ 64 ≤ times_of (chars line.now) counts.old + 1))) }
+    ensures unchanged { OnErr result (counts.new ≡ counts.old) }
+{
+    counts.add(SmolStr::new(alloc, line)?, 1)?;
+    Ok(())
 }
 
 /// The count line of each token.
