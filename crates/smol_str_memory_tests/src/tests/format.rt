@@ -2,16 +2,14 @@
 use smol_str::{
     FormatError, INLINE_CAP, Place, SmolStr, SmolStrBuilder, ToSmolStr, format_smolstr,
 };
-use std::alloc::{AllocError, Global};
+use std::alloc::Global;
 use std::fmt::{self, Display, Formatter, Write};
 use std::test::Fail;
 use test_support::refuse::{
     Asked, Refusable, count_requests, each_refused, end_refusals, made_requests, refuse_all,
     start_counts,
 };
-use test_support::test::{
-    Test, holds, ok, ok_string, same_count, same_flag, same_place, same_text,
-};
+use test_support::test::{Test, holds, in_place, ok, ok_string, same_count, same_flag, same_str};
 use test_support::texts::{full_text, long_blank, long_text, repeated, repeated_and};
 
 /// Writes `ab` and gives up.
@@ -43,8 +41,8 @@ fn ok_printed(test: &Test, made: Result<SmolStr, FormatError>) -> SmolStr {
 
 fn assert_value(test: &Test, made: Result<SmolStr, FormatError>, text: &str, place: Place) {
     let value = ok_printed(test, made);
-    same_text(test, value.as_str(), text, &text);
-    same_place(test, &value, place, &text);
+    same_str(test, value.as_str(), text, text);
+    in_place(test, &value, place, text);
 }
 
 #[test]
@@ -92,64 +90,26 @@ fn test_to_smolstr(rt: HostRuntime) -> Result<(), Fail> {
     let test = Test::begin(rt);
     let letters = "abcdefghijklmnopqrstuvwxyz";
     for start in 0..26 {
-        let Some(end) = letters.get(start..) else {
-            test.fail(&"no such end");
-            return test.end();
-        };
-        assert_value(&test, end.to_smolstr(test.alloc), end, Place::Inline);
-        let made = format_smolstr!(test.alloc; "{}", end);
-        assert_value(&test, made, end, Place::Inline);
+        match letters.get(start..) {
+            Some(end) => assert_printed(&test, end),
+            None => test.fail(&"no such end"),
+        }
     }
     test.end()
 }
 
-/// A format by both macros, and what it prints: one in each function, since its proof costs as the square of the formats.
-macro_rules! row {
-    ($test:expr; $wanted:expr; $($format:tt)+) => {
-        assert_string($test, format!(in $test.alloc; $($format)+), $wanted);
-        assert_printed($test, format_smolstr!($test.alloc; $($format)+), $wanted);
-    };
+fn assert_printed(test: &Test, end: &str) {
+    assert_value(test, end.to_smolstr(test.alloc), end, Place::Inline);
+    let made = format_smolstr!(test.alloc; "{}", end);
+    assert_value(test, made, end, Place::Inline);
 }
 
-fn assert_string(test: &Test, made: Result<String, AllocError>, wanted: &str) {
-    same_text(test, ok_string(test, made).as_str(), wanted, &"format!");
-}
-
-fn assert_printed(test: &Test, made: Result<SmolStr, FormatError>, wanted: &str) {
-    same_text(
-        test,
-        ok_printed(test, made).as_str(),
-        wanted,
-        &"format_smolstr!",
-    );
-}
-
-fn is_aligned_right(test: &Test, value: &SmolStr) {
-    row!(test; "   né"; "{value:>5}");
-}
-
-fn is_filled_to_the_right(test: &Test, value: &SmolStr) {
-    row!(test; "né**"; "{value:*<4}");
-}
-
-fn is_centered(test: &Test, value: &SmolStr) {
-    row!(test; "  né  "; "{value:^6}");
-}
-
-fn is_filled_by_an_accent(test: &Test, text: &str) {
-    row!(test; "éééa"; "{text:é>4}");
-}
-
-fn is_cut(test: &Test, text: &str) {
-    row!(test; "ab"; "{text:.2}");
-}
-
-fn is_cut_and_aligned(test: &Test, text: &str) {
-    row!(test; "   a|"; "{text:>4.1}|");
-}
-
-fn is_wide(test: &Test, text: &str) {
-    row!(test; "a                        b"; "a{text:24}b");
+/// What the arguments print, by both macros: the row hands in its `format_args!`, so that each format is proved once.
+fn assert_row(test: &Test, wanted: &str, row: &impl Display) {
+    let string = ok_string(test, format!(in test.alloc; "{row}"));
+    same_str(test, string.as_str(), wanted, "format!");
+    let value = ok_printed(test, format_smolstr!(test.alloc; "{row}"));
+    same_str(test, value.as_str(), wanted, "format_smolstr!");
 }
 
 // Widths, fills and precision are those of `format!`.
@@ -157,55 +117,28 @@ fn is_wide(test: &Test, text: &str) {
 fn texts_as_a_string(rt: HostRuntime) -> Result<(), Fail> {
     let test = Test::begin(rt);
     let value = test.value("né");
-    is_aligned_right(&test, &value);
-    is_filled_to_the_right(&test, &value);
-    is_centered(&test, &value);
-    is_filled_by_an_accent(&test, "a");
-    is_cut(&test, "abc");
-    is_cut_and_aligned(&test, "abc");
-    is_wide(&test, "");
+    assert_row(&test, "   né", &format_args!("{value:>5}"));
+    assert_row(&test, "né**", &format_args!("{value:*<4}"));
+    assert_row(&test, "  né  ", &format_args!("{value:^6}"));
+    assert_row(&test, "éééa", &format_args!("{:é>4}", "a"));
+    assert_row(&test, "ab", &format_args!("{:.2}", "abc"));
+    assert_row(&test, "   a|", &format_args!("{:>4.1}|", "abc"));
+    let wide = "a                        b";
+    assert_row(&test, wide, &format_args!("a{:24}b", ""));
     test.end()
-}
-
-fn has_zeros(test: &Test, number: i32) {
-    row!(test; "-0042"; "{number:05}");
-}
-
-fn has_a_sign(test: &Test, number: u8) {
-    row!(test; "+7"; "{number:+}");
-}
-
-fn is_aligned_left(test: &Test, number: u16) {
-    row!(test; "42  |"; "{number:<4}|");
-}
-
-fn has_a_prefix(test: &Test, number: u8) {
-    row!(test; "0xff"; "{number:#x}");
-}
-
-fn is_binary(test: &Test, number: u8) {
-    row!(test; "00000101"; "{number:08b}");
-}
-
-fn has_braces(test: &Test, flag: bool) {
-    row!(test; "{true}"; "{{{flag}}}");
-}
-
-fn is_quoted(test: &Test, text: &str) {
-    row!(test; "\"a\\n\""; "{text:?}");
 }
 
 // Signs and bases too.
 #[test]
 fn numbers_as_a_string(rt: HostRuntime) -> Result<(), Fail> {
     let test = Test::begin(rt);
-    has_zeros(&test, -42);
-    has_a_sign(&test, 7);
-    is_aligned_left(&test, 42);
-    has_a_prefix(&test, 255);
-    is_binary(&test, 5);
-    has_braces(&test, true);
-    is_quoted(&test, "a\n");
+    assert_row(&test, "-0042", &format_args!("{:05}", -42));
+    assert_row(&test, "+7", &format_args!("{:+}", 7u8));
+    assert_row(&test, "42  |", &format_args!("{:<4}|", 42u16));
+    assert_row(&test, "0xff", &format_args!("{:#x}", 255u8));
+    assert_row(&test, "00000101", &format_args!("{:08b}", 5u8));
+    assert_row(&test, "{true}", &format_args!("{{{}}}", true));
+    assert_row(&test, "\"a\\n\"", &format_args!("{:?}", "a\n"));
     test.end()
 }
 
@@ -228,7 +161,7 @@ fn assert_kept(test: &Test) {
     ok(test, builder.push_str("x"));
     let printed = write!(builder, "{}{GivesUp}", 1);
     same_flag(test, printed.is_err(), true, "write!");
-    same_text(test, builder.as_str(), "x1ab", &"write!");
+    same_str(test, builder.as_str(), "x1ab", "write!");
 }
 
 #[test]
@@ -236,7 +169,7 @@ fn written_to_a_builder(rt: HostRuntime) -> Result<(), Fail> {
     let test = Test::begin(rt);
     let mut builder = SmolStrBuilder::new(test.alloc);
     ok(&test, print_pieces(&mut builder));
-    same_text(&test, builder.as_str(), "éab  7", &"written");
+    same_str(&test, builder.as_str(), "éab  7", "written");
     ok(&test, write!(builder, "{:>width$}", "", width = INLINE_CAP));
     assert_written(&test, &builder);
     test.end()
@@ -245,7 +178,7 @@ fn written_to_a_builder(rt: HostRuntime) -> Result<(), Fail> {
 fn assert_written(test: &Test, builder: &SmolStrBuilder) {
     let spaces = test.repeated(" ", INLINE_CAP);
     let written = builder.as_str().strip_prefix("éab  7").unwrap_or("");
-    same_text(test, written, spaces.as_str(), &"written");
+    same_str(test, written, spaces.as_str(), "written");
     same_flag(test, builder.inline_buffer().is_none(), true, "on the heap");
 }
 
@@ -282,7 +215,7 @@ impl<D: Display> Refusable for Printed<'_, D> {
 
     fn check(&self, test: &Test, made: Result<SmolStr, FormatError>) {
         if let Ok(value) = made {
-            same_text(test, value.as_str(), self.text, &"to_smolstr");
+            same_str(test, value.as_str(), self.text, "to_smolstr");
         }
     }
 }
@@ -330,6 +263,6 @@ fn padded(alloc: Global) -> Result<SmolStr, FormatError> {
 
 fn assert_padded(test: &Test, whole: &str) {
     let number = whole.strip_prefix("ab-").unwrap_or("");
-    same_text(test, number.trim_start(), "12", &"number");
+    same_str(test, number.trim_start(), "12", "number");
     same_count(test, whole.len(), INLINE_CAP, "whole");
 }

@@ -6,7 +6,7 @@ use smol_str::{INLINE_CAP, Place, SmolStr};
 use std::alloc::{AllocError, Global};
 use std::test::Fail;
 use test_support::refuse::{Asked, Refusable, can_refuse, count_asked, each_refused};
-use test_support::test::{Test, holds, in_place, ok_string, same_flag, same_text, same_value};
+use test_support::test::{Test, has_text, holds, in_place, ok_string, same_flag, same_str};
 use test_support::texts::{
     ABOVE_BUFFERS, full_text, joined, long_blank, long_text, repeated, repeated_and,
 };
@@ -52,7 +52,7 @@ fn check_written(test: &Test, text: &str, json: &str) {
 
 fn check_json(test: &Test, value: &SmolStr, json: &str, row: &str) {
     let written = ok_string(test, to_json(test.alloc, value));
-    same_text(test, written.as_str(), json, &row);
+    same_str(test, written.as_str(), json, row);
 }
 
 #[test]
@@ -73,7 +73,7 @@ fn read(rt: HostRuntime) -> Result<(), Fail> {
 }
 
 fn check_read(test: &Test, json: &str, text: &str) {
-    same_value(test, &value_of(test, json), text, Place::Inline, &json);
+    has_text(test, &value_of(test, json), text, Place::Inline, json);
 }
 
 /// The value of a JSON string.
@@ -157,19 +157,14 @@ fn long_not_read(rt: HostRuntime) -> Result<(), Fail> {
 }
 
 fn check_parts(test: &Test, front: &str, text: &str, end: &str, answer: Answer) {
-    let json = ok_string(test, joined_parts(test.alloc, front, text, end));
+    let front_and_text = ok_string(test, joined(test.alloc, front, text));
+    let json = ok_string(test, joined(test.alloc, front_and_text.as_str(), end));
     let found = answer_of(&from_json(test.alloc, json.as_str()));
     holds(
         test,
         found == answer,
         &((front, text.len(), end), found, answer),
     );
-}
-
-fn joined_parts(alloc: Global, front: &str, text: &str, end: &str) -> Result<String, AllocError> {
-    let mut json = joined(alloc, front, text)?;
-    json.push_str(end)?;
-    Ok(json)
 }
 
 /// So many lists in one another.
@@ -193,11 +188,10 @@ fn test_serde(rt: HostRuntime) -> Result<(), Fail> {
 fn each_character_there_and_back(rt: HostRuntime) -> Result<(), Fail> {
     let test = Test::begin(rt);
     for number in 0..0x3000u32 {
-        let Some(character) = char::from_u32(number) else {
-            test.fail(&"a surrogate");
-            return test.end();
-        };
-        check_there_and_back(&test, &SmolStr::from(character));
+        match char::from_u32(number) {
+            Some(character) => check_there_and_back(&test, &SmolStr::from(character)),
+            None => test.fail(&"a surrogate"),
+        }
     }
     test.end()
 }
@@ -255,10 +249,7 @@ fn check_long_refused(test: &Test) {
 
 /// Writes and reads the text with each request refused in turn.
 fn check_refused(test: &Test, name: &str, text: &str, place: Place) {
-    match ample_of(test.alloc, text) {
-        Ok(ample) => check_calls(test, name, place, &ample),
-        Err(fault) => test.fail(&fault),
-    }
+    check_calls(test, name, place, &ample_of(test, text))
 }
 
 /// The place, and each call.
@@ -270,16 +261,26 @@ fn check_calls(test: &Test, name: &str, place: Place, ample: &Ample) {
     check_call(test, "from_json of ", name, Call::FromJson, ample)
 }
 
-/// The value in JSON comes last, so that no exit drops it.
-fn ample_of(alloc: Global, text: &str) -> Result<Ample, AllocError> {
-    let value = SmolStr::new(alloc, text)?;
-    let json = to_json(alloc, &value)?;
-    let string = to_value(alloc, &value)?;
-    Ok(Ample {
+fn ample_of(test: &Test, text: &str) -> Ample {
+    let value = test.value(text);
+    let json = ok_string(test, to_json(test.alloc, &value));
+    let string = in_json(test, &value);
+    Ample {
         value,
         string,
         json,
-    })
+    }
+}
+
+/// The value in JSON; `null` stands for it in a test that has failed.
+fn in_json(test: &Test, value: &SmolStr) -> Value {
+    match to_value(test.alloc, value) {
+        Ok(string) => string,
+        Err(fault) => {
+            test.fail(&fault);
+            Value::Null
+        }
+    }
 }
 
 fn check_call(test: &Test, front: &str, name: &str, call: Call, ample: &Ample) {

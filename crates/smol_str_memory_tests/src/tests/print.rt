@@ -2,7 +2,7 @@
 use smol_str::SmolStr;
 use std::alloc::AllocError;
 use std::test::Fail;
-use test_support::test::{Test, ok_string, same_text};
+use test_support::test::{Test, ok_string, same_str};
 use test_support::texts::long_text;
 
 #[test]
@@ -33,5 +33,5 @@ fn check_long(test: &Test, value: &SmolStr) {
 
 fn check_printed(test: &Test, printed: Result<String, AllocError>, wanted: &str) {
     let string = ok_string(test, printed);
-    same_text(test, string.as_str(), wanted, &wanted);
+    same_str(test, string.as_str(), wanted, wanted);
 }

@@ -1,14 +1,14 @@
 //! Each call that reads, over readers of every step, which end after each byte and fail at each call.
-use super::wire::{LETTERS, ROWS, form_of};
+use super::wire::{LETTERS, ROWS, form_of, of_units};
 use super::wire_faults::{Kind, kind_of, kind_of_limited};
 use smol_str::SmolStr;
 use smol_str::borsh::{BorshDeserialize, BorshSerialize, deserialize_limited};
 use smol_str::stream::{PIECE, ReadFault, fill, read_all, read_up_to};
-use std::alloc::{AllocError, Global};
+use std::alloc::Global;
 use std::io::ErrorKind;
 use std::test::Fail;
 use test_support::streams::{READ_ERRORS, STEPS, Trickle, is_tried, trickle_of};
-use test_support::test::{Test, holds, ok, same, same_count};
+use test_support::test::{Test, holds, same, same_count};
 
 /// A call that reads.
 #[derive(Clone, Copy, PartialEq, Eq, Debug)]
@@ -29,21 +29,13 @@ static CALLS: [Call; 5] = [
 ];
 
 /// The wire forms of the table, and one of two pieces and a part of a third.
-pub fn forms(alloc: Global) -> Result<Vec<Vec<u8>>, AllocError> {
-    let mut all = Vec::new(alloc);
+pub fn forms(test: &Test) -> Vec<Vec<u8>> {
+    let mut all = Vec::new(test.alloc);
     for row in &ROWS {
-        all.push(form_of(alloc, *row)?)?;
+        test.push(&mut all, form_of(test, *row));
     }
-    all.push(long_form(alloc)?)?;
-    Ok(all)
-}
-
-fn long_form(alloc: Global) -> Result<Vec<u8>, AllocError> {
-    let mut form = Vec::from_slice(alloc, &[0x28, 0x23, 0, 0])?;
-    for _ in 0..750 {
-        form.extend_from_slice(LETTERS)?;
-    }
-    Ok(form)
+    test.push(&mut all, of_units(test, &[0x28, 0x23, 0, 0], LETTERS, 750));
+    all
 }
 
 /// The bytes that the call reads where it is asked for so many; of a value, its wire form.
@@ -55,10 +47,17 @@ fn read_by(
 ) -> Result<Vec<u8>, Kind> {
     match call {
         Call::Fill => filled(alloc, reader, size),
-        Call::ReadUpTo => read_up_to(alloc, reader, size).map_err(kind_of_read),
-        Call::ReadAll => read_all(alloc, reader).map_err(kind_of_read),
+        Call::ReadUpTo => all_read(read_up_to(alloc, reader, size)),
+        Call::ReadAll => all_read(read_all(alloc, reader)),
         Call::WireForm => written_again(alloc, reader),
         Call::LimitedForm => limited_again(alloc, reader, size),
+    }
+}
+
+fn all_read(read: Result<Vec<u8>, ReadFault>) -> Result<Vec<u8>, Kind> {
+    match read {
+        Ok(all) => Ok(all),
+        Err(fault) => Err(kind_of_read(fault)),
     }
 }
 
@@ -126,7 +125,7 @@ fn same_calls(test: &Test, found: usize, wanted: usize, row: &Row) {
 #[test]
 fn end_after_each_byte(rt: HostRuntime) -> Result<(), Fail> {
     let test = Test::begin(rt);
-    for form in ok(&test, forms(test.alloc)).iter() {
+    for form in &forms(&test) {
         for &call in &CALLS {
             for step in STEPS {
                 assert_ends(&test, call, form.as_slice(), step);
@@ -171,7 +170,7 @@ fn assert_ended(test: &Test, read: Result<Vec<u8>, Kind>, front: &[u8], row: &Ro
 #[test]
 fn fails_at_each_call(rt: HostRuntime) -> Result<(), Fail> {
     let test = Test::begin(rt);
-    for form in ok(&test, forms(test.alloc)).iter() {
+    for form in &forms(&test) {
         for &call in &CALLS {
             for step in STEPS {
                 assert_fails(&test, call, form.as_slice(), step);

@@ -3,13 +3,9 @@ use super::rows::{ok_found, same_bytes};
 use smol_str::borsh::{BorshDeserialize, BorshSerialize, from_wire, length_prefix};
 use smol_str::stream::PIECE;
 use smol_str::{INLINE_CAP, Place, SmolStr};
-use std::alloc::{AllocError, Global};
 use std::test::Fail;
 use test_support::streams::{Failure, STEPS, Trickle, empty_drip, trickle_of};
-use test_support::test::{
-    Test, holds, ok, ok_bytes, ok_string, ok_value, same, same_place, same_text, same_value,
-};
-use test_support::texts::repeated;
+use test_support::test::{Test, holds, in_place, is_so, ok, ok_bytes, same, same_str, same_value};
 
 /// A text and its wire form: a unit and how many times the text has it; the size's lowest byte, which
 /// three zeros follow, and the bytes of the unit; and the place where the text is read.
@@ -40,25 +36,26 @@ pub const ROWS: [Row; 11] = [
     (" ", 24, 24, b" ", Place::Inline),
 ];
 
-pub fn text_of(alloc: Global, row: Row) -> Result<String, AllocError> {
-    repeated(alloc, row.0, row.1)
+pub fn text_of(test: &Test, row: Row) -> String {
+    test.repeated(row.0, row.1)
 }
 
-pub fn form_of(alloc: Global, row: Row) -> Result<Vec<u8>, AllocError> {
-    let mut form = Vec::from_slice(alloc, &[row.2, 0, 0, 0])?;
-    for _ in 0..row.1 {
-        form.extend_from_slice(row.3)?;
-    }
-    Ok(form)
+pub fn form_of(test: &Test, row: Row) -> Vec<u8> {
+    of_units(test, &[row.2, 0, 0, 0], row.3, row.1)
 }
 
 /// The size, and so many `a`.
-pub fn letters(alloc: Global, size: u32, count: u32) -> Result<Vec<u8>, AllocError> {
-    let mut form = Vec::from_slice(alloc, &size.to_le_bytes())?;
-    for _ in 0..count {
-        form.push(b'a')?;
+pub fn letters(test: &Test, size: u32, count: u32) -> Vec<u8> {
+    of_units(test, &size.to_le_bytes(), b"a", count as usize)
+}
+
+/// The size, and the unit so many times.
+pub fn of_units(test: &Test, size: &[u8], unit: &[u8], times: usize) -> Vec<u8> {
+    let mut form = ok_bytes(test, Vec::from_slice(test.alloc, size));
+    for _ in 0..times {
+        ok(test, form.extend_from_slice(unit));
     }
-    Ok(form)
+    form
 }
 
 #[test]
@@ -71,8 +68,8 @@ fn written(rt: HostRuntime) -> Result<(), Fail> {
 }
 
 fn assert_written(test: &Test, row: Row) {
-    let form = ok_bytes(test, form_of(test.alloc, row));
-    let value = ok_value(test, value_of(test.alloc, row));
+    let form = form_of(test, row);
+    let value = value_of(test, row);
     for step in STEPS {
         assert_steps(test, &value, form.as_slice(), step);
     }
@@ -91,8 +88,8 @@ fn assert_form(test: &Test, value: &SmolStr, form: &[u8]) {
     same_bytes(test, all.as_slice(), form, value);
 }
 
-fn value_of(alloc: Global, row: Row) -> Result<SmolStr, AllocError> {
-    SmolStr::new(alloc, text_of(alloc, row)?.as_str())
+fn value_of(test: &Test, row: Row) -> SmolStr {
+    test.value(text_of(test, row).as_str())
 }
 
 // Two bytes follow each form; they are left.
@@ -106,8 +103,8 @@ fn read_again(rt: HostRuntime) -> Result<(), Fail> {
 }
 
 fn assert_read_again(test: &Test, row: Row) {
-    let text = ok_string(test, text_of(test.alloc, row));
-    let mut bytes = ok_bytes(test, form_of(test.alloc, row));
+    let text = text_of(test, row);
+    let mut bytes = form_of(test, row);
     ok(test, bytes.extend_from_slice(b"a\xff"));
     assert_found(test, bytes.as_slice(), text.as_str(), row.4);
     for step in STEPS {
@@ -152,8 +149,8 @@ fn borsh_serialize_heap(rt: HostRuntime) -> Result<(), Fail> {
 }
 
 fn assert_equal_again(test: &Test, row: Row) {
-    let value = ok_value(test, value_of(test.alloc, row));
-    let form = ok_bytes(test, form_of(test.alloc, row));
+    let value = value_of(test, row);
+    let form = form_of(test, row);
     assert_form(test, &value, form.as_slice());
     assert_again(test, form.as_slice(), &value, row.4)
 }
@@ -162,7 +159,7 @@ fn assert_equal_again(test: &Test, row: Row) {
 fn assert_again(test: &Test, form: &[u8], value: &SmolStr, place: Place) {
     let (again, _) = ok_found(test, from_wire(test.alloc, form));
     same(test, &again, value, &"again");
-    same_place(test, &again, place, &"again");
+    in_place(test, &again, place, "again");
 }
 
 // A pinned value is written as any other, and what is read is where its text belongs.
@@ -181,13 +178,13 @@ fn one_after_another(rt: HostRuntime) -> Result<(), Fail> {
     let mut reader = trickle_of(b"\x01\0\0\0a\0\0\0\0", 2, 0);
     assert_next(&test, &mut reader, "a");
     assert_next(&test, &mut reader, "");
-    holds(&test, reader.rest.is_empty(), &"the rest");
+    is_so(&test, reader.rest.is_empty(), "the rest");
     test.end()
 }
 
 fn assert_next(test: &Test, reader: &mut Trickle<'_>, text: &str) {
     let value = ok(test, SmolStr::deserialize_reader(test.alloc, reader));
-    same_text(test, value.as_str(), text, &text);
+    same_str(test, value.as_str(), text, text);
 }
 
 // Characters of three bytes, so that pieces end within one.
@@ -212,8 +209,7 @@ fn long_body(rt: HostRuntime) -> Result<(), Fail> {
 /// A text of 5,000 characters, which has this size.
 fn assert_long(test: &Test, size: [u8; 4], character: &str, step: usize) {
     let text = test.repeated(character, 5000);
-    let mut form = ok_bytes(test, Vec::from_slice(test.alloc, &size));
-    ok(test, form.extend_from_slice(text.as_bytes()));
+    let form = of_units(test, &size, text.as_bytes(), 1);
     assert_read(test, form.as_slice(), step, text.as_str(), Place::Heap, b"")
 }
 

@@ -7,7 +7,7 @@ use smol_str::{INLINE_CAP, SmolStr};
 use std::io::ErrorKind;
 use std::test::Fail;
 use test_support::streams::{STEPS, trickle_of};
-use test_support::test::{Test, holds, ok_bytes};
+use test_support::test::{Test, holds};
 use test_support::texts::ABOVE_BUFFERS;
 
 /// A fault of reading a wire form, without what it tells of it.
@@ -77,7 +77,7 @@ fn borsh_non_utf8_heap(rt: HostRuntime) -> Result<(), Fail> {
     let test = Test::begin(rt);
     assert_refused(&test, NOISE, Kind::NotUtf8, 0);
     for size in [INLINE_CAP as u32 + 1, 64] {
-        let mut bytes = ok_bytes(&test, letters(test.alloc, size, size.saturating_sub(1)));
+        let mut bytes = letters(&test, size, size.saturating_sub(1));
         test.push(&mut bytes, 0xff);
         assert_refused(&test, bytes.as_slice(), Kind::NotUtf8, 0);
     }
@@ -89,7 +89,7 @@ fn borsh_non_utf8_heap(rt: HostRuntime) -> Result<(), Fail> {
 fn cut_short(rt: HostRuntime) -> Result<(), Fail> {
     let test = Test::begin(rt);
     for row in &ROWS {
-        let form = ok_bytes(&test, form_of(test.alloc, *row));
+        let form = form_of(&test, *row);
         for end in 0..form.len() {
             assert_refused(&test, &form[..end], Kind::Ended, 0);
         }
@@ -103,7 +103,7 @@ fn long_bodies(rt: HostRuntime) -> Result<(), Fail> {
     let test = Test::begin(rt);
     for size in ABOVE_BUFFERS {
         let count = size.saturating_sub(1) as u32;
-        let mut bytes = ok_bytes(&test, letters(test.alloc, size as u32, count));
+        let mut bytes = letters(&test, size as u32, count);
         assert_long_refused(&test, bytes.as_slice(), Kind::Ended);
         test.push(&mut bytes, 0xff);
         assert_long_refused(&test, bytes.as_slice(), Kind::NotUtf8);
@@ -127,12 +127,20 @@ fn assert_refused_at_hand(test: &Test, bytes: &[u8], kind: Kind) {
 
 /// The fault is of the kind. A reader gave `step` bytes a call; bytes at hand come all at once.
 fn same_fault(test: &Test, fault: Option<DecodeFault>, kind: Kind, bytes: &[u8], step: usize) {
-    same_kind(test, fault.as_ref().map(kind_of), kind, bytes, step);
+    match fault {
+        Some(fault) => same_kind(test, kind_of(&fault), kind, bytes, step),
+        None => no_fault(test, kind, bytes, step),
+    }
 }
 
 /// The bytes are told last, since only the front of a long row is told.
-fn same_kind(test: &Test, found: Option<Kind>, kind: Kind, bytes: &[u8], step: usize) {
-    holds(test, found == Some(kind), &(step, found, kind, bytes));
+fn same_kind(test: &Test, found: Kind, kind: Kind, bytes: &[u8], step: usize) {
+    holds(test, found == kind, &(step, found, kind, bytes));
+}
+
+/// A call returned no fault.
+fn no_fault(test: &Test, kind: Kind, bytes: &[u8], step: usize) {
+    test.fail(&(step, "no fault", kind, bytes));
 }
 
 /// So many bytes are left of those that a reader gave, `step` a call.
@@ -159,8 +167,9 @@ fn assert_reader_refused(test: &Test, bytes: &[u8], step: usize, kind: Kind, lef
 /// With a limit that no size is above.
 fn assert_limited_refused(test: &Test, bytes: &[u8], step: usize, kind: Kind, left: usize) {
     let mut reader = trickle_of(bytes, step, 0);
-    let fault = deserialize_limited(test.alloc, &mut reader, usize::MAX).err();
-    let found = fault.as_ref().map(kind_of_limited);
-    same_kind(test, found, kind, bytes, step);
+    match deserialize_limited(test.alloc, &mut reader, usize::MAX) {
+        Ok(_) => no_fault(test, kind, bytes, step),
+        Err(fault) => same_kind(test, kind_of_limited(&fault), kind, bytes, step),
+    }
     same_left(test, reader.rest.len(), left, bytes, step);
 }

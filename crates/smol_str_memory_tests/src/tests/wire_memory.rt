@@ -18,16 +18,14 @@ use test_support::refuse::{
     start_counts,
 };
 use test_support::streams::{Trickle, trickle_of};
-use test_support::test::{
-    Test, holds, ok, ok_bytes, ok_string, ok_value, same, same_count, same_value,
-};
-use test_support::texts::{full_text, repeated};
+use test_support::test::{Test, has_text, holds, is_so, ok, ok_bytes, ok_value, same, same_count};
+use test_support::texts::full_text;
 
 /// The most bytes that may be asked for where ten million came.
 const MOST_BYTES: u32 = 0x200_0000;
 
 /// A call that makes a value of a wire form, or reads all of the bytes.
-#[derive(Clone, Copy, Debug)]
+#[derive(Clone, Copy)]
 enum Call {
     FromWire,
     SplitWire,
@@ -140,7 +138,11 @@ impl Refusable for Tried<'_> {
         holds(
             test,
             is_right,
-            &(self.call, self.wanted.len(), "others, or another fault"),
+            &(
+                name_of(self.call),
+                self.wanted.len(),
+                "others, or another fault",
+            ),
         );
     }
 }
@@ -166,7 +168,7 @@ fn each_request(rt: HostRuntime) -> Result<(), Fail> {
 }
 
 fn assert_requests(test: &Test, count: u32) {
-    let form = ok_bytes(test, letters(test.alloc, count, count));
+    let form = letters(test, count, count);
     let text = test.repeated("a", count as usize);
     for call in OF_FORMS {
         assert_asked(test, call, form.as_slice(), text.as_str());
@@ -176,11 +178,11 @@ fn assert_requests(test: &Test, count: u32) {
 /// The call asks for memory, and the value keeps its text alone; bytes at hand are copied once, as std copies a shared text.
 fn assert_asked(test: &Test, call: Call, form: &[u8], text: &str) {
     let asked = call_refused(test, call, form, text.as_bytes());
-    made_requests(test, asked, &(call, text.len()));
+    made_requests(test, asked, &(name_of(call), text.len()));
     assert_exact(test, asked, text, call);
     if matches!(call, Call::FromWire | Call::SplitWire) {
         let wanted = asked_by_all(test, SHARED, text);
-        holds(test, is_asked(asked, wanted), &(call, text.len()));
+        holds(test, is_asked(asked, wanted), &(name_of(call), text.len()));
     }
 }
 
@@ -188,7 +190,7 @@ fn assert_asked(test: &Test, call: Call, form: &[u8], text: &str) {
 fn assert_exact(test: &Test, asked: Asked, text: &str, call: Call) {
     let value = test.value(text);
     let is_exact = ok(test, is_exact(test.alloc, asked.held, &value));
-    holds(test, is_exact, &(call, text.len()));
+    holds(test, is_exact, &(name_of(call), text.len()));
 }
 
 // Bytes of resident and of longer texts.
@@ -205,7 +207,7 @@ fn each_request_of_reading(rt: HostRuntime) -> Result<(), Fail> {
 
 fn assert_reading_asks(test: &Test, call: Call, bytes: &[u8]) {
     let asked = call_refused(test, call, bytes, bytes);
-    made_requests(test, asked, &(call, bytes.len()));
+    made_requests(test, asked, &(name_of(call), bytes.len()));
 }
 
 // A text of 24 bytes, in a wire form that was written when it lay on the heap, and the longest short text.
@@ -223,7 +225,7 @@ fn short_by_the_limit_of_39(rt: HostRuntime) -> Result<(), Fail> {
 /// The form is of the text, which is inline, and has so many bytes.
 fn assert_found(test: &Test, form: &[u8], text: &str, len: usize) {
     let (value, taken) = ok_found(test, from_wire(test.alloc, form));
-    same_value(test, &value, text, Place::Inline, &text);
+    has_text(test, &value, text, Place::Inline, text);
     same_count(test, taken, len, text);
 }
 
@@ -231,9 +233,9 @@ fn assert_full_text_made(test: &Test) {
     let alloc = test.alloc;
     refuse_all(alloc);
     let made = SmolStr::new(alloc, full_text());
-    holds(test, !end_refusals(alloc), &"refusals");
+    is_so(test, !end_refusals(alloc), "refusals");
     let value = ok_value(test, made);
-    same_value(test, &value, full_text(), Place::Inline, &"full text");
+    has_text(test, &value, full_text(), Place::Inline, "full text");
     same_count(test, value.len(), 39, "full text");
 }
 
@@ -242,8 +244,8 @@ fn assert_full_text_made(test: &Test) {
 fn no_request(rt: HostRuntime) -> Result<(), Fail> {
     let test = Test::begin(rt);
     for row in &ROWS {
-        let text = ok_string(&test, text_of(test.alloc, *row));
-        let form = ok_bytes(&test, form_of(test.alloc, *row));
+        let text = text_of(&test, *row);
+        let form = form_of(&test, *row);
         assert_row_asks_for_nothing(&test, form.as_slice(), text.as_str(), row.4);
     }
     test.end()
@@ -262,15 +264,15 @@ fn assert_row_asks_for_nothing(test: &Test, form: &[u8], text: &str, place: Plac
 
 fn assert_no_request(test: &Test, call: Call, form: &[u8], text: &str) {
     let asked = call_refused(test, call, form, text.as_bytes());
-    same(test, &asked.requests, &0, &(call, text));
+    same(test, &asked.requests, &0, &(name_of(call), text));
 }
 
 #[test]
 fn serialize_asks_for_nothing(rt: HostRuntime) -> Result<(), Fail> {
     let test = Test::begin(rt);
     for row in &ROWS {
-        let text = ok_string(&test, text_of(test.alloc, *row));
-        let form = ok_bytes(&test, form_of(test.alloc, *row));
+        let text = text_of(&test, *row);
+        let form = form_of(&test, *row);
         assert_written(&test, text.as_str(), form.as_slice());
     }
     test.end()
@@ -280,7 +282,7 @@ fn assert_written(test: &Test, text: &str, form: &[u8]) {
     let alloc = test.alloc;
     let value = test.value(text);
     let mut out = ok_bytes(test, Vec::with_capacity(alloc, form.len()));
-    holds(test, is_written_refused(alloc, &value, &mut out), &text);
+    is_so(test, is_written_refused(alloc, &value, &mut out), text);
     same_bytes(test, out.as_slice(), form, &text);
 }
 
@@ -299,7 +301,7 @@ fn largest_size_and_no_body(rt: HostRuntime) -> Result<(), Fail> {
     let mut reader = trickle_of(b"\xff\xff\xff\xff", usize::MAX, 0);
     refuse_all(test.alloc);
     let answer = SmolStr::deserialize_reader(test.alloc, &mut reader);
-    holds(&test, !end_refusals(test.alloc), &"refusals");
+    is_so(&test, !end_refusals(test.alloc), "refusals");
     assert_ended(&test, &answer, &reader);
     test.end()
 }
@@ -307,8 +309,8 @@ fn largest_size_and_no_body(rt: HostRuntime) -> Result<(), Fail> {
 /// The bytes ended before the body did, and all of them were read.
 fn assert_ended(test: &Test, answer: &Result<SmolStr, DecodeFault>, reader: &Trickle<'_>) {
     let has_ended = matches!(answer, Err(DecodeFault::Ended));
-    holds(test, has_ended, &"the fault");
-    holds(test, reader.rest.is_empty(), &"the rest");
+    is_so(test, has_ended, "the fault");
+    is_so(test, reader.rest.is_empty(), "the rest");
 }
 
 // A size above the limit is refused before memory is asked for, and nothing behind it is read.
@@ -329,8 +331,8 @@ fn size_above_the_limit(rt: HostRuntime) -> Result<(), Fail> {
 fn assert_at_the_limit(test: &Test) {
     let mut reader = trickle_of(b"\x05\0\0\0abcdef", usize::MAX, 0);
     let is_read = deserialize_limited(test.alloc, &mut reader, 5).is_ok();
-    holds(test, is_read, &"the limit");
-    holds(test, reader.rest.len() == 1, &"the rest");
+    is_so(test, is_read, "the limit");
+    is_so(test, reader.rest.len() == 1, "the rest");
 }
 
 fn assert_too_long(test: &Test, size: u32, limit: usize) {
@@ -351,7 +353,7 @@ fn assert_too_long(test: &Test, size: u32, limit: usize) {
 #[test]
 fn largest_size_and_much_of_a_body(rt: HostRuntime) -> Result<(), Fail> {
     let test = Test::begin(rt);
-    let bytes = ok_bytes(&test, letters(test.alloc, u32::MAX, 10_000_000));
+    let bytes = letters(&test, u32::MAX, 10_000_000);
     let mut reader = trickle_of(bytes.as_slice(), usize::MAX, 0);
     start_counts(test.alloc);
     let answer = SmolStr::deserialize_reader(test.alloc, &mut reader);

@@ -179,10 +179,7 @@ fn items(rt: HostRuntime) -> Result<(), Fail> {
 }
 
 fn two_strings(test: &Test) -> [String; 2] {
-    [
-        test.string("ab"),
-        ok_string(test, String::from_str(test.alloc, "c")),
-    ]
+    [test.string("ab"), test.string("c")]
 }
 
 fn item_rows(alloc: Global, strings: &[String]) -> Option<&'static str> {

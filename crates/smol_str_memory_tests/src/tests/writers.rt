@@ -7,7 +7,7 @@ use smol_str::stream::write_steps;
 use std::io::ErrorKind;
 use std::test::Fail;
 use test_support::streams::{Drip, Failure, STEPS, WRITE_FAILURES, empty_drip, is_tried};
-use test_support::test::{Test, holds, ok, same};
+use test_support::test::{Test, holds, same};
 
 /// A call that writes a wire form.
 #[derive(Clone, Copy, Debug)]
@@ -66,7 +66,7 @@ fn serialized(value: &SmolStr, writer: &mut Drip) -> Option<ErrorKind> {
 #[test]
 fn fails_at_each_call(rt: HostRuntime) -> Result<(), Fail> {
     let test = Test::begin(rt);
-    for form in ok(&test, forms(test.alloc)).iter() {
+    for form in &forms(&test) {
         assert_form_fails(&test, form.as_slice());
     }
     test.end()

@@ -8,10 +8,10 @@ use std::test::Fail;
 use test_support::builders::builder_of;
 use test_support::refuse::{Refusable, each_refused, end_refusals, made_requests, refuse_all};
 use test_support::test::{
-    Test, has_text, holds, in_place, is_so, ok, ok_string, ok_value, same, same_count, same_str,
-    same_value,
+    Test, has_text, holds, in_place, is_so, ok, ok_string, ok_value, same_count, same_flag,
+    same_str, same_value,
 };
-use test_support::texts::{repeated, repeated_and};
+use test_support::texts::repeated_and;
 
 /// What a row appends.
 #[derive(Clone, Copy)]
@@ -125,8 +125,8 @@ fn test_builder_push_str(rt: HostRuntime) -> Result<(), Fail> {
 fn test_builder_push(rt: HostRuntime) -> Result<(), Fail> {
     let test = Test::begin(rt);
     for row in rows() {
-        let text = ok_string(&test, text_of(test.alloc, row));
-        let builder = ok(&test, of_characters(test.alloc, text.as_str()));
+        let text = text_of(&test, row);
+        let builder = of_characters(&test, text.as_str());
         assert_finishes(&test, builder, text.as_str(), row.2);
     }
     test.end()
@@ -154,17 +154,16 @@ fn assert_rows_at(test: &Test, capacity: usize) {
 
 fn assert_pieces(test: &Test, mut builder: SmolStrBuilder, row: &Row) {
     for piece in row.0 {
-        ok(test, append(test.alloc, &mut builder, *piece));
+        append(test, &mut builder, *piece);
     }
-    let text = ok_string(test, text_of(test.alloc, row));
+    let text = text_of(test, row);
     assert_finishes(test, builder, text.as_str(), row.2)
 }
 
 fn assert_steps_at(test: &Test, capacity: usize, row: &Row) {
-    let alloc = test.alloc;
-    let text = ok_string(test, text_of(alloc, row));
-    let steps = ok(test, steps_of(alloc, row.0));
-    let value = ok_value(test, build(alloc, capacity, &steps));
+    let text = text_of(test, row);
+    let steps = steps_of(test, row.0);
+    let value = ok_value(test, build(test.alloc, capacity, &steps));
     same_value(test, &value, text.as_str(), row.2, &capacity);
 }
 
@@ -222,7 +221,7 @@ impl Refusable for Build<'_> {
     type Fault = AllocError;
 
     fn input(&self, test: &Test) -> Vec<Step> {
-        ok(test, steps_of(test.alloc, self.pieces))
+        steps_of(test, self.pieces)
     }
 
     fn call(&self, alloc: Global, steps: Vec<Step>) -> Result<SmolStr, AllocError> {
@@ -338,7 +337,7 @@ fn is_made(alloc: Global, capacity: usize) -> bool {
 fn equal_texts(rt: HostRuntime) -> Result<(), Fail> {
     let test = Test::begin(rt);
     for row in rows() {
-        let text = ok_string(&test, text_of(test.alloc, row));
+        let text = text_of(&test, row);
         match made_twice(test.alloc, text.as_str()) {
             Ok(values) => assert_equal(&test, &values, row.2, text.as_str()),
             Err(fault) => test.fail(&fault),
@@ -373,26 +372,27 @@ fn finish_both(a: SmolStrBuilder, b: SmolStrBuilder) -> Result<(SmolStr, SmolStr
 }
 
 /// The text of a row.
-fn text_of(alloc: Global, row: &Row) -> Result<String, AllocError> {
+fn text_of(test: &Test, row: &Row) -> String {
     let (text, times, end) = row.1;
-    repeated_and(alloc, text, times, end)
+    ok_string(test, repeated_and(test.alloc, text, times, end))
 }
 
-fn append(alloc: Global, builder: &mut SmolStrBuilder, piece: Piece) -> Result<(), AllocError> {
-    match piece {
+fn append(test: &Test, builder: &mut SmolStrBuilder, piece: Piece) {
+    let appended = match piece {
         Piece::Char(character) => builder.push(character),
         Piece::Text(text) => builder.push_str(text),
-        Piece::Times(text, times) => builder.push_str(repeated(alloc, text, times)?.as_str()),
-    }
+        Piece::Times(text, times) => builder.push_str(test.repeated(text, times).as_str()),
+    };
+    ok(test, appended)
 }
 
 /// A new builder that has the characters of a text.
-fn of_characters(alloc: Global, text: &str) -> Result<SmolStrBuilder, AllocError> {
-    let mut builder = SmolStrBuilder::new(alloc);
+fn of_characters(test: &Test, text: &str) -> SmolStrBuilder {
+    let mut builder = SmolStrBuilder::new(test.alloc);
     for character in text.chars() {
-        builder.push(character)?;
+        ok(test, builder.push(character));
     }
-    Ok(builder)
+    builder
 }
 
 /// The value of a builder.
@@ -400,31 +400,27 @@ fn value_of(builder: SmolStrBuilder) -> Result<SmolStr, AllocError> {
     Ok(builder.finish()?)
 }
 
-fn steps_of(alloc: Global, pieces: &[Piece]) -> Result<Vec<Step>, AllocError> {
-    let mut steps = Vec::new(alloc);
+fn steps_of(test: &Test, pieces: &[Piece]) -> Vec<Step> {
+    let mut steps = Vec::new(test.alloc);
     for piece in pieces {
-        steps.push(step_of(alloc, *piece)?)?;
+        test.push(&mut steps, step_of(test, *piece));
     }
-    Ok(steps)
+    steps
 }
 
-fn step_of(alloc: Global, piece: Piece) -> Result<Step, AllocError> {
+fn step_of(test: &Test, piece: Piece) -> Step {
     match piece {
-        Piece::Char(character) => Ok(Step::Push(character)),
-        Piece::Text(text) => step_of_text(alloc, text, 1),
-        Piece::Times(text, times) => step_of_text(alloc, text, times),
+        Piece::Char(character) => Step::Push(character),
+        Piece::Text(text) => Step::PushStr(test.string(text)),
+        Piece::Times(text, times) => Step::PushStr(test.repeated(text, times)),
     }
-}
-
-fn step_of_text(alloc: Global, text: &str, times: usize) -> Result<Step, AllocError> {
-    Ok(Step::PushStr(repeated(alloc, text, times)?))
 }
 
 /// The builder has the text, and finishes to its value.
 fn assert_finishes(test: &Test, builder: SmolStrBuilder, text: &str, place: Place) {
     same_str(test, builder.as_str(), text, "a builder");
     same_count(test, builder.len(), text.len(), text);
-    same(test, &builder.is_empty(), &text.is_empty(), &text);
+    same_flag(test, builder.is_empty(), text.is_empty(), text);
     let value = ok_value(test, value_of(builder));
     has_text(test, &value, text, place, "a builder's value");
 }

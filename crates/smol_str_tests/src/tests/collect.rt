@@ -8,10 +8,10 @@ use std::alloc::{AllocError, Global};
 use std::test::Fail;
 use std::vec::IntoIter;
 use test_support::test::{
-    Test, holds, ok, ok_string, ok_strings, ok_value, same, same_count, same_flag, same_place,
-    same_text, same_value,
+    Test, has_text, holds, in_place, is_so, ok, ok_string, ok_value, same, same_count, same_flag,
+    same_place, same_str, same_value,
 };
-use test_support::texts::{long_blank, repeated, repeated_and};
+use test_support::texts::{long_blank, repeated_and};
 
 /// An iterator whose lower hint may promise more items than come.
 #[derive(Drop)]
@@ -44,7 +44,7 @@ pub fn with_hint<T: Drop>(items: Vec<T>, lower: usize) -> Hinted<T> {
 }
 
 /// The calls that draw items.
-#[derive(Clone, Copy, PartialEq, Eq, Debug)]
+#[derive(Clone, Copy)]
 pub enum Call {
     FromChars,
     FromStrs,
@@ -55,14 +55,15 @@ pub enum Call {
     ExtendStrings,
 }
 
-pub const CALLS: [Call; 7] = [
-    Call::FromChars,
-    Call::FromStrs,
-    Call::FromStrings,
-    Call::FromStringRefs,
-    Call::ExtendChars,
-    Call::ExtendStrs,
-    Call::ExtendStrings,
+/// Each call, and its name in messages.
+pub const CALLS: [(Call, &str); 7] = [
+    (Call::FromChars, "from_chars"),
+    (Call::FromStrs, "from_strs"),
+    (Call::FromStrings, "from_strings"),
+    (Call::FromStringRefs, "from_string_refs"),
+    (Call::ExtendChars, "extend_chars"),
+    (Call::ExtendStrs, "extend_strs"),
+    (Call::ExtendStrings, "extend_strings"),
 ];
 
 /// What a call draws.
@@ -76,73 +77,58 @@ enum Items<'p, 's> {
 
 /// The pieces as items; the strings are the same pieces.
 fn items_of<'p, 's>(
-    alloc: Global,
+    test: &Test,
     call: Call,
     pieces: &[&'p str],
     strings: &'s [String],
     lower: usize,
-) -> Result<Items<'p, 's>, AllocError> {
+) -> Items<'p, 's> {
     match call {
-        Call::FromChars | Call::ExtendChars => char_items(alloc, pieces, lower),
-        Call::FromStrs | Call::ExtendStrs => str_items(alloc, pieces, lower),
-        Call::FromStrings => string_items(alloc, pieces, lower),
-        Call::FromStringRefs | Call::ExtendStrings => string_ref_items(alloc, strings, lower),
+        Call::FromChars | Call::ExtendChars => char_items(test, pieces, lower),
+        Call::FromStrs | Call::ExtendStrs => str_items(test, pieces, lower),
+        Call::FromStrings => string_items(test, pieces, lower),
+        Call::FromStringRefs | Call::ExtendStrings => string_ref_items(test, strings, lower),
     }
 }
 
-fn char_items<'p, 's>(
-    alloc: Global,
-    pieces: &[&'p str],
-    lower: usize,
-) -> Result<Items<'p, 's>, AllocError> {
-    Ok(Items::Chars(with_hint(chars_of(alloc, pieces)?, lower)))
+fn char_items<'p, 's>(test: &Test, pieces: &[&'p str], lower: usize) -> Items<'p, 's> {
+    Items::Chars(with_hint(chars_of(test, pieces), lower))
 }
 
-fn str_items<'p, 's>(
-    alloc: Global,
-    pieces: &[&'p str],
-    lower: usize,
-) -> Result<Items<'p, 's>, AllocError> {
-    Ok(Items::Strs(with_hint(pieces.iter().copied().collect(alloc)?, lower)))
+fn str_items<'p, 's>(test: &Test, pieces: &[&'p str], lower: usize) -> Items<'p, 's> {
+    let strs = ok(test, pieces.iter().copied().collect(test.alloc));
+    Items::Strs(with_hint(strs, lower))
 }
 
-fn string_items<'p, 's>(
-    alloc: Global,
-    pieces: &[&'p str],
-    lower: usize,
-) -> Result<Items<'p, 's>, AllocError> {
-    Ok(Items::Strings(with_hint(strings_of(alloc, pieces)?, lower)))
+fn string_items<'p, 's>(test: &Test, pieces: &[&'p str], lower: usize) -> Items<'p, 's> {
+    Items::Strings(with_hint(strings_of(test, pieces), lower))
 }
 
-fn string_ref_items<'p, 's>(
-    alloc: Global,
-    strings: &'s [String],
-    lower: usize,
-) -> Result<Items<'p, 's>, AllocError> {
-    Ok(Items::StringRefs(with_hint(strings.iter().collect(alloc)?, lower)))
+fn string_ref_items<'p, 's>(test: &Test, strings: &'s [String], lower: usize) -> Items<'p, 's> {
+    let refs = ok(test, strings.iter().collect(test.alloc));
+    Items::StringRefs(with_hint(refs, lower))
 }
 
-fn chars_of(alloc: Global, pieces: &[&str]) -> Result<Vec<char>, AllocError> {
-    let mut chars = Vec::new(alloc);
+fn chars_of(test: &Test, pieces: &[&str]) -> Vec<char> {
+    let mut chars = Vec::new(test.alloc);
     for piece in pieces {
-        push_chars(&mut chars, piece)?;
+        push_chars(test, &mut chars, piece);
     }
-    Ok(chars)
+    chars
 }
 
-fn push_chars(chars: &mut Vec<char>, text: &str) -> Result<(), AllocError> {
+fn push_chars(test: &Test, chars: &mut Vec<char>, text: &str) {
     for character in text.chars() {
-        chars.push(character)?;
+        test.push(chars, character);
     }
-    Ok(())
 }
 
-pub fn strings_of(alloc: Global, pieces: &[&str]) -> Result<Vec<String>, AllocError> {
-    let mut strings = Vec::new(alloc);
+pub fn strings_of(test: &Test, pieces: &[&str]) -> Vec<String> {
+    let mut strings = Vec::new(test.alloc);
     for piece in pieces {
-        strings.push(String::from_str(alloc, piece)?)?;
+        test.push(&mut strings, test.string(piece));
     }
-    Ok(strings)
+    strings
 }
 
 /// Whether the call extends a builder.
@@ -243,7 +229,7 @@ fn assert_wide(test: &Test, end: &str, len: usize, place: Place) {
 
 fn assert_collected(test: &Test, text: &str, len: usize, place: Place) {
     let value = ok_value(test, SmolStr::from_chars(test.alloc, text.chars()));
-    same_value(test, &value, text, place, &text);
+    has_text(test, &value, text, place, text);
     same_count(test, value.len(), len, text);
 }
 
@@ -277,28 +263,29 @@ fn no_pieces(rt: HostRuntime) -> Result<(), Fail> {
     let test = Test::begin(rt);
     let none: Vec<String> = Vec::new(test.alloc);
     let empty = ok_value(&test, SmolStr::from_strings(test.alloc, none.into_iter()));
-    same_value(&test, &empty, "", Place::Inline, &"no pieces");
+    has_text(&test, &empty, "", Place::Inline, "no pieces");
     test.end()
 }
 
 #[test]
 fn owned_and_borrowed_pieces(rt: HostRuntime) -> Result<(), Fail> {
     let test = Test::begin(rt);
-    let borrowed = ok_value(&test, of_borrowed(test.alloc, &["if", "", "x"]));
-    same_value(&test, &borrowed, "ifx", Place::Inline, &"borrowed");
-    let owned = ok_value(&test, of_owned(test.alloc, &["if", "", "x"]));
-    same_value(&test, &owned, "ifx", Place::Inline, &"owned");
+    let borrowed = of_borrowed(&test, &["if", "", "x"]);
+    has_text(&test, &borrowed, "ifx", Place::Inline, "borrowed");
+    let owned = of_owned(&test, &["if", "", "x"]);
+    has_text(&test, &owned, "ifx", Place::Inline, "owned");
     same(&test, &borrowed, &owned, &"both");
     test.end()
 }
 
-fn of_borrowed(alloc: Global, pieces: &[&str]) -> Result<SmolStr, AllocError> {
-    let strings = strings_of(alloc, pieces)?;
-    SmolStr::from_string_refs(alloc, strings.iter())
+fn of_borrowed(test: &Test, pieces: &[&str]) -> SmolStr {
+    let strings = strings_of(test, pieces);
+    ok_value(test, SmolStr::from_string_refs(test.alloc, strings.iter()))
 }
 
-fn of_owned(alloc: Global, pieces: &[&str]) -> Result<SmolStr, AllocError> {
-    SmolStr::from_strings(alloc, strings_of(alloc, pieces)?.into_iter())
+fn of_owned(test: &Test, pieces: &[&str]) -> SmolStr {
+    let strings = strings_of(test, pieces);
+    ok_value(test, SmolStr::from_strings(test.alloc, strings.into_iter()))
 }
 
 #[test]
@@ -315,7 +302,7 @@ fn ordinary_iterators(rt: HostRuntime) -> Result<(), Fail> {
 }
 
 fn assert_text(test: &Test, answer: Result<SmolStr, AllocError>, text: &str) {
-    same_value(test, &ok_value(test, answer), text, Place::Inline, &text);
+    has_text(test, &ok_value(test, answer), text, Place::Inline, text);
 }
 
 fn of_values(alloc: Global, values: &[SmolStr]) -> Result<SmolStr, AllocError> {
@@ -343,7 +330,7 @@ fn of_copies(alloc: Global, parts: &[&str]) -> Result<SmolStr, AllocError> {
 fn from_string_iter(rt: HostRuntime) -> Result<(), Fail> {
     let test = Test::begin(rt);
     for count in 1..100 {
-        let pieces = ok_strings(&test, first_pieces(test.alloc, count));
+        let pieces = first_pieces(&test, count);
         let value = ok_value(&test, SmolStr::from_strings(test.alloc, pieces.into_iter()));
         assert_joined(&test, &value, count);
     }
@@ -354,24 +341,19 @@ fn from_string_iter(rt: HostRuntime) -> Result<(), Fail> {
 fn from_str_iter(rt: HostRuntime) -> Result<(), Fail> {
     let test = Test::begin(rt);
     for count in 1..100 {
-        let pieces = ok_strings(&test, first_pieces(test.alloc, count));
+        let pieces = first_pieces(&test, count);
         let value = ok_value(&test, SmolStr::from_string_refs(test.alloc, pieces.iter()));
         assert_joined(&test, &value, count);
     }
     test.end()
 }
 
-fn first_pieces(alloc: Global, count: usize) -> Result<Vec<String>, AllocError> {
-    let mut pieces = Vec::new(alloc);
+fn first_pieces(test: &Test, count: usize) -> Vec<String> {
+    let mut pieces = Vec::new(test.alloc);
     for number in 1..=count {
-        push_piece(alloc, &mut pieces, number % 5)?;
+        test.push(&mut pieces, test.repeated("é", number % 5));
     }
-    Ok(pieces)
-}
-
-fn push_piece(alloc: Global, pieces: &mut Vec<String>, letters: usize) -> Result<(), AllocError> {
-    pieces.push(repeated(alloc, "é", letters)?)?;
-    Ok(())
+    pieces
 }
 
 fn first_letters(count: usize) -> usize {
@@ -402,29 +384,26 @@ fn from_buf_and_chars_size_hinted_heap(rt: HostRuntime) -> Result<(), Fail> {
         builder.extend_chars("_0x1x2x3x4x5x6x7x8x9x10x11x12x13".chars()),
     );
     let text = "abcdefghijklmnopqr_0x1x2x3x4x5x6x7x8x9x10x11x12x13";
-    same_text(&test, builder.as_str(), text, &"builder");
+    same_str(&test, builder.as_str(), text, "builder");
     assert_finished(&test, builder, text);
     test.end()
 }
 
 fn assert_finished(test: &Test, builder: SmolStrBuilder, text: &str) {
     let value = ok(test, builder.finish().ok().ok_or("refused"));
-    same_value(test, &value, text, Place::Heap, &"value");
+    has_text(test, &value, text, Place::Heap, "value");
 }
 
 #[test]
 fn test_bad_size_hint_char_iter(rt: HostRuntime) -> Result<(), Fail> {
     let test = Test::begin(rt);
-    let collected = ok_value(&test, of_chars(test.alloc, &["testing"], 1024));
-    same_value(&test, &collected, "testing", Place::Inline, &"collected");
+    let chars = with_hint(chars_of(&test, &["testing"]), 1024);
+    let collected = ok_value(&test, SmolStr::from_chars(test.alloc, chars));
+    has_text(&test, &collected, "testing", Place::Inline, "collected");
     let new = test.value("testing");
-    same_place(&test, &new, Place::Inline, &"new");
+    in_place(&test, &new, Place::Inline, "new");
     same(&test, &new, &collected, &"both");
     test.end()
-}
-
-fn of_chars(alloc: Global, pieces: &[&str], lower: usize) -> Result<SmolStr, AllocError> {
-    SmolStr::from_chars(alloc, with_hint(chars_of(alloc, pieces)?, lower))
 }
 
 // Hints reserve nothing: the largest would be refused.
@@ -447,27 +426,18 @@ fn assert_hinted_letters(test: &Test, letters: usize, lower: usize) {
 }
 
 fn assert_hinted(test: &Test, pieces: &[&str], lower: usize, text: &str, place: Place) {
-    let strings = ok_strings(test, strings_of(test.alloc, pieces));
-    for call in CALLS {
-        let made = made_with_hint(test.alloc, call, pieces, strings.as_slice(), lower);
-        assert_made(test, made, (call, lower), text, place);
+    let strings = strings_of(test, pieces);
+    for (call, name) in CALLS {
+        let items = items_of(test, call, pieces, strings.as_slice(), lower);
+        let made = value_of(test.alloc, call, items);
+        assert_made(test, made, (name, lower), text, place);
     }
-}
-
-fn made_with_hint(
-    alloc: Global,
-    call: Call,
-    pieces: &[&str],
-    strings: &[String],
-    lower: usize,
-) -> Result<SmolStr, AllocError> {
-    value_of(alloc, call, items_of(alloc, call, pieces, strings, lower)?)
 }
 
 fn assert_made(
     test: &Test,
     made: Result<SmolStr, AllocError>,
-    row: (Call, usize),
+    row: (&str, usize),
     text: &str,
     place: Place,
 ) {
@@ -498,14 +468,14 @@ fn builders_cloned(rt: HostRuntime) -> Result<(), Fail> {
     let test = Test::begin(rt);
     let heap = test.builder(100, "ab");
     assert_copied(&test, &heap);
-    same_text(&test, heap.as_str(), "ab", &"heap");
+    same_str(&test, heap.as_str(), "ab", "heap");
     test.end()
 }
 
 fn assert_copied(test: &Test, heap: &SmolStrBuilder) {
     let mut copy = ok(test, heap.clone());
-    holds(test, copy == *heap, &"ab");
+    is_so(test, copy == *heap, "ab");
     ok(test, copy.push('c'));
-    holds(test, copy.inline_buffer().is_none(), &"abc");
-    same_text(test, copy.as_str(), "abc", &"copy");
+    is_so(test, copy.inline_buffer().is_none(), "abc");
+    same_str(test, copy.as_str(), "abc", "copy");
 }

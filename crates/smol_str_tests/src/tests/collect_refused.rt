@@ -5,7 +5,7 @@ use std::alloc::{AllocError, Global};
 use std::test::Fail;
 use test_support::held::is_exact;
 use test_support::refuse::{Refusable, can_refuse, each_refused, end_refusals, refuse_all};
-use test_support::test::{Test, holds, ok, ok_string, ok_strings, same, same_flag, same_text};
+use test_support::test::{Test, holds, is_so, ok, ok_string, same, same_flag, same_str};
 use test_support::texts::{joined, repeated};
 
 #[test]
@@ -23,9 +23,10 @@ fn each_request_in_turn(rt: HostRuntime) -> Result<(), Fail> {
 fn assert_requests<'a>(test: &Test, pieces: &'a [&'a str; 2], needs_memory: bool) {
     let whole = ok_string(test, joined(test.alloc, pieces[0], pieces[1]));
     let makes_requests = needs_memory && can_refuse(test.alloc);
-    for call in CALLS {
+    for (call, name) in CALLS {
         let items = Items {
             call,
+            name,
             pieces,
             whole: whole.as_str(),
         };
@@ -35,17 +36,18 @@ fn assert_requests<'a>(test: &Test, pieces: &'a [&'a str; 2], needs_memory: bool
 
 /// A call makes requests or none, and what it makes holds its text and no more.
 fn assert_asked(test: &Test, items: &Items<'_, '_>, makes_requests: bool) {
-    let asked = each_refused(test, name_of(items.call), items);
-    same(test, &(asked.requests > 0), &makes_requests, &items.call);
+    let asked = each_refused(test, items.name, items);
+    same_flag(test, asked.requests > 0, makes_requests, items.name);
     let value = test.value(items.whole);
     let is_exact = ok(test, is_exact(test.alloc, asked.held, &value));
-    holds(test, is_exact, &items.call);
+    is_so(test, is_exact, items.name);
 }
 
 /// A call on the pieces of a text, or on its characters.
 #[derive(Drop)]
 struct Items<'a, 'w> {
     call: Call,
+    name: &'static str,
     pieces: &'a [&'a str; 2],
     whole: &'w str,
 }
@@ -59,7 +61,7 @@ impl Refusable for Items<'_, '_> {
 
     fn input(&self, test: &Test) -> Vec<String> {
         let pieces = self.pieces;
-        ok_strings(test, strings_of(test.alloc, pieces))
+        strings_of(test, pieces)
     }
 
     fn call(&self, alloc: Global, strings: Vec<String>) -> Result<SmolStr, Option<SmolStrBuilder>> {
@@ -76,7 +78,7 @@ impl Refusable for Items<'_, '_> {
     /// A value has the text of all pieces, and a builder that of the first few items.
     fn check(&self, test: &Test, made: Result<SmolStr, Option<SmolStrBuilder>>) {
         match made {
-            Ok(value) => same_text(test, value.as_str(), self.whole, &self.call),
+            Ok(value) => same_str(test, value.as_str(), self.whole, self.name),
             Err(None) => {}
             Err(Some(builder)) => check_left(test, builder.as_str(), self),
         }
@@ -126,28 +128,16 @@ fn extend_by_two(
     builder.extend_strs([first, second].into_iter())
 }
 
-fn name_of(call: Call) -> &'static str {
-    match call {
-        Call::FromChars => "from_chars",
-        Call::FromStrs => "from_strs",
-        Call::FromStrings => "from_strings",
-        Call::FromStringRefs => "from_string_refs",
-        Call::ExtendChars => "extend_chars",
-        Call::ExtendStrs => "extend_strs",
-        Call::ExtendStrings => "extend_strings",
-    }
-}
-
 fn check_left(test: &Test, text: &str, items: &Items<'_, '_>) {
     let is_left = text == items.whole || has_stopped(text, items.call, items.pieces);
-    holds(test, is_left, &(items.call, text));
+    holds(test, is_left, &(items.name, text));
 }
 
 /// Each character of the pieces is an item where characters are drawn.
 fn has_stopped(text: &str, call: Call, pieces: &[&str; 2]) -> bool {
     let [first, _] = *pieces;
     let is_between_pieces = text.is_empty() || text.len() == first.len();
-    first.starts_with(text) && (is_between_pieces || call == Call::ExtendChars)
+    first.starts_with(text) && (is_between_pieces || matches!(call, Call::ExtendChars))
 }
 
 // Where two bytes are left, the third text is refused, and those before it stay.
@@ -174,13 +164,9 @@ fn assert_stops(test: &Test, start: &str) {
 }
 
 fn assert_stopped(test: &Test, builder: &SmolStrBuilder, start: &str) {
-    same(
-        test,
-        &builder.as_str().strip_prefix(start),
-        &Some("bc"),
-        &start,
-    );
-    holds(test, builder.inline_buffer().is_some(), &start);
+    let added = builder.as_str().strip_prefix(start);
+    same_str(test, added.unwrap_or("another start"), "bc", start);
+    is_so(test, builder.inline_buffer().is_some(), start);
 }
 
 // Only a clone of a builder on the heap takes memory.

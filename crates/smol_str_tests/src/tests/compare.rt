@@ -5,7 +5,6 @@ use std::alloc::Global;
 use std::cmp::Ordering;
 use std::hash::{DefaultHasher, Hash, Hasher};
 use std::test::Fail;
-use test_support::builders::builder_of;
 use test_support::test::{Test, holds, in_place, is_so, ok, ok_string, ok_value, same, same_count};
 use test_support::texts::{long_blank, long_text, repeated_and};
 
@@ -163,17 +162,15 @@ fn add_converted(test: &Test, values: &mut Vec<SmolStr>) {
     let alloc = test.alloc;
     add(test, values, read(alloc));
     add(test, values, "xb".replace_smolstr(alloc, "x", "a").ok());
-    add(test, values, finished(alloc));
+    add(test, values, test.builder(100, "ab").finish().ok());
     add(test, values, built(alloc));
 }
 
 fn read(alloc: Global) -> Option<SmolStr> {
-    let (value, _) = from_wire(alloc, b"\x02\0\0\0ab").ok()?;
-    Some(value)
-}
-
-fn finished(alloc: Global) -> Option<SmolStr> {
-    builder_of(alloc, 100, "ab").ok()?.finish().ok()
+    match from_wire(alloc, b"\x02\0\0\0ab") {
+        Ok((value, _)) => Some(value),
+        Err(_) => None,
+    }
 }
 
 fn built(alloc: Global) -> Option<SmolStr> {

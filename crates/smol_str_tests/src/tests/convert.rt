@@ -1,14 +1,14 @@
 //! Values from other texts, and back.
 use smol_str::{FromUtf8Fault, INLINE_CAP, Place, SmolStr};
-use std::alloc::{AllocError, Global};
+use std::alloc::Global;
 use std::borrow::CowStr;
 use std::rc::RcStr;
 use std::test::Fail;
 use test_support::refuse::{Refusable, each_refused, made_requests};
 use test_support::test::{
-    Test, has_text, holds, in_place, is_so, of_shared, ok, same, same_count, same_str,
+    Test, has_text, holds, in_place, is_so, of_shared, ok, ok_string, same, same_count, same_str,
 };
-use test_support::texts::{ABOVE_BUFFERS, long_blank, long_text, repeated};
+use test_support::texts::{ABOVE_BUFFERS, long_blank, long_text};
 
 #[test]
 fn test_from_char(rt: HostRuntime) -> Result<(), Fail> {
@@ -41,7 +41,7 @@ fn bytes(rt: HostRuntime) -> Result<(), Fail> {
 fn long_bytes(rt: HostRuntime) -> Result<(), Fail> {
     let test = Test::begin(rt);
     for size in ABOVE_BUFFERS {
-        let bytes = ok(&test, wrong_behind(test.alloc, size));
+        let bytes = wrong_behind(&test, size);
         let valid = valid_up_to(test.alloc, bytes.as_slice());
         same(&test, &valid, &Some(size), &"from_utf8");
     }
@@ -49,10 +49,10 @@ fn long_bytes(rt: HostRuntime) -> Result<(), Fail> {
 }
 
 /// So many letters, and a byte that is not UTF-8.
-fn wrong_behind(alloc: Global, size: usize) -> Result<Vec<u8>, AllocError> {
-    let mut bytes = repeated(alloc, "a", size)?.into_bytes();
-    bytes.push(0xff)?;
-    Ok(bytes)
+fn wrong_behind(test: &Test, size: usize) -> Vec<u8> {
+    let mut bytes = test.repeated("a", size).into_bytes();
+    test.push(&mut bytes, 0xff);
+    bytes
 }
 
 /// Where the bytes stop being UTF-8.
@@ -177,13 +177,13 @@ fn assert_made(test: &Test, made: Option<SmolStr>, wanted: (&str, Place), way: &
 }
 
 fn assert_prints(test: &Test, value: &SmolStr, text: &str) {
-    let printed = ok(test, format!(in test.alloc; "{value}"));
+    let printed = ok_string(test, format!(in test.alloc; "{value}"));
     same_str(test, printed.as_str(), text, "printed");
 }
 
 fn assert_prints_quoted(test: &Test, value: &SmolStr, text: &str) {
-    let quoted = ok(test, format!(in test.alloc; "\"{text}\""));
-    let printed = ok(test, format!(in test.alloc; "{value:?}"));
+    let quoted = ok_string(test, format!(in test.alloc; "\"{text}\""));
+    let printed = ok_string(test, format!(in test.alloc; "{value:?}"));
     same_str(
         test,
         printed.as_str(),

@@ -1,9 +1,10 @@
 //! Values in containers.
 use smol_str::{Place, SmolStr, SmolStrBuilder};
-use std::alloc::{AllocError, Global};
 use std::collections::{BTreeMap, HashMap};
 use std::test::Fail;
-use test_support::test::{Test, holds, is_so, ok, same, same_count, same_place, same_str};
+use test_support::test::{
+    Test, holds, in_place, is_so, ok, same, same_count, same_place, same_str,
+};
 use test_support::texts::long_text;
 
 fn texts() -> [&'static str; 6] {
@@ -12,9 +13,8 @@ fn texts() -> [&'static str; 6] {
 
 #[test]
 fn keys_of_maps(rt: HostRuntime) -> Result<(), Fail> {
-    let alloc = rt.alloc();
-    let map = hashed(alloc)?;
-    let test = Test::new(alloc);
+    let test = Test::begin(rt);
+    let map = hashed(&test);
     same_count(&test, map.len(), texts().len(), "entries");
     for (place, text) in texts().iter().enumerate() {
         let found = map.get(&SmolStr::new_static(text)).copied();
@@ -31,9 +31,8 @@ fn same_entry(test: &Test, found: Option<usize>, wanted: Option<usize>, text: &s
 
 #[test]
 fn keys_of_sorted_maps(rt: HostRuntime) -> Result<(), Fail> {
-    let alloc = rt.alloc();
-    let map = sorted(alloc)?;
-    let test = Test::new(alloc);
+    let test = Test::begin(rt);
+    let map = sorted(&test);
     same_count(&test, map.len(), texts().len(), "entries");
     for (place, text) in texts().iter().enumerate() {
         let found = map.get(&SmolStr::new_static(text)).copied();
@@ -43,38 +42,44 @@ fn keys_of_sorted_maps(rt: HostRuntime) -> Result<(), Fail> {
 }
 
 /// The texts' places in a map.
-fn hashed(alloc: Global) -> Result<HashMap<SmolStr, usize>, AllocError> {
-    let mut map = HashMap::new(alloc);
+fn hashed(test: &Test) -> HashMap<SmolStr, usize> {
+    let mut map = HashMap::new(test.alloc);
     for (place, text) in texts().iter().enumerate() {
-        map.insert(SmolStr::new(alloc, text)?, place)?;
+        let inserted = map.insert(test.value(text), place);
+        is_so(test, inserted.is_ok(), "insert");
     }
-    Ok(map)
+    map
 }
 
 /// The same in a sorted map.
-fn sorted(alloc: Global) -> Result<BTreeMap<SmolStr, usize>, AllocError> {
-    let mut map = BTreeMap::new(alloc);
+fn sorted(test: &Test) -> BTreeMap<SmolStr, usize> {
+    let mut map = BTreeMap::new(test.alloc);
     for (place, text) in texts().iter().enumerate() {
-        map.insert(SmolStr::new(alloc, text)?, place)?;
+        let inserted = map.insert(test.value(text), place);
+        is_so(test, inserted.is_ok(), "insert");
     }
-    Ok(map)
+    map
 }
 
 #[test]
 fn test_search_in_hashmap(rt: HostRuntime) -> Result<(), Fail> {
     let test = Test::begin(rt);
-    let mut map = HashMap::new(test.alloc);
-    let key = test.value("aaa");
-    is_so(&test, map.insert(key, 17).is_ok(), "insert");
-    let found = map.get(&SmolStr::new_inline("aaa")).copied();
-    same_entry(&test, found, Some(17), "aaa");
+    assert_found(&test);
     test.end()
+}
+
+fn assert_found(test: &Test) {
+    let mut map = HashMap::new(test.alloc);
+    let inserted = map.insert(test.value("aaa"), 17);
+    is_so(test, inserted.is_ok(), "insert");
+    let found = map.get(&SmolStr::new_inline("aaa")).copied();
+    same_entry(test, found, Some(17), "aaa");
 }
 
 #[test]
 fn clones_of_containers(rt: HostRuntime) -> Result<(), Fail> {
     let test = Test::begin(rt);
-    let values = ok(&test, values_of(test.alloc));
+    let values = values(&test);
     let copies = ok(&test, values.clone());
     assert_copies(&test, copies.as_slice(), values.as_slice());
     test.end()
@@ -88,13 +93,13 @@ fn assert_copies(test: &Test, copies: &[SmolStr], values: &[SmolStr]) {
     }
 }
 
-fn values_of(alloc: Global) -> Result<Vec<SmolStr>, AllocError> {
-    let mut values = Vec::new(alloc);
+fn values(test: &Test) -> Vec<SmolStr> {
+    let mut values = Vec::new(test.alloc);
     for text in texts() {
-        values.push(SmolStr::new(alloc, text)?)?;
+        test.push(&mut values, test.value(text));
     }
-    values.push(SmolStr::new_static("ab"))?;
-    Ok(values)
+    test.push(&mut values, SmolStr::new_static("ab"));
+    values
 }
 
 // A builder on the heap, too.
@@ -124,9 +129,11 @@ fn assert_copied(test: &Test, copies: &[SmolStrBuilder], builders: &[SmolStrBuil
 
 #[test]
 fn clone_of_an_option(rt: HostRuntime) -> Result<(), Fail> {
-    let copy = Some(SmolStr::new_static("ab")).clone()?;
     let test = Test::begin(rt);
-    let place = copy.map(|value| value.place());
-    same(&test, &place, &Some(Place::Static), &"ab");
+    match Some(SmolStr::new_static("ab")).clone() {
+        Ok(Some(copy)) => in_place(&test, &copy, Place::Static, "ab"),
+        Ok(None) => test.fail(&"None"),
+        Err(fault) => test.fail(&fault),
+    }
     test.end()
 }

@@ -3,7 +3,7 @@ use smol_str::{INLINE_CAP, Place, SmolStrBuilder, Step, build};
 use std::test::Fail;
 use test_support::refuse::{can_refuse, end_refusals, refuse_all};
 use test_support::test::{
-    Test, holds, is_so, ok, ok_string, ok_value, same, same_count, same_place, same_text,
+    Test, holds, is_so, ok, ok_string, ok_value, same, same_count, same_flag, same_place, same_text,
 };
 use test_support::texts::repeated_and;
 
@@ -73,7 +73,7 @@ fn refused_finish_keeps_the_capacity(rt: HostRuntime) -> Result<(), Fail> {
     refuse_all(alloc);
     let answer = builder.finish();
     let was_refused = end_refusals(alloc);
-    same(&test, &was_refused, &can_refuse(alloc), &"finish");
+    same_flag(&test, was_refused, can_refuse(alloc), "finish");
     match answer {
         Ok(value) => {
             is_so(&test, !was_refused, "a value");

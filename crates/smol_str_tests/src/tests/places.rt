@@ -1,9 +1,10 @@
 //! Where texts are kept.
 use smol_str::{BLANK_NEWLINES, BLANK_SPACES, INLINE_CAP, InlineBuffer, Place, SmolStr};
-use std::alloc::{AllocError, Global};
 use std::test::Fail;
-use test_support::test::{Test, has_text, holds, in_place, is_so, ok_string, same_count, same_str};
-use test_support::texts::{full_text, long_text, repeated, repeated_and};
+use test_support::test::{
+    Test, has_text, holds, in_place, is_so, ok, ok_string, same_count, same_str,
+};
+use test_support::texts::{full_text, long_text, repeated_and};
 
 /// A text so many times and then an end, and the place of the value.
 static PLACES: [(&str, usize, &str, Place); 10] = [
@@ -54,7 +55,7 @@ fn new_places(rt: HostRuntime) -> Result<(), Fail> {
 fn blank_places(rt: HostRuntime) -> Result<(), Fail> {
     let test = Test::begin(rt);
     for &(newlines, spaces, more, place) in &BLANKS {
-        let text = ok_string(&test, blank(test.alloc, newlines, spaces, more));
+        let text = blank(&test, newlines, spaces, more);
         assert_new(&test, text.as_str(), place);
     }
     test.end()
@@ -64,15 +65,13 @@ fn assert_new(test: &Test, text: &str, place: Place) {
     has_text(test, &test.value(text), text, place, text)
 }
 
-fn blank(
-    alloc: Global,
-    newlines: usize,
-    spaces: usize,
-    more_newlines: usize,
-) -> Result<String, AllocError> {
-    let end = repeated(alloc, "\n", more_newlines)?;
-    let rest = repeated_and(alloc, " ", spaces, end.as_str())?;
-    repeated_and(alloc, "\n", newlines, rest.as_str())
+fn blank(test: &Test, newlines: usize, spaces: usize, more_newlines: usize) -> String {
+    let end = test.repeated("\n", more_newlines);
+    let rest = ok_string(test, repeated_and(test.alloc, " ", spaces, end.as_str()));
+    ok_string(
+        test,
+        repeated_and(test.alloc, "\n", newlines, rest.as_str()),
+    )
 }
 
 #[test]
@@ -114,20 +113,20 @@ fn default_value(rt: HostRuntime) -> Result<(), Fail> {
 }
 
 /// The text of so many characters, the given ones in turn.
-fn in_turn(alloc: Global, characters: &[char], count: usize) -> Result<String, AllocError> {
-    let mut text = String::new(alloc);
+fn in_turn(test: &Test, characters: &[char], count: usize) -> String {
+    let mut text = String::new(test.alloc);
     for i in 0..count {
         if let Some(character) = characters.get(i % characters.len().max(1)) {
-            text.push(*character)?;
+            ok(test, text.push(*character));
         }
     }
-    Ok(text)
+    text
 }
 
 /// Texts of 0 to 400 characters, the given ones in turn, are kept as they are.
 fn assert_round_trips(test: &Test, characters: &[char]) {
     for count in 0..=400usize {
-        let text = ok_string(test, in_turn(test.alloc, characters, count));
+        let text = in_turn(test, characters, count);
         let value = test.value(text.as_str());
         assert_keeps(test, &value, text.as_str(), count);
     }

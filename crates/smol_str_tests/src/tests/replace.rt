@@ -3,7 +3,7 @@ use smol_str::{INLINE_CAP, Place, SmolStr, StrExt};
 use std::alloc::{AllocError, Global};
 use std::test::Fail;
 use test_support::test::{Test, ok_string, ok_strings, ok_value, same_text, same_value};
-use test_support::texts::{repeated, repeated_and, small_texts};
+use test_support::texts::{repeated_and, small_texts};
 
 /// A text, a pattern, what stands in its place, at most how often, and the result.
 type Row = (
@@ -169,14 +169,17 @@ fn assert_long_row(test: &Test, row: &LongRow) {
     let (text, from, to, count, front, end, place) = *row;
     let text = test.repeated(text.0, text.1);
     let value = ok_value(test, text.as_str().replacen_smolstr(alloc, from, to, count));
-    let wanted = ok_string(test, joined(alloc, front, end));
+    let wanted = joined(test, front, end);
     same_value(test, &value, wanted.as_str(), place, &([from, to], count));
 }
 
 /// Two texts so many times, one after the other.
-fn joined(alloc: Global, front: (&str, usize), end: (&str, usize)) -> Result<String, AllocError> {
-    let rest = repeated(alloc, end.0, end.1)?;
-    repeated_and(alloc, front.0, front.1, rest.as_str())
+fn joined(test: &Test, front: (&str, usize), end: (&str, usize)) -> String {
+    let rest = test.repeated(end.0, end.1);
+    ok_string(
+        test,
+        repeated_and(test.alloc, front.0, front.1, rest.as_str()),
+    )
 }
 
 /// The texts of a case: what is put in place of matches comes in turn.

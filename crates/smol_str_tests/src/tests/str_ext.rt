@@ -4,7 +4,7 @@ use smol_str::{INLINE_CAP, Place, SmolStr, StrExt};
 use std::alloc::{AllocError, Global};
 use std::test::Fail;
 use test_support::test::{
-    Test, holds, in_place, ok_string, ok_value, same_count, same_str, same_value,
+    Test, holds, in_place, ok, ok_string, ok_value, same_count, same_str, same_value,
 };
 use test_support::texts::{long_blank, long_capitals, long_text};
 
@@ -157,18 +157,18 @@ fn assert_mappings(test: &Test, character: char, long: &str) {
         (long, "a"),
     ];
     for (before, after) in rows {
-        let text = ok_string(test, around(test.alloc, before, character, after));
+        let text = around(test, before, character, after);
         assert_lowercase(test, text.as_str());
         assert_uppercase(test, text.as_str());
     }
 }
 
 /// The character, with these texts before and after it.
-fn around(alloc: Global, before: &str, character: char, after: &str) -> Result<String, AllocError> {
-    let mut text = String::from_str(alloc, before)?;
-    text.push(character)?;
-    text.push_str(after)?;
-    Ok(text)
+fn around(test: &Test, before: &str, character: char, after: &str) -> String {
+    let mut text = test.string(before);
+    ok(test, text.push(character));
+    ok(test, text.push_str(after));
+    text
 }
 
 fn assert_lowercase(test: &Test, text: &str) {
