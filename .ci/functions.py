@@ -82,21 +82,24 @@ class Functions:
         lines, (first, last) = (self.crate / path).read_text(encoding="utf-8").split("\n"), self.wholes(path)[name]
         plain = name.rpartition("::")[2]
         opens = max((it for it in range(first) if lines[it].startswith(("impl", "pub trait ", "trait ", "}"))), default=0)
-        of_trait = re.match(r"impl (?:\w+::)*(\w+)(?:<\w+>)? for (.+)$", _header(lines, opens))
-        if not _header(lines, opens).startswith("impl") or " for " not in _header(lines, opens):
-            is_beside = not lines[opens].startswith(("pub trait ", "trait "))
-            return Form(first, last, last, [], [], plain, False, name) if is_beside else None
+        header = _header(lines, opens)
+        if not (header.startswith("impl") and " for " in header):
+            is_of_trait = lines[opens].startswith(("pub trait ", "trait "))
+            return None if is_of_trait else Form(first, last, last, [], [], plain, False, name)
+        found = re.match(r"impl (?:\w+::)*(\w+)(?:<\w+>)? for (.+)$", header)
+        if not found:
+            return None
+        trait, of = found.groups()
         closes = lines.index("}", last)
-        trait = next((it for it, line in enumerate(lines) if of_trait and re.match(rf"(pub )?trait {of_trait[1]}\b", line)), -1)
-        if trait >= 0:
-            above = [*_with_one(lines[trait:lines.index("}", trait) + 1], plain), "", *_with_one(lines[opens:first], plain)]
-            return Form(first, last, closes, above, ["}"], of_trait[1], True, name)
+        declared = next((it for it, line in enumerate(lines) if re.match(rf"(pub )?trait {trait}\b", line)), None)
+        if declared is not None:
+            above = [*_with_one(lines[declared:lines.index("}", declared) + 1], plain), "", *_with_one(lines[opens:first], plain)]
+            return Form(first, last, closes, above, ["}"], trait, True, name)
         has_clauses = any(line.strip().startswith("ensures ") for line in lines[first:last])
         clause = "" if has_clauses else _from_clause(lines[opens:last])
-        if of_trait and of_trait[2] in self.homes and (has_clauses or clause):
-            own = f"{self.homes[of_trait[2]]}::{of_trait[2]}::{plain}"
-            return Form(first, last, closes, [f"impl {of_trait[2]} {{"], ["}"], plain, False, own, clause)
-        return None
+        if of not in self.homes or not (has_clauses or clause):
+            return None
+        return Form(first, last, closes, [f"impl {of} {{"], ["}"], plain, False, f"{self.homes[of]}::{of}::{plain}", clause)
 
     def bodies(self, path):
         """The lines of a file that stand between the braces of each function, by its name: the first, and the one after
@@ -145,7 +148,8 @@ def _header(lines, at):
 def _from_clause(lines):
     """What an impl of `From` states of its `from`, as a clause; nothing where it is not one, or not in one line."""
     text = "\n".join(lines)
-    gives, taken = re.search(r"^ *ghost from_gives = \{ (.*) \};$", text, re.M), re.search(r"^ *fn from\((\w+): .* \{$", text, re.M)
+    gives = re.search(r"^ *ghost from_gives = \{ (.*) \};$", text, re.M)
+    taken = re.search(r"^ *fn from\((\w+): .* \{$", text, re.M)
     return f"({gives[1]}) {taken[1]} result" if gives and taken else ""
 
 

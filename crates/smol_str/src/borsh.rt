@@ -3,7 +3,7 @@
 //!
 //! Readers and writers are called as [`crate::stream`] calls them, by single `read`s and `write`s.
 //! Of a reader or writer whose bytes are not known nothing is claimed.
-ghost use Rattle.std.specs.Prelude.{◌≡◌, ◌<◌, ◌≤◌, ◌^◌, ◌++◌, ℕ, List, length, Option, MatchOption, IfOk, OnOk, IfErr, OnErr};
+ghost use Rattle.std.specs.Prelude.{◌≡◌, ◌<◌, ◌≤◌, ◌^◌, ◌++◌, ℕ, List, length, Option, MatchOption, IfOk, OnOk, IfErr};
 ghost use Rattle.std.specs.Int.{w32, to_le_bytes, from_le_bytes};
 ghost use Rattle.std.specs.Io.KnownBytes.{Appends, Consumes};
 ghost use Rattle.smol_str.specs.Text.{size, place_of};
@@ -19,7 +19,6 @@ use crate::stream::{fill, read_up_to, write_steps};
 use crate::value::SmolStr;
 pub use fault::{DecodeFault, EncodeFault, LimitedFault};
 use std::alloc::Global;
-use std::io;
 use std::io::{Read, Write};
 
 /// The most bytes of a body that is read into a buffer of its own.
