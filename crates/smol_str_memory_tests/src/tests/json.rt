@@ -60,6 +60,7 @@ fn read(rt: HostRuntime) -> Result<(), Fail> {
     let test = Test::begin(rt);
     for (json, text) in [
         ("\"Hello, World\"", "Hello, World"),
+        ("\"\"", ""),
         (" \t\n\r\"ab\" ", "ab"),
         ("\"a\\/\\\"b\"", "a/\"b"),
         ("\"\\u00e9\"", "é"),

@@ -76,8 +76,10 @@ fn bytes_of_texts(rt: HostRuntime) -> Result<(), Fail> {
 #[test]
 fn conversions(rt: HostRuntime) -> Result<(), Fail> {
     let test = Test::begin(rt);
-    assert_into_string(&test, "Hello, World!");
-    assert_into_rc_str(&test, "Hello, World!");
+    for text in ["", "a", "Hello, World!"] {
+        assert_into_string(&test, text);
+        assert_into_rc_str(&test, text);
+    }
     test.end()
 }
 
