@@ -447,6 +447,23 @@ fn assert_made(
     }
 }
 
+// Whatever the items, none gives up on a builder that is on the heap.
+#[test]
+fn builders_extended_on_the_heap(rt: HostRuntime) -> Result<(), Fail> {
+    let test = Test::begin(rt);
+    let mut builder = test.builder(100, "a");
+    extend_by_each(&test, &mut builder);
+    same_str(&test, builder.as_str(), "abcdef", "on the heap");
+    test.end()
+}
+
+fn extend_by_each(test: &Test, builder: &mut SmolStrBuilder) {
+    let strings = strings_of(test, &["e", "f"]);
+    ok(test, builder.extend_chars("bc".chars()));
+    ok(test, builder.extend_strs(["", "d"].into_iter()));
+    ok(test, builder.extend_strings(strings.iter()));
+}
+
 #[test]
 fn builders_compared(rt: HostRuntime) -> Result<(), Fail> {
     let test = Test::begin(rt);

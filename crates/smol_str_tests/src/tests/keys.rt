@@ -117,6 +117,7 @@ fn builders(test: &Test) -> Vec<SmolStrBuilder> {
     for text in texts() {
         test.push(&mut builders, test.builder(0, text));
     }
+    test.push(&mut builders, test.builder(100, ""));
     builders
 }
 
