@@ -1,19 +1,18 @@
-"""Reads what the compiler leaves with a built library: its public functions and macros, and what its own code calls.
-
-A library that `./check` or `rt lib` built lies in its crate's folder out/rlib. It has its public interface there, as a
-text of a line for each item and as a list of functions with their types, and the code of all its functions.
-"""
+"""Reads what the compiler leaves with a library that `./check` or `rt lib` built, in its crate's folder out/rlib: the text
+of each module and the code of each function, and of the public part the texts and the types once more."""
 import collections
 import json
 import pathlib
 import re
 
 CRATES = pathlib.Path(__file__).resolve().parent.parent / "crates"
-# path: the whole path, by which code calls it. trait: that of the impl that it stands in, or None; an own trait is one
-# of this library. returns: its type, as the compiler writes types down.
-Function = collections.namedtuple("Function", "path trait is_own_trait returns")
-IMPL = re.compile(r"^(?:# \[.*?\] )*impl (?P<trait>.+) for (?P<type>.+) as (?P<name>\w+) \{$", re.M)
-MACRO = re.compile(r"^# \[ macro_export \] macro_rules ! (\w+)", re.M)
+# path: by which code calls it. trait: of its impl, or None. takes, gives, fault: types, as the compiler writes them
+# down; of a Result that of `Ok` and that of `Err`.
+Function = collections.namedtuple("Function", "path trait takes gives fault")
+# module: its parts. header: of the impl or the trait that it stands in. key: the end of a function's path. at: its line.
+Item = collections.namedtuple("Item", "module header kind name key line at")
+ITEM = re.compile(r"(?:pub ?(?:\( ?\w+ ?\))? ?)?(?:const (?=fn)|unsafe )*"
+                  r"(fn|struct|enum|type|const|static|trait|impl|macro_rules)\b ?!? ?(\w*)")
 
 
 def library(crate):
@@ -29,78 +28,78 @@ def library(crate):
     return folder
 
 
-def calls(crate, left_out=()):
-    """The public functions by the names that lists have for them, without the impls left out, and the public macros.
-
-    A name is that of a type, of an own trait, or of a module right below the root, and the function's, or the
-    function's alone. Where two impls of one trait would give one name, each has that which the compiler gave the impl.
-    """
-    folder = library(crate) / "interface"
-    text = "\n".join(path.read_text(encoding="utf-8") for path in sorted((folder / "lang").rglob("*.rt")))
-    headers = {it["name"]: (_last_word(it["trait"]), _last_word(it["type"])) for it in IMPL.finditer(text)}
-    # no code calls a `drop` by its name
-    listed = [it for it in _read(folder) if not _is_law(*it) and not it[0].endswith("::drop")]
-    listed = [it for it in listed if it[0].split("::")[-2] not in left_out]
-    own_traits = {path.split("::")[-2] for path, _ in listed if path.endswith("+decl")}
-    found = collections.defaultdict(list)
+def calls(crate):
+    """The public functions by the names that lists have for them, without laws, and the names of the public macros. A name
+    is that of a type, of an own trait, or of a module right below the root, and the function's, or the function's alone.
+    Where two impls of one trait would give one name, each has that which the compiler gave the impl."""
+    impls = {it.key: it.line for it in items(crate) if it.kind == "impl" and " as " in it.line}
+    listed = json.loads((library(crate) / "interface/toolchain/mir.json").read_text(encoding="utf-8"))
+    own, named, found = {path.split("::")[-2] for path, _ in listed if path.endswith("+decl")}, collections.defaultdict(list), {}
     for path, it in listed:
-        modules, owner, name = _parts(path)
-        trait, kind = headers.get(owner, (None, owner)) if _is_of_impl(it) else (None, owner)
-        is_own_trait = trait in own_traits
-        owner = trait if is_own_trait else kind or (modules[0] if len(modules) == 1 else "")
-        function = Function(path.removesuffix("+decl"), trait, is_own_trait, it["locals"][0]["ty"])
-        found[f"{owner}::{name}" if owner else name].append(function)
-    return dict(_told_apart(found)), [f"{name}!" for name in MACRO.findall(text)]
-
-
-def impls(crate):
-    """The names that the compiler gave the impls of the public functions."""
-    return {path.split("::")[-2] for path, it in _read(library(crate) / "interface") if _is_of_impl(it)}
+        path, modules, (owner, word) = path.removesuffix("+decl"), path.split("::")[1:-1], key_of(path).split("::")
+        trait, (gives, *takes) = owner if owner in own else None, [local["ty"] for local in it["locals"]]
+        if owner in impls:
+            trait, owner = (_last_word(part) for part in re.split(" for | as ", impls[owner])[:2])
+        elif modules[-1].islower() and len(modules) > 1:
+            owner = ""
+        is_result = "Named" in gives and gives["Named"][0]["name"] == "core::result::Result"
+        gives, fault = gives["Named"][1] if is_result else (gives, None)
+        # no code calls a `drop` by its name
+        if word != "drop" and modules != ["laws"]:
+            name = f"{trait if trait in own else owner}::{word}".removeprefix("::")
+            named[name].append(Function(path, trait, takes[:it["params"]], gives, fault))
+    for name, its in named.items():
+        is_one = name.startswith(f"{its[0].trait}::") or len({it.trait for it in its}) == len(its)
+        found |= {name: its} if is_one else {key_of(it.path): [it] for it in its}
+    return found, [f"{it.name}!" for it in items(crate) if it.kind == "macro_rules"]
 
 
 def called(crate):
-    """The whole path of each function that the code of a built library calls or points to."""
-    def names(node):
-        if isinstance(node, dict) and "Fn" in node:
-            yield node["Fn"][0]
-        for it in node.values() if isinstance(node, dict) else node if isinstance(node, list) else ():
-            yield from names(it)
-
-    return {name for _, it in _read(library(crate)) for name in names(it["body"])}
+    """By the path of each function of a built library those of the functions that its code calls or points to."""
+    listed = json.loads((library(crate) / "toolchain/mir.json").read_text(encoding="utf-8"))
+    return {path: {*re.findall(r'"Fn": \["([^"]*)"', json.dumps(it["body"]))} for path, it in listed}
 
 
-def _read(folder):
-    return json.loads((folder / "toolchain" / "mir.json").read_text(encoding="utf-8"))
+def items(crate, part="interface/lang"):
+    """The items of the texts that a user can name, and the impls for these; with `lang` for a part all items."""
+    folder = library(crate) / part / "src"
+    texts = {path.relative_to(folder).with_suffix("").parts: path.read_text(encoding="utf-8") for path in folder.rglob("*.rt")}
+    found = [it for module, text in sorted(texts.items()) for it in items_of(text, module)]
+    # the public modules, and what modules pass on
+    public = {*re.findall(r"^pub (?:mod|use .*?) ?(\w+) ;$", "\n".join(texts.values()), re.M)}
+    hidden = {it.name for it in found if not it.header and it.kind != "macro_rules"
+              and not (re.match(r"pub (?!\()", it.line) and ({*it.module} <= public or it.name in public))}
+    return [it for it in found if part == "lang" or not hidden & {it.name, *re.findall(r"\w+", it.header)}]
 
 
-def _is_of_impl(it):
-    return "Impl" in (it["generics"]["method_of"] or {})
+def items_of(text, module):
+    """The items of a module's text, as its source has them or as the compiler prints them."""
+    header = owner = ""
+    for at, line in enumerate(text.split("\n")):
+        line = re.sub(r"^(# \[ .*? \] )+", "", line)
+        found = ITEM.match(line.removeprefix("    ") if header else line)
+        if found and found[1] in ("impl", "trait") and line.endswith("{"):
+            # an impl has a name that the compiler gave it, or else that of its type; spaces are left between words alone
+            named = re.search(r" as (\w+)(?: where\b.*)? \{$", line)
+            owner = found[2] if found[1] == "trait" else named[1] if named else _last_word(line.split(" for ")[-1])
+            header = re.sub(r"(?<!\w) | (?!\w)", "", re.sub(r" as \w+(?= where\b.*\{$| \{$)|\s*\{$", "", line))
+            name, within = (header, header) if found[1] == "impl" else (owner, "")
+            yield Item(module, within, found[1], name, owner, line, at)
+        elif line == "}":
+            header = ""
+        elif found:
+            yield Item(module, header, found[1], found[2], f"{owner if header else module[-1]}::{found[2]}", line, at)
 
 
-def _is_law(path, it):
-    """Whether it has no more than a contract: a law has nothing to take or to give back."""
-    return path.split("::")[1] == "laws" and it["params"] == 0 and it["locals"][0]["ty"] == "Unit"
-
-
-def _parts(path):
-    """The modules above a function, its type, trait or impl, or None, and its name."""
-    *modules, name = path.removesuffix("+decl").split("::")[1:]
-    owner = modules.pop().split("+")[0] if modules and modules[-1][0].isupper() else None
-    return modules, owner, name
+def key_of(path):
+    """The type, trait, impl or module right above a function, and its name."""
+    owner, name = path.removesuffix("+decl").split("::")[-2:]
+    return f"{owner.split('+')[0]}::{name}"
 
 
 def _last_word(text):
     """The name of a type or a trait without its path and its parameters."""
-    while text.endswith(" >"):
-        depths = [text[at:].count(">") - text[at:].count("<") for at in range(len(text))]
-        text = text[: max(at for at in range(len(text)) if text[at] == "<" and depths[at] == 0)].rstrip()
+    while (shorter := re.sub(r"<[^<>]*>", "", text)) != text:
+        text = shorter
     return re.findall(r"\w+", text)[-1]
 
-
-def _told_apart(found):
-    for name, functions in found.items():
-        traits = [it.trait for it in functions if not it.is_own_trait]
-        if len({*traits}) == len(traits):
-            yield name, functions
-        else:
-            yield from (("::".join(it.path.split("::")[-2:]), [it]) for it in functions)

@@ -35,8 +35,9 @@ impl fmt::Write for SmolStrBuilder {
 impl SmolStrBuilder {
     /// Appends what a value prints: what `write!` calls.
     ///
-    /// Where the type does not state what it prints, it appends some text. After an error the pieces
-    /// that were printed before it stay.
+    /// Where the type does not state what it prints, it appends some text. It is an error where the
+    /// value gives up, or where memory is refused to a builder that is on the heap with the next
+    /// piece. The pieces before that one stay appended.
     ///
     /// ```
     /// let mut builder = SmolStrBuilder::new(alloc);

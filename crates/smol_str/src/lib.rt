@@ -7,7 +7,7 @@
 //! The modules lie in layers, and each uses those below it:
 //!
 //! ```text
-//!     json  borsh  str_ext  format  collect    by public items alone, as users do; `.ci/layers` looks
+//!     json  borsh  str_ext  format  collect    by public items alone, as users do; `.ci/api` looks
 //!     builder                                  a text that grows (its `steps` also use `collect`)
 //!     value                                    a text and its place; what makes, compares and prints it
 //!     buffer  kernel                           a short text in its own bytes; loops over bytes
