@@ -6,8 +6,7 @@ import pathlib
 import re
 
 CRATES = pathlib.Path(__file__).resolve().parent.parent / "crates"
-# path: by which code calls it. trait: of its impl, or None. takes, gives, fault: types, as the compiler writes them
-# down; of a Result that of `Ok` and that of `Err`.
+# trait: of its impl, or None. takes, gives, fault: types as the compiler writes them, of a Result its `Ok` and its `Err`.
 Function = collections.namedtuple("Function", "path trait takes gives fault")
 # module: its parts. header: of the impl or the trait that it stands in. key: the end of a function's path. at: its line.
 Item = collections.namedtuple("Item", "module header kind name key line at")
@@ -40,7 +39,7 @@ def calls(crate):
         trait, (gives, *takes) = owner if owner in own else None, [local["ty"] for local in it["locals"]]
         if owner in impls:
             trait, owner = (_last_word(part) for part in re.split(" for | as ", impls[owner])[:2])
-        elif modules[-1].islower() and len(modules) > 1:
+        elif path.count("::") == 1 or modules[-1].islower() and len(modules) > 1:
             owner = ""
         is_result = "Named" in gives and gives["Named"][0]["name"] == "core::result::Result"
         gives, fault = gives["Named"][1] if is_result else (gives, None)
@@ -68,7 +67,7 @@ def items(crate, part="interface/lang"):
     # the public modules, and what modules pass on
     public = {*re.findall(r"^pub (?:mod|use .*?) ?(\w+) ;$", "\n".join(texts.values()), re.M)}
     hidden = {it.name for it in found if not it.header and it.kind != "macro_rules"
-              and not (re.match(r"pub (?!\()", it.line) and ({*it.module} <= public or it.name in public))}
+              and not (re.match(r"pub (?!\()", it.line) and ({*it.module} - {"lib"} <= public or it.name in public))}
     return [it for it in found if part == "lang" or not hidden & {it.name, *re.findall(r"\w+", it.header)}]
 
 
@@ -78,13 +77,14 @@ def items_of(text, module):
     for at, line in enumerate(text.split("\n")):
         line = re.sub(r"^(# \[ .*? \] )+", "", line)
         found = ITEM.match(line.removeprefix("    ") if header else line)
-        if found and found[1] in ("impl", "trait") and line.endswith("{"):
+        if found and found[1] in ("impl", "trait") and line.endswith(("{", "{}")):
             # an impl has a name that the compiler gave it, or else that of its type; spaces are left between words alone
             named = re.search(r" as (\w+)(?: where\b.*)? \{$", line)
             owner = found[2] if found[1] == "trait" else named[1] if named else _last_word(line.split(" for ")[-1])
-            header = re.sub(r"(?<!\w) | (?!\w)", "", re.sub(r" as \w+(?= where\b.*\{$| \{$)|\s*\{$", "", line))
+            header = re.sub(r"(?<!\w) | (?!\w)", "", re.sub(r" as \w+(?= where\b.*\{$| \{$)|\s*\{\}?$", "", line))
             name, within = (header, header) if found[1] == "impl" else (owner, "")
             yield Item(module, within, found[1], name, owner, line, at)
+            header = header if line.endswith("{") else ""
         elif line == "}":
             header = ""
         elif found:
@@ -93,7 +93,7 @@ def items_of(text, module):
 
 def key_of(path):
     """The type, trait, impl or module right above a function, and its name."""
-    owner, name = path.removesuffix("+decl").split("::")[-2:]
+    *_, owner, name = re.sub(r"^\w+::(?=\w+$)", "lib::", path.removesuffix("+decl")).split("::")
     return f"{owner.split('+')[0]}::{name}"
 
 
