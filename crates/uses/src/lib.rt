@@ -16,7 +16,6 @@ pub mod lists;
 pub mod ordered;
 pub mod records;
 pub mod replacing;
-pub mod single_clauses;
 pub mod slicing;
 pub mod symbols;
 pub mod values;
