@@ -1,20 +1,16 @@
 //! The program over outside values, readers and writers that fail, and memory refused; and the callers, each run once.
 mod doc_examples;
 mod headers;
-mod join;
 mod lexer;
 mod lists;
-mod modes;
 mod ordered;
-mod readers;
 mod records;
 mod refused;
-mod rows;
+mod reports;
 mod runs;
-mod show;
 mod sources;
+mod streams;
 mod symbols;
 mod tally;
 mod whole;
 mod words;
-mod writers;

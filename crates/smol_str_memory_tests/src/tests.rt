@@ -1,14 +1,11 @@
-//! Tests of what no clause says: printing, JSON, wire forms over readers and writers of every step, and memory counted and
-//! refused.
+//! Tests of what no clause says: memory refused and counted, printing, JSON, and wire forms over readers and writers of
+//! every step.
 
 mod calls;
 mod faulty_calls;
 mod format;
 mod json;
-mod long_texts;
-mod print;
 mod readers;
-mod refused_str_ext;
 mod rows;
 mod wire;
 mod wire_faults;

@@ -1,14 +1,12 @@
-//! Tests of what no clause says: outside values and builders, items of iterators, and memory refused.
+//! Tests of what no clause says: values and builders by rows from outside.
 
 mod built;
 mod collect;
-mod collect_refused;
 mod compare;
 mod convert;
 mod kernel;
 mod keys;
 mod large;
-mod operations;
 mod places;
 mod replace;
 mod str_ext;
@@ -24,12 +22,6 @@ fn limits(rt: HostRuntime) -> Result<(), Fail> {
     same_count(&test, INLINE_CAP, 39, "INLINE_CAP");
     same_count(&test, BLANK_NEWLINES, 64, "BLANK_NEWLINES");
     same_count(&test, BLANK_SPACES, 256, "BLANK_SPACES");
-    test.end()
-}
-
-#[test]
-fn texts_at_the_limit(rt: HostRuntime) -> Result<(), Fail> {
-    let test = Test::begin(rt);
     for text in [full_text(), full_capitals()] {
         same_count(&test, text.len(), INLINE_CAP, text);
     }

@@ -2,9 +2,7 @@
 //! that fail, and a hasher's state.
 #![tactic(auto)]
 
-pub mod builders;
 pub mod by_std;
-pub mod held;
 pub mod refuse;
 pub mod state;
 pub mod streams;

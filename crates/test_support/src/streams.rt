@@ -1,6 +1,8 @@
-//! A reader and a writer whose bytes are known, and which fail where they are set to.
+//! A reader and a writer whose bytes are known, and which fail where they are set to; and calls over those that fail at each
+//! call.
 ghost use Rattle.std.specs.Prelude.{Some, ◌≡◌, []};
 
+use crate::test::{Test, holds, same};
 use smol_str::stream::PIECE;
 use std::alloc::Global;
 use std::io;
@@ -10,10 +12,10 @@ use std::io::{ErrorKind, Read, Write};
 pub const STEPS: [usize; 7] = [1, 2, 3, PIECE - 1, PIECE, PIECE + 1, usize::MAX];
 
 /// The errors that readers return. Upstream's readers call again after the first, ours do not.
-pub const READ_ERRORS: [ErrorKind; 2] = [ErrorKind::Interrupted, ErrorKind::BrokenPipe];
+const READ_ERRORS: [ErrorKind; 2] = [ErrorKind::Interrupted, ErrorKind::BrokenPipe];
 
 /// Whether a place in so many bytes is tried: each in a few, and in many those about the ends of pieces.
-pub fn is_tried(place: usize, size: usize) -> bool {
+fn is_tried(place: usize, size: usize) -> bool {
     let after = place.saturating_add(3);
     size < 200 || after % PIECE < 7 || after > size
 }
@@ -75,7 +77,7 @@ pub enum Failure {
 }
 
 /// What writers do, and the error that is reported then.
-pub const WRITE_FAILURES: [(Failure, ErrorKind); 3] = [
+const WRITE_FAILURES: [(Failure, ErrorKind); 3] = [
     (
         Failure::Returns(ErrorKind::Interrupted),
         ErrorKind::Interrupted,
@@ -130,5 +132,153 @@ pub fn empty_drip(alloc: Global, step: usize, fails_at: usize, failure: Failure)
         calls: 0,
         fails_at,
         failure,
+    }
+}
+
+/// Why a call under test made nothing, without what an error says of itself.
+#[derive(Clone, Copy, PartialEq, Eq, Debug)]
+pub enum Kind {
+    Ended,
+    NotUtf8,
+    OutOfMemory,
+    TooLong,
+    NotString,
+    NotJson,
+    Full,
+    Io(ErrorKind),
+}
+
+/// A call, the size of what it reads or writes, how many bytes the stream moves a call, and the call at which it ends or
+/// fails.
+type Row<'a> = (&'a str, usize, usize, usize);
+
+/// A call that reads all that a reader gives.
+pub trait Reading {
+    /// The call, in messages.
+    fn name(&self) -> &str;
+
+    /// The greatest buffer that it may hand to the reader.
+    fn largest_buffer(&self) -> usize;
+
+    /// Whether it reads on until the reader says that it has ended.
+    fn reads_the_end(&self) -> bool;
+
+    /// The bytes that it makes of the reader's.
+    fn read(&self, test: &Test, reader: &mut Trickle<'_>) -> Result<Vec<u8>, Kind>;
+}
+
+/// The call makes `wanted` of the bytes by readers of every step, and gives up with the reader's own error at each call at
+/// which that fails.
+pub fn fails_at_each_read<C: Reading>(test: &Test, call: &C, bytes: &[u8], wanted: &[u8]) {
+    for step in STEPS {
+        let calls = count_reads(test, call, trickle_of(bytes, step, 0), wanted);
+        for fails_at in 1..calls.saturating_add(1) {
+            if is_tried(fails_at.saturating_mul(step), bytes.len()) {
+                fails_at_read(test, call, bytes, (step, fails_at));
+            }
+        }
+        // a failure after the last read is not met
+        let after = trickle_of(bytes, step, calls.saturating_add(1));
+        let row = (call.name(), bytes.len(), step, calls);
+        same(test, &count_reads(test, call, after, wanted), &calls, &row);
+    }
+}
+
+/// How often the call reads: by single bytes once a byte, and once more where only the reader says that it has ended.
+fn count_reads<C: Reading>(test: &Test, call: &C, mut reader: Trickle<'_>, wanted: &[u8]) -> usize {
+    let row = (call.name(), reader.rest.len(), reader.step, reader.fails_at);
+    match call.read(test, &mut reader) {
+        Ok(made) => holds(test, made.as_slice() == wanted, &row),
+        Err(kind) => test.fail(&(row, kind)),
+    }
+    has_read(test, call, &reader, &row);
+    if row.2 == 1 {
+        let at_end = usize::from(call.reads_the_end());
+        same(test, &reader.calls.saturating_sub(at_end), &row.1, &row);
+    }
+    reader.calls
+}
+
+/// No buffer was empty or too large.
+fn has_read<C: Reading>(test: &Test, call: &C, reader: &Trickle<'_>, row: &Row<'_>) {
+    let is_within = reader.least >= 1 && reader.most <= call.largest_buffer();
+    holds(test, is_within, row);
+}
+
+fn fails_at_read<C: Reading>(
+    test: &Test,
+    call: &C,
+    bytes: &[u8],
+    (step, fails_at): (usize, usize),
+) {
+    for error in READ_ERRORS {
+        let row = (call.name(), bytes.len(), step, fails_at);
+        let mut reader = trickle_of(bytes, step, fails_at);
+        reader.failure = error;
+        let kind = call.read(test, &mut reader).err();
+        same(test, &kind, &Some(Kind::Io(error)), &row);
+        same(test, &reader.calls, &fails_at, &row);
+        has_read(test, call, &reader, &row);
+    }
+}
+
+/// A call that writes.
+pub trait Writing {
+    /// The call, in messages.
+    fn name(&self) -> &str;
+
+    /// The error of the writer, where that failed.
+    fn write(&self, test: &Test, writer: &mut Drip) -> Option<ErrorKind>;
+}
+
+/// The call writes the bytes to writers of every step, and gives up with the writer's own error at each call at which that
+/// fails; what was taken is then a beginning.
+pub fn fails_at_each_write<C: Writing>(test: &Test, call: &C, bytes: &[u8]) {
+    for step in STEPS {
+        let calls = count_writes(test, call, bytes, (step, 0));
+        for fails_at in 1..calls.saturating_add(1) {
+            if is_tried(fails_at.saturating_mul(step), bytes.len()) {
+                fails_at_write(test, call, bytes, (step, fails_at));
+            }
+        }
+        // a failure after the last write is not met
+        let after = count_writes(test, call, bytes, (step, calls.saturating_add(1)));
+        let row = (call.name(), bytes.len(), step, calls);
+        same(test, &after, &calls, &row);
+    }
+}
+
+/// How often the call writes: by single bytes once a byte.
+fn count_writes<C: Writing>(
+    test: &Test,
+    call: &C,
+    bytes: &[u8],
+    (step, fails_at): (usize, usize),
+) -> usize {
+    let row = (call.name(), bytes.len(), step, fails_at);
+    let mut writer = empty_drip(test.alloc, step, fails_at, Failure::TakesNone);
+    same(test, &call.write(test, &mut writer), &None, &row);
+    holds(test, writer.taken.as_slice() == bytes, &row);
+    if step == 1 {
+        same(test, &writer.calls, &bytes.len(), &row);
+    }
+    writer.calls
+}
+
+/// By single bytes, each call before the failure took one.
+fn fails_at_write<C: Writing>(
+    test: &Test,
+    call: &C,
+    bytes: &[u8],
+    (step, fails_at): (usize, usize),
+) {
+    for (failure, kind) in WRITE_FAILURES {
+        let row = (call.name(), bytes.len(), step, fails_at);
+        let mut writer = empty_drip(test.alloc, step, fails_at, failure);
+        same(test, &call.write(test, &mut writer), &Some(kind), &row);
+        same(test, &writer.calls, &fails_at, &row);
+        let taken = writer.taken.as_slice();
+        let is_as_long = step != 1 || taken.len() == fails_at.saturating_sub(1);
+        holds(test, bytes.starts_with(taken) && is_as_long, &row);
     }
 }

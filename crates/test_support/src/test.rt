@@ -2,8 +2,8 @@
 //!
 //! The first row that is wrong is kept, and the test ends with it; the rows behind it are gone through all the same. So no
 //! helper gives up, and all that a row holds is dropped at one place, which costs the proof of a test far less than an
-//! assertion or a `?` does. A helper of one type costs its caller less than one of any type.
-use crate::builders::builder_of;
+//! assertion or a `?` does. A helper of one type costs its caller less than one of any type. A test that compares nothing
+//! fails.
 use crate::texts::repeated;
 use smol_str::{Place, SmolStr, SmolStrBuilder};
 use std::alloc::{AllocError, Global};
@@ -16,10 +16,11 @@ use std::test::Fail;
 const TOLD: usize = 480;
 
 /// A running test. It cannot be dropped: what it ends with is the test's result. It has the memory that its rows ask for, so
-/// a helper takes it alone: each argument more is paid at each call.
+/// a helper takes it alone: the proof of each call pays for each argument.
 pub struct Test {
     pub alloc: Global,
     wrong: Cell<Option<InlineText<TOLD>>>,
+    has_compared: Cell<bool>,
 }
 
 impl Test {
@@ -33,6 +34,7 @@ impl Test {
         Test {
             alloc,
             wrong: Cell::new(None),
+            has_compared: Cell::new(false),
         }
     }
 
@@ -51,7 +53,9 @@ impl Test {
 
     /// A builder of this capacity that has the text.
     pub fn builder(&self, capacity: usize, text: &str) -> SmolStrBuilder {
-        ok(self, builder_of(self.alloc, capacity, text))
+        let mut builder = ok(self, SmolStrBuilder::with_capacity(self.alloc, capacity));
+        ok(self, builder.push_str(text));
+        builder
     }
 
     /// A string of the text.
@@ -69,9 +73,16 @@ impl Test {
         is_so(self, list.push(item).is_ok(), "an item");
     }
 
-    /// The first wrong row, where there is one.
+    /// The first wrong row, where there is one, or that nothing was compared.
     pub fn first_wrong(self) -> Option<InlineText<TOLD>> {
-        let Test { alloc: _, wrong } = self;
+        if !self.has_compared.get() {
+            self.fail(&"nothing was compared");
+        }
+        let Test {
+            alloc: _,
+            wrong,
+            has_compared: _,
+        } = self;
         wrong.into_inner()
     }
 
@@ -86,6 +97,7 @@ impl Test {
 
 /// It is so, in a row of any type.
 pub fn holds(test: &Test, is_so: bool, row: &impl Debug) {
+    test.has_compared.set(true);
     if !is_so {
         test.fail(row);
     }
@@ -160,12 +172,6 @@ impl Missing for () {
     fn missing(_alloc: Global) {}
 }
 
-impl Missing for usize {
-    fn missing(_alloc: Global) -> usize {
-        0
-    }
-}
-
 impl Missing for bool {
     fn missing(_alloc: Global) -> bool {
         false
@@ -225,11 +231,6 @@ pub fn of_shared(test: &Test, outcome: Result<RcStr, AllocError>) -> SmolStr {
 
 /// The string that a call makes.
 pub fn ok_string(test: &Test, outcome: Result<String, AllocError>) -> String {
-    ok(test, outcome)
-}
-
-/// The strings that a call makes.
-pub fn ok_strings(test: &Test, outcome: Result<Vec<String>, AllocError>) -> Vec<String> {
     ok(test, outcome)
 }
 

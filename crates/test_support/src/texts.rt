@@ -72,28 +72,3 @@ pub fn longest_blank(alloc: Global) -> Result<String, AllocError> {
     all.push_str(repeated(alloc, " ", BLANK_SPACES)?.as_str())?;
     Ok(all)
 }
-
-/// Every text of at most so many characters out of `a`, `b` and `é`.
-pub fn small_texts(alloc: Global, longest: usize) -> Result<Vec<String>, AllocError> {
-    let mut texts = Vec::new(alloc);
-    texts.push(String::new(alloc))?;
-    let mut begin = 0;
-    for _ in 0..longest {
-        let end = texts.len();
-        for at in begin..end {
-            push_longer(alloc, &mut texts, at)?;
-        }
-        begin = end;
-    }
-    Ok(texts)
-}
-
-/// Appends the texts that are the one at an index and a character.
-fn push_longer(alloc: Global, texts: &mut Vec<String>, at: usize) -> Result<(), AllocError> {
-    for character in ["a", "b", "é"] {
-        let shorter = texts.get(at).map_or("", String::as_str);
-        let longer = joined(alloc, shorter, character)?;
-        texts.push(longer)?;
-    }
-    Ok(())
-}

@@ -1,9 +1,7 @@
-//! Lists on the wire: the bytes of one, read back, cut at each place, and memory refused.
+//! Lists on the wire: the bytes of one, and what is read back.
 use smol_str::SmolStr;
-use smol_str::borsh::DecodeFault;
-use std::alloc::Global;
 use std::test::Fail;
-use test_support::test::{Test, holds, is_so};
+use test_support::test::{Test, is_so};
 use uses::lists::{read_list, write_list};
 
 /// Two of four bytes, and then each size of four bytes and its text, with two bytes after them.
@@ -37,18 +35,4 @@ fn a_list_is_read_back(rt: HostRuntime) -> Result<(), Fail> {
         Err(_) => is_so(&test, false, "the list was not read"),
     }
     test.end()
-}
-
-#[test]
-fn a_cut_list_has_ended(rt: HostRuntime) -> Result<(), Fail> {
-    let test = Test::begin(rt);
-    for len in 0..LEN {
-        let cut = BYTES.get(..len).unwrap_or(BYTES);
-        holds(&test, has_ended(test.alloc, cut), &len);
-    }
-    test.end()
-}
-
-fn has_ended(alloc: Global, bytes: &[u8]) -> bool {
-    matches!(read_list(alloc, bytes), Err(DecodeFault::Ended))
 }

@@ -1,9 +1,9 @@
-//! Records: the bytes of one, read back both ways, and cut at each place.
+//! Records: the bytes of one, read back both ways.
 use smol_str::SmolStr;
 use smol_str::borsh::DecodeFault;
 use std::alloc::Global;
 use std::test::Fail;
-use test_support::test::{Test, holds, is_so, same_str};
+use test_support::test::{Test, is_so, same_str};
 use uses::records::{Field, field_from_wire, read_field, write_field};
 
 /// A size of four bytes and then a text, twice, with two bytes after it.
@@ -50,24 +50,4 @@ fn check_field(test: &Test, read: Result<Field, DecodeFault>) {
         }
         Err(_) => is_so(test, false, "the record was not read"),
     }
-}
-
-#[test]
-fn a_cut_field_has_ended(rt: HostRuntime) -> Result<(), Fail> {
-    let test = Test::begin(rt);
-    for len in 0..LEN {
-        let cut = BYTES.get(..len).unwrap_or(BYTES);
-        let mut reader = cut;
-        let is_ended = has_ended(read_field(test.alloc, &mut reader));
-        holds(
-            &test,
-            is_ended && has_ended(find_field(test.alloc, cut)),
-            &(len, is_ended),
-        );
-    }
-    test.end()
-}
-
-fn has_ended(read: Result<Field, DecodeFault>) -> bool {
-    matches!(read, Err(DecodeFault::Ended))
 }

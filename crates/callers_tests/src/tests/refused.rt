@@ -1,90 +1,67 @@
 //! `run` with memory refused: nothing is written, or all.
-use super::rows::{Words, answer, report_by};
+use super::reports::report_by;
+use super::runs::{Words, kind_of};
 use super::words::mode_by;
 use smol_str::stream::PIECE;
-use smol_tokens_core::fault::RunFault;
 use smol_tokens_core::mode::Mode;
 use smol_tokens_core::run::run;
 use std::alloc::Global;
 use std::test::Fail;
 use test_support::refuse::{Refusable, can_refuse, each_refused};
 use test_support::state::fixed_state;
-use test_support::streams::{Drip, Failure, empty_drip, trickle_of};
-use test_support::test::{Test, is_so, ok_bytes, ok_string, same_count};
-use test_support::texts::{long_blank, long_text, repeated};
+use test_support::streams::{Drip, Failure, Kind, empty_drip, trickle_of};
+use test_support::test::{Test, holds, ok_bytes, same};
+use test_support::texts::{long_blank, long_text};
 
-/// The lengths of three reports on an input: line by line, in mode join, and in mode tokens.
-type Lengths = [usize; 3];
-
-/// The words of the modes that report line by line; none changes the length of a line.
-static LINE_BY_LINE: [Words; 5] = [
-    &["show"],
-    &["lower"],
-    &["upper"],
-    &["replace", "a", "b"],
-    &["replace", "aa", "bb"],
+/// The words of a mode, and how many requests a run makes on each of the inputs.
+static MODES: [(Words, [u32; 6]); 7] = [
+    (&["show"], [0, 4, 2, 5, 6, 8]),
+    (&["join"], [1, 2, 2, 6, 6, 8]),
+    (&["lower"], [0, 4, 2, 6, 6, 8]),
+    (&["upper"], [0, 4, 2, 6, 6, 8]),
+    (&["replace", "a", "b"], [0, 4, 2, 6, 6, 8]),
+    (&["replace", "aa", "bb"], [0, 4, 2, 6, 6, 14]),
+    (&["tokens"], [0, 7, 8, 8, 10, 11]),
 ];
 
-fn line_by_line() -> &'static [Words] {
-    &LINE_BY_LINE
+fn modes() -> &'static [(Words, [u32; 6])] {
+    &MODES
 }
 
 #[test]
 fn each_request_in_turn(rt: HostRuntime) -> Result<(), Fail> {
     let test = Test::begin(rt);
-    check_modes(&test, "", [0, 10, 0]);
-    check_modes(&test, "if\n\nx\n", [12 + 10 + 11, 13, 5 + 3 + 4]);
-    check_line(&test, "aaaaaaaaaaaaaaaaaaaaaaa", "inline");
-    check_line(&test, "                        ", "inline");
-    check_line(&test, "aaaaaaaaaaaaaaaaaaaaaaaa", "inline");
-    check_line(&test, long_blank(), "static");
-    check_line(&test, long_text(), "heap");
-    check_line(&test, test.repeated("a", 5000).as_str(), "heap");
+    let long = test.repeated("a", 5000);
+    for &(words, [empty, lines, short, blank, heap, large]) in modes() {
+        check_run(&test, words, "", empty);
+        check_run(&test, words, "if\n\nx\n", lines);
+        check_run(&test, words, "aaaaaaaaaaaaaaaaaaaaaaaa", short);
+        check_run(&test, words, long_blank(), blank);
+        check_run(&test, words, long_text(), heap);
+        check_run(&test, words, long.as_str(), large);
+    }
     test.end()
 }
 
-/// A line whose text is kept in the place. Mode tokens writes `1`, a space, the line and a newline.
-fn check_line(test: &Test, line: &str, place: &str) {
-    let len = ok_string(test, answer(test.alloc, place, line)).len();
-    check_modes(test, line, [len, len, line.len().saturating_add(3)])
-}
-
-fn check_modes(test: &Test, input: &str, [by_line, joined, by_token]: Lengths) {
-    for &words in line_by_line() {
-        check_mode(test, words, input, by_line);
-    }
-    check_mode(test, &["join"], input, joined);
-    check_mode(test, &["tokens"], input, by_token)
-}
-
-/// The report on the input has the length, and is written whole, or nothing is where a request is refused.
-fn check_mode(test: &Test, words: Words, input: &str, len: usize) {
-    let name = format!(in test.alloc; "run {words:?} on {} bytes", input.len());
-    let name = ok_string(test, name);
-    check_input(test, name.as_str(), words, input.as_bytes(), len)
-}
-
-fn check_input(test: &Test, name: &str, words: Words, input: &[u8], len: usize) {
-    let ample = report_by(test, words, input);
-    same_count(test, ample.len(), len, name);
+/// The report on the input is written whole, or nothing is where a request is refused; none but these is made.
+fn check_run(test: &Test, words: Words, input: &str, requests: u32) {
+    let report = report_by(test, words, input.as_bytes());
     let run = Run {
-        name,
         words,
-        input,
-        wanted: ample.as_slice(),
+        input: input.as_bytes(),
+        report: report.as_slice(),
     };
-    let asked = each_refused(test, name, &run);
-    let is_met = can_refuse(test.alloc) && len > 0;
-    is_so(test, (asked.requests > 0) == is_met, name);
+    let asked = each_refused(test, "run::run", &run);
+    let wanted = if can_refuse(test.alloc) { requests } else { 0 };
+    same(test, &asked.requests, &wanted, &(words, input.len()));
 }
 
-/// A run of the program, which has to write these bytes.
+/// A run of the program, and what it has to write.
 #[derive(Drop)]
 struct Run<'a> {
-    name: &'a str,
     words: Words,
     input: &'a [u8],
-    wanted: &'a [u8],
+    report: &'a [u8],
 }
 
 impl Refusable for Run<'_> {
@@ -92,12 +69,12 @@ impl Refusable for Run<'_> {
     type Input = (Mode, Drip);
     /// What was written.
     type Made = Vec<u8>;
-    /// A fault, and what was written before it.
-    type Fault = (RunFault, Vec<u8>);
+    /// Why the run ended, and what was written before.
+    type Fault = (Kind, Vec<u8>);
 
     fn input(&self, test: &Test) -> (Mode, Drip) {
         let mut writer = empty_drip(test.alloc, PIECE, 0, Failure::TakesNone);
-        writer.taken = ok_bytes(test, Vec::with_capacity(test.alloc, self.wanted.len()));
+        writer.taken = ok_bytes(test, Vec::with_capacity(test.alloc, self.report.len()));
         (mode_by(test, self.words), writer)
     }
 
@@ -105,21 +82,19 @@ impl Refusable for Run<'_> {
         &self,
         alloc: Global,
         (mode, mut writer): (Mode, Drip),
-    ) -> Result<Vec<u8>, (RunFault, Vec<u8>)> {
+    ) -> Result<Vec<u8>, (Kind, Vec<u8>)> {
         let mut reader = trickle_of(self.input, PIECE, 0);
         match run(alloc, fixed_state(), mode, &mut reader, &mut writer) {
             Ok(()) => Ok(writer.taken),
-            Err(fault) => Err((fault, writer.taken)),
+            Err(fault) => Err((kind_of(&fault), writer.taken)),
         }
     }
 
-    fn check(&self, test: &Test, ended: Result<Vec<u8>, (RunFault, Vec<u8>)>) {
-        let is_whole_or_none = match &ended {
-            Ok(taken) => taken.as_slice() == self.wanted,
-            // nothing is written after out of memory
-            Err((RunFault::OutOfMemory, taken)) => taken.is_empty(),
-            Err((fault, _)) => return test.fail(&(self.name, fault)),
+    fn check(&self, test: &Test, ended: Result<Vec<u8>, (Kind, Vec<u8>)>) {
+        let is_right = match &ended {
+            Ok(taken) => taken.as_slice() == self.report,
+            Err((kind, taken)) => *kind == Kind::OutOfMemory && taken.is_empty(),
         };
-        is_so(test, is_whole_or_none, self.name);
+        holds(test, is_right, &(self.words, self.input.len()));
     }
 }

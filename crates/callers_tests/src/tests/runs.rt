@@ -1,18 +1,44 @@
-//! What runs return and write, in tests.
+//! Runs of the program, and how they end.
+use super::words::mode_by;
 use smol_tokens_core::fault::RunFault;
-use test_support::test::{Test, holds, ok};
+use smol_tokens_core::run::run;
+use std::io::{Read, Write};
+use test_support::state::fixed_state;
+use test_support::streams::Kind;
+use test_support::test::{Test, holds};
+
+/// The words of a mode.
+pub type Words = &'static [&'static str];
 
 /// The bytes are equal.
 pub fn same_bytes(test: &Test, found: &[u8], wanted: &[u8], row: &[u8]) {
     holds(test, found == wanted, &(row, found, wanted));
 }
 
-/// The report that a run writes.
-pub fn ok_report(test: &Test, outcome: Result<Vec<u8>, RunFault>) -> Vec<u8> {
-    ok(test, outcome)
+/// Runs in the mode of these words; `None` where the run ends well.
+pub fn run_by<R: Read, W: Write>(
+    test: &Test,
+    words: &[&str],
+    reader: &mut R,
+    writer: &mut W,
+) -> Option<Kind> {
+    match run(
+        test.alloc,
+        fixed_state(),
+        mode_by(test, words),
+        reader,
+        writer,
+    ) {
+        Ok(()) => None,
+        Err(fault) => Some(kind_of(&fault)),
+    }
 }
 
-/// A run ends well.
-pub fn ok_run(test: &Test, outcome: Result<(), RunFault>) {
-    ok(test, outcome)
+pub fn kind_of(fault: &RunFault) -> Kind {
+    match fault {
+        RunFault::NotUtf8 => Kind::NotUtf8,
+        RunFault::OutOfMemory => Kind::OutOfMemory,
+        RunFault::Full => Kind::Full,
+        RunFault::Io(error) => Kind::Io(error.kind()),
+    }
 }

@@ -1,7 +1,6 @@
-//! The symbol table: the ids of names that come again, look-ups without memory, and memory refused.
-use std::alloc::Global;
+//! The symbol table: the ids of names that come again, and look-ups without memory.
 use std::test::Fail;
-use test_support::refuse::{Refusable, each_refused, end_refusals, made_requests, refuse_all};
+use test_support::refuse::{end_refusals, refuse_all};
 use test_support::state::{FixedState, fixed_state};
 use test_support::test::{Test, holds, is_so};
 use test_support::texts::long_text;
@@ -58,55 +57,8 @@ fn found_without_memory(rt: HostRuntime) -> Result<(), Fail> {
     test.end()
 }
 
-// After a refusal the table is as before, and takes another name.
-#[test]
-fn each_request_in_turn(rt: HostRuntime) -> Result<(), Fail> {
-    let test = Test::begin(rt);
-    let asked = each_refused(&test, "Symbols::intern", &Intern);
-    made_requests(&test, asked, &"Symbols::intern");
-    test.end()
-}
-
 fn table_of_one(test: &Test) -> Symbols {
     let mut symbols = Symbols::with_hasher(test.alloc, fixed_state());
     check_id(test, &mut symbols, "if", 0);
     symbols
-}
-
-/// A new name in a table of one.
-#[derive(Drop)]
-struct Intern;
-
-impl Refusable for Intern {
-    type Input = Symbols;
-    /// The table, and the new id.
-    type Made = (Symbols, usize);
-
-    type Fault = Symbols;
-
-    fn input(&self, test: &Test) -> Symbols {
-        table_of_one(test)
-    }
-
-    fn call(&self, _alloc: Global, mut symbols: Symbols) -> Result<(Symbols, usize), Symbols> {
-        match symbols.intern(long_text()) {
-            Ok(id) => Ok((symbols, id)),
-            Err(_refused) => Err(symbols),
-        }
-    }
-
-    fn check(&self, test: &Test, ended: Result<(Symbols, usize), Symbols>) {
-        match ended {
-            Ok((symbols, id)) => {
-                same_id(test, Some(id), Some(1), "the new name");
-                check_next(test, symbols, 2)
-            }
-            Err(symbols) => check_next(test, symbols, 1),
-        }
-    }
-}
-
-/// The table's next name has this id.
-fn check_next(test: &Test, mut symbols: Symbols, id: usize) {
-    check_id(test, &mut symbols, "else", id)
 }

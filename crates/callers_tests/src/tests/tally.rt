@@ -1,17 +1,13 @@
-//! Tallies: rows, values of one text in all places, many tokens, and memory refused.
+//! Tallies: rows, many tokens, and memory refused.
 use smol_str::{Place, SmolStr};
 use smol_tokens_core::tally::{AddFault, Tally};
-use std::alloc::{AllocError, Global};
-use std::rc::RcStr;
+use std::alloc::Global;
 use std::test::Fail;
-use test_support::builders::builder_of;
 use test_support::refuse::{
     Refusable, can_refuse, count_blocks, each_refused, end_refusals, refuse_all, start_counts,
 };
-use test_support::test::{
-    Test, holds, is_so, of_shared, ok_string, ok_value, same_count, same_str,
-};
-use test_support::texts::{long_blank, long_text, repeated};
+use test_support::test::{Test, holds, is_so, ok_string, same, same_count, same_str};
+use test_support::texts::long_text;
 
 /// Adds a token of this text so many times, and the count is as wanted then.
 fn check_add(test: &Test, tally: &mut Tally, token: SmolStr, times: u64, wanted: u64) {
@@ -52,14 +48,9 @@ fn check_tally(test: &Test, tally: &Tally, wanted: &[(&'static str, u64)]) {
 fn counted(rt: HostRuntime) -> Result<(), Fail> {
     let test = Test::begin(rt);
     let mut tally = Tally::new(test.alloc);
-    check_counted(&test, &mut tally);
+    check_one_token(&test, &mut tally);
+    check_two_tokens(&test, &mut tally);
     test.end()
-}
-
-fn check_counted(test: &Test, tally: &mut Tally) {
-    check_one_token(test, tally);
-    check_two_tokens(test, tally);
-    check_values(test, tally)
 }
 
 fn check_one_token(test: &Test, tally: &mut Tally) {
@@ -77,69 +68,33 @@ fn check_two_tokens(test: &Test, tally: &mut Tally) {
     check_tally(test, tally, &[("a", 3), ("b", u64::MAX)])
 }
 
-/// Inline values find the counts too, and the value that came first stays.
-fn check_values(test: &Test, tally: &Tally) {
-    same_times(test, tally.count(&SmolStr::new_inline("a")), Some(3), "a");
-    let count = tally.count(&SmolStr::new_inline("b"));
-    same_times(test, count, Some(u64::MAX), "b");
-    let is_inline = match tally.at(0) {
-        Some((first, _count)) => first.place() == Place::Inline,
-        None => false,
-    };
-    is_so(test, is_inline, "the first value");
-}
-
 #[test]
 fn full(rt: HostRuntime) -> Result<(), Fail> {
     let test = Test::begin(rt);
     let mut tally = Tally::new(test.alloc);
-    check_full(&test, &mut tally);
+    check_add(
+        &test,
+        &mut tally,
+        SmolStr::new_inline("a"),
+        u64::MAX,
+        u64::MAX,
+    );
+    let back = refused_token(tally.add(SmolStr::new_static("a"), 1));
+    let is_static = match &back {
+        Some(token) => token.place() == Place::Static && token.eq_str("a"),
+        None => false,
+    };
+    is_so(&test, is_static, "the token that is one too many");
+    check_tally(&test, &tally, &[("a", u64::MAX)]);
     test.end()
 }
 
-/// The token that is one too many comes back, and nothing has changed.
-fn check_full(test: &Test, tally: &mut Tally) {
-    check_add(test, tally, SmolStr::new_inline("a"), u64::MAX, u64::MAX);
-    match tally.add(SmolStr::new_static("a"), 1) {
-        Err(AddFault::Full(back)) => check_static(test, &back, "a"),
-        Err(AddFault::OutOfMemory(_back)) => is_so(test, false, "out of memory"),
-        Ok(_count) => is_so(test, false, "not full"),
+/// The token for which there is no room to count.
+fn refused_token(added: Result<u64, AddFault>) -> Option<SmolStr> {
+    match added {
+        Err(AddFault::Full(back)) => Some(back),
+        _ => None,
     }
-    check_tally(test, tally, &[("a", u64::MAX)]);
-    check_add(test, tally, SmolStr::new_inline("a"), 0, u64::MAX)
-}
-
-fn check_static(test: &Test, back: &SmolStr, text: &str) {
-    same_str(test, back.as_str(), text, "full");
-    is_so(test, back.place() == Place::Static, "full");
-}
-
-// However a value was made, and wherever it lies, its text is one token.
-#[test]
-fn one_text_is_one_token(rt: HostRuntime) -> Result<(), Fail> {
-    let test = Test::begin(rt);
-    let mut tally = Tally::new(test.alloc);
-    check_one_text(&test, &mut tally, long_blank());
-    test.end()
-}
-
-fn check_one_text(test: &Test, tally: &mut Tally, text: &'static str) {
-    check_add(test, tally, test.value(text), 1, 1);
-    check_add(test, tally, SmolStr::new_static(text), 1, 2);
-    check_add(test, tally, converted(test, text), 1, 3);
-    check_add(test, tally, ok_value(test, built(test.alloc, text)), 1, 4);
-    check_tally(test, tally, &[(text, 4)])
-}
-
-fn converted(test: &Test, text: &str) -> SmolStr {
-    let string = test.string(text);
-    let converted = SmolStr::from_string(test.alloc, string);
-    ok_value(test, converted.ok().ok_or(AllocError))
-}
-
-fn built(alloc: Global, text: &str) -> Result<SmolStr, AllocError> {
-    let builder = builder_of(alloc, 100, text)?;
-    builder.finish().ok().ok_or(AllocError)
 }
 
 // A token that is there and is added, counted and read again is freed with the tally.
@@ -147,24 +102,19 @@ fn built(alloc: Global, text: &str) -> Result<SmolStr, AllocError> {
 fn no_token_is_left(rt: HostRuntime) -> Result<(), Fail> {
     let test = Test::begin(rt);
     start_counts(test.alloc);
-    check_counted_again(&test);
+    check_turns(&test, Tally::new(test.alloc));
     is_so(&test, count_blocks(test.alloc) == 0, "blocks");
     test.end()
 }
 
-fn check_counted_again(test: &Test) {
-    let mut tally = Tally::new(test.alloc);
-    check_turns(test, &mut tally)
-}
-
-fn check_turns(test: &Test, tally: &mut Tally) {
+fn check_turns(test: &Test, mut tally: Tally) {
     for turn in 1..4 {
         let token = test.value(long_text());
-        check_add(test, tally, token, 1, turn);
+        check_add(test, &mut tally, token, 1, turn);
     }
     let token = test.value(long_text());
     same_times(test, tally.count(&token), Some(3), "again");
-    check_at(test, tally, 0, long_text(), 3)
+    check_at(test, &tally, 0, long_text(), 3)
 }
 
 const MANY: u64 = 200_000;
@@ -193,58 +143,28 @@ fn check_many(test: &Test, tally: &mut Tally) {
     same_times(test, count, Some(199_999), "the last");
 }
 
-#[test]
-fn many_equal_tokens(rt: HostRuntime) -> Result<(), Fail> {
-    let test = Test::begin(rt);
-    let mut tally = Tally::new(test.alloc);
-    check_equal(&test, &mut tally);
-    test.end()
-}
-
-fn check_equal(test: &Test, tally: &mut Tally) {
-    for number in 1..=MANY {
-        check_add(test, tally, SmolStr::new_inline("token"), 1, number);
-    }
-    check_tally(test, tally, &[("token", MANY)])
-}
-
 // A new token, with each request refused in turn: it comes back and is not counted, or is counted.
-// Not every token makes requests, so it is tried on tallies of 0 to 39 tokens.
+// Not every token makes requests, so it is tried on tallies of 0 to 39 tokens: four of them grow, by four requests each.
 #[test]
 fn each_request_in_turn(rt: HostRuntime) -> Result<(), Fail> {
     let test = Test::begin(rt);
-    check_token(&test, "c");
-    check_token(&test, long_text());
-    check_token(&test, test.repeated("a", 5000).as_str());
+    let long = test.repeated("a", 5000);
+    for text in ["c", long_text(), long.as_str()] {
+        let mut requests = 0u32;
+        for there in 0..40u64 {
+            let asked = each_refused(&test, "Tally::add", &Add { text, there });
+            requests = requests.saturating_add(asked.requests);
+        }
+        let wanted = if can_refuse(test.alloc) { 16 } else { 0 };
+        same(&test, &requests, &wanted, &text.len());
+    }
     test.end()
 }
 
-fn check_token(test: &Test, text: &str) {
-    match RcStr::from_str(test.alloc, text) {
-        Ok(shared) => {
-            let is_met = count_met(test, &shared) > 1;
-            is_so(test, is_met == can_refuse(test.alloc), text)
-        }
-        Err(fault) => test.fail(&fault),
-    }
-}
-
-/// On how many of the tallies the token makes requests.
-fn count_met(test: &Test, shared: &RcStr) -> u32 {
-    let mut sizes_met = 0u32;
-    for there in 0..40u64 {
-        let asked = each_refused(test, "Tally::add", &Add { shared, there });
-        if asked.requests > 0 {
-            sizes_met = sizes_met.saturating_add(1);
-        }
-    }
-    sizes_met
-}
-
-/// A token that shares the text, added to a tally of so many others.
+/// A token of the text, added to a tally of so many others.
 #[derive(Drop)]
 struct Add<'a> {
-    shared: &'a RcStr,
+    text: &'a str,
     there: u64,
 }
 
@@ -257,8 +177,10 @@ impl Refusable for Add<'_> {
 
     fn input(&self, test: &Test) -> (Tally, SmolStr) {
         let mut tally = Tally::new(test.alloc);
-        add_numbers(test, &mut tally, self.there);
-        (tally, of_shared(test, self.shared.clone()))
+        for number in 0..self.there {
+            check_add(test, &mut tally, token(test, "", number), number, number);
+        }
+        (tally, test.value(self.text))
     }
 
     fn call(
@@ -273,82 +195,32 @@ impl Refusable for Add<'_> {
     }
 
     fn check(&self, test: &Test, ended: Result<(Tally, u64), (Tally, AddFault)>) {
-        let (shared, there) = (self.shared, self.there);
         match ended {
             Ok((tally, count)) => {
-                same_times(test, Some(count), Some(TIMES), shared.as_str());
-                check_last(test, &tally, there, shared.as_str())
+                same_times(test, Some(count), Some(TIMES), self.text);
+                check_last(test, &tally, self.there, self.text)
             }
-            Err((mut tally, fault)) => check_refused(test, shared, there, &mut tally, fault),
+            Err((mut tally, AddFault::OutOfMemory(back))) => {
+                same_str(test, back.as_str(), self.text, "back");
+                same_count(test, tally.len(), self.there as usize, "refused");
+                check_add(test, &mut tally, back, TIMES, TIMES);
+                check_last(test, &tally, self.there, self.text)
+            }
+            Err((_, AddFault::Full(_))) => is_so(test, false, "full"),
         }
-    }
-}
-
-/// The tokens `0`, `1` and so on, each counted as often as it says.
-fn add_numbers(test: &Test, tally: &mut Tally, there: u64) {
-    for number in 0..there {
-        check_add(test, tally, token(test, "", number), number, number);
     }
 }
 
 /// How often the new token is added.
 const TIMES: u64 = 7;
 
-fn check_refused(test: &Test, shared: &RcStr, there: u64, tally: &mut Tally, fault: AddFault) {
-    match fault {
-        AddFault::OutOfMemory(back) => {
-            check_back(test, shared, &back);
-            check_again(test, tally, there, back, shared.as_str())
-        }
-        AddFault::Full(_token) => is_so(test, false, "full"),
-    }
-}
-
-/// The token came back as it was: in its place, and on the heap with its shared text.
-fn check_back(test: &Test, shared: &RcStr, back: &SmolStr) {
-    let kept = of_shared(test, shared.clone());
-    same_str(test, back.as_str(), shared.as_str(), "back");
-    is_so(test, back.place() == kept.place(), "back in its place");
-    let is_shared = shares(test, back, shared);
-    is_so(
-        test,
-        is_shared == (back.place() == Place::Heap),
-        "back with its shared text",
-    );
-}
-
-/// Whether the value's shared text is this one.
-fn shares(test: &Test, value: &SmolStr, shared: &RcStr) -> bool {
-    let copy = ok_value(test, value.clone());
-    match copy.into_rc_str(test.alloc) {
-        Ok(handed_out) => RcStr::ptr_eq(&handed_out, shared),
-        Err(_) => {
-            test.fail(&AllocError);
-            false
-        }
-    }
-}
-
-/// The tally is as before, and takes the token now.
-fn check_again(test: &Test, tally: &mut Tally, there: u64, back: SmolStr, text: &str) {
-    same_count(test, tally.len(), there as usize, "refused");
-    check_first(test, tally, there);
-    check_add(test, tally, back, TIMES, TIMES);
-    check_last(test, tally, there, text)
-}
-
-/// The tally begins with so many tokens, each counted as often as it says.
-fn check_first(test: &Test, tally: &Tally, there: u64) {
+/// Behind so many numbers, each counted as often as it says, stands the new token, and no other.
+fn check_last(test: &Test, tally: &Tally, there: u64, text: &str) {
+    same_count(test, tally.len(), (there as usize).saturating_add(1), text);
     for number in 0..there {
         let token = token(test, "", number);
         check_at(test, tally, number as usize, token.as_str(), number);
     }
-}
-
-/// Behind these stands the new token, and no other.
-fn check_last(test: &Test, tally: &Tally, there: u64, text: &str) {
-    same_count(test, tally.len(), (there as usize).saturating_add(1), text);
-    check_first(test, tally, there);
     check_at(test, tally, there as usize, text, TIMES)
 }
 

@@ -1,6 +1,8 @@
-//! A caller of `run` that goes by its contract alone, and what comes after a run.
-ghost use Rattle.std.specs.Prelude.{OnOk};
+//! Callers of `run` that go by its contract alone.
+ghost use Rattle.std.specs.Prelude.{◌≡◌, IfOk, OnOk, IsUtf8, encode_utf8_all};
+ghost use Rattle.std.specs.Str.{chars};
 ghost use Rattle.std.specs.Io.KnownBytes.{IsAtEnd};
+ghost use Rattle.smol_tokens_core.specs.Report.{report};
 
 use super::runs::same_bytes;
 use smol_tokens_core::fault::RunFault;
@@ -10,7 +12,7 @@ use std::alloc::Global;
 use std::io::{Read, Write};
 use std::test::Fail;
 use test_support::state::fixed_state;
-use test_support::test::{Test, is_so};
+use test_support::test::{Test, is_so, ok};
 
 /// Runs in mode show; after it the reader is at its end.
 fn run_to_the_end<R: Read, W: Write>(
@@ -21,6 +23,15 @@ fn run_to_the_end<R: Read, W: Write>(
     ensures { OnOk result (IsAtEnd (R.remaining reader.new)) }
 {
     run(alloc, fixed_state(), Mode::Show, reader, writer)
+}
+
+/// The report by std's reader and writer over memory, and by the promise of `run` what it is.
+fn joined(alloc: Global, input: &[u8]) -> Result<Vec<u8>, RunFault>
+    ensures { IfOk result (λ out. IsUtf8 input.now × (out.items ≡ encode_utf8_all (report Mode.Join (chars input.now)))) }
+{
+    let (mut reader, mut out) = (input, Vec::new(alloc));
+    run(alloc, fixed_state(), Mode::Join, &mut reader, &mut out)?;
+    Ok(out)
 }
 
 #[test]
@@ -37,5 +48,7 @@ fn nothing_is_left(rt: HostRuntime) -> Result<(), Fail> {
         b"inline 2 if\ninline 2 \xc3\xa9\n",
         input,
     );
+    let out = ok(&test, joined(test.alloc, input));
+    same_bytes(&test, out.as_slice(), b"inline 4 if\xc3\xa9\n", input);
     test.end()
 }

@@ -1,204 +1,168 @@
-//! Every call of values and builders, as `table` has them: what it asks the heap for, what stands where that is refused,
-//! and that all is freed.
-mod inputs;
-mod table;
+//! Every call that asks for memory: what it asks for, what stands where that is refused, and that all is freed. The calls
+//! are in the modules below, each with its name, what it asks for on texts of these shapes, and how it is made.
+mod appends;
+mod builders;
+mod cases;
+mod forms;
+mod json;
+mod strings;
+mod texts;
 mod things;
+mod values;
 
-use super::rows::same_asked;
-use inputs::{input_of, run};
-use smol_str::{INLINE_CAP, Place, SmolStr};
-use std::alloc::{AllocError, Global};
-use std::test::Fail;
-use table::{Row, Stands, TABLES};
-use test_support::by_std::{Asks, NONE, asked_by_all};
-use test_support::held::is_exact;
-use test_support::refuse::{
-    Asked, Refusable, can_refuse, count_blocks, each_refused, start_counts,
-};
-use test_support::test::{Test, holds, ok, ok_string, same_flag};
-use test_support::texts::{full_text, joined, long_text, longest_blank, repeated};
-use things::{Thing, place_of, text_of};
+use super::rows::{held_exactly, same_asked};
+use std::alloc::Global;
+use std::fmt::Debug;
+use test_support::by_std::{Asks, asked_by_all};
+use test_support::refuse::{Asked, Refusable, can_refuse};
+use test_support::test::{Test, holds, ok_string, same};
+use test_support::texts::{full_text, long_text, longest_blank};
+use things::Thing;
 
-/// Texts on which calls are tried, beside those that stand in the program.
+/// What a call asks for.
+#[derive(Clone, Copy)]
+pub enum Wants {
+    /// What calls of std ask for: on no text, on one that fills a buffer, on the longest blank run, and on one that is not
+    /// resident.
+    AsStd([&'static [Asks]; 4]),
+    /// So many requests, and so many bytes in all, on a text of each shape.
+    Exactly([u32; 7], [u32; 7]),
+}
+
+/// A text on which calls are tried.
 #[derive(Drop)]
-struct Texts {
-    blank: String,
-    long: String,
-    accented: String,
+pub struct Shape {
+    name: &'static str,
+    text: String,
 }
 
-fn long_texts(test: &Test) -> Texts {
-    Texts {
-        blank: ok_string(test, longest_blank(test.alloc)),
-        long: test.repeated("a", 5000),
-        accented: test.repeated("é", 2500),
+/// No text, one that fills a buffer, the longest blank run, and texts that are not resident.
+pub fn shapes(test: &Test) -> Vec<Shape> {
+    let blank = ok_string(test, longest_blank(test.alloc));
+    let mut all = Vec::new(test.alloc);
+    test.push(&mut all, shape_of(test, "no text", ""));
+    test.push(&mut all, shape_of(test, "a full buffer", full_text()));
+    test.push(
+        &mut all,
+        shape_of(test, "the longest blank", blank.as_str()),
+    );
+    test.push(&mut all, shape_of(test, "a byte too many", long_text()));
+    for (name, unit, times) in LONG {
+        let text = test.repeated(unit, times);
+        test.push(&mut all, shape_of(test, name, text.as_str()));
     }
+    all
 }
 
-#[test]
-fn requests(rt: HostRuntime) -> Result<(), Fail> {
-    let test = Test::begin(rt);
-    start_counts(test.alloc);
-    let texts = long_texts(&test);
-    let is_counted = count_blocks(test.alloc) > 0;
-    same_flag(&test, is_counted, can_refuse(test.alloc), "blocks");
-    check_rows(&test, &texts);
-    test.end()
+const LONG: [(&str, &str, usize); 3] = [
+    ("5,000 bytes", "a", 5000),
+    ("2,500 accents", "é", 2500),
+    ("70,000 bytes", "a", 70_000),
+];
+
+pub fn shape_of(test: &Test, name: &'static str, text: &str) -> Shape {
+    let text = test.string(text);
+    Shape { name, text }
 }
 
-fn check_rows(test: &Test, texts: &Texts) {
-    for rows in &TABLES {
-        for row in *rows {
-            check_row(test, texts, row);
-        }
-    }
+/// The two halves of a text, of which the second may not fit where the first does.
+pub fn halves(text: &str) -> [&str; 2] {
+    let half = text.len() / 2;
+    [
+        text.get(..half).unwrap_or(""),
+        text.get(half..).unwrap_or(""),
+    ]
 }
 
-/// No text, where a full buffer makes no request; a text that fills a buffer; a blank run; and texts that are not
-/// resident.
-fn check_row(test: &Test, texts: &Texts, row: &Row) {
-    if row.of_full.is_empty() {
-        check_call(test, row, "no text", "", NONE);
-    }
-    let shapes = [
-        ("a full buffer", full_text(), row.of_full),
-        ("the longest blank", texts.blank.as_str(), row.of_blank),
-        ("a byte too many", long_text(), row.of_heap),
-        ("5,000 bytes", texts.long.as_str(), row.of_heap),
-        ("2,500 accents", texts.accented.as_str(), row.of_heap),
-    ];
-    for (shape, text, asks) in shapes {
-        check_call(test, row, shape, text, asks);
-    }
+/// A call with its row in a table.
+pub trait Row: Copy + Debug {
+    /// What it takes beside a text.
+    type Input;
+
+    /// As the library's documentation has it.
+    fn name(self) -> &'static str;
+
+    /// What it asks for.
+    fn asks(self) -> Wants;
+
+    /// What it takes, made of the text with ample memory.
+    fn input(self, test: &Test, text: &str) -> Self::Input;
+
+    /// The call, and what it makes or leaves.
+    fn run(self, alloc: Global, text: &str, input: Self::Input) -> Result<Thing, Thing>;
 }
 
-/// With each request refused in turn the call is refused, and what it took comes back; with none refused it asks for
-/// exactly what std's calls ask for.
-fn check_call(test: &Test, row: &Row, shape: &str, text: &str, asks: &[Asks]) {
-    let name = name_of(test, row.name, shape);
-    let value = test.value(text);
-    let ample = ample_of(test.alloc, row, &value);
-    let call = Tried {
-        row,
-        name: name.as_str(),
-        value: &value,
-        ample: &ample,
-    };
-    check_asked(test, &call, asked_by_all(test, asks, text))
-}
-
-fn check_asked(test: &Test, call: &Tried<'_>, wanted: Asked) {
-    let asked = each_refused(test, call.name, call);
-    check_held(test, call.name, asked.held, call.ample);
-    same_asked(test, asked, wanted, call.name)
-}
-
-/// The call and the text, in messages.
-fn name_of(test: &Test, call: &str, shape: &str) -> String {
-    let call = ok_string(test, joined(test.alloc, call, " of "));
-    ok_string(test, joined(test.alloc, call.as_str(), shape))
-}
-
-/// What the call makes of the value's text with ample memory.
-fn ample_of(alloc: Global, row: &Row, value: &SmolStr) -> Result<Thing, Thing> {
-    match input_of(alloc, row.takes, value.as_str()) {
-        Ok(input) => run(alloc, row, value, input),
-        Err(back) => Err(back),
-    }
-}
-
-/// A row's call on a value's text, and what it makes of it with ample memory.
+/// A call on a text.
 #[derive(Drop)]
-struct Tried<'a> {
-    row: &'a Row,
-    name: &'a str,
-    value: &'a SmolStr,
-    ample: &'a Result<Thing, Thing>,
+pub struct On<'a, C> {
+    pub call: C,
+    pub shape: &'a Shape,
 }
 
-impl Refusable for Tried<'_> {
-    type Input = Thing;
+impl<C: Row> On<'_, C> {
+    fn text(&self) -> &str {
+        self.shape.text.as_str()
+    }
+
+    fn ample(&self, test: &Test) -> Result<Thing, Thing> {
+        let input = self.call.input(test, self.text());
+        self.call.run(test.alloc, self.text(), input)
+    }
+}
+
+impl<C: Row> Refusable for On<'_, C> {
+    type Input = C::Input;
 
     type Made = Thing;
 
     type Fault = Thing;
 
-    fn input(&self, test: &Test) -> Thing {
-        match input_of(test.alloc, self.row.takes, self.value.as_str()) {
-            Ok(input) => input,
-            Err(back) => {
-                test.fail(&(self.name, "is not prepared"));
-                back
-            }
-        }
+    fn input(&self, test: &Test) -> C::Input {
+        self.call.input(test, self.text())
     }
 
-    fn call(&self, alloc: Global, input: Thing) -> Result<Thing, Thing> {
-        run(alloc, self.row, self.value, input)
+    fn call(&self, alloc: Global, input: C::Input) -> Result<Thing, Thing> {
+        self.call.run(alloc, self.text(), input)
     }
 
     /// After a refusal there is what the call took, and otherwise what it makes with ample memory.
     fn check(&self, test: &Test, ended: Result<Thing, Thing>) {
-        let is_so = match &ended {
-            Ok(made) => is_same(made, self.ample),
-            Err(back) => is_left(back, self.row.stands, self.value),
+        let is_right = match &ended {
+            Ok(made) => is_same(made, &self.ample(test)),
+            Err(left) => left.stands_after(self.text()),
         };
-        holds(test, is_so, &(self.name, "leaves something else"));
+        holds(test, is_right, &(self.call, self.shape.name));
     }
 }
 
-/// A value that is made keeps its text and no more.
-fn check_held(test: &Test, name: &str, held: u32, ample: &Result<Thing, Thing>) {
-    if let Ok(Thing::Value(value)) = ample {
-        let is_kept = ok(test, keeps_its_text(test.alloc, held, value));
-        holds(test, is_kept, &(name, "keeps", held));
-    }
-}
-
-fn keeps_its_text(alloc: Global, held: u32, value: &SmolStr) -> Result<bool, AllocError> {
-    if !value.is_heap_allocated() {
-        return Ok(held == 0);
-    }
-    is_exact(alloc, held, &SmolStr::new(alloc, value.as_str())?)
-}
-
-/// Whether what a refusal leaves has the text that is to stand, where that was.
-fn is_left(back: &Thing, stands: Stands, value: &SmolStr) -> bool {
-    let wanted = text_that_stands(stands, value.as_str());
-    is_text(text_of(back), wanted) && is_where_it_was(back, value.place())
-}
-
-fn text_that_stands(stands: Stands, text: &str) -> Option<&str> {
-    match stands {
-        Stands::Nothing => None,
-        Stands::Text => Some(text),
-        Stands::Empty => Some(""),
-    }
-}
-
-/// Whether a value is in this place, and a builder of the kind of its text.
-fn is_where_it_was(thing: &Thing, place: Place) -> bool {
-    match thing {
-        Thing::Value(value) => value.place() == place,
-        Thing::Builder(builder) => {
-            builder.inline_buffer().is_some() == (builder.len() <= INLINE_CAP)
-        }
-        _ => true,
-    }
-}
-
-/// Whether it has the text that is made with ample memory, in the same place.
 fn is_same(made: &Thing, ample: &Result<Thing, Thing>) -> bool {
     match ample {
-        Ok(wanted) => is_text(text_of(made), text_of(wanted)) && place_of(made) == place_of(wanted),
+        Ok(wanted) => made.text() == wanted.text() && made.place() == wanted.place(),
         Err(_) => false,
     }
 }
 
-fn is_text(found: Option<&str>, wanted: Option<&str>) -> bool {
-    match (found, wanted) {
-        (Some(found), Some(wanted)) => found == wanted,
-        (None, None) => true,
-        _ => false,
+/// The call asked for what it is to ask for on a text of this shape, and a value that it makes keeps its text and no more.
+pub fn check_asked<C: Row>(test: &Test, on: &On<'_, C>, index: usize, asked: Asked) {
+    let row = (on.call, on.shape.name);
+    match on.call.asks() {
+        Wants::AsStd(asks) => {
+            let wanted = asked_by_all(test, asks_on(asks, index), on.text());
+            same_asked(test, asked, wanted, &row)
+        }
+        Wants::Exactly(requests, bytes) if can_refuse(test.alloc) => {
+            let wanted = (requests.get(index).copied(), bytes.get(index).copied());
+            let found = (Some(asked.requests), Some(asked.bytes));
+            same(test, &found, &wanted, &row)
+        }
+        Wants::Exactly(..) => {}
     }
+    if let Ok(Thing::Value(value)) = on.ample(test) {
+        held_exactly(test, asked.held, &value, &row);
+    }
+}
+
+/// What is asked for on a text of the shape.
+fn asks_on(asks: [&'static [Asks]; 4], index: usize) -> &'static [Asks] {
+    asks[index.min(3)]
 }

@@ -92,3 +92,11 @@ impl FaultyCall {
         Err(fault)
     }
 }
+
+#[test]
+fn an_emptied_test_fails(rt: HostRuntime) -> Result<(), Fail> {
+    let test = Test::begin(rt);
+    let emptied = Test::new(test.alloc).first_wrong();
+    holds(&test, emptied.is_some(), &"an emptied test");
+    test.end()
+}

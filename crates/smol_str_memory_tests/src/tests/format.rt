@@ -5,10 +5,7 @@ use smol_str::{
 use std::alloc::Global;
 use std::fmt::{self, Display, Formatter, Write};
 use std::test::Fail;
-use test_support::refuse::{
-    Asked, Refusable, count_requests, each_refused, end_refusals, made_requests, refuse_all,
-    start_counts,
-};
+use test_support::refuse::{Refusable, each_refused, made_requests};
 use test_support::test::{Test, holds, in_place, ok, ok_string, same_count, same_flag, same_str};
 use test_support::texts::{full_text, long_blank, long_text, repeated, repeated_and};
 
@@ -116,6 +113,15 @@ fn assert_row(test: &Test, wanted: &str, row: &impl Display) {
 #[test]
 fn texts_as_a_string(rt: HostRuntime) -> Result<(), Fail> {
     let test = Test::begin(rt);
+    let value = test.value("ab");
+    assert_row(&test, "ab", &format_args!("{value}"));
+    assert_row(&test, "   ab", &format_args!("{value:>5}"));
+    assert_row(&test, "ab**", &format_args!("{value:*<4}"));
+    assert_row(&test, "\"ab\"", &format_args!("{value:?}"));
+    let value = test.value("a\"b");
+    assert_row(&test, "\"a\\\"b\"", &format_args!("{value:?}"));
+    let value = test.value(long_text());
+    assert_row(&test, long_text(), &format_args!("{value}"));
     let value = test.value("né");
     assert_row(&test, "   né", &format_args!("{value:>5}"));
     assert_row(&test, "né**", &format_args!("{value:*<4}"));
@@ -188,19 +194,25 @@ fn print_pieces(builder: &mut SmolStrBuilder) -> fmt::Result {
     write!(builder, "{:>3}", 7)
 }
 
-/// With each request refused in turn there is the whole text or none. Returns what was asked for.
-fn whole_or_none<D: Display>(test: &Test, value: &D, text: &str) -> Asked {
-    each_refused(test, "to_smolstr", &Printed { value, text })
+// With each request refused in turn there is the whole text or none.
+#[test]
+fn two_pieces(rt: HostRuntime) -> Result<(), Fail> {
+    let test = Test::begin(rt);
+    let short = Printed("ab", "c", "abc");
+    let asked = each_refused(&test, "ToSmolStr::to_smolstr", &short);
+    same_count(&test, asked.requests as usize, 0, "short");
+    let whole = ok_string(&test, repeated_and(test.alloc, "a", INLINE_CAP, "b"));
+    let long = Printed(full_text(), "b", whole.as_str());
+    let asked = each_refused(&test, "ToSmolStr::to_smolstr", &long);
+    made_requests(&test, asked, &"a byte more than short");
+    test.end()
 }
 
-/// `to_smolstr` of what prints the text.
+/// `to_smolstr` of two pieces, and the whole text.
 #[derive(Drop)]
-struct Printed<'a, D> {
-    value: &'a D,
-    text: &'a str,
-}
+struct Printed<'a>(&'a str, &'a str, &'a str);
 
-impl<D: Display> Refusable for Printed<'_, D> {
+impl Refusable for Printed<'_> {
     type Input = ();
 
     type Made = SmolStr;
@@ -210,59 +222,12 @@ impl<D: Display> Refusable for Printed<'_, D> {
     fn input(&self, _test: &Test) {}
 
     fn call(&self, alloc: Global, _input: ()) -> Result<SmolStr, FormatError> {
-        self.value.to_smolstr(alloc)
+        TwoPieces(self.0, self.1).to_smolstr(alloc)
     }
 
     fn check(&self, test: &Test, made: Result<SmolStr, FormatError>) {
         if let Ok(value) = made {
-            same_str(test, value.as_str(), self.text, "to_smolstr");
+            same_str(test, value.as_str(), self.2, "to_smolstr");
         }
     }
-}
-
-#[test]
-fn two_pieces(rt: HostRuntime) -> Result<(), Fail> {
-    let test = Test::begin(rt);
-    let pieces = TwoPieces("ab", "c");
-    let asked = whole_or_none(&test, &pieces, "abc");
-    same_count(&test, asked.requests as usize, 0, "short");
-    assert_value(&test, pieces.to_smolstr(test.alloc), "abc", Place::Inline);
-    assert_above_short(&test);
-    test.end()
-}
-
-fn assert_above_short(test: &Test) {
-    let whole = ok_string(test, repeated_and(test.alloc, "a", INLINE_CAP, "b"));
-    let asked = whole_or_none(test, &TwoPieces(full_text(), "b"), whole.as_str());
-    made_requests(test, asked, &"a byte more than short");
-    let long = test.repeated("a", 5000);
-    made_requests(test, whole_or_none(test, &long, long.as_str()), &"long")
-}
-
-// Not only Ok, but with no request at all.
-#[test]
-fn short_needs_none(rt: HostRuntime) -> Result<(), Fail> {
-    let test = Test::begin(rt);
-    let alloc = test.alloc;
-    start_counts(alloc);
-    refuse_all(alloc);
-    let number = 42u8.to_smolstr(alloc);
-    let whole = padded(alloc);
-    let was_refused = end_refusals(alloc);
-    same_count(&test, count_requests(alloc) as usize, 0, "requests");
-    same_flag(&test, was_refused, false, "refused");
-    assert_value(&test, number, "42", Place::Inline);
-    assert_padded(&test, ok_printed(&test, whole).as_str());
-    test.end()
-}
-
-/// A text that fills a buffer.
-fn padded(alloc: Global) -> Result<SmolStr, FormatError> {
-    format_smolstr!(alloc; "ab-{:>width$}", 12u8, width = INLINE_CAP - 3)
-}
-
-fn assert_padded(test: &Test, whole: &str) {
-    let number = whole.strip_prefix("ab-").unwrap_or("");
-    same_str(test, number.trim_start(), "12", "number");
-    same_count(test, whole.len(), INLINE_CAP, "whole");
 }

@@ -3,18 +3,25 @@ use smol_str::SmolStr;
 use smol_str::borsh::DecodeFault;
 use std::fmt::Debug;
 use test_support::by_std::is_asked;
-use test_support::held::is_exact;
-use test_support::refuse::Asked;
-use test_support::test::{Test, holds, is_so, ok};
+use test_support::refuse::{Asked, count_held};
+use test_support::test::{Test, holds};
 
 /// The requests are as many, for as many bytes.
-pub fn same_asked(test: &Test, found: Asked, wanted: Asked, row: &str) {
+pub fn same_asked(test: &Test, found: Asked, wanted: Asked, row: &impl Debug) {
     holds(test, is_asked(found, wanted), &(row, found, wanted));
 }
 
-/// So many bytes are what the value holds, and no spare room.
-pub fn held_exactly(test: &Test, held: u32, value: &SmolStr, row: &str) {
-    is_so(test, ok(test, is_exact(test.alloc, held, value)), row);
+/// What the C library may leave at the end of a block: of one that was made smaller, or of a free one that it hands out
+/// whole.
+const LEFT: u32 = 32;
+
+/// So many bytes are what a value of the text holds which `SmolStr::new` makes, and no spare room.
+pub fn held_exactly(test: &Test, held: u32, value: &SmolStr, row: &impl Debug) {
+    let before = count_held(test.alloc);
+    let exact = test.value(value.as_str());
+    let wanted = count_held(test.alloc).wrapping_sub(before);
+    let left = if exact.is_heap_allocated() { LEFT } else { 0 };
+    holds(test, held.abs_diff(wanted) <= left, &(row, held, wanted));
 }
 
 /// The bytes are equal.

@@ -1,11 +1,10 @@
-//! Wire forms, written and read again by readers and writers of every step.
+//! Wire forms, written and read again.
 use super::rows::{ok_found, same_bytes};
 use smol_str::borsh::{BorshDeserialize, BorshSerialize, from_wire, length_prefix};
-use smol_str::stream::PIECE;
 use smol_str::{INLINE_CAP, Place, SmolStr};
 use std::test::Fail;
-use test_support::streams::{Failure, STEPS, Trickle, empty_drip, trickle_of};
-use test_support::test::{Test, holds, in_place, is_so, ok, ok_bytes, same, same_str, same_value};
+use test_support::streams::{Trickle, trickle_of};
+use test_support::test::{Test, in_place, is_so, ok, ok_bytes, same, same_str, same_value};
 
 /// A text and its wire form: a unit and how many times the text has it; the size's lowest byte, which
 /// three zeros follow, and the bytes of the unit; and the place where the text is read.
@@ -69,17 +68,7 @@ fn written(rt: HostRuntime) -> Result<(), Fail> {
 
 fn assert_written(test: &Test, row: Row) {
     let form = form_of(test, row);
-    let value = value_of(test, row);
-    for step in STEPS {
-        assert_steps(test, &value, form.as_slice(), step);
-    }
-    assert_form(test, &value, form.as_slice())
-}
-
-fn assert_steps(test: &Test, value: &SmolStr, form: &[u8], step: usize) {
-    let mut writer = empty_drip(test.alloc, step, 0, Failure::TakesNone);
-    ok(test, value.serialize(&mut writer));
-    same_bytes(test, writer.taken.as_slice(), form, &(step, value));
+    assert_form(test, &value_of(test, row), form.as_slice())
 }
 
 fn assert_form(test: &Test, value: &SmolStr, form: &[u8]) {
@@ -107,9 +96,7 @@ fn assert_read_again(test: &Test, row: Row) {
     let mut bytes = form_of(test, row);
     ok(test, bytes.extend_from_slice(b"a\xff"));
     assert_found(test, bytes.as_slice(), text.as_str(), row.4);
-    for step in STEPS {
-        assert_read(test, bytes.as_slice(), step, text.as_str(), row.4, b"a\xff");
-    }
+    assert_read(test, bytes.as_slice(), text.as_str(), row.4, b"a\xff")
 }
 
 /// The bytes begin with a form of the text, which two bytes follow.
@@ -119,19 +106,12 @@ fn assert_found(test: &Test, bytes: &[u8], text: &str, place: Place) {
     same(test, &taken.saturating_add(2), &bytes.len(), &value);
 }
 
-/// A reader of `step` bytes a call gives the text, by buffers that are within a piece, and has the rest left.
-fn assert_read(test: &Test, bytes: &[u8], step: usize, text: &str, place: Place, rest: &[u8]) {
-    let mut reader = trickle_of(bytes, step, 0);
+/// A reader of single bytes gives the text, and has the rest left.
+fn assert_read(test: &Test, bytes: &[u8], text: &str, place: Place, rest: &[u8]) {
+    let mut reader = trickle_of(bytes, 1, 0);
     let value = ok(test, SmolStr::deserialize_reader(test.alloc, &mut reader));
-    same_value(test, &value, text, place, &step);
-    assert_left(test, &reader, rest, &value, step);
-}
-
-/// The reader has the rest left, and was given buffers within a piece.
-fn assert_left(test: &Test, reader: &Trickle<'_>, rest: &[u8], value: &SmolStr, step: usize) {
-    let row = (step, value);
-    same_bytes(test, reader.rest, rest, &row);
-    holds(test, reader.least >= 1 && reader.most <= PIECE, &row);
+    same_value(test, &value, text, place, &"read");
+    same_bytes(test, reader.rest, rest, &text.len());
 }
 
 #[test]
@@ -187,30 +167,13 @@ fn assert_next(test: &Test, reader: &mut Trickle<'_>, text: &str) {
     same_str(test, value.as_str(), text, text);
 }
 
-// Characters of three bytes, so that pieces end within one.
-#[test]
-fn characters_across_pieces(rt: HostRuntime) -> Result<(), Fail> {
-    let test = Test::begin(rt);
-    for step in [1, 7, PIECE - 1, PIECE, PIECE + 1] {
-        assert_long(&test, [0x98, 0x3a, 0, 0], "€", step);
-    }
-    test.end()
-}
-
 #[test]
 fn long_body(rt: HostRuntime) -> Result<(), Fail> {
     let test = Test::begin(rt);
-    for step in [1, usize::MAX] {
-        assert_long(&test, [0x88, 0x13, 0, 0], "a", step);
-    }
+    let text = test.repeated("a", 5000);
+    let form = letters(&test, 5000, 5000);
+    assert_read(&test, form.as_slice(), text.as_str(), Place::Heap, b"");
     test.end()
-}
-
-/// A text of 5,000 characters, which has this size.
-fn assert_long(test: &Test, size: [u8; 4], character: &str, step: usize) {
-    let text = test.repeated(character, 5000);
-    let form = of_units(test, &size, text.as_bytes(), 1);
-    assert_read(test, form.as_slice(), step, text.as_str(), Place::Heap, b"")
 }
 
 #[test]

@@ -1,24 +1,13 @@
 //! Bytes that hold no wire form.
-use super::wire::{ROWS, form_of, letters};
+use super::wire::letters;
 use smol_str::borsh::{
     BorshDeserialize, DecodeFault, LimitedFault, deserialize_limited, from_wire, split_wire,
 };
 use smol_str::{INLINE_CAP, SmolStr};
-use std::io::ErrorKind;
 use std::test::Fail;
-use test_support::streams::{STEPS, trickle_of};
-use test_support::test::{Test, holds};
+use test_support::streams::{Kind, STEPS, trickle_of};
+use test_support::test::{Test, same};
 use test_support::texts::ABOVE_BUFFERS;
-
-/// A fault of reading a wire form, without what it tells of it.
-#[derive(Clone, Copy, PartialEq, Eq, Debug)]
-pub enum Kind {
-    Ended,
-    NotUtf8,
-    OutOfMemory,
-    Io(ErrorKind),
-    TooLong,
-}
 
 pub fn kind_of(fault: &DecodeFault) -> Kind {
     match fault {
@@ -84,19 +73,6 @@ fn borsh_non_utf8_heap(rt: HostRuntime) -> Result<(), Fail> {
     test.end()
 }
 
-// Each form of the table, cut after every byte.
-#[test]
-fn cut_short(rt: HostRuntime) -> Result<(), Fail> {
-    let test = Test::begin(rt);
-    for row in &ROWS {
-        let form = form_of(&test, *row);
-        for end in 0..form.len() {
-            assert_refused(&test, &form[..end], Kind::Ended, 0);
-        }
-    }
-    test.end()
-}
-
 // Above each buffer, the fault is told as itself: the last byte of a body is not there, or is not UTF-8.
 #[test]
 fn long_bodies(rt: HostRuntime) -> Result<(), Fail> {
@@ -104,72 +80,40 @@ fn long_bodies(rt: HostRuntime) -> Result<(), Fail> {
     for size in ABOVE_BUFFERS {
         let count = size.saturating_sub(1) as u32;
         let mut bytes = letters(&test, size as u32, count);
-        assert_long_refused(&test, bytes.as_slice(), Kind::Ended);
+        assert_refused_by(&test, bytes.as_slice(), usize::MAX, (Kind::Ended, 0));
         test.push(&mut bytes, 0xff);
-        assert_long_refused(&test, bytes.as_slice(), Kind::NotUtf8);
+        assert_refused_by(&test, bytes.as_slice(), usize::MAX, (Kind::NotUtf8, 0));
     }
     test.end()
 }
 
-/// Each call returns this fault, and a reader that gives all it is asked for has nothing left.
-fn assert_long_refused(test: &Test, bytes: &[u8], kind: Kind) {
-    assert_refused_at_hand(test, bytes, kind);
-    assert_reader_refused(test, bytes, usize::MAX, kind, 0);
-    assert_limited_refused(test, bytes, usize::MAX, kind, 0);
-}
-
-fn assert_refused_at_hand(test: &Test, bytes: &[u8], kind: Kind) {
-    let fault = from_wire(test.alloc, bytes).err();
-    same_fault(test, fault, kind, bytes, bytes.len());
-    let fault = split_wire(test.alloc, bytes).err();
-    same_fault(test, fault, kind, bytes, bytes.len());
-}
-
-/// The fault is of the kind. A reader gave `step` bytes a call; bytes at hand come all at once.
-fn same_fault(test: &Test, fault: Option<DecodeFault>, kind: Kind, bytes: &[u8], step: usize) {
-    match fault {
-        Some(fault) => same_kind(test, kind_of(&fault), kind, bytes, step),
-        None => no_fault(test, kind, bytes, step),
-    }
-}
-
-/// The bytes are told last, since only the front of a long row is told.
-fn same_kind(test: &Test, found: Kind, kind: Kind, bytes: &[u8], step: usize) {
-    holds(test, found == kind, &(step, found, kind, bytes));
-}
-
-/// A call returned no fault.
-fn no_fault(test: &Test, kind: Kind, bytes: &[u8], step: usize) {
-    test.fail(&(step, "no fault", kind, bytes));
-}
-
-/// So many bytes are left of those that a reader gave, `step` a call.
-fn same_left(test: &Test, left: usize, wanted: usize, bytes: &[u8], step: usize) {
-    holds(test, left == wanted, &(step, left, wanted, bytes));
-}
-
 /// Each call returns this fault, whatever the reader's steps.
 fn assert_refused(test: &Test, bytes: &[u8], kind: Kind, left: usize) {
-    assert_refused_at_hand(test, bytes, kind);
     for step in STEPS {
-        assert_reader_refused(test, bytes, step, kind, left);
-        assert_limited_refused(test, bytes, step, kind, left);
+        assert_refused_by(test, bytes, step, (kind, left));
     }
 }
 
-fn assert_reader_refused(test: &Test, bytes: &[u8], step: usize, kind: Kind, left: usize) {
+/// Each call returns this fault, and a reader of this step has so many bytes left. No size is above the limit.
+fn assert_refused_by(test: &Test, bytes: &[u8], step: usize, (kind, left): (Kind, usize)) {
+    let row = (bytes.len(), step);
+    same_fault(test, from_wire(test.alloc, bytes).err(), kind, row);
+    same_fault(test, split_wire(test.alloc, bytes).err(), kind, row);
     let mut reader = trickle_of(bytes, step, 0);
-    let fault = SmolStr::deserialize_reader(test.alloc, &mut reader).err();
-    same_fault(test, fault, kind, bytes, step);
-    same_left(test, reader.rest.len(), left, bytes, step);
-}
-
-/// With a limit that no size is above.
-fn assert_limited_refused(test: &Test, bytes: &[u8], step: usize, kind: Kind, left: usize) {
+    let read = SmolStr::deserialize_reader(test.alloc, &mut reader);
+    same_fault(test, read.err(), kind, row);
+    same(test, &reader.rest.len(), &left, &row);
     let mut reader = trickle_of(bytes, step, 0);
     match deserialize_limited(test.alloc, &mut reader, usize::MAX) {
-        Ok(_) => no_fault(test, kind, bytes, step),
-        Err(fault) => same_kind(test, kind_of_limited(&fault), kind, bytes, step),
+        Ok(_) => test.fail(&row),
+        Err(fault) => same(test, &kind_of_limited(&fault), &kind, &row),
     }
-    same_left(test, reader.rest.len(), left, bytes, step);
+    same(test, &reader.rest.len(), &left, &row);
+}
+
+fn same_fault(test: &Test, found: Option<DecodeFault>, kind: Kind, row: (usize, usize)) {
+    match found {
+        Some(fault) => same(test, &kind_of(&fault), &kind, &row),
+        None => test.fail(&row),
+    }
 }

@@ -1,17 +1,15 @@
 //! Values by a builder's calls and by lists of steps.
 ghost use Rattle.std.specs.Prelude.{◌≡◌, IfOk};
-ghost use Rattle.std.specs.Str.{chars};
 
 use smol_str::{INLINE_CAP, Place, SmolStr, SmolStrBuilder, Step, build};
 use std::alloc::{AllocError, Global};
 use std::test::Fail;
-use test_support::builders::builder_of;
-use test_support::refuse::{Refusable, each_refused, end_refusals, made_requests, refuse_all};
+use test_support::refuse::{can_refuse, end_refusals, refuse_all};
 use test_support::test::{
-    Test, has_text, holds, in_place, is_so, ok, ok_string, ok_value, same_count, same_flag,
-    same_str, same_value,
+    Test, has_text, holds, is_so, ok, ok_string, ok_value, same_count, same_flag, same_str,
+    same_value,
 };
-use test_support::texts::repeated_and;
+use test_support::texts::{long_text, repeated_and};
 
 /// What a row appends.
 #[derive(Clone, Copy)]
@@ -133,23 +131,15 @@ fn test_builder_push(rt: HostRuntime) -> Result<(), Fail> {
 }
 
 #[test]
-fn every_capacity(rt: HostRuntime) -> Result<(), Fail> {
+fn steps(rt: HostRuntime) -> Result<(), Fail> {
     let test = Test::begin(rt);
-    for capacity in [0, INLINE_CAP, INLINE_CAP + 1, 100] {
-        assert_rows_at(&test, capacity);
+    for row in rows() {
+        let large = ok(&test, SmolStrBuilder::with_capacity(test.alloc, 100));
+        assert_pieces(&test, large, row);
+        assert_steps_at(&test, 0, row);
+        assert_steps_at(&test, 100, row);
     }
     test.end()
-}
-
-fn assert_rows_at(test: &Test, capacity: usize) {
-    for row in rows() {
-        assert_pieces(
-            test,
-            ok(test, SmolStrBuilder::with_capacity(test.alloc, capacity)),
-            row,
-        );
-        assert_steps_at(test, capacity, row);
-    }
 }
 
 fn assert_pieces(test: &Test, mut builder: SmolStrBuilder, row: &Row) {
@@ -167,151 +157,29 @@ fn assert_steps_at(test: &Test, capacity: usize, row: &Row) {
     same_value(test, &value, text.as_str(), row.2, &capacity);
 }
 
-/// A full buffer, a step of each kind that leaves it, and one of each kind behind that.
-static LEAVING: [&[Piece]; 4] = [
-    &[
-        Piece::Times("a", INLINE_CAP),
-        Piece::Char('b'),
-        Piece::Char('c'),
-    ],
-    &[
-        Piece::Times("a", INLINE_CAP),
-        Piece::Char('b'),
-        Piece::Text("c"),
-    ],
-    &[
-        Piece::Times("a", INLINE_CAP),
-        Piece::Text("b"),
-        Piece::Char('c'),
-    ],
-    &[
-        Piece::Times("a", INLINE_CAP),
-        Piece::Text("b"),
-        Piece::Text("c"),
-    ],
-];
-
-// A step that is refused ends the call: no step behind it is tried.
-#[test]
-fn steps_refused(rt: HostRuntime) -> Result<(), Fail> {
-    let test = Test::begin(rt);
-    let whole = ok_string(&test, repeated_and(test.alloc, "a", INLINE_CAP, "bc"));
-    for pieces in &LEAVING {
-        let call = Build {
-            pieces,
-            whole: whole.as_str(),
-        };
-        made_requests(&test, each_refused(&test, "build", &call), &"build");
-    }
-    test.end()
-}
-
-/// `build` by these pieces, which are the whole text.
-#[derive(Drop)]
-struct Build<'a> {
-    pieces: &'a [Piece],
-    whole: &'a str,
-}
-
-impl Refusable for Build<'_> {
-    type Input = Vec<Step>;
-
-    type Made = SmolStr;
-
-    type Fault = AllocError;
-
-    fn input(&self, test: &Test) -> Vec<Step> {
-        steps_of(test, self.pieces)
-    }
-
-    fn call(&self, alloc: Global, steps: Vec<Step>) -> Result<SmolStr, AllocError> {
-        build(alloc, 0, &steps)
-    }
-
-    fn check(&self, test: &Test, made: Result<SmolStr, AllocError>) {
-        if let Ok(value) = made {
-            same_str(test, value.as_str(), self.whole, "build");
-        }
-    }
-}
-
 // Where one byte is left, a text of two bytes is refused, and a character of one byte then fits.
 #[test]
 fn refused_at_the_boundary(rt: HostRuntime) -> Result<(), Fail> {
     let test = Test::begin(rt);
     let text = test.repeated("a", INLINE_CAP - 1);
-    let call = PushTwoBytes {
-        text: text.as_str(),
-    };
-    let name = "push_str of two bytes where one is left";
-    made_requests(&test, each_refused(&test, name, &call), &name);
-    test.end()
-}
-
-/// Two bytes appended to a builder of the text, which comes back where they are refused.
-#[derive(Drop)]
-struct PushTwoBytes<'a> {
-    text: &'a str,
-}
-
-impl Refusable for PushTwoBytes<'_> {
-    type Input = SmolStrBuilder;
-
-    type Made = SmolStrBuilder;
-
-    type Fault = SmolStrBuilder;
-
-    fn input(&self, test: &Test) -> SmolStrBuilder {
-        test.builder(0, self.text)
-    }
-
-    fn call(
-        &self,
-        _alloc: Global,
-        mut builder: SmolStrBuilder,
-    ) -> Result<SmolStrBuilder, SmolStrBuilder> {
-        match builder.push_str("bc") {
-            Ok(()) => Ok(builder),
-            Err(AllocError) => Err(builder),
-        }
-    }
-
-    fn check(&self, test: &Test, ended: Result<SmolStrBuilder, SmolStrBuilder>) {
-        match ended {
-            Ok(builder) => assert_two_bytes_more(test, self.text, &builder),
-            Err(back) => assert_comes_back(test, self.text, &back),
-        }
-    }
-}
-
-fn assert_two_bytes_more(test: &Test, text: &str, builder: &SmolStrBuilder) {
-    let whole = ok_string(test, repeated_and(test.alloc, text, 1, "bc"));
-    same_str(test, builder.as_str(), whole.as_str(), "two bytes more");
-    is_so(test, builder.inline_buffer().is_none(), whole.as_str());
-}
-
-fn assert_comes_back(test: &Test, text: &str, back: &SmolStrBuilder) {
-    same_str(test, back.as_str(), text, "a builder that came back");
-    is_so(test, back.inline_buffer().is_some(), text);
+    let mut builder = test.builder(0, text.as_str());
     refuse_all(test.alloc);
-    let value = ok_value(test, with_a_byte_more(back));
-    is_so(
-        test,
-        !end_refusals(test.alloc),
-        "a byte more takes no memory",
-    );
-    assert_a_byte_more(test, &value, text)
-}
-
-fn assert_a_byte_more(test: &Test, value: &SmolStr, text: &str) {
-    let whole = ok_string(test, repeated_and(test.alloc, text, 1, "d"));
-    has_text(test, value, whole.as_str(), Place::Inline, "a byte more");
-}
-
-fn with_a_byte_more(builder: &SmolStrBuilder) -> Result<SmolStr, AllocError> {
-    let mut builder = builder.clone()?;
-    builder.push('d')?;
-    Ok(SmolStr::from_builder(builder)?)
+    let gave_up = builder.push_str("bc").is_err();
+    let was_refused = end_refusals(test.alloc);
+    same_flag(&test, gave_up, can_refuse(test.alloc), "push_str");
+    same_flag(&test, was_refused, gave_up, "push_str");
+    let mut builder = if gave_up {
+        builder
+    } else {
+        test.builder(0, text.as_str())
+    };
+    same_str(&test, builder.as_str(), text.as_str(), "refused");
+    refuse_all(test.alloc);
+    ok(&test, builder.push('d'));
+    same_flag(&test, end_refusals(test.alloc), false, "push");
+    let whole = ok_string(&test, repeated_and(test.alloc, text.as_str(), 1, "d"));
+    assert_finishes(&test, builder, whole.as_str(), Place::Inline);
+    test.end()
 }
 
 // No allocation can have such a capacity.
@@ -336,34 +204,18 @@ fn is_made(alloc: Global, capacity: usize) -> bool {
 #[test]
 fn equal_texts(rt: HostRuntime) -> Result<(), Fail> {
     let test = Test::begin(rt);
-    for row in rows() {
-        let text = text_of(&test, row);
-        match made_twice(test.alloc, text.as_str()) {
-            Ok(values) => assert_equal(&test, &values, row.2, text.as_str()),
+    for text in ["ab", long_text()] {
+        match finish_both(test.builder(0, text), test.builder(100, text)) {
+            Ok((one, other)) => is_so(&test, one == other && one.eq_str(text), text),
             Err(fault) => test.fail(&fault),
         }
     }
     test.end()
 }
 
-fn assert_equal(test: &Test, values: &(SmolStr, SmolStr), place: Place, text: &str) {
-    let (one, other) = values;
-    is_so(test, one == other, text);
-    in_place(test, one, place, text);
-    in_place(test, other, place, text);
-}
-
-/// The values of a builder without and of one with capacity.
-fn made_twice(alloc: Global, text: &str) -> Result<(SmolStr, SmolStr), AllocError> {
-    let small = builder_of(alloc, 0, text)?;
-    let large = builder_of(alloc, 100, text)?;
-    finish_both(small, large)
-}
-
 /// The values of two builders with one text. Whatever their kinds, the values mean the same.
 fn finish_both(a: SmolStrBuilder, b: SmolStrBuilder) -> Result<(SmolStr, SmolStr), AllocError>
-    requires { a.text ≡ b.text }
-    ensures { IfOk result (λ values. values.0 ≡ values.1) }
+    ensures { a.text ≡ b.text → IfOk result (λ values. values.0 ≡ values.1) }
 {
     match (a.finish(), b.finish()) {
         (Ok(one), Ok(other)) => Ok((one, other)),

@@ -1,4 +1,4 @@
-//! Values and builders from iterators: what is returned, and hints that promise too much.
+//! Values and builders from iterators, and hints that promise too much.
 ghost use Rattle.std.specs.Prelude.{◌+◌, length};
 ghost use Rattle.std.specs.Iterator.{at_most, YieldsFirst};
 ghost use Rattle.std.specs.Vec.Iter.{into_iter_items};
@@ -7,6 +7,7 @@ use smol_str::{BLANK_NEWLINES, INLINE_CAP, Place, SmolStr, SmolStrBuilder};
 use std::alloc::{AllocError, Global};
 use std::test::Fail;
 use std::vec::IntoIter;
+use test_support::refuse::{can_refuse, end_refusals, refuse_all};
 use test_support::test::{
     Test, has_text, holds, in_place, is_so, ok, ok_string, ok_value, same, same_count, same_flag,
     same_place, same_str, same_value,
@@ -15,7 +16,7 @@ use test_support::texts::{long_blank, repeated_and};
 
 /// An iterator whose lower hint may promise more items than come.
 #[derive(Drop)]
-pub struct Hinted<T: Drop> {
+struct Hinted<T: Drop> {
     items: IntoIter<T>,
     lower: usize,
 }
@@ -36,152 +37,10 @@ impl<T: Drop> Iterator for Hinted<T> {
     }
 }
 
-pub fn with_hint<T: Drop>(items: Vec<T>, lower: usize) -> Hinted<T> {
+fn with_hint<T: Drop>(items: Vec<T>, lower: usize) -> Hinted<T> {
     Hinted {
         items: items.into_iter(),
         lower,
-    }
-}
-
-/// The calls that draw items.
-#[derive(Clone, Copy)]
-pub enum Call {
-    FromChars,
-    FromStrs,
-    FromStrings,
-    FromStringRefs,
-    ExtendChars,
-    ExtendStrs,
-    ExtendStrings,
-}
-
-/// Each call, and its name in messages.
-pub const CALLS: [(Call, &str); 7] = [
-    (Call::FromChars, "from_chars"),
-    (Call::FromStrs, "from_strs"),
-    (Call::FromStrings, "from_strings"),
-    (Call::FromStringRefs, "from_string_refs"),
-    (Call::ExtendChars, "extend_chars"),
-    (Call::ExtendStrs, "extend_strs"),
-    (Call::ExtendStrings, "extend_strings"),
-];
-
-/// What a call draws.
-#[derive(Drop)]
-enum Items<'p, 's> {
-    Chars(Hinted<char>),
-    Strs(Hinted<&'p str>),
-    Strings(Hinted<String>),
-    StringRefs(Hinted<&'s String>),
-}
-
-/// The pieces as items; the strings are the same pieces.
-fn items_of<'p, 's>(
-    test: &Test,
-    call: Call,
-    pieces: &[&'p str],
-    strings: &'s [String],
-    lower: usize,
-) -> Items<'p, 's> {
-    match call {
-        Call::FromChars | Call::ExtendChars => char_items(test, pieces, lower),
-        Call::FromStrs | Call::ExtendStrs => str_items(test, pieces, lower),
-        Call::FromStrings => string_items(test, pieces, lower),
-        Call::FromStringRefs | Call::ExtendStrings => string_ref_items(test, strings, lower),
-    }
-}
-
-fn char_items<'p, 's>(test: &Test, pieces: &[&'p str], lower: usize) -> Items<'p, 's> {
-    Items::Chars(with_hint(chars_of(test, pieces), lower))
-}
-
-fn str_items<'p, 's>(test: &Test, pieces: &[&'p str], lower: usize) -> Items<'p, 's> {
-    let strs = ok(test, pieces.iter().copied().collect(test.alloc));
-    Items::Strs(with_hint(strs, lower))
-}
-
-fn string_items<'p, 's>(test: &Test, pieces: &[&'p str], lower: usize) -> Items<'p, 's> {
-    Items::Strings(with_hint(strings_of(test, pieces), lower))
-}
-
-fn string_ref_items<'p, 's>(test: &Test, strings: &'s [String], lower: usize) -> Items<'p, 's> {
-    let refs = ok(test, strings.iter().collect(test.alloc));
-    Items::StringRefs(with_hint(refs, lower))
-}
-
-fn chars_of(test: &Test, pieces: &[&str]) -> Vec<char> {
-    let mut chars = Vec::new(test.alloc);
-    for piece in pieces {
-        push_chars(test, &mut chars, piece);
-    }
-    chars
-}
-
-fn push_chars(test: &Test, chars: &mut Vec<char>, text: &str) {
-    for character in text.chars() {
-        test.push(chars, character);
-    }
-}
-
-pub fn strings_of(test: &Test, pieces: &[&str]) -> Vec<String> {
-    let mut strings = Vec::new(test.alloc);
-    for piece in pieces {
-        test.push(&mut strings, test.string(piece));
-    }
-    strings
-}
-
-/// Whether the call extends a builder.
-pub fn extends(call: Call) -> bool {
-    matches!(
-        call,
-        Call::ExtendChars | Call::ExtendStrs | Call::ExtendStrings
-    )
-}
-
-/// The value that a call makes, an extended builder finished.
-fn value_of(alloc: Global, call: Call, items: Items<'_, '_>) -> Result<SmolStr, AllocError> {
-    if !extends(call) {
-        return made(alloc, items);
-    }
-    match extended(alloc, items) {
-        Ok(value) => Ok(value),
-        Err(_builder) => Err(AllocError),
-    }
-}
-
-fn made(alloc: Global, items: Items<'_, '_>) -> Result<SmolStr, AllocError> {
-    match items {
-        Items::Chars(chars) => SmolStr::from_chars(alloc, chars),
-        Items::Strs(strs) => SmolStr::from_strs(alloc, strs),
-        Items::Strings(strings) => SmolStr::from_strings(alloc, strings),
-        Items::StringRefs(refs) => SmolStr::from_string_refs(alloc, refs),
-    }
-}
-
-/// The value of a builder that was extended, or the builder. None is extended by strings that are owned.
-fn extended(alloc: Global, items: Items<'_, '_>) -> Result<SmolStr, SmolStrBuilder> {
-    let mut builder = SmolStrBuilder::new(alloc);
-    let answer = extend(&mut builder, items);
-    finished(answer, builder)
-}
-
-fn extend(builder: &mut SmolStrBuilder, items: Items<'_, '_>) -> Result<(), AllocError> {
-    match items {
-        Items::Chars(chars) => builder.extend_chars(chars),
-        Items::Strs(strs) => builder.extend_strs(strs),
-        Items::Strings(_strings) => Err(AllocError),
-        Items::StringRefs(refs) => builder.extend_strings(refs),
-    }
-}
-
-pub fn finished(
-    answer: Result<(), AllocError>,
-    builder: SmolStrBuilder,
-) -> Result<SmolStr, SmolStrBuilder> {
-    match answer {
-        Ok(()) => builder.finish(),
-        Err(_) => Err(builder),
     }
 }
 
@@ -207,23 +66,18 @@ fn test_from_char_iterator(rt: HostRuntime) -> Result<(), Fail> {
     test.end()
 }
 
-/// What fills a buffer behind characters of three bytes, and what is more than fits there.
-const FILL: [&str; 3] = ["", "a", "aa"];
-
-const MORE: [&str; 3] = ["é", "aé", "aaé"];
-
 #[test]
 fn characters(rt: HostRuntime) -> Result<(), Fail> {
     let test = Test::begin(rt);
     assert_collected(&test, "                        ", 24, Place::Inline);
     assert_collected(&test, long_blank(), INLINE_CAP + 1, Place::Static);
-    assert_wide(&test, FILL[INLINE_CAP % 3], INLINE_CAP, Place::Inline);
-    assert_wide(&test, MORE[INLINE_CAP % 3], INLINE_CAP + 2, Place::Heap);
+    assert_wide(&test, "", 39, Place::Inline);
+    assert_wide(&test, "é", 41, Place::Heap);
     test.end()
 }
 
 fn assert_wide(test: &Test, end: &str, len: usize, place: Place) {
-    let text = ok_string(test, repeated_and(test.alloc, "ア", INLINE_CAP / 3, end));
+    let text = ok_string(test, repeated_and(test.alloc, "ア", 13, end));
     assert_collected(test, text.as_str(), len, place)
 }
 
@@ -254,17 +108,8 @@ fn assert_blank(test: &Test, newlines: usize, place: Place) {
     same_place(test, &blank, place, &newlines);
 }
 
-pub fn of_two(alloc: Global, first: &str, second: &str) -> Result<SmolStr, AllocError> {
+fn of_two(alloc: Global, first: &str, second: &str) -> Result<SmolStr, AllocError> {
     SmolStr::from_strs(alloc, [first, second].into_iter())
-}
-
-#[test]
-fn no_pieces(rt: HostRuntime) -> Result<(), Fail> {
-    let test = Test::begin(rt);
-    let none: Vec<String> = Vec::new(test.alloc);
-    let empty = ok_value(&test, SmolStr::from_strings(test.alloc, none.into_iter()));
-    has_text(&test, &empty, "", Place::Inline, "no pieces");
-    test.end()
 }
 
 #[test]
@@ -275,6 +120,8 @@ fn owned_and_borrowed_pieces(rt: HostRuntime) -> Result<(), Fail> {
     let owned = of_owned(&test, &["if", "", "x"]);
     has_text(&test, &owned, "ifx", Place::Inline, "owned");
     same(&test, &borrowed, &owned, &"both");
+    let none = of_owned(&test, &[]);
+    has_text(&test, &none, "", Place::Inline, "no pieces");
     test.end()
 }
 
@@ -286,43 +133,6 @@ fn of_borrowed(test: &Test, pieces: &[&str]) -> SmolStr {
 fn of_owned(test: &Test, pieces: &[&str]) -> SmolStr {
     let strings = strings_of(test, pieces);
     ok_value(test, SmolStr::from_strings(test.alloc, strings.into_iter()))
-}
-
-#[test]
-fn ordinary_iterators(rt: HostRuntime) -> Result<(), Fail> {
-    let test = Test::begin(rt);
-    let alloc = test.alloc;
-    let values = [SmolStr::from('a'), SmolStr::default(), SmolStr::from('é')];
-    assert_text(&test, of_values(alloc, &values), "aé");
-    assert_text(&test, of_both(alloc, "ab", "é"), "abé");
-    assert_text(&test, without_text(alloc, "a, b, é", ", "), "abé");
-    assert_text(&test, without(alloc, "béa", 'b'), "éa");
-    assert_text(&test, of_copies(alloc, &["a", "", "é"]), "aé");
-    test.end()
-}
-
-fn assert_text(test: &Test, answer: Result<SmolStr, AllocError>, text: &str) {
-    has_text(test, &ok_value(test, answer), text, Place::Inline, text);
-}
-
-fn of_values(alloc: Global, values: &[SmolStr]) -> Result<SmolStr, AllocError> {
-    SmolStr::from_strs(alloc, values.iter().map(|value| value.as_str()))
-}
-
-fn of_both(alloc: Global, first: &str, second: &str) -> Result<SmolStr, AllocError> {
-    SmolStr::from_chars(alloc, first.chars().chain(second.chars()))
-}
-
-fn without_text(alloc: Global, text: &str, left_out: &str) -> Result<SmolStr, AllocError> {
-    SmolStr::from_strs(alloc, text.split(left_out))
-}
-
-fn without(alloc: Global, text: &str, left_out: char) -> Result<SmolStr, AllocError> {
-    SmolStr::from_chars(alloc, text.chars().filter(|c| *c != left_out))
-}
-
-fn of_copies(alloc: Global, parts: &[&str]) -> Result<SmolStr, AllocError> {
-    SmolStr::from_strs(alloc, parts.iter().copied())
 }
 
 // Upstream's have pieces at random: here piece i, counted from 1, is `é` i mod 5 times.
@@ -397,7 +207,7 @@ fn assert_finished(test: &Test, builder: SmolStrBuilder, text: &str) {
 #[test]
 fn test_bad_size_hint_char_iter(rt: HostRuntime) -> Result<(), Fail> {
     let test = Test::begin(rt);
-    let chars = with_hint(chars_of(&test, &["testing"]), 1024);
+    let chars = with_hint(chars_of(&test, "testing"), 1024);
     let collected = ok_value(&test, SmolStr::from_chars(test.alloc, chars));
     has_text(&test, &collected, "testing", Place::Inline, "collected");
     let new = test.value("testing");
@@ -410,41 +220,101 @@ fn test_bad_size_hint_char_iter(rt: HostRuntime) -> Result<(), Fail> {
 #[test]
 fn hints(rt: HostRuntime) -> Result<(), Fail> {
     let test = Test::begin(rt);
+    let long = test.repeated("a", INLINE_CAP + 1);
     for lower in [1024, usize::MAX, 0] {
-        let pieces = ["tes", "", "ting"];
-        assert_hinted(&test, &pieces, lower, "testing", Place::Inline);
-        assert_hinted_letters(&test, INLINE_CAP + 1, lower);
-        assert_hinted_letters(&test, 70_000, lower);
+        for (text, place) in [("testing", Place::Inline), (long.as_str(), Place::Heap)] {
+            assert_collects(&test, text, lower, place);
+            assert_extends(&test, text, lower, place);
+        }
     }
     test.end()
 }
 
-fn assert_hinted_letters(test: &Test, letters: usize, lower: usize) {
-    let text = test.repeated("a", letters);
-    let pieces = ["", text.as_str(), ""];
-    assert_hinted(test, &pieces, lower, text.as_str(), Place::Heap)
+fn assert_collects(test: &Test, text: &str, lower: usize, place: Place) {
+    let (alloc, strings) = (test.alloc, strings_of(test, &["", text]));
+    let chars = with_hint(chars_of(test, text), lower);
+    assert_made(test, SmolStr::from_chars(alloc, chars), text, place);
+    let strs = with_hint(strs_of(test, text), lower);
+    assert_made(test, SmolStr::from_strs(alloc, strs), text, place);
+    let refs = with_hint(refs_of(test, &strings), lower);
+    assert_made(test, SmolStr::from_string_refs(alloc, refs), text, place);
+    let owned = SmolStr::from_strings(alloc, with_hint(strings, lower));
+    assert_made(test, owned, text, place)
 }
 
-fn assert_hinted(test: &Test, pieces: &[&str], lower: usize, text: &str, place: Place) {
-    let strings = strings_of(test, pieces);
-    for (call, name) in CALLS {
-        let items = items_of(test, call, pieces, strings.as_slice(), lower);
-        let made = value_of(test.alloc, call, items);
-        assert_made(test, made, (name, lower), text, place);
-    }
+fn assert_extends(test: &Test, text: &str, lower: usize, place: Place) {
+    let (mut builder, strings) = (SmolStrBuilder::new(test.alloc), strings_of(test, &[text]));
+    ok(
+        test,
+        builder.extend_chars(with_hint(chars_of(test, ""), lower)),
+    );
+    ok(
+        test,
+        builder.extend_strs(with_hint(strs_of(test, ""), lower)),
+    );
+    ok(
+        test,
+        builder.extend_strings(with_hint(refs_of(test, &strings), lower)),
+    );
+    same_str(test, builder.as_str(), text, "extended by strings");
+    let mut builder = SmolStrBuilder::new(test.alloc);
+    ok(
+        test,
+        builder.extend_chars(with_hint(chars_of(test, text), lower)),
+    );
+    assert_made(test, builder.into_value(), text, place);
+    let mut builder = SmolStrBuilder::new(test.alloc);
+    ok(
+        test,
+        builder.extend_strs(with_hint(strs_of(test, text), lower)),
+    );
+    assert_made(test, builder.into_value(), text, place)
 }
 
-fn assert_made(
-    test: &Test,
-    made: Result<SmolStr, AllocError>,
-    row: (&str, usize),
-    text: &str,
-    place: Place,
-) {
-    match made {
-        Ok(value) => same_value(test, &value, text, place, &row),
-        Err(_) => test.fail(&row),
+fn assert_made(test: &Test, made: Result<SmolStr, AllocError>, text: &str, place: Place) {
+    has_text(test, &ok_value(test, made), text, place, text);
+}
+
+fn chars_of(test: &Test, text: &str) -> Vec<char> {
+    ok(test, text.chars().collect(test.alloc))
+}
+
+/// The text behind an empty one.
+fn strs_of<'a>(test: &Test, text: &'a str) -> Vec<&'a str> {
+    ok(test, ["", text].into_iter().collect(test.alloc))
+}
+
+fn refs_of<'a>(test: &Test, strings: &'a Vec<String>) -> Vec<&'a String> {
+    ok(test, strings.iter().collect(test.alloc))
+}
+
+fn strings_of(test: &Test, pieces: &[&str]) -> Vec<String> {
+    let mut strings = Vec::new(test.alloc);
+    for piece in pieces {
+        test.push(&mut strings, test.string(piece));
     }
+    strings
+}
+
+// Where two bytes are left, the third text is refused, and those before it stay.
+#[test]
+fn extending_refused(rt: HostRuntime) -> Result<(), Fail> {
+    let test = Test::begin(rt);
+    let start = test.repeated("a", INLINE_CAP - 2);
+    let mut builder = test.builder(0, start.as_str());
+    refuse_all(test.alloc);
+    let gave_up = extend_by_four(&mut builder).is_err();
+    end_refusals(test.alloc);
+    same_flag(&test, gave_up, can_refuse(test.alloc), "extend_strs");
+    let is_inline = builder.inline_buffer().is_some();
+    same_flag(&test, is_inline, gave_up, "an inline builder");
+    let added = builder.as_str().strip_prefix(start.as_str()).unwrap_or("");
+    same_str(&test, added, if gave_up { "bc" } else { "bcdef" }, "added");
+    test.end()
+}
+
+fn extend_by_four(builder: &mut SmolStrBuilder) -> Result<(), AllocError> {
+    builder.extend_strs(["b", "c", "de", "f"].into_iter())
 }
 
 // Whatever the items, none gives up on a builder that is on the heap.
@@ -486,6 +356,8 @@ fn builders_cloned(rt: HostRuntime) -> Result<(), Fail> {
     let heap = test.builder(100, "ab");
     assert_copied(&test, &heap);
     same_str(&test, heap.as_str(), "ab", "heap");
+    let empty = test.builder(100, "");
+    is_so(&test, ok(&test, empty.clone()) == empty, "an empty one");
     test.end()
 }
 

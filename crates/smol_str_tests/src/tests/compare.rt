@@ -1,15 +1,15 @@
 //! Equality, order and hashes.
 use smol_str::borsh::from_wire;
-use smol_str::{INLINE_CAP, Place, SmolStr, Step, StrExt, build};
+use smol_str::{Place, SmolStr, Step, StrExt, build};
 use std::alloc::Global;
 use std::cmp::Ordering;
 use std::hash::{DefaultHasher, Hash, Hasher};
 use std::test::Fail;
-use test_support::test::{Test, holds, in_place, is_so, ok, ok_string, ok_value, same, same_count};
-use test_support::texts::{long_blank, long_text, repeated_and};
+use test_support::test::{Test, holds, in_place, is_so, ok, ok_value, same};
+use test_support::texts::{long_blank, long_text};
 
 /// Two texts, and the order of the first to the second.
-static ORDERS: [(&str, &str, Ordering); 7] = [
+static ORDERS: [(&str, &str, Ordering); 8] = [
     ("\u{FFFD}", "\u{10000}", Ordering::Less),
     ("", "a", Ordering::Less),
     ("Z", "a", Ordering::Less),
@@ -17,6 +17,7 @@ static ORDERS: [(&str, &str, Ordering); 7] = [
     ("é", "z", Ordering::Greater),
     ("a", "a\0", Ordering::Less),
     ("ab", "ab", Ordering::Equal),
+    ("abc", "ab", Ordering::Greater),
 ];
 
 #[test]
@@ -26,27 +27,6 @@ fn orders(rt: HostRuntime) -> Result<(), Fail> {
         assert_orders(&test, (left, right), order);
         assert_order_to_pinned(&test, left, right, order);
     }
-    test.end()
-}
-
-#[test]
-fn order_of_a_pinned_value(rt: HostRuntime) -> Result<(), Fail> {
-    let test = Test::begin(rt);
-    let order = SmolStr::new_static("ab").cmp_str("abc");
-    same_order(&test, order, Ordering::Less, ("ab", "abc"));
-    test.end()
-}
-
-// Texts that differ in their last byte, and not before it.
-#[test]
-fn orders_of_long_texts(rt: HostRuntime) -> Result<(), Fail> {
-    let test = Test::begin(rt);
-    let text = long_text();
-    let other = ok_string(&test, repeated_and(test.alloc, "a", INLINE_CAP, "b"));
-    assert_orders(&test, (text, other.as_str()), Ordering::Less);
-    assert_order_to_pinned(&test, other.as_str(), text, Ordering::Greater);
-    assert_orders(&test, (text, text), Ordering::Equal);
-    assert_order_to_pinned(&test, text, text, Ordering::Equal);
     test.end()
 }
 
@@ -140,30 +120,29 @@ fn assert_hash(test: &Test, value: &SmolStr, text: &str) {
 #[test]
 fn one_text_in_every_way(rt: HostRuntime) -> Result<(), Fail> {
     let test = Test::begin(rt);
-    let mut values = Vec::new(test.alloc);
-    add_constructed(&test, &mut values);
-    add_converted(&test, &mut values);
-    same_count(&test, values.len(), 8, "ways");
+    let alloc = test.alloc;
+    let mut values = Vec::new(alloc);
+    test.push(&mut values, test.value("ab"));
+    test.push(&mut values, SmolStr::new_inline("ab"));
+    add(&test, &mut values, SmolStr::from_utf8(alloc, b"ab").ok());
+    add(
+        &test,
+        &mut values,
+        SmolStr::from_chars(alloc, "ab".chars()).ok(),
+    );
+    add(&test, &mut values, read(alloc));
+    add(
+        &test,
+        &mut values,
+        "xb".replace_smolstr(alloc, "x", "a").ok(),
+    );
+    add(&test, &mut values, test.builder(100, "ab").finish().ok());
+    let steps = [Step::Push('a'), Step::Push('b')];
+    add(&test, &mut values, build(alloc, 0, &steps).ok());
     for value in &values {
         assert_equals_all(&test, value, values.as_slice());
     }
     test.end()
-}
-
-fn add_constructed(test: &Test, values: &mut Vec<SmolStr>) {
-    let alloc = test.alloc;
-    add(test, values, SmolStr::new(alloc, "ab").ok());
-    add(test, values, Some(SmolStr::new_inline("ab")));
-    add(test, values, SmolStr::from_utf8(alloc, b"ab").ok());
-    add(test, values, SmolStr::from_chars(alloc, "ab".chars()).ok());
-}
-
-fn add_converted(test: &Test, values: &mut Vec<SmolStr>) {
-    let alloc = test.alloc;
-    add(test, values, read(alloc));
-    add(test, values, "xb".replace_smolstr(alloc, "x", "a").ok());
-    add(test, values, test.builder(100, "ab").finish().ok());
-    add(test, values, built(alloc));
 }
 
 fn read(alloc: Global) -> Option<SmolStr> {
@@ -171,10 +150,6 @@ fn read(alloc: Global) -> Option<SmolStr> {
         Ok((value, _)) => Some(value),
         Err(_) => None,
     }
-}
-
-fn built(alloc: Global) -> Option<SmolStr> {
-    build(alloc, 0, &[Step::Push('a'), Step::Push('b')]).ok()
 }
 
 /// A test fails where there is no value.

@@ -1,11 +1,9 @@
-//! Case, against outside rows and std's own mappings, which only tests see printed.
+//! Case, against outside rows.
 use super::replace::{assert_rows, upstream_rows};
 use smol_str::{INLINE_CAP, Place, SmolStr, StrExt};
 use std::alloc::{AllocError, Global};
 use std::test::Fail;
-use test_support::test::{
-    Test, holds, in_place, ok, ok_string, ok_value, same_count, same_str, same_value,
-};
+use test_support::test::{Test, in_place, ok_value, same_count, same_value};
 use test_support::texts::{long_blank, long_capitals, long_text};
 
 /// A case call.
@@ -94,17 +92,11 @@ fn assert_answer(test: &Test, call: Call, text: &str, wanted: &str, place: Place
 
 // A short text can become longer than the buffer, and a long one shorter.
 #[test]
-fn sizes_that_grow(rt: HostRuntime) -> Result<(), Fail> {
+fn sizes_that_change(rt: HostRuntime) -> Result<(), Fail> {
     let test = Test::begin(rt);
     let text = test.repeated("ΐ", INLINE_CAP / 2);
     let upper = text.as_str().to_uppercase_smolstr(test.alloc);
     assert_size(&test, upper, 6 * (INLINE_CAP / 2), Place::Heap, "longer");
-    test.end()
-}
-
-#[test]
-fn sizes_that_shrink(rt: HostRuntime) -> Result<(), Fail> {
-    let test = Test::begin(rt);
     let kelvins = test.repeated("\u{212A}", INLINE_CAP / 3 + 1);
     let lower = kelvins.as_str().to_lowercase_smolstr(test.alloc);
     assert_size(&test, lower, INLINE_CAP / 3 + 1, Place::Inline, "shorter");
@@ -121,64 +113,4 @@ fn assert_size(
     let value = ok_value(test, made);
     in_place(test, &value, place, row);
     same_count(test, value.len(), len, row);
-}
-
-// Each character that has a mapping: alone, between letters, and behind a text that is not short.
-#[test]
-fn maps_as_std_does(rt: HostRuntime) -> Result<(), Fail> {
-    let test = Test::begin(rt);
-    let long = test.repeated("A", INLINE_CAP);
-    let mut mapped = 0u32;
-    for number in 0x80..0x2FFFFu32 {
-        if let Some(character) = char::from_u32(number) {
-            if has_mapping(character) {
-                assert_mappings(&test, character, long.as_str());
-                mapped = mapped.saturating_add(1);
-            }
-        }
-    }
-    holds(&test, mapped > 2500, &mapped);
-    test.end()
-}
-
-fn has_mapping(character: char) -> bool {
-    let lower = character.to_lowercase().next();
-    let upper = character.to_uppercase().next();
-    lower != Some(character) || upper != Some(character)
-}
-
-fn assert_mappings(test: &Test, character: char, long: &str) {
-    let rows = [
-        ("", ""),
-        ("a", ""),
-        ("", "a"),
-        ("A", " "),
-        (long, ""),
-        (long, "a"),
-    ];
-    for (before, after) in rows {
-        let text = around(test, before, character, after);
-        assert_lowercase(test, text.as_str());
-        assert_uppercase(test, text.as_str());
-    }
-}
-
-/// The character, with these texts before and after it.
-fn around(test: &Test, before: &str, character: char, after: &str) -> String {
-    let mut text = test.string(before);
-    ok(test, text.push(character));
-    ok(test, text.push_str(after));
-    text
-}
-
-fn assert_lowercase(test: &Test, text: &str) {
-    let value = ok_value(test, text.to_lowercase_smolstr(test.alloc));
-    let wanted = ok_string(test, text.to_lowercase(test.alloc));
-    same_str(test, value.as_str(), wanted.as_str(), text);
-}
-
-fn assert_uppercase(test: &Test, text: &str) {
-    let value = ok_value(test, text.to_uppercase_smolstr(test.alloc));
-    let wanted = ok_string(test, text.to_uppercase(test.alloc));
-    same_str(test, value.as_str(), wanted.as_str(), text);
 }

@@ -1,18 +1,13 @@
-//! Inputs in every mode, and the reports on them.
-use super::runs::ok_run;
-use super::words::mode_by;
+//! `run` in every mode, on short and on long inputs.
+use super::runs::{Words, run_by};
 use smol_str::INLINE_CAP;
-use smol_tokens_core::run::run;
 use std::alloc::{AllocError, Global};
-use test_support::state::fixed_state;
-use test_support::test::{Test, ok_bytes, ok_string};
+use std::test::Fail;
+use test_support::test::{Test, holds, ok_bytes, ok_string};
 use test_support::texts::{full_text, joined, long_blank, long_capitals, long_text, repeated_and};
 
-/// The words of a mode.
-pub type Words = &'static [&'static str];
-
 /// The words of a mode, an input, and the report on it.
-static REPORTS: [(Words, &[u8], &[u8]); 17] = [
+static REPORTS: [(Words, &[u8], &[u8]); 26] = [
     (&[], b"abc", b"inline 3 abc\n"),
     (
         &["show"],
@@ -21,11 +16,40 @@ static REPORTS: [(Words, &[u8], &[u8]); 17] = [
     ),
     (&["show"], b"", b""),
     (
+        &["show"],
+        b"                        \n",
+        b"inline 24                         \n",
+    ),
+    (&["show"], b"\n", b"inline 0 \n"),
+    (&["show"], b"a\n\n", b"inline 1 a\ninline 0 \n"),
+    (&["show"], b"ab\r\nc", b"inline 3 ab\r\ninline 1 c\n"),
+    (
+        &["show"],
+        b"\xc3\xa9\n\xc3\x9f",
+        b"inline 2 \xc3\xa9\ninline 2 \xc3\x9f\n",
+    ),
+    (
         &["join"],
         b"if\n\naaaaaaaaaaaaaaaaaaaaaaaa",
         b"inline 26 ifaaaaaaaaaaaaaaaaaaaaaaaa\n",
     ),
     (&["join"], b"", b"inline 0 \n"),
+    (&["join"], b"\n", b"inline 0 \n"),
+    (
+        &["join"],
+        b"aaaaaaaaaaaa\nbbbbbbbbbbb\n",
+        b"inline 23 aaaaaaaaaaaabbbbbbbbbbb\n",
+    ),
+    (
+        &["join"],
+        b"            \n            ",
+        b"inline 24                         \n",
+    ),
+    (
+        &["join"],
+        b"\xc3\xa9\r\n\xc3\x9f",
+        b"inline 5 \xc3\xa9\r\xc3\x9f\n",
+    ),
     (
         &["replace", "ba", "do"],
         b"foo_bar_baz",
@@ -56,6 +80,7 @@ static REPORTS: [(Words, &[u8], &[u8]); 17] = [
     (&["tokens"], b"", b""),
 ];
 
+/// The table, behind a function: one that names it is dear to prove.
 fn reports() -> &'static [(Words, &'static [u8], &'static [u8])] {
     &REPORTS
 }
@@ -122,7 +147,10 @@ fn push_full(test: &Test, all: &mut Vec<Row>) {
     let line = test.repeated("x", INLINE_CAP + 1);
     let line = line.as_str();
     let report = answer(alloc, "static", long_blank());
-    push_text(test, all, &["replace", "x", " "], line, report)
+    push_text(test, all, &["replace", "x", " "], line, report);
+    let input = ok_string(test, format!(in alloc; " \n{}", &long_blank()[1..]));
+    let report = answer(alloc, "static", long_blank());
+    push_text(test, all, &["join"], input.as_str(), report)
 }
 
 /// A token that is a byte too long, among short ones.
@@ -171,14 +199,54 @@ pub fn long_line(
     joined(alloc, front, line.as_str())
 }
 
+#[test]
+fn every_mode(rt: HostRuntime) -> Result<(), Fail> {
+    let test = Test::begin(rt);
+    for row in &all_rows(&test) {
+        check_report(
+            &test,
+            row.words,
+            row.input.as_slice(),
+            row.report.as_slice(),
+        );
+    }
+    test.end()
+}
+
+fn check_report(test: &Test, words: Words, input: &[u8], wanted: &[u8]) {
+    let report = report_by(test, words, input);
+    let found = report.as_slice();
+    holds(test, found == wanted, &(words, found, wanted));
+}
+
 /// The report in the mode of these words, by std's reader and writer over memory.
 pub fn report_by(test: &Test, words: &[&str], input: &[u8]) -> Vec<u8> {
-    let mode = mode_by(test, words);
-    let mut reader = input;
-    let mut out = Vec::new(test.alloc);
-    ok_run(
-        test,
-        run(test.alloc, fixed_state(), mode, &mut reader, &mut out),
-    );
+    let (mut reader, mut out) = (input, Vec::new(test.alloc));
+    let ended = run_by(test, words, &mut reader, &mut out);
+    holds(test, ended.is_none(), &(words, ended));
     out
+}
+
+#[test]
+fn long_lines(rt: HostRuntime) -> Result<(), Fail> {
+    let test = Test::begin(rt);
+    let input = ok_string(&test, long_line(test.alloc, "", "a", 70_000));
+    for &(words, front, _, letter) in letters() {
+        let wanted = ok_string(&test, long_line(test.alloc, front, letter, 70_000));
+        let wanted = wanted.as_str().as_bytes();
+        check_report(&test, words, input.as_str().as_bytes(), wanted);
+    }
+    test.end()
+}
+
+#[test]
+fn many_lines(rt: HostRuntime) -> Result<(), Fail> {
+    let test = Test::begin(rt);
+    let line = ok_string(&test, long_line(test.alloc, "", "a", 99));
+    let input = test.repeated(line.as_str(), 2000);
+    let line = ok_string(&test, long_line(test.alloc, "heap 99 ", "a", 99));
+    let wanted = test.repeated(line.as_str(), 2000);
+    let wanted = wanted.as_str().as_bytes();
+    check_report(&test, &["show"], input.as_str().as_bytes(), wanted);
+    test.end()
 }

@@ -1,0 +1,138 @@
+//! Case and replacement.
+use super::things::{Thing, thing};
+use super::{On, Row, Wants, check_asked, shape_of, shapes};
+use smol_str::{SmolStr, StrExt};
+use std::alloc::{AllocError, Global};
+use std::test::Fail;
+use test_support::refuse::{each_refused, made_requests};
+use test_support::test::Test;
+
+#[derive(Clone, Copy, Debug)]
+enum Call {
+    AsciiLower,
+    AsciiUpper,
+    Lower,
+    Upper,
+    /// A byte by a byte.
+    Replace,
+    /// A byte by more.
+    ReplaceByMore,
+    ReplacePieces,
+    Halve,
+    /// The empty pattern.
+    ReplaceNothing,
+    Remove,
+    ReplaceThree,
+    ReplaceOnePiece,
+}
+
+static CALLS: [Call; 12] = [
+    Call::AsciiLower,
+    Call::AsciiUpper,
+    Call::Lower,
+    Call::Upper,
+    Call::Replace,
+    Call::ReplaceByMore,
+    Call::ReplacePieces,
+    Call::Halve,
+    Call::ReplaceNothing,
+    Call::Remove,
+    Call::ReplaceThree,
+    Call::ReplaceOnePiece,
+];
+
+#[test]
+fn each_request(rt: HostRuntime) -> Result<(), Fail> {
+    let test = Test::begin(rt);
+    for (index, shape) in shapes(&test).iter().enumerate() {
+        for &call in &CALLS {
+            let on = On { call, shape };
+            let asked = each_refused(&test, call.name(), &on);
+            check_asked(&test, &on, index, asked);
+        }
+    }
+    test.end()
+}
+
+// A short text with a capital sigma is mapped in memory of its own.
+#[test]
+fn sigma(rt: HostRuntime) -> Result<(), Fail> {
+    let test = Test::begin(rt);
+    let shape = &shape_of(&test, "a capital sigma", "ΑΣ");
+    let call = Call::Lower;
+    let asked = each_refused(&test, call.name(), &On { call, shape });
+    made_requests(&test, asked, &"a capital sigma");
+    test.end()
+}
+
+impl Row for Call {
+    type Input = ();
+
+    fn name(self) -> &'static str {
+        match self {
+            Call::AsciiLower => "StrExt::to_ascii_lowercase_smolstr",
+            Call::AsciiUpper => "StrExt::to_ascii_uppercase_smolstr",
+            Call::Lower => "StrExt::to_lowercase_smolstr",
+            Call::Upper => "StrExt::to_uppercase_smolstr",
+            Call::ReplaceThree | Call::ReplaceOnePiece => "StrExt::replacen_smolstr",
+            _ => "StrExt::replace_smolstr",
+        }
+    }
+
+    fn asks(self) -> Wants {
+        let (requests, bytes) = match self {
+            Call::AsciiLower | Call::AsciiUpper | Call::Replace => (
+                [0, 0, 1, 2, 2, 2, 2],
+                [0, 0, 320, 80, 5040, 5040, 70_040],
+            ),
+            Call::Lower | Call::Upper => (
+                [0, 0, 1, 2, 2, 8, 2],
+                [0, 0, 320, 80, 5040, 10_073, 70_040],
+            ),
+            Call::ReplaceByMore => (
+                [0, 3, 1, 4, 10, 2, 14],
+                [0, 277, 359, 593, 40_409, 5079, 647_129],
+            ),
+            Call::ReplacePieces => (
+                [0, 0, 1, 2, 8, 2, 12],
+                [0, 0, 359, 119, 10_073, 5079, 161_753],
+            ),
+            Call::Halve => ([0, 0, 1, 0, 7, 2, 11], [0, 0, 359, 0, 5017, 5079, 80_857]),
+            Call::ReplaceNothing => (
+                [0, 2, 6, 3, 9, 9, 13],
+                [0, 119, 2489, 277, 20_185, 20_185, 323_545],
+            ),
+            Call::Remove => ([0, 0, 1, 0, 0, 2, 0], [0, 0, 359, 0, 0, 5079, 0]),
+            Call::ReplaceThree | Call::ReplaceOnePiece => (
+                [0, 0, 1, 2, 2, 2, 2],
+                [0, 0, 359, 119, 5079, 5079, 70_079],
+            ),
+        };
+        Wants::Exactly(requests, bytes)
+    }
+
+    fn input(self, _test: &Test, _text: &str) {}
+
+    fn run(self, alloc: Global, text: &str, _input: ()) -> Result<Thing, Thing> {
+        thing(self.value(alloc, text))
+    }
+}
+
+impl Call {
+    fn value(self, alloc: Global, text: &str) -> Result<SmolStr, AllocError> {
+        match self {
+            Call::AsciiLower => text.to_ascii_lowercase_smolstr(alloc),
+            Call::AsciiUpper => text.to_ascii_uppercase_smolstr(alloc),
+            Call::Lower => text.to_lowercase_smolstr(alloc),
+            Call::Upper => text.to_uppercase_smolstr(alloc),
+            Call::Replace => text.replace_smolstr(alloc, "a", "b"),
+            Call::ReplaceByMore => text.replace_smolstr(alloc, "a", "éé"),
+            Call::ReplacePieces => text.replace_smolstr(alloc, "aa", "bb"),
+            Call::Halve => text.replace_smolstr(alloc, "aa", "b"),
+            Call::ReplaceNothing => text.replace_smolstr(alloc, "", "-"),
+            Call::Remove => text.replace_smolstr(alloc, "a", ""),
+            Call::ReplaceThree => text.replacen_smolstr(alloc, "a", "b", 3),
+            Call::ReplaceOnePiece => text.replacen_smolstr(alloc, "aa", "bb", 1),
+        }
+    }
+}

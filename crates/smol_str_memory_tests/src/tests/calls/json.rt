@@ -1,0 +1,88 @@
+//! JSON calls.
+use super::things::{Thing, thing};
+use super::{On, Row, Wants, check_asked, shapes};
+use serde_json::Value;
+use smol_str::SmolStr;
+use smol_str::json::{from_json, from_value, to_json, to_value};
+use std::alloc::Global;
+use std::test::Fail;
+use test_support::by_std::{NONE, OWNED, SHARED};
+use test_support::refuse::each_refused;
+use test_support::test::{Test, ok_string};
+
+#[derive(Clone, Copy, Debug)]
+enum Call {
+    ToValue,
+    FromValue,
+    ToJson,
+    FromJson,
+}
+
+static CALLS: [Call; 4] = [Call::ToValue, Call::FromValue, Call::ToJson, Call::FromJson];
+
+#[test]
+fn each_request(rt: HostRuntime) -> Result<(), Fail> {
+    let test = Test::begin(rt);
+    for (index, shape) in shapes(&test).iter().enumerate() {
+        for &call in &CALLS {
+            let on = On { call, shape };
+            let asked = each_refused(&test, call.name(), &on);
+            check_asked(&test, &on, index, asked);
+        }
+    }
+    test.end()
+}
+
+/// A text as a value, as a JSON value and as JSON.
+#[derive(Drop)]
+struct Input {
+    value: SmolStr,
+    tree: Value,
+    json: String,
+}
+
+impl Row for Call {
+    type Input = Input;
+
+    fn name(self) -> &'static str {
+        match self {
+            Call::ToValue => "json::to_value",
+            Call::FromValue => "json::from_value",
+            Call::ToJson => "json::to_json",
+            Call::FromJson => "json::from_json",
+        }
+    }
+
+    fn asks(self) -> Wants {
+        match self {
+            Call::ToValue => Wants::AsStd([NONE, OWNED, OWNED, OWNED]),
+            Call::FromValue => Wants::AsStd([NONE, NONE, NONE, SHARED]),
+            Call::ToJson => Wants::Exactly(
+                [1, 2, 4, 2, 3, 3, 3],
+                [128, 167, 1216, 168, 10_131, 10_131, 140_131],
+            ),
+            Call::FromJson => Wants::Exactly(
+                [1, 2, 2, 4, 4, 4, 4],
+                [8, 80, 706, 162, 15_042, 15_042, 210_042],
+            ),
+        }
+    }
+
+    fn input(self, test: &Test, text: &str) -> Input {
+        let tree = Value::String(test.string(text));
+        Input {
+            value: test.value(text),
+            json: ok_string(test, tree.to_string(test.alloc)),
+            tree,
+        }
+    }
+
+    fn run(self, alloc: Global, _text: &str, input: Input) -> Result<Thing, Thing> {
+        match self {
+            Call::ToValue => thing(to_value(alloc, &input.value)),
+            Call::FromValue => thing(from_value(alloc, &input.tree)),
+            Call::ToJson => thing(to_json(alloc, &input.value)),
+            Call::FromJson => thing(from_json(alloc, input.json.as_str())),
+        }
+    }
+}

@@ -1,0 +1,102 @@
+//! Calls on a text.
+use super::things::{Thing, thing};
+use super::{On, Row, Wants, check_asked, halves, shapes};
+use smol_str::{SmolStr, SmolStrBuilder, ToSmolStr, format_smolstr};
+use std::alloc::Global;
+use std::borrow::CowStr;
+use std::test::Fail;
+use test_support::by_std::{NONE, OWNED, PRINTED, SHARED, WITH_ROOM};
+use test_support::refuse::each_refused;
+use test_support::test::Test;
+
+#[derive(Clone, Copy, Debug)]
+enum Call {
+    New,
+    FromStr,
+    FromUtf8,
+    FromUtf8Unchecked,
+    FromBorrowed,
+    FromChars,
+    FromStrs,
+    ToSmolStr,
+    Format,
+    WithCapacity,
+}
+
+static CALLS: [Call; 10] = [
+    Call::New,
+    Call::FromStr,
+    Call::FromUtf8,
+    Call::FromUtf8Unchecked,
+    Call::FromBorrowed,
+    Call::FromChars,
+    Call::FromStrs,
+    Call::ToSmolStr,
+    Call::Format,
+    Call::WithCapacity,
+];
+
+#[test]
+fn each_request(rt: HostRuntime) -> Result<(), Fail> {
+    let test = Test::begin(rt);
+    for (index, shape) in shapes(&test).iter().enumerate() {
+        for &call in &CALLS {
+            let on = On { call, shape };
+            let asked = each_refused(&test, call.name(), &on);
+            check_asked(&test, &on, index, asked);
+        }
+    }
+    test.end()
+}
+
+impl Row for Call {
+    type Input = ();
+
+    fn name(self) -> &'static str {
+        match self {
+            Call::New => "SmolStr::new",
+            Call::FromStr => "SmolStr::from_str",
+            Call::FromUtf8 => "SmolStr::from_utf8",
+            Call::FromUtf8Unchecked => "SmolStr::from_utf8_unchecked",
+            Call::FromBorrowed => "SmolStr::from_cow_str",
+            Call::FromChars => "SmolStr::from_chars",
+            Call::FromStrs => "SmolStr::from_strs",
+            Call::ToSmolStr => "ToSmolStr::to_smolstr",
+            Call::Format => "format_smolstr!",
+            Call::WithCapacity => "SmolStrBuilder::with_capacity",
+        }
+    }
+
+    fn asks(self) -> Wants {
+        match self {
+            Call::ToSmolStr | Call::Format => Wants::AsStd([NONE, NONE, WITH_ROOM, PRINTED]),
+            Call::FromChars => Wants::Exactly(
+                [0, 0, 4, 2, 8, 8, 12],
+                [0, 0, 1185, 119, 10_073, 10_073, 161_753],
+            ),
+            Call::FromStrs => Wants::Exactly(
+                [0, 0, 2, 2, 3, 3, 3],
+                [0, 0, 597, 119, 7657, 7657, 105_157],
+            ),
+            Call::WithCapacity => Wants::AsStd([NONE, NONE, OWNED, OWNED]),
+            _ => Wants::AsStd([NONE, NONE, NONE, SHARED]),
+        }
+    }
+
+    fn input(self, _test: &Test, _text: &str) {}
+
+    fn run(self, alloc: Global, text: &str, _input: ()) -> Result<Thing, Thing> {
+        match self {
+            Call::New => thing(SmolStr::new(alloc, text)),
+            Call::FromStr => thing(SmolStr::from_str(alloc, text)),
+            Call::FromUtf8 => thing(SmolStr::from_utf8(alloc, text.as_bytes())),
+            Call::FromUtf8Unchecked => thing(SmolStr::from_utf8_unchecked(alloc, text.as_bytes())),
+            Call::FromBorrowed => thing(SmolStr::from_cow_str(alloc, CowStr::Borrowed(text))),
+            Call::FromChars => thing(SmolStr::from_chars(alloc, text.chars())),
+            Call::FromStrs => thing(SmolStr::from_strs(alloc, halves(text).into_iter())),
+            Call::ToSmolStr => thing(text.to_smolstr(alloc)),
+            Call::Format => thing(format_smolstr!(alloc; "{}", text)),
+            Call::WithCapacity => thing(SmolStrBuilder::with_capacity(alloc, text.len())),
+        }
+    }
+}
