@@ -1,13 +1,14 @@
 //! What calls of std ask the heap for.
 use crate::refuse::{Asked, can_refuse, count_asked};
-use crate::test::Test;
+use crate::test::{Test, holds};
 use smol_str::INLINE_CAP;
 use std::alloc::Global;
 use std::rc::RcStr;
 
-/// A call of std that asks for what a call under test is to ask for.
+/// Calls of std that ask for what a call under test is to ask for.
 #[derive(Clone, Copy)]
 pub enum Asks {
+    Nothing,
     /// A shared text.
     Shared,
     /// A shared text that keeps a `String`.
@@ -15,61 +16,57 @@ pub enum Asks {
     /// A `String` of the text.
     Owned,
     /// A `String` with room for the text and a short text.
-    OwnedAndRoom,
+    WithRoom,
     /// A `String` with room for the text, one ASCII character and a short text.
-    OwnedAndChar,
+    AndChar,
     /// A `String` with room for the text twice and a short text.
-    OwnedTwice,
+    Twice,
     /// The text appended to a `String` of it that has room for a short text.
-    GrowByText,
+    ByText,
     /// An ASCII character appended to a `String` of the text that has no room.
-    GrowByChar,
+    ByChar,
+    /// A `String` with room, and a shared text.
+    Built,
+    /// A `String` of the text, and a shared text.
+    BuiltToSize,
+    /// A `String` with room, and a shared text that keeps it.
+    Printed,
 }
 
-pub const NONE: &[Asks] = &[];
+/// What std's calls ask for. Each asks for something, so a count of 0 is nothing.
+pub fn asked_by(test: &Test, asks: Asks, text: &str) -> Asked {
+    match asks {
+        Asks::Nothing => Asked {
+            requests: 0,
+            bytes: 0,
+            held: 0,
+        },
+        Asks::Built => asked_by_both(test, Asks::WithRoom, Asks::Shared, text),
+        Asks::BuiltToSize => asked_by_both(test, Asks::Owned, Asks::Shared, text),
+        Asks::Printed => asked_by_both(test, Asks::WithRoom, Asks::Kept, text),
+        _ => asked_by_one(test, asks, text),
+    }
+}
 
-pub const SHARED: &[Asks] = &[Asks::Shared];
+fn asked_by_both(test: &Test, first: Asks, second: Asks, text: &str) -> Asked {
+    let first = asked_by_one(test, first, text);
+    let second = asked_by_one(test, second, text);
+    Asked {
+        requests: first.requests.wrapping_add(second.requests),
+        bytes: first.bytes.wrapping_add(second.bytes),
+        held: 0,
+    }
+}
 
-pub const OWNED: &[Asks] = &[Asks::Owned];
-
-pub const WITH_ROOM: &[Asks] = &[Asks::OwnedAndRoom];
-
-pub const BUILT: &[Asks] = &[Asks::OwnedAndRoom, Asks::Shared];
-
-pub const BUILT_TO_SIZE: &[Asks] = &[Asks::Owned, Asks::Shared];
-
-pub const AND_CHAR: &[Asks] = &[Asks::OwnedAndChar];
-
-pub const TWICE: &[Asks] = &[Asks::OwnedTwice];
-
-pub const BY_TEXT: &[Asks] = &[Asks::GrowByText];
-
-pub const BY_CHAR: &[Asks] = &[Asks::GrowByChar];
-
-pub const KEPT: &[Asks] = &[Asks::Kept];
-
-pub const PRINTED: &[Asks] = &[Asks::OwnedAndRoom, Asks::Kept];
-
-/// What std's calls ask for. Each asks for something, so a count of 0 is none.
-pub fn asked_by_all(test: &Test, asks: &[Asks], text: &str) -> Asked {
-    let mut wanted = Asked {
+fn asked_by_one(test: &Test, asks: Asks, text: &str) -> Asked {
+    let asked = asked_by_std(test.alloc, asks, text);
+    let is_right = matches!(&asked, Some(asked) if asked.requests > 0 || !can_refuse(test.alloc));
+    holds(test, is_right, &"std's calls ask for something");
+    asked.unwrap_or(Asked {
         requests: 0,
         bytes: 0,
         held: 0,
-    };
-    for ask in asks {
-        match asked_by_std(test.alloc, *ask, text) {
-            Some(asked) => {
-                wanted.requests = wanted.requests.wrapping_add(asked.requests);
-                wanted.bytes = wanted.bytes.wrapping_add(asked.bytes);
-            }
-            None => test.fail(&"std's calls do not succeed"),
-        }
-    }
-    if wanted.requests == 0 && !asks.is_empty() && can_refuse(test.alloc) {
-        test.fail(&"std's calls ask for nothing");
-    }
-    wanted
+    })
 }
 
 /// Whether the requests are as many, for as many bytes.
@@ -78,17 +75,18 @@ pub fn is_asked(asked: Asked, wanted: Asked) -> bool {
 }
 
 /// `None` where the call does not succeed.
-fn asked_by_std(alloc: Global, ask: Asks, text: &str) -> Option<Asked> {
+fn asked_by_std(alloc: Global, asks: Asks, text: &str) -> Option<Asked> {
     let room = text.len().saturating_add(INLINE_CAP);
-    match ask {
+    match asks {
         Asks::Shared => asked_for_shared(alloc, text),
         Asks::Kept => asked_to_keep(alloc, text),
         Asks::Owned => asked_for_room(alloc, text.len()),
-        Asks::OwnedAndRoom => asked_for_room(alloc, room),
-        Asks::OwnedAndChar => asked_for_room(alloc, room.saturating_add(1)),
-        Asks::OwnedTwice => asked_for_room(alloc, room.saturating_add(text.len())),
-        Asks::GrowByText => asked_to_append(alloc, text),
-        Asks::GrowByChar => asked_to_push(alloc, text),
+        Asks::WithRoom => asked_for_room(alloc, room),
+        Asks::AndChar => asked_for_room(alloc, room.saturating_add(1)),
+        Asks::Twice => asked_for_room(alloc, room.saturating_add(text.len())),
+        Asks::ByText => asked_to_append(alloc, text),
+        Asks::ByChar => asked_to_push(alloc, text),
+        _ => None,
     }
 }
 

@@ -10,10 +10,10 @@ mod texts;
 mod things;
 mod values;
 
-use super::rows::{held_exactly, same_asked};
+use super::rows::held_exactly;
 use std::alloc::Global;
 use std::fmt::Debug;
-use test_support::by_std::{Asks, asked_by_all};
+use test_support::by_std::{Asks, asked_by, is_asked};
 use test_support::refuse::{Asked, Refusable, can_refuse};
 use test_support::test::{Test, holds, ok_string, same};
 use test_support::texts::{full_text, long_text, longest_blank};
@@ -24,7 +24,7 @@ use things::Thing;
 pub enum Wants {
     /// What calls of std ask for: on no text, on one that fills a buffer, on the longest blank run, and on one that is not
     /// resident.
-    AsStd([&'static [Asks]; 4]),
+    AsStd([Asks; 4]),
     /// So many requests, and so many bytes in all, on a text of each shape.
     Exactly([u32; 7], [u32; 7]),
 }
@@ -144,11 +144,19 @@ fn is_same(made: &Thing, ample: &Result<Thing, Thing>) -> bool {
 
 /// The call asked for what it is to ask for on a text of this shape, and a value that it makes keeps its text and no more.
 pub fn check_asked<C: Row>(test: &Test, on: &On<'_, C>, index: usize, asked: Asked) {
-    let row = (on.call, on.shape.name);
-    match on.call.asks() {
+    let name = on.call.name();
+    check_wanted(test, on.call.asks(), on.text(), (name, index), asked);
+    if let Ok(Thing::Value(value)) = on.ample(test) {
+        held_exactly(test, asked.held, &value, name);
+    }
+}
+
+fn check_wanted(test: &Test, wants: Wants, text: &str, row: (&str, usize), asked: Asked) {
+    let (_, index) = row;
+    match wants {
         Wants::AsStd(asks) => {
-            let wanted = asked_by_all(test, asks_on(asks, index), on.text());
-            same_asked(test, asked, wanted, &row)
+            let wanted = asked_by(test, asks[index.min(3)], text);
+            holds(test, is_asked(asked, wanted), &(row, asked, wanted))
         }
         Wants::Exactly(requests, bytes) if can_refuse(test.alloc) => {
             let wanted = (requests.get(index).copied(), bytes.get(index).copied());
@@ -157,12 +165,4 @@ pub fn check_asked<C: Row>(test: &Test, on: &On<'_, C>, index: usize, asked: Ask
         }
         Wants::Exactly(..) => {}
     }
-    if let Ok(Thing::Value(value)) = on.ample(test) {
-        held_exactly(test, asked.held, &value, &row);
-    }
-}
-
-/// What is asked for on a text of the shape.
-fn asks_on(asks: [&'static [Asks]; 4], index: usize) -> &'static [Asks] {
-    asks[index.min(3)]
 }

@@ -2,21 +2,15 @@
 use smol_str::SmolStr;
 use smol_str::borsh::DecodeFault;
 use std::fmt::Debug;
-use test_support::by_std::is_asked;
-use test_support::refuse::{Asked, count_held};
+use test_support::refuse::count_held;
 use test_support::test::{Test, holds};
-
-/// The requests are as many, for as many bytes.
-pub fn same_asked(test: &Test, found: Asked, wanted: Asked, row: &impl Debug) {
-    holds(test, is_asked(found, wanted), &(row, found, wanted));
-}
 
 /// What the C library may leave at the end of a block: of one that was made smaller, or of a free one that it hands out
 /// whole.
 const LEFT: u32 = 32;
 
 /// So many bytes are what a value of the text holds which `SmolStr::new` makes, and no spare room.
-pub fn held_exactly(test: &Test, held: u32, value: &SmolStr, row: &impl Debug) {
+pub fn held_exactly(test: &Test, held: u32, value: &SmolStr, row: &str) {
     let before = count_held(test.alloc);
     let exact = test.value(value.as_str());
     let wanted = count_held(test.alloc).wrapping_sub(before);

@@ -5,7 +5,7 @@ use smol_str::{Piece, SmolStrBuilder};
 use std::alloc::Global;
 use std::fmt::Write;
 use std::test::Fail;
-use test_support::by_std::{AND_CHAR, BY_CHAR, BY_TEXT, NONE, TWICE, WITH_ROOM};
+use test_support::by_std::Asks;
 use test_support::refuse::each_refused;
 use test_support::test::Test;
 
@@ -69,11 +69,16 @@ impl Row for Call {
 
     fn asks(self) -> Wants {
         Wants::AsStd(match self {
-            Call::Push => [NONE, AND_CHAR, NONE, NONE],
-            Call::PushToFull => [NONE, AND_CHAR, BY_CHAR, BY_CHAR],
-            Call::PushStr | Call::WriteStr | Call::WriteFmt => [NONE, TWICE, BY_TEXT, BY_TEXT],
+            Call::Push => [Asks::Nothing, Asks::AndChar, Asks::Nothing, Asks::Nothing],
+            Call::PushToFull => [Asks::Nothing, Asks::AndChar, Asks::ByChar, Asks::ByChar],
+            Call::PushStr | Call::WriteStr | Call::WriteFmt => [
+                Asks::Nothing,
+                Asks::Twice,
+                Asks::ByText,
+                Asks::ByText,
+            ],
             Call::PushStrToEmpty | Call::AppendTo | Call::ExtendStrings => {
-                [NONE, NONE, WITH_ROOM, WITH_ROOM]
+                [Asks::Nothing, Asks::Nothing, Asks::WithRoom, Asks::WithRoom]
             }
             Call::ExtendChars => {
                 return Wants::Exactly(

@@ -1,10 +1,10 @@
 //! Calls that take a builder.
-use super::things::{Thing, thing};
+use super::things::{Thing, things_of};
 use super::{On, Row, Wants, check_asked, shapes};
 use smol_str::{SmolStr, SmolStrBuilder, ValueAlloc, finished};
 use std::alloc::Global;
 use std::test::Fail;
-use test_support::by_std::{KEPT, NONE, OWNED, SHARED};
+use test_support::by_std::Asks;
 use test_support::refuse::each_refused;
 use test_support::test::Test;
 
@@ -59,9 +59,19 @@ impl Row for Call {
 
     fn asks(self) -> Wants {
         Wants::AsStd(match self {
-            Call::Clone => [NONE, NONE, OWNED, OWNED],
-            Call::Finish | Call::FinishLarge | Call::FromBuilder => [NONE, NONE, NONE, SHARED],
-            Call::IntoValue | Call::ValueOf | Call::Finished => [NONE, NONE, NONE, KEPT],
+            Call::Clone => [Asks::Nothing, Asks::Nothing, Asks::Owned, Asks::Owned],
+            Call::Finish | Call::FinishLarge | Call::FromBuilder => [
+                Asks::Nothing,
+                Asks::Nothing,
+                Asks::Nothing,
+                Asks::Shared,
+            ],
+            Call::IntoValue | Call::ValueOf | Call::Finished => [
+                Asks::Nothing,
+                Asks::Nothing,
+                Asks::Nothing,
+                Asks::Kept,
+            ],
         })
     }
 
@@ -76,15 +86,15 @@ impl Row for Call {
     fn run(self, _alloc: Global, _text: &str, builder: SmolStrBuilder) -> Result<Thing, Thing> {
         match self {
             Call::Clone => cloned(builder),
-            Call::Finish | Call::FinishLarge => thing(builder.finish()),
-            Call::FromBuilder => thing(SmolStr::from_builder(builder)),
-            Call::IntoValue => thing(builder.into_value()),
-            Call::ValueOf => thing(Global::value_of(builder)),
-            Call::Finished => thing(finished(builder)),
+            Call::Finish | Call::FinishLarge => things_of(builder.finish()),
+            Call::FromBuilder => things_of(SmolStr::from_builder(builder)),
+            Call::IntoValue => things_of(builder.into_value()),
+            Call::ValueOf => things_of(Global::value_of(builder)),
+            Call::Finished => things_of(finished(builder)),
         }
     }
 }
 
 fn cloned(builder: SmolStrBuilder) -> Result<Thing, Thing> {
-    thing(builder.clone())
+    things_of(builder.clone())
 }

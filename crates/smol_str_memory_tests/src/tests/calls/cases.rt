@@ -1,5 +1,5 @@
 //! Case and replacement.
-use super::things::{Thing, thing};
+use super::things::{Thing, things_of};
 use super::{On, Row, Wants, check_asked, shape_of, shapes};
 use smol_str::{SmolStr, StrExt};
 use std::alloc::{AllocError, Global};
@@ -114,7 +114,7 @@ impl Row for Call {
     fn input(self, _test: &Test, _text: &str) {}
 
     fn run(self, alloc: Global, text: &str, _input: ()) -> Result<Thing, Thing> {
-        thing(self.value(alloc, text))
+        things_of(self.value(alloc, text))
     }
 }
 

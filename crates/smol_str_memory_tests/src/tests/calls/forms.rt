@@ -1,13 +1,13 @@
 //! Calls that read a wire form of the text, or all bytes of it.
-use super::things::{Thing, thing};
+use super::things::{IntoThing, Thing, things_of};
 use super::{On, Row, Wants, check_asked, shapes};
 use crate::tests::wire::of_units;
 use smol_str::SmolStr;
-use smol_str::borsh::{BorshDeserialize, deserialize_limited, from_wire, split_wire};
+use smol_str::borsh::{BorshDeserialize, DecodeFault, deserialize_limited, from_wire, split_wire};
 use smol_str::stream::{read_all, read_up_to};
 use std::alloc::Global;
 use std::test::Fail;
-use test_support::by_std::{NONE, SHARED};
+use test_support::by_std::Asks;
 use test_support::refuse::each_refused;
 use test_support::test::Test;
 
@@ -60,7 +60,12 @@ impl Row for Call {
 
     fn asks(self) -> Wants {
         match self {
-            Call::FromWire | Call::SplitWire => Wants::AsStd([NONE, NONE, NONE, SHARED]),
+            Call::FromWire | Call::SplitWire => Wants::AsStd([
+                Asks::Nothing,
+                Asks::Nothing,
+                Asks::Nothing,
+                Asks::Shared,
+            ]),
             Call::DeserializeReader | Call::DeserializeLimited => Wants::Exactly(
                 [0, 0, 1, 2, 4, 4, 8],
                 [0, 0, 320, 80, 17_328, 17_328, 328_088],
@@ -82,12 +87,30 @@ impl Row for Call {
     fn run(self, alloc: Global, text: &str, bytes: Vec<u8>) -> Result<Thing, Thing> {
         let mut reader = bytes.as_slice();
         match self {
-            Call::FromWire => thing(from_wire(alloc, reader)),
-            Call::SplitWire => thing(split_wire(alloc, reader)),
-            Call::DeserializeReader => thing(SmolStr::deserialize_reader(alloc, &mut reader)),
-            Call::DeserializeLimited => thing(deserialize_limited(alloc, &mut reader, text.len())),
-            Call::ReadUpTo => thing(read_up_to(alloc, &mut reader, text.len())),
-            Call::ReadAll => thing(read_all(alloc, &mut reader)),
+            Call::FromWire => found(from_wire(alloc, reader)),
+            Call::SplitWire => split(alloc, reader),
+            Call::DeserializeReader => things_of(SmolStr::deserialize_reader(alloc, &mut reader)),
+            Call::DeserializeLimited => things_of(deserialize_limited(
+                alloc,
+                &mut reader,
+                text.len(),
+            )),
+            Call::ReadUpTo => things_of(read_up_to(alloc, &mut reader, text.len())),
+            Call::ReadAll => things_of(read_all(alloc, &mut reader)),
         }
+    }
+}
+
+fn found(outcome: Result<(SmolStr, usize), DecodeFault>) -> Result<Thing, Thing> {
+    match outcome {
+        Ok((value, _)) => Ok(Thing::Value(value)),
+        Err(fault) => Err(fault.into_thing()),
+    }
+}
+
+fn split(alloc: Global, bytes: &[u8]) -> Result<Thing, Thing> {
+    match split_wire(alloc, bytes) {
+        Ok((value, _)) => Ok(Thing::Value(value)),
+        Err(fault) => Err(fault.into_thing()),
     }
 }

@@ -1,12 +1,12 @@
 //! JSON calls.
-use super::things::{Thing, thing};
+use super::things::{Thing, things_of};
 use super::{On, Row, Wants, check_asked, shapes};
 use serde_json::Value;
 use smol_str::SmolStr;
 use smol_str::json::{from_json, from_value, to_json, to_value};
 use std::alloc::Global;
 use std::test::Fail;
-use test_support::by_std::{NONE, OWNED, SHARED};
+use test_support::by_std::Asks;
 use test_support::refuse::each_refused;
 use test_support::test::{Test, ok_string};
 
@@ -55,8 +55,13 @@ impl Row for Call {
 
     fn asks(self) -> Wants {
         match self {
-            Call::ToValue => Wants::AsStd([NONE, OWNED, OWNED, OWNED]),
-            Call::FromValue => Wants::AsStd([NONE, NONE, NONE, SHARED]),
+            Call::ToValue => Wants::AsStd([Asks::Nothing, Asks::Owned, Asks::Owned, Asks::Owned]),
+            Call::FromValue => Wants::AsStd([
+                Asks::Nothing,
+                Asks::Nothing,
+                Asks::Nothing,
+                Asks::Shared,
+            ]),
             Call::ToJson => Wants::Exactly(
                 [1, 2, 4, 2, 3, 3, 3],
                 [128, 167, 1216, 168, 10_131, 10_131, 140_131],
@@ -79,10 +84,10 @@ impl Row for Call {
 
     fn run(self, alloc: Global, _text: &str, input: Input) -> Result<Thing, Thing> {
         match self {
-            Call::ToValue => thing(to_value(alloc, &input.value)),
-            Call::FromValue => thing(from_value(alloc, &input.tree)),
-            Call::ToJson => thing(to_json(alloc, &input.value)),
-            Call::FromJson => thing(from_json(alloc, input.json.as_str())),
+            Call::ToValue => things_of(to_value(alloc, &input.value)),
+            Call::FromValue => things_of(from_value(alloc, &input.tree)),
+            Call::ToJson => things_of(to_json(alloc, &input.value)),
+            Call::FromJson => things_of(from_json(alloc, input.json.as_str())),
         }
     }
 }

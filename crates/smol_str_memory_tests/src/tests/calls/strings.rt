@@ -1,12 +1,12 @@
 //! Calls that take a `String` of the text, or what is made of one.
-use super::things::{Thing, thing};
+use super::things::{Thing, things_of};
 use super::{On, Row, Wants, check_asked, shapes};
 use smol_str::{SmolStr, Step, build};
 use std::alloc::Global;
 use std::borrow::CowStr;
 use std::slice::from_ref;
 use std::test::Fail;
-use test_support::by_std::{BUILT, BUILT_TO_SIZE, KEPT, NONE, OWNED, PRINTED, SHARED, WITH_ROOM};
+use test_support::by_std::Asks;
 use test_support::refuse::each_refused;
 use test_support::test::Test;
 
@@ -66,11 +66,16 @@ impl Row for Call {
 
     fn asks(self) -> Wants {
         Wants::AsStd(match self {
-            Call::FromOwned => [NONE, NONE, NONE, KEPT],
-            Call::FromStrings | Call::FromStringRefs => [NONE, NONE, WITH_ROOM, PRINTED],
-            Call::Build => [NONE, NONE, WITH_ROOM, BUILT],
-            Call::BuildToSize => [NONE, NONE, OWNED, BUILT_TO_SIZE],
-            _ => [NONE, NONE, NONE, SHARED],
+            Call::FromOwned => [Asks::Nothing, Asks::Nothing, Asks::Nothing, Asks::Kept],
+            Call::FromStrings | Call::FromStringRefs => [
+                Asks::Nothing,
+                Asks::Nothing,
+                Asks::WithRoom,
+                Asks::Printed,
+            ],
+            Call::Build => [Asks::Nothing, Asks::Nothing, Asks::WithRoom, Asks::Built],
+            Call::BuildToSize => [Asks::Nothing, Asks::Nothing, Asks::Owned, Asks::BuiltToSize],
+            _ => [Asks::Nothing, Asks::Nothing, Asks::Nothing, Asks::Shared],
         })
     }
 
@@ -80,13 +85,13 @@ impl Row for Call {
 
     fn run(self, alloc: Global, _text: &str, string: String) -> Result<Thing, Thing> {
         match self {
-            Call::FromStringRef => thing(SmolStr::from_string_ref(alloc, &string)),
-            Call::FromString => thing(SmolStr::from_string(alloc, string)),
-            Call::FromOwned => thing(SmolStr::from_owned(string)),
-            Call::FromCow => thing(SmolStr::from_cow_str(alloc, CowStr::Owned(string))),
-            Call::FromBoxed => thing(SmolStr::from_boxed_str(alloc, string.into_boxed_str())),
-            Call::FromStrings => thing(SmolStr::from_strings(alloc, [string].into_iter())),
-            Call::FromStringRefs => thing(SmolStr::from_string_refs(alloc, [string].iter())),
+            Call::FromStringRef => things_of(SmolStr::from_string_ref(alloc, &string)),
+            Call::FromString => things_of(SmolStr::from_string(alloc, string)),
+            Call::FromOwned => things_of(SmolStr::from_owned(string)),
+            Call::FromCow => things_of(SmolStr::from_cow_str(alloc, CowStr::Owned(string))),
+            Call::FromBoxed => things_of(SmolStr::from_boxed_str(alloc, string.into_boxed_str())),
+            Call::FromStrings => things_of(SmolStr::from_strings(alloc, [string].into_iter())),
+            Call::FromStringRefs => things_of(SmolStr::from_string_refs(alloc, [string].iter())),
             Call::Build => built(alloc, 0, string),
             Call::BuildToSize => built(alloc, string.len(), string),
         }
@@ -94,5 +99,5 @@ impl Row for Call {
 }
 
 fn built(alloc: Global, capacity: usize, string: String) -> Result<Thing, Thing> {
-    thing(build(alloc, capacity, from_ref(&Step::PushStr(string))))
+    things_of(build(alloc, capacity, from_ref(&Step::PushStr(string))))
 }

@@ -1,11 +1,11 @@
 //! Calls on a text.
-use super::things::{Thing, thing};
+use super::things::{Thing, things_of};
 use super::{On, Row, Wants, check_asked, halves, shapes};
 use smol_str::{SmolStr, SmolStrBuilder, ToSmolStr, format_smolstr};
 use std::alloc::Global;
 use std::borrow::CowStr;
 use std::test::Fail;
-use test_support::by_std::{NONE, OWNED, PRINTED, SHARED, WITH_ROOM};
+use test_support::by_std::Asks;
 use test_support::refuse::each_refused;
 use test_support::test::Test;
 
@@ -69,7 +69,12 @@ impl Row for Call {
 
     fn asks(self) -> Wants {
         match self {
-            Call::ToSmolStr | Call::Format => Wants::AsStd([NONE, NONE, WITH_ROOM, PRINTED]),
+            Call::ToSmolStr | Call::Format => Wants::AsStd([
+                Asks::Nothing,
+                Asks::Nothing,
+                Asks::WithRoom,
+                Asks::Printed,
+            ]),
             Call::FromChars => Wants::Exactly(
                 [0, 0, 4, 2, 8, 8, 12],
                 [0, 0, 1185, 119, 10_073, 10_073, 161_753],
@@ -78,8 +83,13 @@ impl Row for Call {
                 [0, 0, 2, 2, 3, 3, 3],
                 [0, 0, 597, 119, 7657, 7657, 105_157],
             ),
-            Call::WithCapacity => Wants::AsStd([NONE, NONE, OWNED, OWNED]),
-            _ => Wants::AsStd([NONE, NONE, NONE, SHARED]),
+            Call::WithCapacity => Wants::AsStd([
+                Asks::Nothing,
+                Asks::Nothing,
+                Asks::Owned,
+                Asks::Owned,
+            ]),
+            _ => Wants::AsStd([Asks::Nothing, Asks::Nothing, Asks::Nothing, Asks::Shared]),
         }
     }
 
@@ -87,16 +97,19 @@ impl Row for Call {
 
     fn run(self, alloc: Global, text: &str, _input: ()) -> Result<Thing, Thing> {
         match self {
-            Call::New => thing(SmolStr::new(alloc, text)),
-            Call::FromStr => thing(SmolStr::from_str(alloc, text)),
-            Call::FromUtf8 => thing(SmolStr::from_utf8(alloc, text.as_bytes())),
-            Call::FromUtf8Unchecked => thing(SmolStr::from_utf8_unchecked(alloc, text.as_bytes())),
-            Call::FromBorrowed => thing(SmolStr::from_cow_str(alloc, CowStr::Borrowed(text))),
-            Call::FromChars => thing(SmolStr::from_chars(alloc, text.chars())),
-            Call::FromStrs => thing(SmolStr::from_strs(alloc, halves(text).into_iter())),
-            Call::ToSmolStr => thing(text.to_smolstr(alloc)),
-            Call::Format => thing(format_smolstr!(alloc; "{}", text)),
-            Call::WithCapacity => thing(SmolStrBuilder::with_capacity(alloc, text.len())),
+            Call::New => things_of(SmolStr::new(alloc, text)),
+            Call::FromStr => things_of(SmolStr::from_str(alloc, text)),
+            Call::FromUtf8 => things_of(SmolStr::from_utf8(alloc, text.as_bytes())),
+            Call::FromUtf8Unchecked => things_of(SmolStr::from_utf8_unchecked(
+                alloc,
+                text.as_bytes(),
+            )),
+            Call::FromBorrowed => things_of(SmolStr::from_cow_str(alloc, CowStr::Borrowed(text))),
+            Call::FromChars => things_of(SmolStr::from_chars(alloc, text.chars())),
+            Call::FromStrs => things_of(SmolStr::from_strs(alloc, halves(text).into_iter())),
+            Call::ToSmolStr => things_of(text.to_smolstr(alloc)),
+            Call::Format => things_of(format_smolstr!(alloc; "{}", text)),
+            Call::WithCapacity => things_of(SmolStrBuilder::with_capacity(alloc, text.len())),
         }
     }
 }

@@ -59,7 +59,7 @@ impl Thing {
 }
 
 /// What a call returned, as things.
-pub fn thing<M: IntoThing, F: IntoThing>(outcome: Result<M, F>) -> Result<Thing, Thing> {
+pub fn things_of<M: IntoThing, F: IntoThing>(outcome: Result<M, F>) -> Result<Thing, Thing> {
     match outcome {
         Ok(made) => Ok(made.into_thing()),
         Err(fault) => Err(fault.into_thing()),
@@ -126,13 +126,6 @@ impl IntoThing for Value {
 impl IntoThing for Vec<u8> {
     fn into_thing(self) -> Thing {
         Thing::Bytes(self)
-    }
-}
-
-impl<T: Drop> IntoThing for (SmolStr, T) {
-    fn into_thing(self) -> Thing {
-        let (value, _) = self;
-        Thing::Value(value)
     }
 }
 

@@ -1,10 +1,10 @@
 //! Calls on a value.
-use super::things::{Thing, thing};
+use super::things::{Thing, things_of};
 use super::{On, Row, Wants, check_asked, shapes};
 use smol_str::SmolStr;
 use std::alloc::Global;
 use std::test::Fail;
-use test_support::by_std::{NONE, OWNED, SHARED};
+use test_support::by_std::Asks;
 use test_support::refuse::each_refused;
 use test_support::test::Test;
 
@@ -44,9 +44,9 @@ impl Row for Call {
     /// A clone shares the text, and a value on the heap hands out the shared text that it has.
     fn asks(self) -> Wants {
         Wants::AsStd(match self {
-            Call::Clone => [NONE, NONE, NONE, NONE],
-            Call::IntoString => [NONE, OWNED, OWNED, OWNED],
-            Call::IntoRcStr => [SHARED, SHARED, SHARED, NONE],
+            Call::Clone => [Asks::Nothing, Asks::Nothing, Asks::Nothing, Asks::Nothing],
+            Call::IntoString => [Asks::Nothing, Asks::Owned, Asks::Owned, Asks::Owned],
+            Call::IntoRcStr => [Asks::Shared, Asks::Shared, Asks::Shared, Asks::Nothing],
         })
     }
 
@@ -56,9 +56,9 @@ impl Row for Call {
 
     fn run(self, alloc: Global, _text: &str, value: SmolStr) -> Result<Thing, Thing> {
         match self {
-            Call::Clone => thing(value.clone()),
-            Call::IntoString => thing(value.into_string(alloc)),
-            Call::IntoRcStr => thing(value.into_rc_str(alloc)),
+            Call::Clone => things_of(value.clone()),
+            Call::IntoString => things_of(value.into_string(alloc)),
+            Call::IntoRcStr => things_of(value.into_rc_str(alloc)),
         }
     }
 }
