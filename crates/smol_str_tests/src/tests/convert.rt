@@ -3,6 +3,7 @@ use smol_str::{FromUtf8Fault, Place, SmolStr};
 use std::alloc::Global;
 use std::rc::RcStr;
 use std::test::Fail;
+use test_support::refuse::{can_refuse, end_refusals, refuse_all};
 use test_support::test::{
     Test, has_text, holds, in_place, is_so, of_shared, ok, same, same_count, same_str,
 };
@@ -111,6 +112,23 @@ fn keeps_a_shared_text(rt: HostRuntime) -> Result<(), Fail> {
     let value = of_shared(&test, shared.clone());
     in_place(&test, &value, Place::Heap, "the long text");
     assert_hands_out(&test, value, &shared);
+    test.end()
+}
+
+// A value that comes back still shares its text.
+#[test]
+fn refused_value_keeps_its_shared_text(rt: HostRuntime) -> Result<(), Fail> {
+    let alloc = rt.alloc();
+    let shared = RcStr::from_str(alloc, long_text())?;
+    let test = Test::new(alloc);
+    let value = of_shared(&test, shared.clone());
+    refuse_all(alloc);
+    let ended = value.into_string(alloc);
+    holds(&test, end_refusals(alloc) == can_refuse(alloc), &"refused");
+    match ended {
+        Ok(string) => same_str(&test, string.as_str(), long_text(), "a string"),
+        Err(back) => assert_hands_out(&test, back, &shared),
+    }
     test.end()
 }
 
