@@ -1,0 +1,92 @@
+//! Each scalar value through the four cases, alone and in the contexts of a final sigma, short and long,
+//! and through prints, JSON and the wire form.
+use crate::machine::{Machine, Refusal};
+use crate::operation::Operation;
+use crate::table::named;
+use crate::texts::INLINE_CAP;
+use crate::totals::{Program, Totals, tell};
+use crate::unicode;
+
+/// No letter with a case stands from here on, so that fewer contexts are enough.
+const NO_CASE_FROM: char = '\u{20000}';
+
+const AROUND: &[(&str, &str)] = &[
+    ("a", "b"),
+    ("A", ""),
+    ("", "A"),
+    ("Σ", ""),
+    ("", "Σ"),
+    ("aΣ", ""),
+    ("aΣ", "a"),
+    ("aΣ", " "),
+    ("", "Σa"),
+    ("a", "Σ"),
+    ("a", "Σb"),
+    ("é", "Z"),
+    ("ΑΣ", "Σ"),
+    ("İ", "ß"),
+];
+const AROUND_LONG: &[(&str, &str)] = &[("", ""), ("aΣ", "a"), ("aΣ", ""), ("a", "Σ"), (" ", "Σ"), ("ß", "İ")];
+
+fn contexts(character: char) -> Vec<String> {
+    let long = "a".repeat(INLINE_CAP + 1);
+    if character >= NO_CASE_FROM {
+        let around = [("aΣ", "a"), ("a", "Σ")].map(|(before, behind)| format!("{before}{character}{behind}"));
+        return [vec![character.to_string(), format!("{long}aΣ{character}a")], around.to_vec()].concat();
+    }
+    let mut all = vec![character.to_string()];
+    all.extend(AROUND.iter().map(|(before, behind)| format!("{before}{character}{behind}")));
+    all.extend(AROUND_LONG.iter().map(|(before, behind)| format!("{long} {before}{character}{behind}")));
+    all.push("A".repeat(INLINE_CAP - character.len_utf8()) + &character.to_string());
+    all.push(format!("{}{character}", "Z".repeat(INLINE_CAP - 3)));
+    all.push(format!("{}{character}{}", "a".repeat(15), "B".repeat(18)));
+    all
+}
+
+fn operation(name: &str, form: u8, width: usize, text: &str) -> Operation {
+    let (row, texts) = (named(name), vec![text.as_bytes().to_vec()]);
+    Operation { row, dst: 0, src: 0, form, number: 0, width, digits: 1, texts }
+}
+
+fn program_of(character: char) -> Program {
+    let text = character.to_string();
+    let escaped = text.encode_utf16().fold("\"".to_string(), |all, unit| format!("{all}\\u{unit:04x}")) + "\"";
+    let quoted = serde_json::to_string(&text).unwrap();
+    let mut operations: Vec<Operation> = [
+        ("From<char>", 0, text.as_str()),
+        ("Display and Debug", 5, ""),
+        ("Display and Debug", 9, ""),
+        ("Display and Debug", 11, ""),
+        ("== < cmp hash", 0, ""),
+        ("serialize", 0, ""),
+        ("to_json", 0, ""),
+        ("from_json", 0, &quoted),
+        ("from_json", 0, &escaped),
+        ("from_utf8", 0, &text),
+        ("new_inline", 0, &text),
+        ("push", 0, &text),
+        ("finish", 0, ""),
+    ]
+    .map(|(name, form, text)| operation(name, form, 7, text))
+    .to_vec();
+    let mut names = vec!["to_lowercase_smolstr", "to_uppercase_smolstr"];
+    if character < NO_CASE_FROM {
+        names.extend(["to_ascii_lowercase_smolstr", "to_ascii_uppercase_smolstr"]);
+    }
+    for text in contexts(character) {
+        operations.extend(names.iter().map(|name| operation(name, 0, 0, &text)));
+    }
+    Program { operations, refusal: Refusal::None }
+}
+
+/// Runs each character but those on which the versions of Unicode differ.
+pub fn run(totals: &mut Totals, machine: &mut Machine) {
+    for character in ('\0'..=char::MAX).filter(|it| !unicode::differs(*it)) {
+        let program = program_of(character);
+        if let Some(found) = totals.run(machine, u64::from(character as u32), &program) {
+            if totals.differing <= 10 {
+                tell(&format!("U+{:04X}", character as u32), &program, &found);
+            }
+        }
+    }
+}

@@ -1,0 +1,140 @@
+//! The machine: with the feature `inside` the static library in this process, else a program of its own, which MACHINE
+//! names. Below either is the heap of heap.c.
+
+/// Which requests for memory are refused, counted over the calls of a whole program from 1.
+#[derive(Clone, Copy, Debug, PartialEq)]
+pub enum Refusal {
+    None,
+    /// The nth alone.
+    One(u64),
+    /// The nth and each later one.
+    From(u64),
+    /// Each with a chance of one in so many, by a seed.
+    Chance(u64, u64),
+    /// Each that is to make a block smaller.
+    Smaller,
+}
+
+impl Refusal {
+    /// The head of a program, as heap.c reads it.
+    fn head(self) -> [u8; 16] {
+        let (which, n, seed) = match self {
+            Refusal::None => (0, 0, 0),
+            Refusal::One(n) => (1, n, 0),
+            Refusal::From(n) => (2, n, 0),
+            Refusal::Chance(n, seed) => (3, n, seed),
+            Refusal::Smaller => (4, 0, 0),
+        };
+        let mut head = [0; 16];
+        head[0] = which;
+        head[1..8].copy_from_slice(&n.to_le_bytes()[..7]);
+        head[8..].copy_from_slice(&seed.to_le_bytes());
+        head
+    }
+}
+
+/// What one call asked for.
+#[derive(Clone, Copy, Debug, Default, PartialEq)]
+#[repr(C)]
+pub struct Asked {
+    pub requests: u32,
+    pub refused: u32,
+}
+
+/// What the machine says of a program: its report, what each operation asked for, the bytes that its values have at the
+/// end, and the blocks that are not freed.
+pub struct Answer {
+    pub report: Vec<u8>,
+    pub asked: Vec<Asked>,
+    pub bytes: i64,
+    pub blocks: i64,
+}
+
+#[cfg(feature = "inside")]
+mod inside {
+    use super::{Answer, Asked, Refusal};
+
+    unsafe extern "C" {
+        fn machine_run(program: *const u8, len: usize, room: *mut u8, room_len: usize) -> usize;
+        fn heap_begin(head: *const u8);
+        fn heap_counts(calls: *mut *const Asked, ends: *mut i64) -> u32;
+    }
+
+    /// The most bytes of a report.
+    const ROOM: usize = 1 << 26;
+
+    pub struct Machine(Vec<u8>);
+
+    impl Machine {
+        pub fn start() -> Machine {
+            Machine(vec![0; ROOM])
+        }
+
+        /// Runs a program; `None` where the machine ended.
+        pub fn run(&mut self, program: &[u8], refusal: Refusal) -> Option<Answer> {
+            let (mut calls, mut ends) = (std::ptr::null(), [0; 2]);
+            // SAFETY: heap.c reads 16 bytes and writes two numbers, and the machine writes into the room alone.
+            let (len, count) = unsafe {
+                heap_begin(refusal.head().as_ptr());
+                let len = machine_run(program.as_ptr(), program.len(), self.0.as_mut_ptr(), ROOM);
+                (len, heap_counts(&mut calls, ends.as_mut_ptr()) as usize)
+            };
+            // SAFETY: heap.c has so many counts, which stay as they are until the next program.
+            let asked = unsafe { std::slice::from_raw_parts(calls, count) }.to_vec();
+            Some(Answer { report: self.0[..len.min(ROOM)].to_vec(), asked, bytes: ends[0], blocks: ends[1] })
+        }
+    }
+}
+#[cfg(feature = "inside")]
+pub use inside::Machine;
+
+#[cfg(not(feature = "inside"))]
+mod process {
+    use super::{Answer, Asked, Refusal};
+    use std::io::{BufReader, Read, Write};
+    use std::process::{Child, ChildStdin, ChildStdout, Command, Stdio};
+
+    pub struct Machine(Child, ChildStdin, BufReader<ChildStdout>);
+
+    impl Machine {
+        pub fn start() -> Machine {
+            let program = std::env::var("MACHINE").expect("MACHINE names the machine");
+            let mut command = Command::new(program);
+            command.stdin(Stdio::piped()).stdout(Stdio::piped()).stderr(Stdio::null());
+            let mut child = command.spawn().expect("the machine starts");
+            let (input, output) = (child.stdin.take().unwrap(), BufReader::new(child.stdout.take().unwrap()));
+            Machine(child, input, output)
+        }
+
+        /// Runs a program; `None` where the machine ended.
+        pub fn run(&mut self, program: &[u8], refusal: Refusal) -> Option<Answer> {
+            let frame = [&refusal.head()[..], program].concat();
+            self.1.write_all(&[&(frame.len() as u32).to_le_bytes(), &frame[..]].concat()).ok()?;
+            self.1.flush().ok()?;
+            let (bytes, blocks) = (i64::from_le_bytes(self.read()?), i64::from_le_bytes(self.read()?));
+            let mut asked = vec![];
+            for _ in 0..u32::from_le_bytes(self.read()?) {
+                let requests = u32::from_le_bytes(self.read()?);
+                asked.push(Asked { requests, refused: u32::from_le_bytes(self.read()?) });
+            }
+            let mut report = vec![0; u32::from_le_bytes(self.read()?) as usize];
+            self.2.read_exact(&mut report).ok()?;
+            Some(Answer { report, asked, bytes, blocks })
+        }
+
+        fn read<const N: usize>(&mut self) -> Option<[u8; N]> {
+            let mut bytes = [0; N];
+            self.2.read_exact(&mut bytes).ok()?;
+            Some(bytes)
+        }
+    }
+
+    impl Drop for Machine {
+        fn drop(&mut self) {
+            let _ = self.0.kill();
+            let _ = self.0.wait();
+        }
+    }
+}
+#[cfg(not(feature = "inside"))]
+pub use process::Machine;

@@ -1,0 +1,88 @@
+//! The report that the machine has to give, put together from what upstream returns.
+use crate::mirror::{Builder, Place, Value};
+use crate::texts::INLINE_CAP;
+use std::cmp::Ordering;
+use std::fmt::Debug;
+use std::io::ErrorKind;
+use std::str::Utf8Error;
+
+#[derive(Default)]
+pub struct Report(pub Vec<u8>);
+
+impl Report {
+    pub fn byte(&mut self, byte: u8) {
+        self.0.push(byte);
+    }
+
+    pub fn flag(&mut self, flag: bool) {
+        self.byte(u8::from(flag));
+    }
+
+    pub fn number(&mut self, number: u64) {
+        self.0.extend(number.to_le_bytes());
+    }
+
+    pub fn size(&mut self, size: usize) {
+        self.number(size as u64);
+    }
+
+    pub fn bytes(&mut self, bytes: &[u8]) {
+        self.size(bytes.len());
+        self.0.extend(bytes);
+    }
+
+    pub fn text(&mut self, text: &str) {
+        self.bytes(text.as_bytes());
+    }
+
+    pub fn order(&mut self, order: Ordering) {
+        self.byte((order as i8 + 1) as u8);
+    }
+
+    /// A whole inline buffer: the text's bytes, and zeros up to its end.
+    pub fn buffer(&mut self, text: &str) {
+        let mut buffer = [0; INLINE_CAP];
+        buffer[..text.len()].copy_from_slice(text.as_bytes());
+        self.bytes(&buffer);
+    }
+
+    pub fn value(&mut self, value: &Value) {
+        let (text, place) = (value.text.as_str(), value.place());
+        self.byte(b'V');
+        self.byte(place as u8);
+        self.size(value.text.len());
+        self.flag(value.text.is_empty());
+        self.flag(text.is_ascii());
+        self.flag(place == Place::Heap);
+        self.text(text);
+        if place == Place::Inline { self.buffer(text) } else { self.byte(b'-') }
+    }
+
+    pub fn builder(&mut self, builder: &Builder) {
+        let text = builder.text.as_str();
+        self.byte(b'B');
+        self.size(builder.text.len());
+        self.flag(builder.text.is_empty());
+        self.text(text);
+        if builder.is_on_heap { self.byte(b'-') } else { self.buffer(text) }
+    }
+
+    pub fn utf8_error(&mut self, error: &Utf8Error) {
+        self.byte(b'U');
+        self.size(error.valid_up_to());
+        self.byte(error.error_len().unwrap_or(0) as u8);
+    }
+
+    pub fn io_error(&mut self, kind: ErrorKind) {
+        let kinds = [ErrorKind::Interrupted, ErrorKind::BrokenPipe, ErrorKind::UnexpectedEof, ErrorKind::WriteZero];
+        self.byte(b'I');
+        self.byte(kinds.iter().position(|it| *it == kind).unwrap_or(9) as u8);
+    }
+
+    /// A debug text, and its length.
+    pub fn show(&mut self, shown: &impl Debug) {
+        let text = format!("{shown:?}");
+        self.0.extend(text.as_bytes());
+        self.size(text.len());
+    }
+}
