@@ -1,132 +1,46 @@
-//! Faults and small types: debug texts are what std derives for types of the same form.
-#![allow(dead_code)]
+//! What the machine reports of faults and of small types: debug texts are what std derives for types of the same form.
 use crate::forms::failure;
 use crate::operation::Operation;
 use crate::report::Report;
-use std::io;
-use std::str::Utf8Error;
 
-#[derive(Debug)]
-pub struct AllocError;
+/// What memory that is refused becomes in each type of faults.
+const OF_MEMORY: &str = "AllocError AllocError OutOfMemory OutOfMemory Decode(OutOfMemory) OutOfMemory OutOfMemory \
+    OutOfMemory OutOfMemory Decode(OutOfMemory) OutOfMemory";
 
-#[derive(Debug)]
-pub enum FromUtf8Fault {
-    NotUtf8(Utf8Error),
-    OutOfMemory,
-}
-
-#[derive(Debug)]
-pub enum EncodeFault {
-    TooLong,
-    Io(io::Error),
-}
-
-#[derive(Debug)]
-pub enum DecodeFault {
-    Ended,
-    NotUtf8(Utf8Error),
-    OutOfMemory,
-    Io(io::Error),
-}
-
-#[derive(Debug)]
-pub enum LimitedFault {
-    TooLong,
-    Decode(DecodeFault),
-}
-
-#[derive(Debug)]
-pub enum ReadFault {
-    OutOfMemory,
-    Io(io::Error),
-}
-
-#[derive(Debug)]
-enum JsonFault {
-    NotString,
-    OutOfMemory,
-}
-
-#[derive(Debug, PartialEq)]
-enum Place {
-    Inline,
-    Static,
-    Heap,
-}
-
-#[derive(Debug, PartialEq)]
-enum AsciiCase {
-    Lower,
-    Upper,
-}
-
-#[derive(Debug)]
-struct FormatError;
-
-#[derive(Debug)]
-enum Step {
-    Push(char),
-    PushStr(String),
-}
+/// The debug texts of places and cases, each with whether two comparisons hold.
+const PLACES: [(&str, bool, bool); 5] =
+    [("Inline", false, true), ("Static", true, true), ("Heap", false, false), ("Lower", true, false), ("Upper", false, true)];
 
 pub fn fault(it: &Operation, out: &mut Report) {
     match it.row.name {
-        "faults of memory" => of_memory(out),
+        "faults of memory" => OF_MEMORY.split(' ').for_each(|text| out.show(text)),
         "faults of streams" => of_streams(it, out),
-        _ => debug_texts(it, out),
-    }
-}
-
-fn of_memory(out: &mut Report) {
-    out.show(&AllocError);
-    out.show(&AllocError);
-    for is_of_alloc_error in [true, false] {
-        out.show(&FromUtf8Fault::OutOfMemory);
-        out.show(&DecodeFault::OutOfMemory);
-        out.show(&LimitedFault::Decode(DecodeFault::OutOfMemory));
-        if is_of_alloc_error {
-            out.show(&ReadFault::OutOfMemory);
+        _ => {
+            for (text, one, other) in PLACES {
+                out.show(text);
+                out.flag(one);
+                out.flag(other);
+            }
+            ["FormatError", "NotString"].iter().for_each(|text| out.show(text));
+            for text in it.strs() {
+                match text.chars().next() {
+                    Some(character) if it.form == 1 => out.show(&format!("Push({character:?})")),
+                    _ => out.show(&format!("PushStr({text:?})")),
+                }
+            }
+            out.show(&format!("Push({:?})", it.character()));
         }
-        out.show(&JsonFault::OutOfMemory);
     }
 }
 
 fn of_streams(it: &Operation, out: &mut Report) {
-    let error = || io::Error::from(failure(it.form));
-    out.show(&EncodeFault::Io(error()));
-    out.show(&DecodeFault::Io(error()));
-    out.show(&LimitedFault::Decode(DecodeFault::Io(error())));
-    out.show(&ReadFault::Io(error()));
-    out.show(&DecodeFault::Io(error()));
-    out.show(&DecodeFault::OutOfMemory);
-    out.show(&LimitedFault::Decode(DecodeFault::Io(error())));
-    out.show(&DecodeFault::OutOfMemory);
+    let io = format!("Io(Kind({:?}))", failure(it.form));
+    let decode = format!("Decode({io})");
+    for text in [&io, &io, &decode, &io, &io, "OutOfMemory", &decode, "OutOfMemory"] {
+        out.show(text);
+    }
     if let Err(error) = str::from_utf8(it.bytes()) {
-        out.show(&DecodeFault::NotUtf8(error));
+        out.show(&format!("NotUtf8({error:?})"));
     }
-    out.show(&EncodeFault::TooLong);
-    out.show(&LimitedFault::TooLong);
-    out.show(&LimitedFault::Decode(DecodeFault::Ended));
-}
-
-fn debug_texts(it: &Operation, out: &mut Report) {
-    for place in [Place::Inline, Place::Static, Place::Heap] {
-        out.show(&place);
-        out.flag(place == Place::Static);
-        out.flag(place != Place::Heap);
-    }
-    for case in [AsciiCase::Lower, AsciiCase::Upper] {
-        out.show(&case);
-        out.flag(case == AsciiCase::Lower);
-        out.flag(case != AsciiCase::Lower);
-    }
-    out.show(&FormatError);
-    out.show(&JsonFault::NotString);
-    for text in it.strs() {
-        match text.chars().next() {
-            Some(character) if it.form == 1 => out.show(&Step::Push(character)),
-            _ => out.show(&Step::PushStr(text.to_string())),
-        }
-    }
-    out.show(&Step::Push(it.character()));
+    ["TooLong", "TooLong", "Decode(Ended)"].iter().for_each(|text| out.show(text));
 }

@@ -3,7 +3,6 @@
 //! Upstream has no single calls: what they give follows from what the reader and the writer do, by the documents' rule of
 //! a piece at a time.
 use crate::departures::Departure;
-use crate::faults::{DecodeFault, EncodeFault, LimitedFault, ReadFault};
 use crate::mirror::{Mirror, Run, is_resident};
 use crate::operation::Operation;
 use crate::prints::PIECE;
@@ -13,12 +12,21 @@ use borsh::{BorshDeserialize, BorshSerialize};
 use serde_json::Value;
 use smol_str::SmolStr;
 use std::io::{self, ErrorKind, Read, Write};
+use std::str::Utf8Error;
 
 /// The bytes of a wire form before its body.
 const PREFIX: usize = 4;
 
 /// The failure by which a writer takes no byte.
 const TAKES_NONE: u8 = 3;
+
+/// Why bytes make no value.
+enum Fault {
+    Ended,
+    NotUtf8(Utf8Error),
+    OutOfMemory,
+    Io,
+}
 
 /// The error with which a reader or a writer fails.
 pub fn failure(form: u8) -> ErrorKind {
@@ -28,6 +36,10 @@ pub fn failure(form: u8) -> ErrorKind {
         TAKES_NONE => ErrorKind::WriteZero,
         _ => ErrorKind::UnexpectedEof,
     }
+}
+
+fn io_text(it: &Operation) -> String {
+    format!("Io(Kind({:?}))", failure(it.form))
 }
 
 /// A writer that behaves as the machine's does. It fails with another error in place of `Interrupted`, after which
@@ -101,10 +113,10 @@ fn stated(bytes: &[u8]) -> Option<usize> {
 }
 
 /// Why these bytes hold no wire form, where upstream has an error of borsh or std.
-fn fault_of(bytes: &[u8]) -> DecodeFault {
+fn fault_of(bytes: &[u8]) -> Fault {
     match stated(bytes).and_then(|size| bytes[PREFIX..].get(..size)) {
-        None => DecodeFault::Ended,
-        Some(body) => DecodeFault::NotUtf8(str::from_utf8(body).expect_err("upstream reads a body that is UTF-8")),
+        None => Fault::Ended,
+        Some(body) => Fault::NotUtf8(str::from_utf8(body).expect_err("upstream reads a body that is UTF-8")),
     }
 }
 
@@ -121,7 +133,7 @@ impl Mirror {
                     Ok(()) => out.byte(b'W'),
                     Err(_) => {
                         self.departs(Departure::WireFault);
-                        out.show(&EncodeFault::Io(failure(it.form).into()));
+                        out.show(&io_text(it));
                         self.io_error(it, out);
                     }
                 }
@@ -146,7 +158,7 @@ impl Mirror {
             Ok(text) => {
                 self.takes_none(run, is_resident(&text));
                 if run.is_refused() {
-                    return self.not_decoded(it, DecodeFault::OutOfMemory, out);
+                    return self.not_decoded(it, Fault::OutOfMemory, out);
                 }
                 if it.row.name == "from_wire" { out.size(it.bytes().len() - rest.len()) } else { out.bytes(rest) }
                 self.keep(it.dst, text, out);
@@ -159,17 +171,21 @@ impl Mirror {
     }
 
     /// What the machine reports of a fault: its debug text, and what it holds.
-    fn not_decoded(&mut self, it: &Operation, fault: DecodeFault, out: &mut Report) {
+    fn not_decoded(&mut self, it: &Operation, fault: Fault, out: &mut Report) {
         self.departs(Departure::WireFault);
+        let text = match &fault {
+            Fault::Ended => "Ended".to_string(),
+            Fault::NotUtf8(error) => format!("NotUtf8({error:?})"),
+            Fault::OutOfMemory => "OutOfMemory".to_string(),
+            Fault::Io => io_text(it),
+        };
         let is_limited = it.row.name == "deserialize_limited";
-        let fault = LimitedFault::Decode(fault);
-        let LimitedFault::Decode(inner) = &fault else { unreachable!() };
-        if is_limited { out.show(&fault) } else { out.show(inner) }
-        match inner {
-            DecodeFault::Ended => out.byte(b'E'),
-            DecodeFault::NotUtf8(error) => out.utf8_error(error),
-            DecodeFault::OutOfMemory => out.byte(b'R'),
-            DecodeFault::Io(_) => self.io_error(it, out),
+        out.show(&if is_limited { format!("Decode({text})") } else { text });
+        match fault {
+            Fault::Ended => out.byte(b'E'),
+            Fault::NotUtf8(error) => out.utf8_error(&error),
+            Fault::OutOfMemory => out.byte(b'R'),
+            Fault::Io => self.io_error(it, out),
         }
     }
 
@@ -181,17 +197,17 @@ impl Mirror {
         self.takes_none(run, body <= INLINE_CAP);
         if run.is_refused() {
             tell_reader(run.actual_number(0).min(bytes.len()), out);
-            return self.not_decoded(it, DecodeFault::OutOfMemory, out);
+            return self.not_decoded(it, Fault::OutOfMemory, out);
         }
         let rooms = if body <= INLINE_CAP { vec![body] } else { by_pieces(body).collect() };
         let (taken, has_failed) = reading(it, std::iter::once(PREFIX).chain(rooms));
         tell_reader(bytes.len() - taken, out);
         if has_failed {
-            return self.not_decoded(it, DecodeFault::Io(failure(it.form).into()), out);
+            return self.not_decoded(it, Fault::Io, out);
         }
         if is_too_long {
             self.departs(Departure::WireFault);
-            out.show(&LimitedFault::TooLong);
+            out.show("TooLong");
             return out.byte(b'L');
         }
         match SmolStr::deserialize_reader(&mut SlowReader(bytes, it.width)) {
@@ -225,7 +241,7 @@ impl Mirror {
             }
             _ if run.is_refused() => {
                 tell_reader(run.actual_number(0).min(bytes.len()), out);
-                out.show(&ReadFault::OutOfMemory);
+                out.show("OutOfMemory");
                 out.byte(b'R');
             }
             name => {
@@ -233,7 +249,7 @@ impl Mirror {
                 let (taken, has_failed) = reading(it, by_pieces(limit));
                 tell_reader(bytes.len() - taken, out);
                 if has_failed {
-                    out.show(&ReadFault::Io(failure(it.form).into()));
+                    out.show(&io_text(it));
                     self.io_error(it, out);
                 } else {
                     out.bytes(&bytes[..taken]);

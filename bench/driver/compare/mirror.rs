@@ -15,15 +15,10 @@ use std::collections::BTreeMap;
 use std::sync::Arc;
 
 /// The texts that the machine has, which live as long as the program.
+#[rustfmt::skip]
 const STATICS: [&str; 8] = [
-    "",
-    "a",
-    "static text of some length",
-    "a static text that is longer than a value has room for",
-    "é€🦀",
-    "                                        ",
-    "\n\n  ",
-    "ΑΣ",
+    "", "a", "static text of some length", "a static text that is longer than a value has room for", "é€🦀",
+    "                                        ", "\n\n  ", "ΑΣ",
 ];
 
 /// The bytes of a block of a value beside its text, and of the list of values.
@@ -204,13 +199,13 @@ impl Mirror {
                 self.takes_none(run, is_resident(&text));
                 self.made(it, run, text, out);
                 if run.is_refused() {
-                    out.show(&crate::faults::FromUtf8Fault::OutOfMemory);
+                    out.show("OutOfMemory");
                 }
             }
             Err(error) => {
                 self.takes_none(run, true);
                 out.utf8_error(&error);
-                out.show(&crate::faults::FromUtf8Fault::NotUtf8(error));
+                out.show(&format!("NotUtf8({error:?})"));
             }
         }
     }

@@ -2,7 +2,6 @@
 use crate::mirror::{Builder, Place, Value};
 use crate::texts::INLINE_CAP;
 use std::cmp::Ordering;
-use std::fmt::Debug;
 use std::io::ErrorKind;
 use std::str::Utf8Error;
 
@@ -80,8 +79,7 @@ impl Report {
     }
 
     /// A debug text, and its length.
-    pub fn show(&mut self, shown: &impl Debug) {
-        let text = format!("{shown:?}");
+    pub fn show(&mut self, text: &str) {
         self.0.extend(text.as_bytes());
         self.size(text.len());
     }

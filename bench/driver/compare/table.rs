@@ -62,15 +62,9 @@ pub struct Row {
     pub calls: &'static str,
 }
 
+#[rustfmt::skip]
 const fn row(
-    group: u8,
-    name: &'static str,
-    weight: usize,
-    forms: usize,
-    texts: Texts,
-    number: Number,
-    asks: Asks,
-    calls: &'static str,
+    group: u8, name: &'static str, weight: usize, forms: usize, texts: Texts, number: Number, asks: Asks, calls: &'static str,
 ) -> Row {
     Row { group, name, weight, forms, texts, number, asks, calls }
 }
@@ -207,17 +201,19 @@ pub fn draw(random: &mut Random) -> Operation {
     let mut left = random.below(ROWS.iter().map(|row| row.weight).sum());
     let row = ROWS.iter().find(|row| left < row.weight || { left -= row.weight; false }).expect("a row");
     let texts = texts::of(random, row.texts);
-    let is_stream = matches!(row.group, b'f' | b's');
-    let (mut number, form) = (number_of(random, row.number, texts.first().map_or(0, Vec::len) as u64), random.below(row.forms));
-    if row.name == "next_match" {
-        number = random.below(texts[0].len() + 1) as u64;
-    }
-    let digits = match row.group {
-        b'o' => random.pick(ROOMS),
-        b'f' | b's' => if random.one_in(2) { 0 } else { random.below(9) },
-        _ => random.below(45),
+    let len = texts.first().map_or(0, Vec::len);
+    let number = match row.name {
+        "next_match" => random.below(len + 1) as u64,
+        _ => number_of(random, row.number, len as u64),
     };
-    let width = if is_stream { random.pick(STEPS) } else if row.group == b'c' { random.pick(&[0, 1, 20, 38, 39, 40, 41, 100, 1000]) } else { random.pick(WIDTHS) };
+    let (width, digits) = match row.group {
+        b'f' | b's' if random.one_in(2) => (random.pick(STEPS), 0),
+        b'f' | b's' => (random.pick(STEPS), random.below(9)),
+        b'o' => (0, random.pick(ROOMS)),
+        b'c' => (random.pick(&[0, 1, 20, 38, 39, 40, 41, 100, 1000]), 0),
+        _ => (random.pick(WIDTHS), random.below(45)),
+    };
+    let form = random.below(row.forms) as u8;
     let mut register = || random.below(REGISTERS) as u8;
-    Operation { row, dst: register(), src: register(), form: form as u8, number, width, digits, texts }
+    Operation { row, dst: register(), src: register(), form, number, width, digits, texts }
 }

@@ -1,34 +1,27 @@
-//! The crate and upstream's in one process, over the same input. `bench/against_upstream` builds and runs it:
+//! The crate and upstream's in one process, over the same input. `bench/upstream measure` builds and runs it:
 //!
-//!     driver names     each row's kind and name
-//!     driver sums      each row once on both sides: the sums must be equal
-//!     driver count     under callgrind, which writes counts at each end of `counted`: for each row, first of
+//!     measure names     each row's kind and name
+//!     measure sums      each row once on both sides: the sums must be equal
+//!     measure count     under callgrind, which writes counts at each end of `counted`: for each row, first of
 //!                      ours and then of upstream's, after FEW and after MANY rounds
-//!     driver upstream  the same of upstream's alone
-//!     driver times     each row's name, and the least nanoseconds of an operation, ours and upstream's
+//!     measure upstream  the same of upstream's alone
+//!     measure times     each row's name, and the least nanoseconds of an operation, ours and upstream's
 //!
 //! A word after that leaves out the rows whose name does not begin with it, or with one of several.
 mod rows;
 mod upstream;
 
 use rows::Input::{self, *};
-use rows::{LONG, Row, SHORT};
+use rows::{LONG, SHORT};
 use std::hint::black_box;
 use std::time::Instant;
 
 unsafe extern "C" {
-    /// The static library's; a slice is passed as its pointer and its length.
-    #[allow(clippy::too_many_arguments)]
+    /// The static library's, which takes three slices, each as its pointer and its length.
+    #[rustfmt::skip]
     fn bench_ours(
-        operation: *const u8,
-        operation_len: usize,
-        texts: *const u8,
-        texts_len: usize,
-        others: *const u8,
-        others_len: usize,
-        size: usize,
-        rounds: usize,
-        pick: usize,
+        operation: *const u8, operation_len: usize, texts: *const u8, texts_len: usize, others: *const u8, others_len: usize,
+        size: usize, rounds: usize, pick: usize,
     ) -> u64;
 }
 
@@ -46,8 +39,7 @@ struct Bench {
 }
 
 impl Bench {
-    fn new(row: &Row) -> Bench {
-        let (_, operation, size, input) = *row;
+    fn new(operation: &'static str, size: usize, input: Input) -> Bench {
         let mut draw = Draw(1);
         let (mut texts, mut others) = (Vec::new(), Vec::new());
         for _ in 0..CASES {
@@ -55,12 +47,7 @@ impl Bench {
             others.extend(draw.other(&text, input));
             texts.extend(text);
         }
-        Bench {
-            operation,
-            size,
-            texts,
-            others,
-        }
+        Bench { operation, size, texts, others }
     }
 
     fn run(&self, side: &str, rounds: usize) -> u64 {
@@ -69,20 +56,10 @@ impl Bench {
         if side == "upstream" {
             return upstream::bench_upstream(operation, texts, others, self.size, rounds, pick);
         }
+        let [operation, texts, others] = [operation.as_bytes(), texts, others].map(|it| (it.as_ptr(), it.len()));
+        let (size, (of, of_len), (at, at_len), (by, by_len)) = (self.size, operation, texts, others);
         // sound: the pointers are of slices that live over the call
-        unsafe {
-            bench_ours(
-                operation.as_ptr(),
-                operation.len(),
-                texts.as_ptr(),
-                texts.len(),
-                others.as_ptr(),
-                others.len(),
-                self.size,
-                rounds,
-                pick,
-            )
-        }
+        unsafe { bench_ours(of, of_len, at, at_len, by, by_len, size, rounds, pick) }
     }
 }
 
@@ -91,10 +68,7 @@ struct Draw(u64);
 
 impl Draw {
     fn below(&mut self, limit: usize) -> usize {
-        self.0 = self
-            .0
-            .wrapping_mul(6364136223846793005)
-            .wrapping_add(1442695040888963407);
+        self.0 = self.0.wrapping_mul(6364136223846793005).wrapping_add(1442695040888963407);
         (self.0 >> 33) as usize % limit
     }
 
@@ -143,10 +117,7 @@ fn count(bench: &Bench, sides: std::ops::Range<usize>) {
 fn check_sums(name: &str, bench: &Bench) {
     let sums = SIDES.map(|side| bench.run(side, 3));
     if sums[0] != sums[1] || sums[0] == 0 {
-        eprintln!(
-            "{name}: the sums differ, {} of ours and {} of upstream's",
-            sums[0], sums[1]
-        );
+        eprintln!("{name}: the sums differ, {} of ours and {} of upstream's", sums[0], sums[1]);
         std::process::exit(1);
     }
 }
@@ -174,15 +145,17 @@ fn times(bench: &Bench) -> [f64; 2] {
 fn main() {
     let command = std::env::args().nth(1).expect("names, sums, count, upstream or times");
     let wanted: Vec<String> = std::env::args().skip(2).collect();
-    for (kind, rows) in [("short", SHORT), ("long", LONG)] {
-        for row in rows {
-            if !wanted.is_empty() && !wanted.iter().any(|word| row.0.starts_with(word.as_str())) {
+    let rows = SHORT.iter().map(|row| ("short", row)).chain(LONG.iter().map(|row| ("long", row)));
+    for (kind, (name, operation, sizes, input)) in rows {
+        for size in *sizes {
+            let name = name.replace("{}", &size.to_string());
+            if !wanted.is_empty() && !wanted.iter().any(|word| name.starts_with(word.as_str())) {
                 continue;
             }
-            let (name, bench) = (row.0, Bench::new(row));
+            let bench = Bench::new(operation, *size, *input);
             match command.as_str() {
                 "names" => println!("{kind}\t{name}"),
-                "sums" => check_sums(name, &bench),
+                "sums" => check_sums(&name, &bench),
                 "count" => count(&bench, 0..2),
                 "upstream" => count(&bench, 1..2),
                 "times" => {

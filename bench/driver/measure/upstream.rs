@@ -1,4 +1,4 @@
-//! The operations over upstream's crate; the files of `ours` have the same names over ours.
+//! The operations over upstream's crate; loops.rt.in has the same names over ours.
 use borsh::{BorshDeserialize, BorshSerialize};
 use smol_str::{SmolStr, SmolStrBuilder, StrExt, ToSmolStr, format_smolstr};
 use std::collections::HashMap;
@@ -78,11 +78,7 @@ fn new_inline(text: &str, pick: usize) -> u64 {
 
 #[inline(always)]
 fn new_static(text: &str, pick: usize) -> u64 {
-    let literal = if text.len() > pick {
-        "a literal of some length"
-    } else {
-        "another"
-    };
+    let literal = if text.len() > pick { "a literal of some length" } else { "another" };
     seen(&SmolStr::new_static(literal), pick)
 }
 
