@@ -77,22 +77,11 @@ fn new_inline(text: &str, pick: usize) -> u64 {
 }
 
 #[inline(always)]
-fn new_static(text: &str, pick: usize) -> u64 {
-    let literal = if text.len() > pick { "a literal of some length" } else { "another" };
-    seen(&SmolStr::new_static(literal), pick)
-}
-
-#[inline(always)]
 fn from_utf8(bytes: &[u8], pick: usize) -> u64 {
     match SmolStr::from_utf8(bytes) {
         Ok(value) => seen(&value, pick),
         Err(_) => 0,
     }
-}
-
-#[inline(always)]
-fn from_string(text: &str, pick: usize) -> u64 {
-    seen(&SmolStr::from(String::from(text)), pick)
 }
 
 #[inline(always)]
@@ -187,11 +176,6 @@ fn reader(form: &[u8], pick: usize) -> u64 {
 }
 
 #[inline(always)]
-fn to_json(value: &SmolStr, pick: usize) -> u64 {
-    seen(&serde_json::to_string(value).unwrap(), pick)
-}
-
-#[inline(always)]
 fn from_json(json: &str, pick: usize) -> u64 {
     match serde_json::from_str::<SmolStr>(json) {
         Ok(value) => seen(&value, pick),
@@ -228,7 +212,7 @@ pub fn bench_upstream(operation: &str, texts: &[u8], others: &[u8], size: usize,
         "string" => run(all, n, |it, at| seen(&String::from(it.text.as_str()), at)),
         "new" => run(all, n, |it, at| seen(&SmolStr::new(&it.text), at)),
         "new_inline" => run(all, n, |it, at| new_inline(&it.text, at)),
-        "new_static" => run(all, n, |it, at| new_static(&it.text, at)),
+        "new_static" => run(all, n, |it, at| seen(&SmolStr::new_static(if it.text.len() > at { "a literal of some length" } else { "another" }), at)),
         "as_str" => run(all, n, |it, at| seen(it.value.as_str(), at)),
         "len" => run(all, n, |it, at| told(it.value.len() as u64, at)),
         "clone" => run(all, n, |it, at| seen(&it.value.clone(), at)),
@@ -239,7 +223,7 @@ pub fn bench_upstream(operation: &str, texts: &[u8], others: &[u8], size: usize,
         "hash-fnv" => run(all, n, |it, at| hashed(&it.value, Fnv(0xcbf29ce484222325), at)),
         "hash-sip" => run(all, n, |it, at| hashed(&it.value, DefaultHasher::new(), at)),
         "from_utf8" => run(all, n, |it, at| from_utf8(it.text.as_bytes(), at)),
-        "from_string" => run(all, n, |it, at| from_string(&it.text, at)),
+        "from_string" => run(all, n, |it, at| seen(&SmolStr::from(String::from(it.text.as_str())), at)),
         "into_string" => run(all, n, |it, at| seen(&String::from(it.value.clone()), at)),
         "from_char" => run(all, n, |it, at| from_char(&it.text, at)),
         "from_chars" => run(all, n, |it, at| seen(&it.text.chars().collect::<SmolStr>(), at)),
@@ -261,7 +245,7 @@ pub fn bench_upstream(operation: &str, texts: &[u8], others: &[u8], size: usize,
         "serialize" => run(all, n, |it, at| serialize(&it.value, at)),
         // its reader for our call on a slice too
         "from_wire" | "reader" => run(all, n, |it, at| reader(&it.form, at)),
-        "to_json" => run(all, n, |it, at| to_json(&it.value, at)),
+        "to_json" => run(all, n, |it, at| seen(&serde_json::to_string(&it.value).unwrap(), at)),
         "from_json" => {
             let jsons: Vec<String> = all.iter().map(|it| serde_json::to_string(&it.value).unwrap()).collect();
             run(&jsons, n, |it, at| from_json(it, at))
