@@ -4,7 +4,7 @@ use crate::operation::Operation;
 use crate::totals::{Difference, Program, Totals};
 
 /// The most programs that are tried.
-const MOST: u32 = 20_000;
+const MOST: u32 = 5_000;
 
 /// Lists without a half of them, and without each single item where they are few.
 fn shorter_lists<T: Clone>(items: &[T]) -> Vec<Vec<T>> {
@@ -60,39 +60,37 @@ fn smaller(it: &Operation) -> Vec<Operation> {
     all
 }
 
-/// The first program that still differs, of those with a run of operations left out, long runs first, or with a smaller
-/// operand.
-fn shorter(machine: &mut Machine, program: &Program, tried: &mut u32) -> Option<Program> {
-    let count = program.operations.len();
-    let mut differs = |shorter: &Program| {
-        *tried += 1;
-        *tried < MOST && !shorter.operations.is_empty() && Totals::default().run(machine, 0, shorter).is_some()
-    };
-    for run in [count / 2, count / 4, count / 8, 2, 1].into_iter().filter(|run| *run > 0) {
-        for at in (0..count).step_by(run) {
-            let mut shorter = program.clone();
-            shorter.operations.drain(at..(at + run).min(count));
-            if differs(&shorter) {
-                return Some(shorter);
-            }
-        }
-    }
-    let changed = (0..count).flat_map(|at| smaller(&program.operations[at]).into_iter().map(move |it| (at, it)));
-    changed.into_iter().find_map(|(at, it)| {
-        let mut shorter = program.clone();
-        shorter.operations[at] = it;
-        differs(&shorter).then_some(shorter)
-    })
-}
-
 /// A program that differs, as short as it was made, and where it differs.
 pub fn shrink(machine: &mut Machine, program: &Program) -> Option<(Program, Difference)> {
     let mut program = program.clone();
     let found = Totals::default().run(machine, 0, &program)?;
     program.operations.truncate(found.operation + 1);
     let mut tried = 0;
-    while let Some(shorter) = shorter(machine, &program, &mut tried) {
-        program = shorter;
+    let mut takes = |program: &mut Program, shorter: Program| {
+        tried += 1;
+        let is_so = tried < MOST && !shorter.operations.is_empty() && Totals::default().run(machine, 0, &shorter).is_some();
+        if is_so {
+            *program = shorter;
+        }
+        is_so
+    };
+    // runs of operations, long ones first
+    let mut run = program.operations.len().div_ceil(2);
+    while run > 0 {
+        let mut at = 0;
+        while at < program.operations.len() {
+            let mut shorter = program.clone();
+            shorter.operations.drain(at..(at + run).min(program.operations.len()));
+            at += if takes(&mut program, shorter) { 0 } else { run };
+        }
+        run /= 2;
+    }
+    for at in 0..program.operations.len() {
+        while smaller(&program.operations[at]).into_iter().any(|it| {
+            let mut shorter = program.clone();
+            shorter.operations[at] = it;
+            takes(&mut program, shorter)
+        }) {}
     }
     let found = Totals::default().run(machine, 0, &program)?;
     Some((program, found))
