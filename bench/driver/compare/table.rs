@@ -77,9 +77,10 @@ pub const BUILDER_READS: &str =
 
 const DEBUGS: &str = "PlaceDebug::fmt PlacePartialEq::eq AsciiCaseDebug::fmt AsciiCasePartialEq::eq \
     FormatErrorDebug::fmt StepDebug::fmt";
-const OF_MEMORY: &str = "AllocErrorFromSmolStr::from AllocErrorFromSmolStrBuilder::from FromUtf8Fault::from \
-    DecodeFaultFromAllocError::from LimitedFaultFromAllocError::from ReadFaultFromAllocError::from JsonFault::from \
-    DecodeFaultFromAllocFailed::from LimitedFaultFromAllocFailed::from JsonFaultDebug::fmt";
+const OF_MEMORY: &str = "AllocErrorFromSmolStr::from AllocErrorFromSmolStrBuilder::from \
+    FromUtf8FaultFromAllocError::from DecodeFaultFromAllocError::from LimitedFaultFromAllocError::from \
+    ReadFaultFromAllocError::from JsonFaultFromAllocError::from FromUtf8FaultFromAllocFailed::from \
+    DecodeFaultFromAllocFailed::from LimitedFaultFromAllocFailed::from JsonFaultFromAllocFailed::from JsonFaultDebug::fmt";
 const OF_STREAMS: &str = "EncodeFault::from DecodeFaultFromIoError::from LimitedFaultFromIoError::from \
     ReadFaultFromIoError::from DecodeFaultFromReadFault::from DecodeFaultFromFromUtf8Fault::from \
     LimitedFaultFromDecodeFault::from";

@@ -106,46 +106,37 @@ fn blank(random: &mut Random) -> String {
 
 /// A text of about so many bytes.
 fn sized(random: &mut Random, length: usize) -> String {
+    const NEAR_LETTERS: &[char] = &['a', 'b', 'A', 'Z', 'z', '@', '[', '`', '{', '\u{7f}', '0'];
     let mut text = String::new();
-    match random.below(6) {
-        0 => (0..length).for_each(|_| text.push((b'a' + random.below(26) as u8) as char)),
-        1 => (0..length)
-            .for_each(|_| text.push(random.pick(&['a', 'b', 'A', 'Z', 'z', '@', '[', '`', '{', '\u{7f}', '0']))),
-        2 => one_wide(random, length, &mut text),
-        3 => {
-            while text.len() < length {
-                text.push(random.pick(CASED));
-                if random.one_in(3) {
-                    text.push(random.pick(&['a', 'A', ' ', 'é']));
-                }
-            }
+    let drawn: fn(&mut Random) -> char = match random.below(6) {
+        0 => |random| (b'a' + random.below(26) as u8) as char,
+        1 => |random| random.pick(NEAR_LETTERS),
+        2 => {
+            // ASCII with one wide character, which ends at, before or behind the length
+            text.push_str(&"a".repeat(random.below(length + 1)));
+            text.push(random.pick(WIDE));
+            |random| (b'A' + random.below(26) as u8) as char
         }
+        3 => |random| if random.one_in(4) { random.pick(&['a', 'A', ' ', 'é']) } else { random.pick(CASED) },
         4 => {
             let unit: String = (0..1 + random.below(4)).map(|_| random.pick(&['a', 'b', 'é', '€'])).collect();
-            while text.len() < length {
-                text.push_str(&unit);
-            }
+            text.push_str(&unit.repeat(length / unit.len() + 1));
+            |_| 'a'
         }
-        _ => {
-            while text.len() < length {
-                text.push(character(random));
-            }
-        }
+        _ => character,
+    };
+    while text.len() < length {
+        text.push(drawn(random));
     }
     if random.one_in(2) {
-        while text.len() > length {
-            text.pop();
-        }
+        cut(&mut text, length);
     }
     text
 }
 
-/// ASCII with one wide character, which ends at, before or behind the length.
-fn one_wide(random: &mut Random, length: usize, text: &mut String) {
-    text.push_str(&"a".repeat(random.below(length + 1)));
-    text.push(random.pick(WIDE));
-    while text.len() < length {
-        text.push((b'A' + random.below(26) as u8) as char);
+fn cut(text: &mut String, length: usize) {
+    while text.len() > length {
+        text.pop();
     }
 }
 
@@ -178,9 +169,7 @@ fn text(random: &mut Random) -> String {
 /// A text of at most `INLINE_CAP` bytes.
 fn short(random: &mut Random) -> String {
     let mut text = text(random);
-    while text.len() > INLINE_CAP {
-        text.pop();
-    }
+    cut(&mut text, INLINE_CAP);
     text
 }
 

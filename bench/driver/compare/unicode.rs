@@ -22,6 +22,7 @@ struct Known {
     /// Every character that was asked for and is the same on both sides.
     agreed: Vec<char>,
     differing: Vec<char>,
+    is_slow: bool,
 }
 
 static KNOWN: OnceLock<Known> = OnceLock::new();
@@ -40,9 +41,12 @@ pub fn agreed(random: &mut Random) -> char {
     agreed[random.below(most)]
 }
 
-/// Whether both sides were asked for a character, and disagree.
+/// Whether both sides disagree on a character; where not all were asked for, whether this side does not know it.
 pub fn differs(character: char) -> bool {
-    known().differing.binary_search(&character).is_ok()
+    let known = known();
+    let may_be_new = matches!(character, '\u{370}'..='\u{d7fb}' | '\u{10000}'..='\u{effff}');
+    let is_unknown = known.is_slow && may_be_new && format!("{character:?}").contains("\\u{");
+    is_unknown || known.differing.binary_search(&character).is_ok()
 }
 
 fn has_case(character: &char) -> bool {
@@ -73,7 +77,7 @@ pub fn compare(machine: &mut Machine, is_slow: bool) -> Option<usize> {
     };
     let version = ask("version of Unicode", String::new())?[8..].to_vec();
     let asked: Vec<char> = ('\0'..=char::MAX).filter(|it| !is_slow || has_case(it)).collect();
-    let mut found = Known { letters: vec![], agreed: vec![], differing: vec![] };
+    let mut found = Known { letters: vec![], agreed: vec![], differing: vec![], is_slow };
     let (mut by_aspect, mut unexplained) = ([0; 5], vec![]);
     for block in asked.chunks(BLOCK) {
         let report = ask("each character", block.iter().collect())?;
