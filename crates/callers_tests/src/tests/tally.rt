@@ -168,6 +168,16 @@ struct Add<'a> {
     there: u64,
 }
 
+impl Add<'_> {
+    /// The token came back, and the tally is as before: it takes the token now.
+    fn check_refused(&self, test: &Test, mut tally: Tally, back: SmolStr) {
+        same_str(test, back.as_str(), self.text, "back");
+        same_count(test, tally.len(), self.there as usize, "refused");
+        check_add(test, &mut tally, back, TIMES, TIMES);
+        check_last(test, &tally, self.there, self.text)
+    }
+}
+
 impl Refusable for Add<'_> {
     type Input = (Tally, SmolStr);
     /// The tally, and the token's count.
@@ -200,13 +210,10 @@ impl Refusable for Add<'_> {
                 same_times(test, Some(count), Some(TIMES), self.text);
                 check_last(test, &tally, self.there, self.text)
             }
-            Err((mut tally, AddFault::OutOfMemory(back))) => {
-                same_str(test, back.as_str(), self.text, "back");
-                same_count(test, tally.len(), self.there as usize, "refused");
-                check_add(test, &mut tally, back, TIMES, TIMES);
-                check_last(test, &tally, self.there, self.text)
-            }
-            Err((_, AddFault::Full(_))) => is_so(test, false, "full"),
+            Err((tally, fault)) => match fault {
+                AddFault::OutOfMemory(back) => self.check_refused(test, tally, back),
+                AddFault::Full(_) => test.fail(&"full"),
+            },
         }
     }
 }
