@@ -13,7 +13,7 @@ mod words;
 use crate::kernel::{AsciiCase, convert_all, is_all_ascii};
 use std::cmp::Ordering;
 use std::marker::Model;
-use words::{order_words, pack, pack_char, same_words, write_at};
+use words::{copy_packed, order_words, pack, pack_char, same_words, write_at};
 
 /// The most bytes of a text that lies in the value itself.
 pub const INLINE_CAP: usize = 39;
@@ -145,7 +145,7 @@ impl InlineText {
     {
         InlineText {
             align: [],
-            packed: self.packed,
+            packed: copy_packed(&self.packed),
         }
     }
 

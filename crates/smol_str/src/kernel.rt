@@ -201,7 +201,7 @@ fn has_high<const N: usize>(lanes: Simd<u8, N>) -> bool
 
 /// The `N` bytes from a place on.
 #[inline(always)]
-fn load<const N: usize>(bytes: &[u8], at: usize) -> Simd<u8, N>
+pub(crate) fn load<const N: usize>(bytes: &[u8], at: usize) -> Simd<u8, N>
     requires { at + N ≤ length bytes.now }
     ensures lanes { result ≡ take N (drop at bytes.now) }
     ensures long { length result ≡ N }
@@ -212,7 +212,7 @@ fn load<const N: usize>(bytes: &[u8], at: usize) -> Simd<u8, N>
 
 /// Stores the lanes from a place on.
 #[inline(always)]
-fn store<const N: usize>(out: &mut [u8], at: usize, lanes: Simd<u8, N>)
+pub(crate) fn store<const N: usize>(out: &mut [u8], at: usize, lanes: Simd<u8, N>)
     requires room { at + N ≤ length out.old }
     requires long { length lanes ≡ N }
     ensures { out.new ≡ put_chunk at out.old lanes.entry }

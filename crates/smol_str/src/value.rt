@@ -150,12 +150,17 @@ impl SmolStr {
         ensures refused { OnErr result (self.now.place ≡ Place.Heap) }
         ensures not_resident { OnErr result (¬ (IsResident self.now.text)) }
     {
-        let repr = match &self.repr {
-            Repr::Inline(text) => Repr::Inline(text.duplicate()),
-            Repr::Static(text) => Repr::Static(text),
-            Repr::Heap(text) => Repr::Heap(text.clone()?),
-        };
-        Ok(SmolStr { repr })
+        match &self.repr {
+            Repr::Inline(text) => Ok(SmolStr {
+                repr: Repr::Inline(text.duplicate()),
+            }),
+            Repr::Static(text) => Ok(SmolStr {
+                repr: Repr::Static(text),
+            }),
+            Repr::Heap(text) => Ok(SmolStr {
+                repr: Repr::Heap(text.clone()?),
+            }),
+        }
     }
 
     /// The text, as std's `str`.

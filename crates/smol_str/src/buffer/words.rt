@@ -22,6 +22,7 @@ ghost use Rattle.smol_str.specs.Buffer.{packed};
 ghost use Rattle.smol_str.specs.Words.{word, put_at, with_zeros};
 
 use super::{INLINE_CAP, PACKED_LEN, Packed};
+use crate::kernel::{load, store};
 use std::cmp::Ordering;
 
 /// How many words a packed text is.
@@ -49,7 +50,21 @@ pub(super) fn pack(bytes: &[u8]) -> Packed
     buf
 }
 
-/// The same for the text of one character.
+/// A copy by lanes. The compiler leaves a copy of the whole block in memory, and loads it again at each move; and
+/// `copy_from_slice` compares where the two slices lie.
+#[inline(always)]
+pub(super) fn copy_packed(packed: &Packed) -> Packed
+    ensures { result ≡ packed.now }
+{
+    let mut buf = [0; PACKED_LEN];
+    for i in 0..PACKED_LEN / 16 {
+        store(&mut buf, 16 * i, load::<16>(packed, 16 * i));
+    }
+    store(&mut buf, PACKED_LEN - 8, load::<8>(packed, PACKED_LEN - 8));
+    buf
+}
+
+/// The same as [`pack`], for the text of one character.
 #[inline(always)]
 pub(super) fn pack_char(character: char) -> Packed
     ensures { result ≡ packed (encode_utf8 character) }
