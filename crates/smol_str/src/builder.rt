@@ -1,6 +1,6 @@
 //! The builder of a text.
-ghost use Rattle.std.specs.Prelude.{◌≡◌, ◌↔◌, ◌<◌, ◌≤◌, [], ◌∷◌, ◌++◌, length, IsSome, IfSome, IfOk, IfErr, OnOk, OnErr, IsTrue, encode_utf8_all};
-ghost use Rattle.std.specs.Str.{chars, all_scalars};
+ghost use Rattle.std.specs.Prelude.{◌≡◌, ◌↔◌, ◌<◌, ◌≤◌, [], ◌∷◌, ◌++◌, length, IsSome, IfSome, IfOk, IfErr, OnOk, OnErr, IsTrue, false, encode_utf8_all};
+ghost use Rattle.std.specs.Str.{IsAscii, chars, all_scalars};
 ghost use Rattle.std.specs.String.{string_bytes};
 ghost use Rattle.smol_str.specs.Text.{size, IsShort, IsResident};
 ghost use Rattle.smol_str.specs.Buffer.{padded};
@@ -149,8 +149,10 @@ impl SmolStrBuilder {
         let code = character as u32;
         if code < 0x80 {
             // Of one byte, so that no other length is tested for.
-            let byte = [code as u8];
-            return self.push_str(unsafe { str::from_utf8_unchecked(&byte) });
+            if self.push_short(ascii_text(&[code as u8])) {
+                return Ok(());
+            }
+            return self.push_ascii_on_heap(code as u8);
         }
         let mut buf = [0; 4];
         let text = character.encode_utf8(&mut buf);
@@ -166,13 +168,39 @@ impl SmolStrBuilder {
         ensures unchanged { OnErr result (self.new ≡ self.old) }
         ensures refused { OnErr result ((appended self.old (chars text.now)).kind ≡ OnHeap) }
     {
+        if self.push_short(text) {
+            return Ok(());
+        }
+        self.push_on_heap(text)
+    }
+
+    /// Appends a text with which the builder stays in its buffer; `false` where it would not.
+    #[inline(always)]
+    fn push_short(&mut self, text: &str) -> bool
+        ensures done { IsTrue result → self.new ≡ appended self.old (chars text.now) }
+        ensures unchanged { result ≡ false → self.new ≡ self.old }
+        ensures outgrown { result ≡ false → (appended self.old (chars text.now)).kind ≡ OnHeap }
+    {
         if let BuilderRepr::Inline(short) = &mut self.repr {
             if text.len() <= INLINE_CAP - short.len() {
                 short.push_str(text);
-                return Ok(());
+                return true;
             }
         }
-        self.push_on_heap(text)
+        false
+    }
+
+    /// Appends an ASCII character with which the builder is on the heap: apart, so that its byte lies in memory here
+    /// alone, and not at each call of [`SmolStrBuilder::push`].
+    #[inline(never)]
+    fn push_ascii_on_heap(&mut self, byte: u8) -> Result<(), AllocError>
+        requires ascii { byte < 128 }
+        requires heap { (appended self.old (byte ∷ [])).kind ≡ OnHeap }
+        ensures ok { OnOk result (self.new ≡ appended self.old (byte ∷ [])) }
+        ensures unchanged { OnErr result (self.new ≡ self.old) }
+        ensures refused { OnErr result ((appended self.old (byte ∷ [])).kind ≡ OnHeap) }
+    {
+        self.push_on_heap(ascii_text(&[byte]))
     }
 
     /// Appends a text with which the builder is on the heap: apart, so that the short way is small
@@ -306,4 +334,13 @@ fn both_on_heap(alloc: Global, first: &str, second: &str) -> Result<String, Allo
     heap.push_str(first)?;
     heap.push_str(second)?;
     Ok(heap)
+}
+
+/// One ASCII byte as a text.
+#[inline(always)]
+fn ascii_text(byte: &[u8; 1]) -> &str
+    requires { IsAscii byte.now }
+    ensures { chars result.now ≡ byte.now }
+{
+    unsafe { str::from_utf8_unchecked(byte) }
 }
