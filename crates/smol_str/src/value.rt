@@ -83,24 +83,10 @@ impl SmolStr {
         ensures ok { IfOk result (λ v. IsValueOf (chars text.now) v) }
         ensures refused { OnErr result (¬ (IsResident (chars text.now))) }
     {
-        if text.len() <= INLINE_CAP {
-            return Ok(SmolStr::from_inline(InlineText::from_short(text)));
-        }
-        SmolStr::new_long(alloc, text)
-    }
-
-    /// A value of a text of more than [`INLINE_CAP`] bytes: apart, so that the short way is small
-    /// enough to stand at each call.
-    #[inline(never)]
-    fn new_long(alloc: Global, text: &str) -> Result<SmolStr, AllocError>
-        ensures ok { IfOk result (λ v. IsValueOf (chars text.now) v) }
-        ensures refused { OnErr result (¬ (IsResident (chars text.now))) }
-    {
         if let Some(value) = SmolStr::resident(text) {
             return Ok(value);
         }
-        let heap = RcStr::from_str(alloc, text)?;
-        Ok(SmolStr::from_heap(heap))
+        Ok(SmolStr::from_heap(shared(alloc, text)?))
     }
 
     /// A value of a text of at most [`INLINE_CAP`] bytes, which needs no memory.
@@ -330,4 +316,13 @@ impl Clone for SmolStr {
     {
         SmolStr::clone(self)
     }
+}
+
+/// A copy of a text on the heap: apart, and with a result of few words. Room for a whole value that comes back
+/// would be cleared on the short way too.
+#[inline(never)]
+fn shared(alloc: Global, text: &str) -> Result<RcStr, AllocError>
+    ensures { IfOk result (λ heap. rc_str_bytes heap ≡ text.now) }
+{
+    RcStr::from_str(alloc, text)
 }

@@ -15,6 +15,7 @@ const BLANK: &str =
 
 /// The slice of the blank constant that reads as the text; `None` exactly where the text is no
 /// blank run.
+#[inline(never)]
 pub(crate) fn blank_slice(text: &str) -> Option<&'static str>
     ensures run { MatchOption result (¬ (IsBlankRun text.now)) (λ _. IsBlankRun text.now) }
     ensures reads { IfSome result (λ run. run.now ≡ text.now) }
