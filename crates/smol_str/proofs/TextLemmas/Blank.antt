@@ -105,3 +105,13 @@ passes_at a b la lb =
 
 pub Passes-from_IsBlankRun : (t : List ℕ) → IsBlankRun t → Passes t
 Passes-from_IsBlankRun t r = rw r.reads (passes_at r.newlines r.spaces r.few_newlines r.few_spaces)
+
+-- a blank run reads as its newlines and the rest as spaces
+pub reads-run : (t : List ℕ) → IsBlankRun t → t ≡ blank_run (leading_newlines t) (length t - leading_newlines t)
+reads-run t r = blank_run-from_tests t (Passes-from_IsBlankRun t r).rest
+
+-- a space follows the newlines, if anything does
+pub first-space : (t : List ℕ) (n : ℕ) → all_spaces (drop n t) ≡ true → n < length t → get_or t n 0 ≡ 32
+first-space [] n h l = absurd (omega arith)
+first-space (x ∷ xs) zero h l = same_char x 32 (and_parts (x == 32) (list_all (λ c. c == 32) xs) h).0
+first-space (x ∷ xs) (suc n) h l = first-space xs n h (omega arith)

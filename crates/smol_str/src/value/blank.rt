@@ -2,7 +2,7 @@
 //!
 //! A run that fits is a slice of one constant, so it needs no memory.
 ghost use Rattle.std.specs.Prelude.{◌≡◌, ◌≤◌, length, IfSome, MatchOption};
-ghost use Rattle.smol_str.specs.Text.{IsBlankRun, blank_run, leading_newlines, all_spaces};
+ghost use Rattle.smol_str.specs.Text.{IsBlankRun, blank_run, leading_newlines};
 
 /// The most newlines of a blank run that needs no memory.
 pub const BLANK_NEWLINES: usize = 64;
@@ -22,11 +22,20 @@ pub(crate) fn blank_slice(text: &str) -> Option<&'static str>
 {
     let bytes = text.as_bytes();
     let newlines = count_leading_newlines(bytes);
-    let spaces = bytes.len() - newlines;
-    if newlines > BLANK_NEWLINES || spaces > BLANK_SPACES || !is_all_spaces(&bytes[newlines..]) {
+    let spaces = text.len() - newlines;
+    if newlines > BLANK_NEWLINES || spaces > BLANK_SPACES {
         return None;
     }
-    Some(slice_of_blank(newlines, spaces))
+    // One byte tells of most texts that they are no run.
+    if spaces > 0 && bytes[newlines] != b' ' {
+        return None;
+    }
+    let run = slice_of_blank(newlines, spaces);
+    // std compares many bytes at a time.
+    if text != run {
+        return None;
+    }
+    Some(run)
 }
 
 /// So many newlines and then so many spaces, as a slice of the constant.
@@ -51,10 +60,4 @@ fn count_leading_newlines(bytes: &[u8]) -> usize
     ensures within { result ≤ length bytes.now }
 {
     bytes.iter().take_while(|byte| **byte == b'\n').count()
-}
-
-fn is_all_spaces(bytes: &[u8]) -> bool
-    ensures { result ≡ all_spaces bytes.now }
-{
-    bytes.iter().all(|byte| *byte == b' ')
 }
