@@ -2,10 +2,14 @@
 use Rattle.std.proofs.Common.{◌≡◌, ℕ, ◌+◌, List, [], ◌∷◌, ◌++◌, Bool, true, false, cond, Option, Some, unwrap_or, arith, rules}
 use Rattle.std.proofs.Common.{refl, sym, ap, ◌∙◌}
 use Rattle.std.specs.Map.{lookup, set_value}
+use Rattle.std.specs.Str.{chars, IsUtf8}
 use Rattle.std.proofs.lemmas.Slice.Eq.{bytes_eq-Decides}
 use Rattle.std.proofs.lemmas.Map.Steps.{set_value_same}
 use Rattle.indexmap.specs.IndexMap.{insert_entry}
+use Rattle.smol_str.specs.Keys.{stands_for}
 use Rattle.smol_str.specs.Meaning.{Meaning}
+use Rattle.smol_str.specs.declared.value.place.Place.TheVariants.{Inline}
+use Rattle.smol_str.proofs.CallerLemmas.{stands_for-text}
 use Rattle.smol_tokens_core.specs.Tally.{is_same, times_of, tally, HasEachOnce, by_text}
 use Rattle.smol_tokens_core.proofs.ListLemmas.{by_test}
 use Rattle.smol_tokens_core.proofs.TallyLemmas.{once-tally}
@@ -59,6 +63,14 @@ lookup-insert (e ∷ es) t n =
 -- by the text of a value, whatever its place
 abbrev pub is_text_of : Meaning → Meaning → Bool
 is_text_of token key = is_same token.text key.text
+
+-- any value of a text
+abbrev pub token_of : List ℕ → Meaning
+token_of t = record { text = t; place = Inline }
+
+-- a look-up by the bytes of a text is one by a value of it
+pub by_bytes : (bs : List ℕ) → IsUtf8 bs → (λ (key : Meaning). stands_for bs key) ≡ is_text_of (token_of (chars bs))
+by_bytes bs u = λ i key. stands_for-text bs key u i
 
 -- at a key that is there, a value written is one inserted
 set_there : (es : List (Meaning × ℕ)) (token : Meaning) (n m : ℕ) → lookup (is_text_of token) es ≡ Some n

@@ -7,13 +7,10 @@ use Rattle.std.proofs.lemmas.List.{map-append, append_assoc, length-append}
 use Rattle.std.proofs.lemmas.List.Sums.{sum_by-cons, sum_by-append}
 use Rattle.smol_tokens_core.specs.Lines.{lines}
 use Rattle.smol_tokens_core.specs.Tally.{is_same, times_of, tally, seen_once}
-use Rattle.smol_tokens_core.specs.TallyFaults.{AfterAddFault, of_add_fault}
 use Rattle.smol_tokens_core.specs.ReportFaults.{HasALineTooOften, HasNoReport}
 use Rattle.smol_tokens_core.specs.declared.fault.RunFault.{RunFault}
 use Rattle.smol_tokens_core.specs.declared.fault.RunFault.TheVariants as run
 use Rattle.smol_tokens_core.specs.declared.mode.Mode.TheVariants.{Tokens}
-use Rattle.smol_tokens_core.specs.declared.tally.AddFault.{AddFault}
-use Rattle.smol_tokens_core.specs.declared.tally.AddFault.TheVariants.{OutOfMemory, Full}
 use Rattle.smol_tokens_core.proofs.PieceLemmas.{lines-nil}
 use Rattle.smol_tokens_core.proofs.SightLemmas.{is_same_itself}
 use Rattle.smol_tokens_core.proofs.TallyLemmas.{times_of-tally, tally-again}
@@ -54,14 +51,6 @@ some_counts [] counts is some =
     let none : length counts ≡ 0 = ap length (is ∙ ap (λ l. tally (seen_once l)) lines-nil) in
     absurd (omega (arith, none, some))
 some_counts (c ∷ cs) counts is some = omega arith
-
--- what the fault of one add makes of a run
-pub of_add_fault-after : {T : Type 0} (r : Result T RunFault) (pairs : List (List ℕ × ℕ)) (t : List ℕ) (fault : AddFault)
-    → IsErrAnd r (λ made. made ≡ of_add_fault fault) → AfterAddFault pairs t 1 fault
-    → IfErr r (λ made. (made ≡ run.OutOfMemory) ⊎ ((made ≡ run.Full) × (2 ^ 64 ≤ times_of t pairs + 1)))
-of_add_fault-after (Ok v) pairs t fault is after = tt
-of_add_fault-after (Err made) pairs t (OutOfMemory token) is after = inl is
-of_add_fault-after (Err made) pairs t (Full token) is after = inr (is, after)
 
 -- the lines so far with the one that was not counted are a front of the lines
 pub no_report-add : (t line : List ℕ) (seen rest left : List (List ℕ)) (old : List (List ℕ × ℕ))

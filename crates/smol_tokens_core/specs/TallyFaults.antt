@@ -1,12 +1,15 @@
--- When each fault of a tally comes, what it gives back, and what it makes of a run.
-use Rattle.std.specs.Prelude.{◌≡◌, ℕ, ◌+◌, ◌≤◌, ◌^◌, List, None}
+-- When each fault of a tally comes, what it gives back, and what it makes of a run; what stands after a text was to be
+-- counted again.
+use Rattle.std.specs.Prelude.{◌≡◌, ℕ, ◌+◌, ◌<◌, ◌≤◌, ◌^◌, List, [], ◌∷◌, ◌++◌, None, Some}
 use Rattle.std.specs.Map.{lookup}
 use Rattle.smol_str.specs.Meaning.{Meaning}
 use Rattle.smol_tokens_core.specs.declared.tally.AddFault.{AddFault}
+use Rattle.smol_tokens_core.specs.declared.tally.Again.{Again}
+use Rattle.smol_tokens_core.specs.declared.tally.Again.TheVariants.{Counted, Full as FullAgain, New}
 use Rattle.smol_tokens_core.specs.declared.tally.AddFault.TheVariants.{OutOfMemory, Full}
 use Rattle.smol_tokens_core.specs.declared.fault.RunFault.{RunFault}
 use Rattle.smol_tokens_core.specs.declared.fault.RunFault.TheVariants as run
-use Rattle.smol_tokens_core.specs.Tally.{is_same, times_of}
+use Rattle.smol_tokens_core.specs.Tally.{is_same, times_of, tally}
 
 -- of t, with so many times, to a tally of the pairs: t is new; or its count would be no `u64`
 abbrev pub AfterAddFault : List (List ℕ × ℕ) → List ℕ → ℕ → AddFault → Type 0
@@ -22,3 +25,10 @@ given_back (Full token) = token
 abbrev pub of_add_fault : AddFault → RunFault
 of_add_fault (OutOfMemory token) = run.OutOfMemory
 of_add_fault (Full token) = run.Full
+
+-- of t, with so many times, which is in the tally or not
+abbrev pub AfterAgain : List (List ℕ × ℕ) → List (List ℕ × ℕ) → List ℕ → ℕ → Again → Type 0
+AfterAgain old new t times (Counted count) =
+    (new ≡ tally (old ++ (t, times) ∷ [])) × (lookup (is_same t) new ≡ Some count) × (times_of t old + times < 2 ^ 64)
+AfterAgain old new t times FullAgain = (new ≡ old) × (2 ^ 64 ≤ times_of t old + times)
+AfterAgain old new t times New = (new ≡ old) × (lookup (is_same t) old ≡ None) × (times_of t old ≡ 0)

@@ -1,10 +1,13 @@
 //! How often each token was seen.
-ghost use Rattle.std.specs.Prelude.{◌≡◌, ◌<◌, ◌+◌, ◌^◌, [], ◌∷◌, ◌++◌, Some, IfOk, IfErr, OnOk, OnErr, length, slice_get, option_map};
+ghost use Rattle.std.specs.Prelude.{◌≡◌, ◌<◌, ◌+◌, ◌^◌, [], ◌∷◌, ◌++◌, Some, None, IfOk, IfErr, OnOk, OnErr, length, slice_get, option_map};
 ghost use Rattle.std.specs.Map.{lookup};
+ghost use Rattle.std.specs.Str.{chars};
+ghost use Rattle.smol_str.specs.KeyLaws.{stands_for-hash, stands_for-same};
+ghost use Rattle.smol_str.specs.Keys.{stands_for};
 ghost use Rattle.smol_tokens_core.specs.Tally.{is_same, times_of, tally, HasEachOnce};
-ghost use Rattle.smol_tokens_core.specs.TallyFaults.{AfterAddFault, given_back};
+ghost use Rattle.smol_tokens_core.specs.TallyFaults.{AfterAddFault, AfterAgain, given_back};
 
-use indexmap::IndexMap;
+use indexmap::{Equivalent, IndexMap};
 use smol_str::SmolStr;
 use std::alloc::Global;
 use std::hash::{BuildHasher, BuildHasherDefault, FoldHasher};
@@ -17,6 +20,16 @@ pub enum AddFault {
     OutOfMemory(SmolStr),
     /// The count would pass `u64::MAX`.
     Full(SmolStr),
+}
+
+/// What became of a text that was to be counted again.
+pub(crate) enum Again {
+    /// It is in the tally, and has this count now.
+    Counted(u64),
+    /// It is in the tally, and its count would pass `u64::MAX`: nothing changed.
+    Full,
+    /// It is not in the tally.
+    New,
 }
 
 /// A table of tokens and how often each was counted, in order of first sight.
@@ -74,6 +87,7 @@ impl<S: BuildHasher> Tally<S> {
     /// comes back in it: it is [`AddFault::Full`] where the count would pass `u64::MAX`, which is
     /// tested first; and [`AddFault::OutOfMemory`] where there is no room for a new token. A token
     /// that is there takes no memory.
+    #[tactic(auto, using(smol_str::proofs::CallerLemmas::texts))]
     pub fn add(&mut self, token: SmolStr, times: u64) -> Result<u64, AddFault>
         ensures ok { OnOk result (self.new ≡ tally (self.old ++ (token.text, times) ∷ [])) }
         ensures count { IfOk result (λ count. lookup (is_same token.text) self.new ≡ Some count) }
@@ -83,17 +97,44 @@ impl<S: BuildHasher> Tally<S> {
         ensures back { IfErr result (λ fault. given_back fault ≡ token) }
         ensures unchanged { OnErr result (self.new ≡ self.old) }
     {
-        if let Some(count) = self.counts.get_mut(&token) {
-            let Some(more) = count.checked_add(times) else {
-                return Err(AddFault::Full(token));
-            };
-            *count = more;
-            return Ok(more);
+        match self.add_again(token.as_str(), times) {
+            Again::Counted(count) => Ok(count),
+            Again::Full => Err(AddFault::Full(token)),
+            Again::New => match self.add_new(token, times) {
+                Ok(()) => Ok(times),
+                Err(token) => Err(AddFault::OutOfMemory(token)),
+            },
         }
+    }
+
+    /// Counts a text so many `times` more, where it is in the tally: no value is made to look it up.
+    #[inline(always)]
+    pub(crate) fn add_again(&mut self, text: &str, times: u64) -> Again
+        ensures { AfterAgain self.old self.new (chars text.now) times result }
+    {
+        let Some(count) = self.counts.get_mut(ByText(text)) else {
+            return Again::New;
+        };
+        let Some(more) = count.checked_add(times) else {
+            return Again::Full;
+        };
+        *count = more;
+        Again::Counted(more)
+    }
+
+    /// Takes a token in that is not in the tally; where memory is refused it comes back.
+    #[inline(always)]
+    pub(crate) fn add_new(&mut self, token: SmolStr, times: u64) -> Result<(), SmolStr>
+        requires new { lookup (is_same token.text) self.old ≡ None }
+        ensures ok { OnOk result (self.new ≡ tally (self.old ++ (token.text, times) ∷ [])) }
+        ensures count { OnOk result (lookup (is_same token.text) self.new ≡ Some times) }
+        ensures back { IfErr result (λ back. back ≡ token) }
+        ensures unchanged { OnErr result (self.new ≡ self.old) }
+    {
         if let Err(refused) = self.counts.insert(token, times) {
-            return Err(AddFault::OutOfMemory(refused.value.0));
+            return Err(refused.value.0);
         }
-        Ok(times)
+        Ok(())
     }
 
     /// The count of a token, by its text; `None` where it was never added.
@@ -117,5 +158,21 @@ impl<S: BuildHasher> Tally<S> {
     {
         let (token, count) = self.counts.get_index(index)?;
         Some((token, *count))
+    }
+}
+
+/// A text that stands for the tokens that have it. It is hashed as its text, and so as each of them.
+#[derive(Clone, Copy, PartialEq, Eq, Hash)]
+struct ByText<'a>(&'a str);
+
+impl Equivalent<SmolStr> for ByText<'_> {
+    ghost equivalent = { λ query key. stands_for query.0.now key };
+
+    ghost respects_hash = { λ query key. stands_for-hash query.0.now key };
+
+    ghost respects_eq = { λ query x y. stands_for-same query.0.now x y };
+
+    fn equivalent(&self, key: &SmolStr) -> bool {
+        key.as_str() == self.0
     }
 }

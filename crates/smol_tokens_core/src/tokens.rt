@@ -12,7 +12,7 @@ ghost use Rattle.smol_tokens_core.specs.ReportFaults.{HasNoReport};
 
 use crate::fault::RunFault;
 use crate::lines::Lines;
-use crate::tally::Tally;
+use crate::tally::{Again, Tally};
 use smol_str::SmolStr;
 use std::alloc::{AllocError, Global};
 use std::hash::BuildHasher;
@@ -59,8 +59,15 @@ fn add_line<S: BuildHasher>(
         ⊎ ((fault ≡ Full) × (2 ^ 64 ≤ times_of (chars line.now) counts.old + 1))) }
     ensures unchanged { OnErr result (counts.new ≡ counts.old) }
 {
-    counts.add(SmolStr::new(alloc, line)?, 1)?;
-    Ok(())
+    // Most lines stand more than once: a value is made of a new one alone.
+    match counts.add_again(line, 1) {
+        Again::Counted(_) => Ok(()),
+        Again::Full => Err(RunFault::Full),
+        Again::New => match counts.add_new(SmolStr::new(alloc, line)?, 1) {
+            Ok(()) => Ok(()),
+            Err(_) => Err(RunFault::OutOfMemory),
+        },
+    }
 }
 
 /// The count line of each token.
