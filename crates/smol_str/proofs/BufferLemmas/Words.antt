@@ -1,5 +1,5 @@
 -- For the functions of `buffer::words` that read, pack and overwrite bytes: bytes as words.
-use Rattle.smol_str.proofs.Common.{◌≡◌, ℕ, zero, suc, ◌+◌, ◌-◌, ◌*◌, ◌^◌, ◌/◌, ◌<◌, ◌≤◌, List, [], ◌∷◌, ◌++◌, length, take, drop, get_or, replicate, sym, ◌∙◌, ap, arith, refl, length-take, length-drop, nat_eq, ◌&&◌, set, length-append, w64, w32, to_le_bytes, from_le_bytes, pointwise, bytes_decides, take-add, take-append-add, drop-append-add, le_bytes_8, pow-add, cases_lt, Decides-and, Decides-like, Decides-eqb, same_from_decides, take_at, drop_at, take_all, take-take, drop-take, drop-drop, take-append-le, take-append-drop, append_assoc, length-take-le, get_or-drop, get_or-take, get_or_past, set_at, length-replicate, drop-replicate, INLINE_CAP, packed, padded, put_at, with_zeros, put_chunk, encode, replicate_more, common_steps, rules}
+use Rattle.smol_str.proofs.Common.{◌≡◌, ℕ, zero, suc, ◌+◌, ◌-◌, ◌*◌, ◌^◌, ◌/◌, ◌<◌, ◌≤◌, List, [], ◌∷◌, ◌++◌, length, take, drop, get_or, replicate, sym, ◌∙◌, ap, arith, refl, length-take, length-drop, nat_eq, ◌&&◌, Bool, true, set, length-append, w64, w32, to_le_bytes, from_le_bytes, pointwise, bytes_decides, take-add, take-append-add, drop-append-add, le_bytes_8, pow-add, cases_lt, Decides-and, Decides-like, Decides-eqb, same_from_decides, take_at, drop_at, take_all, take-take, drop-take, drop-drop, take-append-le, take-append-drop, append_assoc, length-take-le, get_or-drop, get_or-take, get_or_past, set_at, length-replicate, drop-replicate, INLINE_CAP, packed, padded, put_at, with_zeros, put_chunk, encode, replicate_more, common_steps, rules}
 use Rattle.std.proofs.lemmas.Simd.{take_more_put_chunk, length-put_chunk}
 use Rattle.std.proofs.Math.Nat.{div-div-eq-div-mul, pow-succ', mul-le-mul_left}
 use Rattle.smol_str.specs.Words.{word}
@@ -155,7 +155,7 @@ one-word buf bytes n b h e put =
     ∙ take-append-drop 8 (with_zeros bytes)
 
 -- one word of two lists
-same-word : (xs ys : List ℕ) (at : ℕ) → take (at + 8) xs ≡ take (at + 8) ys →
+pub same-word : (xs ys : List ℕ) (at : ℕ) → take (at + 8) xs ≡ take (at + 8) ys →
     (take at xs ≡ take at ys) × (word 8 xs at ≡ word 8 ys at)
 same-word xs ys at e =
     let here : take 8 (drop at xs) ≡ take 8 (drop at ys) =
@@ -164,7 +164,7 @@ same-word xs ys at e =
       (sym (read-eight xs at) ∙ ap (from_le_bytes w64) here ∙ read-eight ys at),
     )
 
-more-same : (xs ys : List ℕ) (at : ℕ) → AreBytes xs → AreBytes ys → at + 8 ≤ length xs → at + 8 ≤ length ys →
+pub more-same : (xs ys : List ℕ) (at : ℕ) → AreBytes xs → AreBytes ys → at + 8 ≤ length xs → at + 8 ≤ length ys →
     take at xs ≡ take at ys → word 8 xs at ≡ word 8 ys at → take (at + 8) xs ≡ take (at + 8) ys
 more-same xs ys at b c h k front same =
     let here : take 8 (drop at xs) ≡ take 8 (drop at ys) = sym (write-eight xs at b h) ∙ ap (to_le_bytes w64) same
@@ -176,6 +176,21 @@ pub same-step : (xs ys : List ℕ) (at : ℕ) → AreBytes xs → AreBytes ys �
     (pointwise nat_eq (take at xs) (take at ys) && nat_eq (word 8 xs at) (word 8 ys at)) ≡ pointwise nat_eq
     (take (at + 8) xs) (take (at + 8) ys)
 same-step xs ys at b c h k = grind (arith, common_steps, Decides-and, bytes_decides, Decides-eqb, same_from_decides, Decides-like, more-same, same-word)
+
+-- bytes of one length by words: a word more, and the last, which may overlap the others
+pub same-last : (xs ys : List ℕ) (at last : ℕ) → AreBytes xs → AreBytes ys → length xs ≡ length ys →
+    last + 8 ≡ length xs → last ≤ at → take at xs ≡ take at ys → word 8 xs last ≡ word 8 ys last → xs ≡ ys
+same-last xs ys at last b c long all so_far front same =
+    let before : take last xs ≡ take last ys =
+    sym (take-take last at xs so_far) ∙ ap (take last) front ∙ take-take last at ys so_far in
+    sym (take_all (last + 8) xs (omega (arith, all)))
+    ∙ more-same xs ys last b c (omega (arith, all)) (omega (arith, all, long)) before same
+    ∙ take_all (last + 8) ys (omega (arith, all, long))
+
+-- what a comparison finds
+pub same_from : (found : Bool) (xs ys : List ℕ) → (found ≡ true → xs ≡ ys) → (xs ≡ ys → found ≡ true) →
+    found ≡ pointwise nat_eq xs ys
+same_from found xs ys same found_so = same_from_decides found (pointwise nat_eq xs ys) (same, found_so) (bytes_decides xs ys)
 
 -- a character's bytes
 bytes-form : (c : ℕ) → c < 1114112 → Form c → AreBytes (encode c)

@@ -14,7 +14,7 @@
 //! So two texts are equal where their words are, and the first words that differ order them: if one
 //! text is a prefix of the other, zeros follow it and then a smaller length, so it sorts first. A text
 //! is written by words too, since loading a word just after byte stores stalls.
-ghost use Rattle.std.specs.Prelude.{◌≡◌, ◌+◌, ◌*◌, ◌<◌, ◌≤◌, length, take, drop, nat_eq, encode_utf8};
+ghost use Rattle.std.specs.Prelude.{◌≡◌, ◌↔◌, IsTrue, ◌+◌, ◌*◌, ◌<◌, ◌≤◌, length, take, drop, nat_eq, encode_utf8};
 ghost use Rattle.std.specs.Ordering.{nat_cmp};
 ghost use Rattle.std.specs.Cmp.Lexicographic.{pointwise, slice_cmp};
 ghost use Rattle.std.specs.Int.{w64, to_le_bytes, from_be_bytes};
@@ -179,6 +179,45 @@ pub(super) fn same_words(left: &Packed, right: &Packed) -> bool
         same &= read_u64(left, 8 * i) == read_u64(right, 8 * i);
     }
     same
+}
+
+/// Whether the bytes are equal: two words at a time, where the last two overlap the others.
+#[inline(always)]
+pub(crate) fn same_bytes(left: &[u8], right: &[u8]) -> bool
+    ensures { result ≡ pointwise nat_eq left.now right.now }
+{
+    let len = left.len();
+    if len != right.len() {
+        return false;
+    }
+    if len < 8 {
+        return left == right;
+    }
+    if len < 16 {
+        return same_two(left, right, 0, len - 8);
+    }
+    let mut at = 0;
+    while len - at > 16 {
+        if !same_two(left, right, at, at + 8) {
+            return false;
+        }
+        at += 16;
+    }
+    same_two(left, right, len - 16, len - 8)
+}
+
+/// Whether two words are equal; neither decides alone, so that nothing branches between them.
+#[inline(always)]
+fn same_two(left: &[u8], right: &[u8], first: usize, second: usize) -> bool
+    requires first_left { first + 8 ≤ length left.now }
+    requires first_right { first + 8 ≤ length right.now }
+    requires second_left { second + 8 ≤ length left.now }
+    requires second_right { second + 8 ≤ length right.now }
+    ensures { IsTrue result ↔ (word 8 left.now first ≡ word 8 right.now first)
+        × (word 8 left.now second ≡ word 8 right.now second) }
+{
+    (read_u64(left, first) == read_u64(right, first))
+        & (read_u64(left, second) == read_u64(right, second))
 }
 
 /// The order of the bytes: of the first words that differ.
