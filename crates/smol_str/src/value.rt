@@ -83,10 +83,15 @@ impl SmolStr {
         ensures ok { IfOk result (λ v. IsValueOf (chars text.now) v) }
         ensures refused { OnErr result (¬ (IsResident (chars text.now))) }
     {
-        if let Some(value) = SmolStr::resident(text) {
-            return Ok(value);
+        if text.len() <= INLINE_CAP {
+            return Ok(SmolStr::new_inline(text));
         }
-        Ok(SmolStr::from_heap(shared(alloc, text)?))
+        match blank_slice(text) {
+            Some(run) => Ok(SmolStr {
+                repr: Repr::Static(run),
+            }),
+            None => Ok(SmolStr::from_heap(shared(alloc, text)?)),
+        }
     }
 
     /// A value of a text of at most [`INLINE_CAP`] bytes, which needs no memory.

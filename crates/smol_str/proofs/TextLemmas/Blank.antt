@@ -1,5 +1,5 @@
 -- For `blank_slice` and the places: the constant's slices, and the test for a run.
-use Rattle.smol_str.proofs.Common.{◌≡◌, ℕ, zero, suc, ◌+◌, ◌-◌, ◌<◌, ◌≤◌, List, [], ◌∷◌, ◌++◌, length, take, drop, replicate, get_or, refl, ◌∙◌, ap, Bool, true, false, ◌==◌, arith, length-append, list_all, IsAscii, IsAscii-append, drop-append-le, drop-replicate, take-replicate, nat_tests, take-append-add, drop-append_seam, blank_run, leading_newlines, all_spaces, IsBlankRun, and_parts, common_steps}
+use Rattle.smol_str.proofs.Common.{◌≡◌, ℕ, zero, suc, ◌+◌, ◌-◌, ◌<◌, ◌≤◌, List, [], ◌∷◌, ◌++◌, length, take, drop, replicate, get_or, refl, ◌∙◌, ap, Bool, true, false, ◌==◌, arith, length-append, list_all, IsAscii, IsAscii-append, drop-append-le, drop-replicate, take-replicate, nat_tests, take-append-add, drop-append_seam, blank_run, leading_newlines, all_spaces, IsBlankRun, and_parts, common_steps, ◌⊎◌, inl, inr}
 use Rattle.std.proofs.Math.ListN.{length-replicate}
 use Rattle.smol_str.specs.declared.value.blank.TheConstants.{BLANK_NEWLINES, BLANK_SPACES}
 
@@ -110,8 +110,11 @@ Passes-from_IsBlankRun t r = rw r.reads (passes_at r.newlines r.spaces r.few_new
 pub reads-run : (t : List ℕ) → IsBlankRun t → t ≡ blank_run (leading_newlines t) (length t - leading_newlines t)
 reads-run t r = blank_run-from_tests t (Passes-from_IsBlankRun t r).rest
 
--- a space follows the newlines, if anything does
-pub first-space : (t : List ℕ) (n : ℕ) → all_spaces (drop n t) ≡ true → n < length t → get_or t n 0 ≡ 32
-first-space [] n h l = absurd (omega arith)
-first-space (x ∷ xs) zero h l = same_char x 32 (and_parts (x == 32) (list_all (λ c. c == 32) xs) h).0
-first-space (x ∷ xs) (suc n) h l = first-space xs n h (omega arith)
+-- a run begins with one of the two
+pub first-blank : (x : ℕ) (xs : List ℕ) → IsBlankRun (x ∷ xs) → (x ≡ 10) ⊎ (x ≡ 32)
+first-blank x xs r = begins r.newlines r.spaces (ap (λ t. get_or t 0 10) r.reads)
+  where
+    begins : (a b : ℕ) → x ≡ get_or (blank_run a b) 0 10 → (x ≡ 10) ⊎ (x ≡ 32)
+    begins zero zero e = inl e
+    begins zero (suc b) e = inr e
+    begins (suc a) b e = inl e

@@ -15,19 +15,29 @@ const BLANK: &str =
 
 /// The slice of the blank constant that reads as the text; `None` exactly where the text is no
 /// blank run.
-#[inline(never)]
+#[inline(always)]
 pub(crate) fn blank_slice(text: &str) -> Option<&'static str>
     ensures run { MatchOption result (¬ (IsBlankRun text.now)) (λ _. IsBlankRun text.now) }
     ensures reads { IfSome result (λ run. run.now ≡ text.now) }
 {
-    let bytes = text.as_bytes();
-    let newlines = count_leading_newlines(bytes);
+    // The first byte tells of most texts that they are no run.
+    if let Some(byte) = text.as_bytes().first() {
+        if *byte != b'\n' && *byte != b' ' {
+            return None;
+        }
+    }
+    find_blank(text)
+}
+
+/// The same by all of the text.
+#[inline(never)]
+fn find_blank(text: &str) -> Option<&'static str>
+    ensures run { MatchOption result (¬ (IsBlankRun text.now)) (λ _. IsBlankRun text.now) }
+    ensures reads { IfSome result (λ run. run.now ≡ text.now) }
+{
+    let newlines = count_leading_newlines(text.as_bytes());
     let spaces = text.len() - newlines;
     if newlines > BLANK_NEWLINES || spaces > BLANK_SPACES {
-        return None;
-    }
-    // One byte tells of most texts that they are no run.
-    if spaces > 0 && bytes[newlines] != b' ' {
         return None;
     }
     let run = slice_of_blank(newlines, spaces);

@@ -1,26 +1,6 @@
-use Rattle.smol_str.proofs.Common.{◌≡◌, ◌-◌, ◌∙◌, sym, ap, length, true, not, false≢true, nat_eq, pointwise, arith, rules, bytes_decides, blank_run, leading_newlines, all_spaces, drop, get_or}
-use Rattle.smol_str.proofs.TextLemmas.Blank.{Passes-from_IsBlankRun, reads-run, first-space}
-use Rattle.smol_str.proofs.value.blank.blank_slice.Goals.{then-newlines-gt-BLANK_NEWLINES-via-then-newlines-gt-BLANK_NEWLINES, then-newlines-gt-BLANK_NEWLINES-via-else-newlines-gt-BLANK_NEWLINES+then-spaces-gt-BLANK_SPACES}
+use Rattle.smol_str.proofs.Common.{arith, rules}
+use Rattle.smol_str.proofs.TextLemmas.Blank.{first-blank}
 use Rattle.smol_str.proofs.value.blank.blank_slice.Goals as goal
 
-pub returns-then-newlines-gt-BLANK_NEWLINES-clause-run :
-    goal.returns-then-newlines-gt-BLANK_NEWLINES-clause-run
-returns-then-newlines-gt-BLANK_NEWLINES-clause-run c run = search (rules, arith, Passes-from_IsBlankRun)
-
-pub returns-then-ne-clause-run : goal.returns-then-ne-clause-run
-returns-then-ne-clause-run c run =
-    let text = c.args.text.now in
-    let newlines = c.count_leading_newlines-newlines.ensures.value ∙ ap leading_newlines c.as_bytes-bytes.ensures.value in
-    let whole : text ≡ c.slice_of_blank-run.result.now =
-    reads-run text run ∙ ap (λ n. blank_run n (length text - n)) (sym newlines) ∙ sym c.slice_of_blank-run.ensures in
-    let same : pointwise nat_eq text c.slice_of_blank-run.result.now ≡ true = (bytes_decides _ _).1 whole in
-    false≢true (sym (sym c.if-ne.true ∙ c.ne.ensures ∙ ap not same))
-
-pub returns-then-bytes-newlines-ne32-clause-run : goal.returns-then-bytes-newlines-ne32-clause-run
-returns-then-bytes-newlines-ne32-clause-run c run =
-    let text = c.args.text.now in
-    let n = c.count_leading_newlines-newlines.result in
-    let newlines = c.count_leading_newlines-newlines.ensures.value ∙ ap leading_newlines c.as_bytes-bytes.ensures.value in
-    let rest = ap (λ k. all_spaces (drop k text)) newlines ∙ (Passes-from_IsBlankRun text run).rest in
-    let space = first-space text n rest (omega (arith, c.if-spaces-gt0.true)) in
-    c.if-bytes-newlines-ne32.true (ap (λ t. get_or t n 0) c.as_bytes-bytes.ensures.value ∙ space)
+pub returns-then-byte-ne32-clause-run : goal.returns-then-byte-ne32-clause-run
+returns-then-byte-ne32-clause-run c run = search (rules, arith, first-blank)
