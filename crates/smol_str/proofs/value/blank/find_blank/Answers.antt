@@ -1,4 +1,4 @@
-use Rattle.smol_str.proofs.Common.{◌≡◌, ◌-◌, ◌∙◌, sym, ap, length, true, not, false≢true, nat_eq, pointwise, arith, rules, bytes_decides, blank_run, leading_newlines, all_spaces}
+use Rattle.smol_str.proofs.Common.{◌≡◌, ◌-◌, ◌∙◌, sym, ap, length, true, not, false≢true, nat_eq, pointwise, arith, rules, bytes_decides, blank_run, leading_newlines}
 use Rattle.smol_str.proofs.TextLemmas.Blank.{Passes-from_IsBlankRun, reads-run}
 use Rattle.smol_str.proofs.value.blank.find_blank.Goals.{then-newlines-gt-BLANK_NEWLINES-via-then-newlines-gt-BLANK_NEWLINES, then-newlines-gt-BLANK_NEWLINES-via-else-newlines-gt-BLANK_NEWLINES+then-spaces-gt-BLANK_SPACES}
 use Rattle.smol_str.proofs.value.blank.find_blank.Goals as goal
