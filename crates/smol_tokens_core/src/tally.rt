@@ -173,6 +173,6 @@ impl Equivalent<SmolStr> for ByText<'_> {
     ghost respects_eq = { λ query x y. stands_for-same query.0.now x y };
 
     fn equivalent(&self, key: &SmolStr) -> bool {
-        key.as_str() == self.0
+        key.eq_str(self.0)
     }
 }
