@@ -181,7 +181,8 @@ pub(super) fn same_words(left: &Packed, right: &Packed) -> bool
     same
 }
 
-/// Whether the bytes are equal: two words at a time, where the last two overlap the others.
+/// Whether the bytes are equal. From 8 to 32 of them are two or four words, which overlap: fewer instructions than
+/// std's comparison, which is as good for more.
 #[inline(always)]
 pub(crate) fn same_bytes(left: &[u8], right: &[u8]) -> bool
     ensures { result ≡ pointwise nat_eq left.now right.now }
@@ -190,18 +191,14 @@ pub(crate) fn same_bytes(left: &[u8], right: &[u8]) -> bool
     if len != right.len() {
         return false;
     }
-    if len < 8 {
+    if len < 8 || len > 32 {
         return left == right;
     }
-    if len < 16 {
+    if len <= 16 {
         return same_two(left, right, 0, len - 8);
     }
-    let mut at = 0;
-    while len - at > 16 {
-        if !same_two(left, right, at, at + 8) {
-            return false;
-        }
-        at += 16;
+    if !same_two(left, right, 0, 8) {
+        return false;
     }
     same_two(left, right, len - 16, len - 8)
 }
