@@ -201,7 +201,7 @@ fn has_high<const N: usize>(lanes: Simd<u8, N>) -> bool
 
 /// The `N` bytes from a place on.
 #[inline(always)]
-pub(crate) fn load<const N: usize>(bytes: &[u8], at: usize) -> Simd<u8, N>
+fn load<const N: usize>(bytes: &[u8], at: usize) -> Simd<u8, N>
     requires { at + N ≤ length bytes.now }
     ensures lanes { result ≡ take N (drop at bytes.now) }
     ensures long { length result ≡ N }

@@ -1,6 +1,5 @@
 -- For the functions of `buffer::words` that read, pack and overwrite bytes: bytes as words.
-use Rattle.smol_str.proofs.Common.{◌≡◌, ℕ, zero, suc, ◌+◌, ◌-◌, ◌*◌, ◌^◌, ◌/◌, ◌<◌, ◌≤◌, List, [], ◌∷◌, ◌++◌, length, take, drop, get_or, replicate, sym, ◌∙◌, ap, arith, refl, length-take, length-drop, nat_eq, ◌&&◌, Bool, true, set, length-append, w64, w32, to_le_bytes, from_le_bytes, pointwise, bytes_decides, take-add, take-append-add, drop-append-add, le_bytes_8, pow-add, cases_lt, Decides-and, Decides-like, Decides-eqb, same_from_decides, take_at, drop_at, take_all, take-take, drop-take, drop-drop, take-append-le, take-append-drop, append_assoc, length-take-le, get_or-drop, get_or-take, get_or_past, set_at, length-replicate, drop-replicate, INLINE_CAP, packed, padded, put_at, with_zeros, put_chunk, encode, replicate_more, common_steps, rules}
-use Rattle.std.proofs.lemmas.Simd.{take_more_put_chunk, length-put_chunk}
+use Rattle.smol_str.proofs.Common.{◌≡◌, ℕ, zero, suc, ◌+◌, ◌-◌, ◌*◌, ◌^◌, ◌/◌, ◌<◌, ◌≤◌, List, [], ◌∷◌, ◌++◌, length, take, drop, get_or, replicate, sym, ◌∙◌, ap, arith, refl, length-take, length-drop, nat_eq, ◌&&◌, Bool, true, set, length-append, w64, w32, to_le_bytes, from_le_bytes, pointwise, bytes_decides, take-add, take-append-add, drop-append-add, le_bytes_8, pow-add, cases_lt, Decides-and, Decides-like, Decides-eqb, same_from_decides, take_at, drop_at, take_all, take-take, drop-take, drop-drop, take-append-le, take-append-drop, append_assoc, length-take-le, get_or-drop, get_or-take, get_or_past, set_at, length-replicate, drop-replicate, INLINE_CAP, packed, padded, put_at, with_zeros, encode, replicate_more, common_steps, rules}
 use Rattle.std.proofs.Math.Nat.{div-div-eq-div-mul, pow-succ', mul-le-mul_left}
 use Rattle.smol_str.specs.Words.{word}
 use Rattle.smol_str.proofs.BufferLemmas.Packed.{length-padded}
@@ -251,23 +250,9 @@ two-ends r bytes y z s k m a b e h l f g p q =
     )
 
 -- the step of a loop that copies
-pub copy-step : (new old bytes lanes : List ℕ) (at n : ℕ) → at + n ≤ length bytes → length old ≡ length bytes →
-    take at old ≡ take at bytes → lanes ≡ take n (drop at bytes) → new ≡ put_chunk at old lanes →
-    (length new ≡ length bytes) × (take (at + n) new ≡ take (at + n) bytes)
-copy-step new old bytes lanes at n within long front is put =
-    let few : length lanes ≡ n = ap length is ∙ length-part n bytes at within in
-    let more : at + n ≡ at + length lanes = omega (arith, few) in (
-      ap length put ∙ length-put_chunk at old lanes ∙ long,
-      ap (take (at + n)) put ∙ take_more_put_chunk at old lanes (at + n) more (omega (arith, within, long))
-          ∙ ap (λ xs. xs ++ lanes) front ∙ ap (λ ys. take at bytes ++ ys) is ∙ sym (take-add at n bytes),
-    )
-
--- its end: the last bytes are copied once more
-pub copy-end : (new old bytes lanes : List ℕ) (at done n : ℕ) → at + n ≡ length bytes → at ≤ done →
-    length old ≡ length bytes → take done old ≡ take done bytes → lanes ≡ take n (drop at bytes) →
-    new ≡ put_chunk at old lanes → new ≡ bytes
-copy-end new old bytes lanes at done n all so_far long front is put =
-    let before : take at old ≡ take at bytes =
-    sym (take-take at done old so_far) ∙ ap (take at) front ∙ take-take at done bytes so_far in
-    let whole = copy-step new old bytes lanes at n (omega (arith, all)) long before is put in
-    sym (take_all (at + n) new (omega (arith, whole.0, all))) ∙ whole.1 ∙ take_all (at + n) bytes (omega (arith, all))
+pub copy-step : (new old bytes : List ℕ) (at n : ℕ) → AreBytes bytes → at + 8 ≤ length bytes → at + 8 ≤ length old →
+    take at old ≡ take at bytes → n ≡ word 8 bytes at → new ≡ put_at old at (to_le_bytes w64 n) →
+    take (at + 8) new ≡ take (at + 8) bytes
+copy-step new old bytes at n are within long front e put =
+    let eight : to_le_bytes w64 n ≡ take 8 (drop at bytes) = ap (to_le_bytes w64) e ∙ write-eight bytes at are within in
+    grind (arith, common_steps, take-end, length-take-le, take-add)

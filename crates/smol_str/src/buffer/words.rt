@@ -22,8 +22,9 @@ ghost use Rattle.smol_str.specs.Buffer.{packed};
 ghost use Rattle.smol_str.specs.Words.{word, put_at, with_zeros};
 
 use super::{INLINE_CAP, PACKED_LEN, Packed};
-use crate::kernel::{load, store};
+use crate::kernel::store;
 use std::cmp::Ordering;
+use std::simd::prelude::*;
 
 /// How many words a packed text is.
 const WORDS: usize = PACKED_LEN / 8;
@@ -50,17 +51,16 @@ pub(super) fn pack(bytes: &[u8]) -> Packed
     buf
 }
 
-/// A copy by lanes. The compiler leaves a copy of the whole block in memory, and loads it again at each move; and
-/// `copy_from_slice` compares where the two slices lie.
+/// A copy word by word, each moved as one number. The compiler leaves a copy of the whole block, or of lanes, in
+/// memory, and loads it again at each move; and `copy_from_slice` compares where the two slices lie.
 #[inline(always)]
 pub(super) fn copy_packed(packed: &Packed) -> Packed
     ensures { result ≡ packed.now }
 {
     let mut buf = [0; PACKED_LEN];
-    for i in 0..PACKED_LEN / 16 {
-        store(&mut buf, 16 * i, load::<16>(packed, 16 * i));
+    for i in 0..WORDS {
+        store_word(&mut buf, 8 * i, read_u64(packed, 8 * i));
     }
-    store(&mut buf, PACKED_LEN - 8, load::<8>(packed, PACKED_LEN - 8));
     buf
 }
 
@@ -96,6 +96,16 @@ fn put_word(buf: &mut Packed, start: usize, word: u64)
     ensures { buf.new ≡ put_at buf.old start (to_le_bytes w64 word) }
 {
     buf[start..start + 8].copy_from_slice(&word.to_le_bytes());
+}
+
+/// Overwrites eight bytes by one store. For a word that was loaded as one: of any other the compiler makes its lanes one
+/// by one.
+#[inline(always)]
+fn store_word(buf: &mut Packed, start: usize, word: u64)
+    requires { start + 8 ≤ PACKED_LEN }
+    ensures { buf.new ≡ put_at buf.old start (to_le_bytes w64 word) }
+{
+    store(buf, start, Simd::<u8, 8>::from_array(word.to_le_bytes()));
 }
 
 /// Eight bytes from `at` on, with zeros past the end.

@@ -1,18 +1,11 @@
-use Rattle.smol_str.proofs.Common.{◌≡◌, ◌*◌, ◌+◌, ◌-◌, sym, ◌∙◌, arith, PACKED_LEN}
-use Rattle.smol_str.proofs.BufferLemmas.Words.{copy-step, copy-end}
+use Rattle.smol_str.proofs.Common.{◌≡◌, ◌*◌, ◌+◌, arith}
+use Rattle.smol_str.proofs.BufferLemmas.Words.{copy-step}
 use Rattle.smol_str.proofs.buffer.words.copy_packed.Goals as goal
 
 pub loop-i-preserved : goal.loop-i-preserved
 loop-i-preserved c =
-    let long = c.told-packed in
-    let next : 16 * (c.loop-i.i + 1) ≡ 16 * c.loop-i.i + 16 = omega arith in
-    let step = copy-step _ c.loop-i.buf c.args.packed.now _ (16 * c.loop-i.i) 16 (omega (arith, long, c.loop-i-test.true))
-    (c.loop-i.invariant.long ∙ sym long) c.loop-i.invariant.front c.load.ensures.lanes c.store.ensures in
-    record { long = step.0 ∙ long; front = rw next step.1 }
-
-pub returns : goal.returns
-returns c =
-    let long = c.told-packed in
-    copy-end _ c.loop-i.buf c.args.packed.now _ (PACKED_LEN - 8) (16 * c.loop-i.i) 8 (omega (arith, long))
-    (omega (arith, c.loop-i-test.false)) (c.loop-i.invariant.long ∙ sym long) c.loop-i.invariant.front
-    c.load-2.ensures.lanes c.store-2.ensures
+    let at = 8 * c.loop-i.i in
+    let next : 8 * (c.loop-i.i + 1) ≡ 8 * c.loop-i.i + 8 = omega arith in
+    let step = copy-step _ _ c.args.packed.now at c.read_u64.result c.fits-packed (omega (arith, c.told-packed))
+    (omega (arith, c.loop-i.invariant.long)) c.loop-i.invariant.front c.read_u64.ensures c.store_word.ensures in
+    record { long = c.store_word.array_long; front = rw next step }

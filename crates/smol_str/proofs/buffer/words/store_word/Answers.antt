@@ -1,0 +1,10 @@
+use Rattle.smol_str.proofs.Common.{arith, common_steps, put_chunk_is}
+use Rattle.smol_str.proofs.buffer.words.store_word.Goals as goal
+
+pub returns : goal.returns
+returns c =
+    let bytes = c.to_le_bytes.ensures in
+    let put = c.store.ensures in
+    let long = c.told-buf in
+    let room = c.requires in
+    grind (arith, common_steps, put_chunk_is)
