@@ -13,7 +13,7 @@ mod words;
 use crate::kernel::{AsciiCase, convert_all, is_all_ascii};
 use std::cmp::Ordering;
 use std::marker::Model;
-pub(crate) use words::same_bytes;
+pub(crate) use words::same_text;
 use words::{copy_packed, order_words, pack, pack_char, same_words, write_at};
 
 /// The most bytes of a text that lies in the value itself.

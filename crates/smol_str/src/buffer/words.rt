@@ -191,10 +191,10 @@ pub(super) fn same_words(left: &Packed, right: &Packed) -> bool
     same
 }
 
-/// Whether the bytes are equal. From 8 to 32 of them are two or four words, which overlap: fewer instructions than
-/// std's comparison, which is as good for more.
+/// Whether the texts are equal. From 8 to 32 bytes they are compared by two or four words, which takes fewer instructions
+/// than std's comparison; that is as good for others.
 #[inline(always)]
-pub(crate) fn same_bytes(left: &[u8], right: &[u8]) -> bool
+pub(crate) fn same_text(left: &str, right: &str) -> bool
     ensures { result ≡ pointwise nat_eq left.now right.now }
 {
     let len = left.len();
@@ -204,6 +204,18 @@ pub(crate) fn same_bytes(left: &[u8], right: &[u8]) -> bool
     if len < 8 || len > 32 {
         return left == right;
     }
+    same_bytes(left.as_bytes(), right.as_bytes())
+}
+
+/// Whether the bytes are equal: the first words and the last, which may overlap.
+#[inline(always)]
+fn same_bytes(left: &[u8], right: &[u8]) -> bool
+    requires long { length left.now ≡ length right.now }
+    requires least { 8 ≤ length left.now }
+    requires most { length left.now ≤ 32 }
+    ensures { result ≡ pointwise nat_eq left.now right.now }
+{
+    let len = left.len();
     if len <= 16 {
         return same_two(left, right, 0, len - 8);
     }

@@ -12,7 +12,7 @@ ghost use Rattle.smol_str.specs.Buffer.{HaveOneBuffer};
 
 use super::place::Place;
 use super::{Repr, SmolStr};
-use crate::buffer::{INLINE_CAP, InlineText, same_bytes};
+use crate::buffer::{INLINE_CAP, InlineText, same_text};
 use std::cmp::Ordering;
 use std::hash::{Hash, Hasher};
 
@@ -26,7 +26,7 @@ impl SmolStr {
     pub fn eq_str(&self, other: &str) -> bool
         ensures { IsTrue result ↔ (self.now.text ≡ chars other.now) }
     {
-        same_bytes(self.as_str().as_bytes(), other.as_bytes())
+        same_text(self.as_str(), other)
     }
 
     /// Whether the texts are equal; it stands for `==` with a `String`, either way round.
@@ -79,7 +79,7 @@ impl PartialEq for SmolStr {
     {
         match (&self.repr, &other.repr) {
             (Repr::Inline(left), Repr::Inline(right)) => left.same(right),
-            _ => same_bytes(self.as_str().as_bytes(), other.as_str().as_bytes()),
+            _ => same_text(self.as_str(), other.as_str()),
         }
     }
 }

@@ -9,8 +9,8 @@ returns-then-len-le16 c =
     let ys = c.args.right.now in
     let xb : AreBytes xs = search rules in
     let yb : AreBytes ys = search rules in
-    let long : length xs ≡ length ys = c.if-len-right.false in
-    let some : 8 ≤ length xs = omega (arith, c.if-len-lt8.false) in
+    let long : length xs ≡ length ys = c.requires.long in
+    let some : 8 ≤ length xs = c.requires.least in
     same_from c.same_two.result xs ys
     (λ found.
     let words = c.same_two.ensures.0 found in
@@ -24,11 +24,11 @@ returns c =
     let ys = c.args.right.now in
     let xb : AreBytes xs = search rules in
     let yb : AreBytes ys = search rules in
-    let long : length xs ≡ length ys = c.if-len-right.false in
+    let long : length xs ≡ length ys = c.requires.long in
     let some : 16 ≤ length xs = omega (arith, c.if-len-le16.false) in
     let at = length xs - 16 in
     let last = length xs - 8 in
-    let near : at ≤ 16 = omega (arith, c.if-len-gt32.false) in
+    let near : at ≤ 16 = omega (arith, c.requires.most) in
     let first = c.same_two-2.ensures.0 c.if-not-same_two.false in
     let eight = more-same xs ys 0 xb yb (omega (arith, some)) (omega (arith, some, long)) refl first.0 in
     let front = more-same xs ys 8 xb yb (omega (arith, some)) (omega (arith, some, long)) eight first.1 in
