@@ -154,7 +154,7 @@ one-word buf bytes n b h e put =
     ∙ take-append-drop 8 (with_zeros bytes)
 
 -- one word of two lists
-pub same-word : (xs ys : List ℕ) (at : ℕ) → take (at + 8) xs ≡ take (at + 8) ys →
+same-word : (xs ys : List ℕ) (at : ℕ) → take (at + 8) xs ≡ take (at + 8) ys →
     (take at xs ≡ take at ys) × (word 8 xs at ≡ word 8 ys at)
 same-word xs ys at e =
     let here : take 8 (drop at xs) ≡ take 8 (drop at ys) =
