@@ -12,6 +12,7 @@ ghost use Rattle.smol_str.specs.Meaning.{IsValueOf};
 pub mod blank;
 mod compare;
 pub mod convert;
+mod deref;
 pub mod place;
 mod print;
 

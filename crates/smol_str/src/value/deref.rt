@@ -1,0 +1,56 @@
+//! A value lends its text: `&*value`, every method of `str`, and what takes anything that lends a text.
+ghost use Rattle.std.specs.Prelude.{◌≡◌, ℕ, List, IsTrue, encode_utf8_all};
+ghost use Rattle.std.specs.Str.{all_scalars};
+
+use super::SmolStr;
+use std::convert::AsStr;
+use std::ops::{AsDeref, DerefStr};
+
+/// Lends the text, so that a value has every method of `str`; the same as [`SmolStr::as_str`].
+///
+/// ```
+/// let token = SmolStr::new_inline(" let ");
+/// assert!(rt; token.trim().starts_with("let") && &*token == " let ");
+/// ```
+impl DerefStr for SmolStr {
+    ghost deref_gives = { λ v bytes. bytes ≡ encode_utf8_all v.text };
+
+    #[inline(always)]
+    fn deref(&self) -> &str
+        ensures bytes { result.now ≡ encode_utf8_all self.now.text }
+        ensures scalars { IsTrue (all_scalars self.now.text) }
+    {
+        self.as_str()
+    }
+}
+
+/// For what takes anything that lends a text, as `join` of a slice; stands for upstream's `AsRef<str>`.
+impl AsStr for SmolStr {
+    ghost text = { λ v. encode_utf8_all v.text };
+
+    #[inline(always)]
+    fn as_str(&self) -> &str
+        ensures bytes { result.now ≡ encode_utf8_all self.now.text }
+        ensures scalars { IsTrue (all_scalars self.now.text) }
+    {
+        self.as_str()
+    }
+}
+
+/// So that `as_deref` of an `Option` or a `Result` of a value lends its text.
+impl<'a> AsDeref<'a> for SmolStr {
+    type Shown = &'a str;
+
+    ghost as_deref_gives = { λ v shown. shown.now ≡ encode_utf8_all v.text };
+
+    ghost View = { List ℕ };
+
+    ghost view = { λ v. encode_utf8_all v.text };
+
+    ghost output_view = { λ shown. shown.now };
+
+    #[inline(always)]
+    fn shown(&'a self) -> &'a str {
+        self.as_str()
+    }
+}
