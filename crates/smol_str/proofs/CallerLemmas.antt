@@ -27,7 +27,8 @@ use Rattle.smol_str.proofs.TextLemmas.Lists.{flat_map-more, flat_map-parts}
 use Rattle.smol_str.proofs.TextLemmas.Places.{IsShort-chars}
 use Rattle.smol_str.proofs.TextLemmas.Split.{chars-middle}
 use Rattle.smol_str.proofs.BuilderLemmas.Draft.{kind_with-short}
-use Rattle.smol_str.proofs.BuilderLemmas.Collect.{joined-chars, joined-drained, not_short-outgrown}
+use Rattle.smol_str.specs.JoinedLaws.{joined-chars}
+use Rattle.smol_str.proofs.BuilderLemmas.Collect.{joined-drained, not_short-outgrown}
 use Rattle.smol_str.specs.Wire.{prefix_size}
 use Rattle.smol_str.proofs.WireLemmas.Wire.{length-wire, prefix_size-wire, wire-apart, Holds-one, Holds-whole, body-Holds, Holds-written, wire-held, length-Holds}
 use Rattle.std.proofs.Common.{◌^◌, ◌∷◌, All, append_assoc, if◌then◌else◌}

@@ -9,6 +9,7 @@ pub mod Faults
 pub mod Draft
 pub mod BuilderArms
 pub mod Joined
+pub mod JoinedLaws
 pub mod Steps
 pub mod Collect
 pub mod TextExamples

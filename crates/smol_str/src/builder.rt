@@ -8,6 +8,7 @@ ghost use Rattle.smol_str.specs.Meaning.{IsValueOf};
 ghost use Rattle.smol_str.specs.Draft.{InBuffer, OnHeap, empty_draft, appended, kind_for};
 
 mod compare;
+mod convert;
 pub mod steps;
 
 use crate::buffer::{INLINE_CAP, InlineBuffer, InlineText};

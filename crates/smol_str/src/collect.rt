@@ -3,12 +3,16 @@
 //! Collecting is extending an empty builder and finishing it. The items are drawn one at a time and
 //! nothing is gathered first, and size hints are not read: they reserve nothing and decide nothing.
 ghost use Rattle.std.specs.Prelude.{◌≡◌, ℕ, List, [], IfOk, OnOk, OnErr};
+ghost use Rattle.std.proofs.Common.{refl};
 ghost use Rattle.std.specs.Iterator.{IsFinite};
 ghost use Rattle.smol_str.specs.Text.{IsResident};
 ghost use Rattle.smol_str.specs.Meaning.{Meaning, IsValueOf};
 ghost use Rattle.smol_str.specs.Draft.{InBuffer, OnHeap, empty_draft, appended};
 ghost use Rattle.smol_str.specs.Joined.{joined, joined_strs, joined_string_refs, char_text, str_text, string_text, string_ref_text};
+ghost use Rattle.smol_str.specs.JoinedLaws.{joined-chars, joined-strs, joined-string_refs};
 ghost use Rattle.smol_str.specs.Collect.{AppendedAll, StoppedAt, Collected, Outgrown, OutgrownAfter, IsValueOfRun, AppendsRun};
+
+mod traits;
 
 use crate::buffer::INLINE_CAP;
 use crate::builder::SmolStrBuilder;
@@ -19,15 +23,24 @@ use std::alloc::{AllocError, Global};
 pub trait Piece: Drop {
     ghost text: { Self → List ℕ };
 
+    // The text of items, one after another, in the words of the items' kind.
+    ghost texts: { List Self → List ℕ };
+
     /// Appends the text; a refusal leaves the builder as it was.
     fn append_to(&self, builder: &mut SmolStrBuilder) -> Result<(), AllocError>
         ensures ok { OnOk result (builder.new ≡ appended builder.old (text self.now)) }
         ensures unchanged { OnErr result (builder.new ≡ builder.old) }
         ensures refused { OnErr result ((appended builder.old (text self.now)).kind ≡ OnHeap) };
+
+    ghost joins: { (items : List Self) → joined text items ≡ texts items };
 }
 
 impl Piece for char {
     ghost text = { char_text };
+
+    ghost texts = { λ items. items };
+
+    ghost joins = { joined-chars };
 
     #[inline(always)]
     fn append_to(&self, builder: &mut SmolStrBuilder) -> Result<(), AllocError> {
@@ -38,6 +51,10 @@ impl Piece for char {
 impl<'a> Piece for &'a str {
     ghost text = { str_text };
 
+    ghost texts = { joined_strs };
+
+    ghost joins = { joined-strs };
+
     fn append_to(&self, builder: &mut SmolStrBuilder) -> Result<(), AllocError> {
         builder.push_str(*self)
     }
@@ -46,6 +63,10 @@ impl<'a> Piece for &'a str {
 impl Piece for String {
     ghost text = { string_text };
 
+    ghost texts = { joined string_text };
+
+    ghost joins = { λ _. refl };
+
     fn append_to(&self, builder: &mut SmolStrBuilder) -> Result<(), AllocError> {
         builder.push_str(self.as_str())
     }
@@ -53,6 +74,10 @@ impl Piece for String {
 
 impl<'a> Piece for &'a String {
     ghost text = { string_ref_text };
+
+    ghost texts = { joined_string_refs };
+
+    ghost joins = { joined-string_refs };
 
     fn append_to(&self, builder: &mut SmolStrBuilder) -> Result<(), AllocError> {
         builder.push_str(self.as_str())
@@ -245,6 +270,7 @@ pub(crate) fn append_all<P: Piece, I: Iterator<Item = P>>(
     requires can { I.can_next iter }
     requires ends { IsFinite (I.remaining iter) }
     ensures ok { OnOk result (AppendedAll P.text I.next_gives iter builder.old builder.new) }
+    ensures runs { OnOk result (AppendsRun I.next_gives iter P.texts builder.old builder.new) }
     ensures stopped { OnErr result (StoppedAt P.text I.next_gives iter builder.old builder.new) }
     ensures refused { OnErr result (OutgrownAfter P.text I.next_gives iter builder.old) }
 {
@@ -279,6 +305,7 @@ fn collect<A: ValueAlloc, P: Piece, I: Iterator<Item = P>>(
     requires can { I.can_next iter }
     requires ends { IsFinite (I.remaining iter) }
     ensures ok { IfOk result (Collected P.text I.next_gives iter A.meaning) }
+    ensures runs { IfOk result (IsValueOfRun I.next_gives iter P.texts A.meaning) }
     ensures refused { OnErr result (Outgrown P.text I.next_gives iter) }
 {
     let mut builder = alloc.builder();

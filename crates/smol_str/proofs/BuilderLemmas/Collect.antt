@@ -12,22 +12,11 @@ use Rattle.std.proofs.lemmas.List.Folds.{flat_map-map}
 use Rattle.smol_str.specs.Text.{IsShort}
 use Rattle.smol_str.specs.Meaning.{Meaning, IsValueOf}
 use Rattle.smol_str.specs.Draft.{Draft, OnHeap, appended}
-use Rattle.smol_str.specs.Joined.{joined, char_text}
+use Rattle.smol_str.specs.Joined.{joined}
 use Rattle.smol_str.specs.Collect.{AppendedAll, StoppedAt, Collected, Outgrown, OutgrownAfter, IsValueOfRun, AppendsRun}
 use Rattle.smol_str.proofs.TextLemmas.Lists.{flat_map-parts}
 use Rattle.smol_str.proofs.TextLemmas.Places.{IsShort-front}
 use Rattle.smol_str.proofs.BuilderLemmas.Draft.{appended-twice}
-
--- the texts of characters, one after another, are the characters
-pub joined-chars : (xs : List ℕ) → joined char_text xs ≡ xs
-joined-chars [] = refl
-joined-chars (x ∷ xs) = ap (λ ys. x ∷ ys) (joined-chars xs)
-
--- the texts of items whose texts h reads off what v shows of them
-pub joined-map : {A B : Type 0} (f : A → List ℕ) (h : B → List ℕ) (v : A → B) (xs : List A)
-    → ((x : A) → f x ≡ h (v x)) → joined f xs ≡ joined h (map v xs)
-joined-map f h v [] e = refl
-joined-map f h v (x ∷ xs) e = ap (λ t. t ++ joined f xs) (e x) ∙ ap (λ t. h (v x) ++ t) (joined-map f h v xs e)
 
 joined-last : {A : Type 0} (f : A → List ℕ) (xs : List A) (x : A) → joined f (xs ++ x ∷ []) ≡ joined f xs ++ f x
 joined-last f xs x = flat_map-append f xs (x ∷ []) ∙ ap (λ t. joined f xs ++ t) (append-nil (f x))

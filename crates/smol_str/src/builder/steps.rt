@@ -1,5 +1,6 @@
 //! Building by a list of steps.
 ghost use Rattle.std.specs.Prelude.{◌<◌, ◌⊎◌, IfOk, OnErr};
+ghost use Rattle.std.proofs.Common.{refl};
 ghost use Rattle.smol_str.specs.Text.{IsShort};
 ghost use Rattle.smol_str.specs.Meaning.{IsValueOf};
 ghost use Rattle.smol_str.specs.Joined.{joined};
@@ -44,6 +45,10 @@ pub fn build(alloc: Global, capacity: usize, steps: &[Step]) -> Result<SmolStr, 
 /// So that steps are appended as other items are.
 impl<'a> Piece for &'a Step {
     ghost text = { step_ref_text };
+
+    ghost texts = { joined step_ref_text };
+
+    ghost joins = { λ _. refl };
 
     fn append_to(&self, builder: &mut SmolStrBuilder) -> Result<(), AllocError> {
         match *self {

@@ -1,6 +1,0 @@
-use Rattle.std.proofs.Common.{arith, rules}
-use Rattle.smol_str.proofs.BuilderLemmas.Collect.{joined-map, runs-appended}
-use Rattle.smol_str.proofs.builder.SmolStrBuilder.extend_strings.Goals as goal
-
-pub returns-clause-runs : goal.returns-clause-runs
-returns-clause-runs g c = search (rules, arith, joined-map, runs-appended)

@@ -1,0 +1,45 @@
+//! A builder for std's traits: its text lent, and an empty one made.
+ghost use Rattle.std.specs.Prelude.{◌≡◌, IfOk, IsOk, IsTrue, encode_utf8_all};
+ghost use Rattle.std.specs.Str.{all_scalars};
+ghost use Rattle.smol_str.specs.Text.{IsShort};
+ghost use Rattle.smol_str.specs.Draft.{InBuffer, empty_draft};
+
+use super::SmolStrBuilder;
+use std::alloc::{AllocError, Global};
+use std::convert::AsStr;
+use std::default::{Emptied, MadeWith};
+
+/// For what takes anything that lends a text; the same as [`SmolStrBuilder::as_str`].
+impl AsStr for SmolStrBuilder {
+    ghost text = { λ b. encode_utf8_all b.text };
+
+    #[inline(always)]
+    fn as_str(&self) -> &str
+        ensures bytes { result.now ≡ encode_utf8_all self.now.text }
+        ensures scalars { IsTrue (all_scalars self.now.text) }
+        ensures short { self.now.kind ≡ InBuffer → IsShort self.now.text }
+    {
+        self.as_str()
+    }
+}
+
+/// An empty builder, for `or_default` of a map; stands for upstream's `Default`.
+impl MadeWith<Global> for SmolStrBuilder {
+    ghost is_made_with = { λ b. b ≡ empty_draft InBuffer };
+
+    fn made_with(alloc: Global) -> SmolStrBuilder {
+        SmolStrBuilder::new(alloc)
+    }
+}
+
+/// An empty builder with the same allocator, for `mem::try_take`, which is never refused one.
+impl Emptied for SmolStrBuilder {
+    ghost is_emptied = { λ b. b ≡ empty_draft InBuffer };
+
+    fn emptied(like: &SmolStrBuilder) -> Result<SmolStrBuilder, AllocError>
+        ensures ok { IsOk result }
+        ensures empty { IfOk result (λ b. b ≡ empty_draft InBuffer) }
+    {
+        Ok(SmolStrBuilder::new(like.alloc))
+    }
+}
