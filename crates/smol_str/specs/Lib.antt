@@ -24,5 +24,6 @@ pub mod Json
 pub mod CutExamples
 pub mod CaseExamples
 pub mod WireExamples
+pub mod Said
 pub mod Stream
 pub mod WireFaults

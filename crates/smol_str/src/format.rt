@@ -1,20 +1,52 @@
 //! Values of what is printed.
-ghost use Rattle.std.specs.Prelude.{◌≡◌, IfSome, IfOk, OnOk, OnErr, encode_utf8_all};
+ghost use Rattle.std.specs.Prelude.{◌≡◌, Some, IfSome, IfOk, OnOk, OnErr, encode_utf8_all};
 ghost use Rattle.std.specs.Fmt.{AppendsText};
 ghost use Rattle.std.specs.Str.{chars, IsUtf8};
 ghost use Rattle.smol_str.specs.Text.{IsResident, place_of};
 ghost use Rattle.smol_str.specs.Meaning.{IsValueOf};
 ghost use Rattle.smol_str.specs.Draft.{OnHeap, appended};
+ghost use Rattle.smol_str.specs.Said.{format_said};
 
 use crate::buffer::INLINE_CAP;
 use crate::builder::SmolStrBuilder;
 use crate::value::SmolStr;
-use std::alloc::{AllocError, Global};
+use std::alloc::{AllocError, AllocFailed, Global};
+use std::error::Error;
 use std::fmt;
 
 /// Nothing was made: the print gave up, or memory was refused.
 #[derive(Debug, Drop)]
 pub struct FormatError;
+
+/// The fault in a sentence, so that `?` may turn it into an `anyhow::Error`.
+impl fmt::Display for FormatError {
+    ghost output = { λ _. Some format_said };
+
+    fn fmt<W: fmt::Write>(&self, f: &mut fmt::Formatter<W>) -> fmt::Result {
+        f.write_str("formatting failed or memory ran out")
+    }
+}
+
+impl Error for FormatError {}
+
+impl From<fmt::Error> for FormatError {
+    fn from(_error: fmt::Error) -> FormatError {
+        FormatError
+    }
+}
+
+impl From<AllocError> for FormatError {
+    fn from(_error: AllocError) -> FormatError {
+        FormatError
+    }
+}
+
+/// So that `?` may follow a refused `push`; what comes back of it is dropped.
+impl<T: Drop> From<AllocFailed<T>> for FormatError {
+    fn from(_error: AllocFailed<T>) -> FormatError {
+        FormatError
+    }
+}
 
 /// A piece of a print is appended whole, or refused and then the builder is as before.
 impl fmt::Write for SmolStrBuilder {

@@ -8,11 +8,15 @@ ghost use Rattle.serde_json.specs.View.{view};
 ghost use Rattle.serde_json.specs.Written.{compact_text};
 ghost use Rattle.smol_str.specs.Text.{place_of};
 ghost use Rattle.smol_str.specs.Meaning.{IsValueOf};
+ghost use Rattle.smol_str.specs.Said.{json_said};
 ghost use Rattle.smol_str.specs.Json.{json_value, IsJsonText, IsJsonOf, AfterValueFault, AfterJsonFault};
 
 use crate::value::SmolStr;
-use serde_json::{Error, Value};
+use serde_json::Value;
 use std::alloc::{AllocError, AllocFailed, Global};
+use std::error::Error;
+use std::fmt;
+use std::fmt::{Display, Formatter, Write};
 
 /// Why JSON made no value.
 #[derive(Debug, Drop)]
@@ -20,7 +24,7 @@ pub enum JsonFault {
     /// It is a JSON value, but not a string.
     NotString,
     /// The text is no JSON; serde_json's error says why and where.
-    Json(Error),
+    Json(serde_json::Error),
     /// Memory was refused.
     OutOfMemory,
 }
@@ -47,6 +51,21 @@ impl<T: Drop> From<AllocFailed<T>> for JsonFault {
         JsonFault::OutOfMemory
     }
 }
+
+/// The fault in a sentence, so that `?` may turn it into an `anyhow::Error`.
+impl Display for JsonFault {
+    ghost output = { json_said };
+
+    fn fmt<W: Write>(&self, f: &mut Formatter<W>) -> fmt::Result {
+        match self {
+            JsonFault::NotString => f.write_str("the JSON value is not a string"),
+            JsonFault::Json(error) => Display::fmt(error, f),
+            JsonFault::OutOfMemory => f.write_str("memory allocation failed"),
+        }
+    }
+}
+
+impl Error for JsonFault {}
 
 /// The JSON value of a text: a string. It needs memory for a copy of the text, and is refused with
 /// [`AllocError`] where there is none.

@@ -6,11 +6,14 @@
 ghost use Rattle.std.specs.Prelude.{◌≡◌, ◌<◌, ◌≤◌, ◌-◌, ◌^◌, length, take, IfOk, OnOk, IfErr, OnErr, IfSome};
 ghost use Rattle.std.specs.Io.KnownBytes.{Appends, Consumes, IsAtEnd};
 ghost use Rattle.smol_str.specs.Stream.{AppendsBeginning, StopsBelow, AfterStreamFault};
+ghost use Rattle.smol_str.specs.Said.{read_said};
 ghost use Rattle.smol_str.specs.declared.stream.ReadFault.TheVariants.{OutOfMemory, Io};
 
 use std::alloc::{AllocError, Global};
-use std::io;
+use std::error::Error;
+use std::fmt::{Display, Formatter};
 use std::io::{ErrorKind, Read, Write};
+use std::{fmt, io};
 
 /// The most bytes that one `read` is asked for by [`read_up_to`] and [`read_all`].
 pub const PIECE: usize = 4096;
@@ -39,6 +42,20 @@ impl From<AllocError> for ReadFault {
         ReadFault::OutOfMemory
     }
 }
+
+/// The fault in a sentence, so that `?` may turn it into an `anyhow::Error`.
+impl Display for ReadFault {
+    ghost output = { read_said };
+
+    fn fmt<W: fmt::Write>(&self, f: &mut Formatter<W>) -> fmt::Result {
+        match self {
+            ReadFault::OutOfMemory => f.write_str("memory allocation failed"),
+            ReadFault::Io(error) => Display::fmt(error, f),
+        }
+    }
+}
+
+impl Error for ReadFault {}
 
 /// Fills `buf` from its front, each step by one `read` into what is left of it, and returns how many
 /// bytes came: fewer than `buf` has only where the reader is at its end.

@@ -1,6 +1,7 @@
 //! Why a value was not written, or not read.
 ghost use Rattle.std.specs.Prelude.{◌≡◌};
 ghost use Rattle.smol_str.specs.WireFaults.{of_read_fault, of_utf8_fault};
+ghost use Rattle.smol_str.specs.Said.{encode_said, decode_said, limited_said};
 ghost use Rattle.smol_str.specs.declared.borsh.fault.EncodeFault.TheVariants.{Io as WriteFailed};
 ghost use Rattle.smol_str.specs.declared.borsh.fault.DecodeFault.TheVariants.{OutOfMemory as NoMemory, Io as ReadFailed};
 ghost use Rattle.smol_str.specs.declared.borsh.fault.LimitedFault.TheVariants.{Decode};
@@ -8,8 +9,10 @@ ghost use Rattle.smol_str.specs.declared.borsh.fault.LimitedFault.TheVariants.{D
 use crate::stream::ReadFault;
 use crate::value::convert::FromUtf8Fault;
 use std::alloc::{AllocError, AllocFailed};
-use std::io;
+use std::error::Error;
+use std::fmt::{Display, Formatter, Write};
 use std::str::Utf8Error;
+use std::{fmt, io};
 
 /// Why a value was not written.
 #[derive(Debug, Drop)]
@@ -129,3 +132,47 @@ impl<T: Drop> From<AllocFailed<T>> for LimitedFault {
         LimitedFault::Decode(DecodeFault::OutOfMemory)
     }
 }
+
+/// The fault in a sentence, so that `?` may turn it into an `anyhow::Error`.
+impl Display for EncodeFault {
+    ghost output = { encode_said };
+
+    fn fmt<W: Write>(&self, f: &mut Formatter<W>) -> fmt::Result {
+        match self {
+            EncodeFault::TooLong => f.write_str("the text has more than 4294967295 bytes"),
+            EncodeFault::Io(error) => Display::fmt(error, f),
+        }
+    }
+}
+
+impl Error for EncodeFault {}
+
+/// The fault in a sentence, so that `?` may turn it into an `anyhow::Error`.
+impl Display for DecodeFault {
+    ghost output = { decode_said };
+
+    fn fmt<W: Write>(&self, f: &mut Formatter<W>) -> fmt::Result {
+        match self {
+            DecodeFault::Ended => f.write_str("the bytes end before the text does"),
+            DecodeFault::NotUtf8(error) => Display::fmt(error, f),
+            DecodeFault::OutOfMemory => f.write_str("memory allocation failed"),
+            DecodeFault::Io(error) => Display::fmt(error, f),
+        }
+    }
+}
+
+impl Error for DecodeFault {}
+
+/// The fault in a sentence, so that `?` may turn it into an `anyhow::Error`.
+impl Display for LimitedFault {
+    ghost output = { limited_said };
+
+    fn fmt<W: Write>(&self, f: &mut Formatter<W>) -> fmt::Result {
+        match self {
+            LimitedFault::TooLong => f.write_str("the stated length exceeds the limit"),
+            LimitedFault::Decode(fault) => Display::fmt(fault, f),
+        }
+    }
+}
+
+impl Error for LimitedFault {}

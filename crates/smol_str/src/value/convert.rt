@@ -8,6 +8,7 @@ ghost use Rattle.std.specs.Rc.{rc_str_bytes};
 ghost use Rattle.smol_str.specs.Text.{IsResident};
 ghost use Rattle.smol_str.specs.Meaning.{IsValueOf};
 ghost use Rattle.smol_str.specs.Faults.{AfterFromUtf8Fault};
+ghost use Rattle.smol_str.specs.Said.{utf8_said};
 
 use super::place::Place;
 use super::{Repr, SmolStr};
@@ -15,6 +16,9 @@ use crate::buffer::InlineText;
 use std::alloc::{AllocError, AllocFailed, Global};
 use std::borrow::CowStr;
 use std::boxed::BoxedStr;
+use std::error::Error;
+use std::fmt;
+use std::fmt::{Display, Formatter, Write};
 use std::rc::RcStr;
 use std::str::Utf8Error;
 
@@ -47,6 +51,20 @@ impl<T: Drop> From<AllocFailed<T>> for FromUtf8Fault {
         FromUtf8Fault::OutOfMemory
     }
 }
+
+/// The fault in a sentence, so that `?` may turn it into an `anyhow::Error`.
+impl Display for FromUtf8Fault {
+    ghost output = { utf8_said };
+
+    fn fmt<W: Write>(&self, f: &mut Formatter<W>) -> fmt::Result {
+        match self {
+            FromUtf8Fault::NotUtf8(error) => Display::fmt(error, f),
+            FromUtf8Fault::OutOfMemory => f.write_str("memory allocation failed"),
+        }
+    }
+}
+
+impl Error for FromUtf8Fault {}
 
 impl SmolStr {
     /// The same as [`SmolStr::new`].
@@ -201,6 +219,15 @@ impl From<char> for SmolStr {
     #[inline(always)]
     fn from(character: char) -> SmolStr {
         SmolStr::from_inline(InlineText::from_char(character))
+    }
+}
+
+/// The value of a shared text, which takes no memory; the same as [`SmolStr::from_rc_str`].
+impl From<RcStr> for SmolStr {
+    ghost from_gives = { λ shared value. IsValueOf (chars (rc_str_bytes shared)) value };
+
+    fn from(shared: RcStr) -> SmolStr {
+        SmolStr::from_rc_str(shared)
     }
 }
 
