@@ -24,6 +24,7 @@ mod format;
 pub mod json;
 pub mod kernel;
 pub mod laws;
+mod serde_impls;
 mod str_ext;
 pub mod stream;
 mod value;

@@ -1,0 +1,6 @@
+use Rattle.smol_str.proofs.Common.{encodes-chars, rules}
+use Rattle.std.proofs.lemmas.Str.{IsUtf8-string_bytes}
+use Rattle.smol_str.proofs.serde_impls.SmolStrDeserializeOwned.deserialize_owned.Goals as goal
+
+pub returns-in-Ok-clause-text : goal.returns-in-Ok-clause-text
+returns-in-Ok-clause-text g c = search (rules, encodes-chars, IsUtf8-string_bytes)
