@@ -4,6 +4,7 @@ pub mod Keys
 pub mod KeyLaws
 pub mod Buffer
 pub mod Words
+pub mod Shared
 pub mod ValueArms
 pub mod Faults
 pub mod Draft

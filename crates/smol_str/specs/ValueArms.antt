@@ -1,7 +1,7 @@
 -- What the private arms of a value mean.
 use Rattle.std.specs.Prelude.{ℕ, List}
 use Rattle.std.specs.Str.{chars, IsUtf8}
-use Rattle.std.specs.Rc.{rc_str_bytes}
+use Rattle.smol_str.specs.Shared.{shared_bytes}
 use Rattle.smol_str.specs.declared.value.place.Place as place
 use Rattle.smol_str.specs.declared.value.place.Place.TheVariants as at
 use Rattle.smol_str.specs.declared.value.Repr.{Repr}
@@ -12,7 +12,7 @@ use Rattle.smol_str.specs.Text.{IsShort, IsResident}
 abbrev pub repr_text : Repr → List ℕ
 repr_text (Inline t) = t
 repr_text (Static s) = chars s.now
-repr_text (Heap h) = chars (rc_str_bytes h)
+repr_text (Heap h) = chars (shared_bytes h)
 
 -- the place that an arm is
 abbrev pub repr_place : Repr → place.Place
@@ -24,4 +24,4 @@ repr_place (Heap h) = at.Heap
 abbrev pub IsSound : Repr → Type 0
 IsSound (Inline t) = IsShort t
 IsSound (Static s) = IsUtf8 s.now
-IsSound (Heap h) = ¬ (IsResident (chars (rc_str_bytes h)))
+IsSound (Heap h) = ¬ (IsResident (chars (shared_bytes h)))

@@ -25,6 +25,7 @@ pub mod json;
 pub mod kernel;
 pub mod laws;
 mod serde_impls;
+mod shared;
 mod str_ext;
 pub mod stream;
 mod value;

@@ -7,7 +7,9 @@ ghost use Rattle.serde.specs.Steps.{Gives};
 ghost use Rattle.smol_str.specs.Text.{place_of};
 
 use crate::value::SmolStr;
-use serde::{Described, Deserialize, DeserializeOwned, Deserializer, Format, Serialize, Serializer};
+use serde::{
+    Described, Deserialize, DeserializeOwned, Deserializer, Format, Serialize, Serializer,
+};
 use std::alloc::{AllocError, Global};
 
 /// A value sends what its text sends.

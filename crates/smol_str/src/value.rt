@@ -2,7 +2,7 @@
 ghost use Rattle.std.specs.Prelude.{◌≡◌, ◌≤◌, ◌↔◌, ◌⊎◌, [], length, MatchOption, IfOk, OnErr, IsSome, IfSome, IsTrue, encode_utf8_all};
 ghost use Rattle.std.specs.Str.{chars, all_scalars};
 ghost use Rattle.std.specs.String.{string_bytes};
-ghost use Rattle.std.specs.Rc.{rc_str_bytes};
+ghost use Rattle.smol_str.specs.Shared.{shared_bytes};
 ghost use Rattle.smol_str.specs.Text.{size, IsShort, IsResident, place_of};
 ghost use Rattle.smol_str.specs.Buffer.{padded};
 ghost use Rattle.smol_str.specs.Case.{IsAsciiText};
@@ -18,11 +18,11 @@ mod print;
 
 use crate::buffer::{INLINE_CAP, InlineBuffer, InlineText};
 use crate::kernel::AsciiCase;
+use crate::shared::SharedText;
 use blank::blank_slice;
 use place::Place;
 use std::alloc::{AllocError, Global};
 use std::marker::Model;
-use std::rc::RcStr;
 
 /// An immutable text that is small and cheap to make where it is short.
 ///
@@ -56,7 +56,7 @@ impl Drop for SmolStr {
 enum Repr {
     Inline(InlineText),
     Static(&'static str),
-    Heap(RcStr),
+    Heap(SharedText),
 }
 
 impl Model for SmolStr {
@@ -273,7 +273,7 @@ impl SmolStr {
         }
         let mut text = text;
         text.shrink_to_fit();
-        Ok(SmolStr::from_heap(RcStr::from_string(text)?))
+        Ok(SmolStr::from_heap(SharedText::from_string(text)?))
     }
 
     /// The value that keeps a short text in its buffer.
@@ -289,9 +289,9 @@ impl SmolStr {
 
     /// The value that keeps a text on the heap.
     #[inline(always)]
-    pub(crate) fn from_heap(text: RcStr) -> SmolStr
-        requires { ¬ (IsResident (chars (rc_str_bytes text))) }
-        ensures { IsValueOf (chars (rc_str_bytes text)) result }
+    pub(crate) fn from_heap(text: SharedText) -> SmolStr
+        requires { ¬ (IsResident (chars (shared_bytes text))) }
+        ensures { IsValueOf (chars (shared_bytes text)) result }
     {
         SmolStr {
             repr: Repr::Heap(text),
@@ -327,8 +327,8 @@ impl Clone for SmolStr {
 /// A copy of a text on the heap: apart, and with a result of few words. Room for a whole value that comes back
 /// would be cleared on the short way too.
 #[inline(never)]
-fn shared(alloc: Global, text: &str) -> Result<RcStr, AllocError>
-    ensures { IfOk result (λ heap. rc_str_bytes heap ≡ text.now) }
+fn shared(alloc: Global, text: &str) -> Result<SharedText, AllocError>
+    ensures { IfOk result (λ heap. shared_bytes heap ≡ text.now) }
 {
-    RcStr::from_str(alloc, text)
+    SharedText::from_str(alloc, text)
 }

@@ -1,8 +1,7 @@
 -- For makers, conversions and comparisons: texts, their bytes and their places.
 use Rattle.smol_str.proofs.Common.{◌≡◌, ◌↔◌, ℕ, ◌+◌, ◌<◌, ◌≤◌, inl, inr, List, [], ◌∷◌, ◌++◌, length, encode_utf8, encode_utf8_all, length-append, length-le-encodes, Bool, true, false, nat_le, nat_eq, Result, Ok, Err, OnOk, OnErr, is_ok, refl, sym, ◌∙◌, ap, arith, chars, IsUtf8, pointwise, bytes_decides, encodes-chars, chars-IsAscii, encodes-IsAscii, encodes_same, encodes-append, chars_from_encodes, length-encode, len_utf8_bounds, IsUtf8-string_bytes, append-nil, nat_tests, Decides-and, Decides-like, same_from_decides, INLINE_CAP, size, is_short, IsShort, IsBlankRun, IsResident, blank_run, ◌⊎◌, common_steps, rules}
 use Rattle.std.specs.Bool.{Decides}
-use Rattle.std.specs.Rc.{rc_str_bytes}
-use Rattle.std.specs.declared.rc.RcStr.{RcStr}
+use Rattle.smol_str.specs.Shared.{SharedText, shared_bytes}
 use Rattle.smol_str.specs.declared.value.place.Place.TheVariants.{Inline, Static, Heap}
 use Rattle.smol_str.specs.Text.{is_blank_run, place_of}
 use Rattle.smol_str.proofs.TextLemmas.Blank.{IsAscii-blank_run, Passes-from_IsBlankRun, IsBlankRun-from_tests}
@@ -121,8 +120,8 @@ size-append s t = rw (encodes-append s t) (length-append (encode_utf8_all s) (en
 pub chars-of : (t bs : List ℕ) → IsUtf8 bs → bs ≡ encode_utf8_all t → chars bs ≡ t
 chars-of t bs u e = sym (chars_from_encodes t bs u (sym e))
 
-pub IsUtf8-rc_str_bytes : {Z : Type 0} (s : RcStr Z) → IsUtf8 (rc_str_bytes s)
-IsUtf8-rc_str_bytes s = IsUtf8-string_bytes s.text.value
+pub IsUtf8-shared_bytes : {Z : Type 0} (s : SharedText Z) → IsUtf8 (shared_bytes s)
+IsUtf8-shared_bytes s = IsUtf8-string_bytes s.text.value
 
 -- a text equals the text of some bytes exactly where its bytes equal them
 pub bytes_eq-chars : (t bs : List ℕ) → IsUtf8 bs →

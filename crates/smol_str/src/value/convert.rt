@@ -4,7 +4,7 @@ ghost use Rattle.std.specs.Str.{chars, IsUtf8};
 ghost use Rattle.std.specs.String.{string_bytes};
 ghost use Rattle.std.specs.Box.{boxed_str_bytes};
 ghost use Rattle.std.specs.Cow.{cow_str_bytes};
-ghost use Rattle.std.specs.Rc.{rc_str_bytes};
+ghost use Rattle.smol_str.specs.Shared.{shared_bytes};
 ghost use Rattle.smol_str.specs.Text.{IsResident};
 ghost use Rattle.smol_str.specs.Meaning.{IsValueOf};
 ghost use Rattle.smol_str.specs.Faults.{AfterFromUtf8Fault};
@@ -13,13 +13,13 @@ ghost use Rattle.smol_str.specs.Said.{utf8_said};
 use super::place::Place;
 use super::{Repr, SmolStr};
 use crate::buffer::InlineText;
+use crate::shared::SharedText;
 use std::alloc::{AllocError, AllocFailed, Global};
 use std::borrow::CowStr;
 use std::boxed::BoxedStr;
 use std::error::Error;
 use std::fmt;
 use std::fmt::{Display, Formatter, Write};
-use std::rc::RcStr;
 use std::str::Utf8Error;
 
 /// Why bytes made no value.
@@ -167,8 +167,8 @@ impl SmolStr {
     /// let value = SmolStr::from_rc_str(shared);
     /// assert_eq!(rt; value.len(), 37);
     /// ```
-    pub fn from_rc_str(shared: RcStr) -> SmolStr
-        ensures { IsValueOf (chars (rc_str_bytes shared)) result }
+    pub fn from_rc_str(shared: SharedText) -> SmolStr
+        ensures { IsValueOf (chars (shared_bytes shared)) result }
     {
         match SmolStr::resident(shared.as_str()) {
             Some(value) => value,
@@ -193,8 +193,8 @@ impl SmolStr {
 
     /// The text as a shared text: the one that a heap value has, which is never refused, else a new
     /// one. A refusal gives the value back. That a heap value hands out its own is only tested.
-    pub fn into_rc_str(self, alloc: Global) -> Result<RcStr, SmolStr>
-        ensures ok { IfOk result (λ text. rc_str_bytes text ≡ encode_utf8_all self.text) }
+    pub fn into_rc_str(self, alloc: Global) -> Result<SharedText, SmolStr>
+        ensures ok { IfOk result (λ text. shared_bytes text ≡ encode_utf8_all self.text) }
         ensures back { IfErr result (λ back. back ≡ self) }
         ensures refused { OnErr result (¬ (self.place ≡ Place.Heap)) }
     {
@@ -203,7 +203,7 @@ impl SmolStr {
             Repr::Heap(text) => Ok(text),
             repr => {
                 let value = SmolStr { repr };
-                match RcStr::from_str(alloc, value.as_str()) {
+                match SharedText::from_str(alloc, value.as_str()) {
                     Ok(text) => Ok(text),
                     Err(_) => Err(value),
                 }
@@ -223,10 +223,10 @@ impl From<char> for SmolStr {
 }
 
 /// The value of a shared text, which takes no memory; the same as [`SmolStr::from_rc_str`].
-impl From<RcStr> for SmolStr {
-    ghost from_gives = { λ shared value. IsValueOf (chars (rc_str_bytes shared)) value };
+impl From<SharedText> for SmolStr {
+    ghost from_gives = { λ shared value. IsValueOf (chars (shared_bytes shared)) value };
 
-    fn from(shared: RcStr) -> SmolStr {
+    fn from(shared: SharedText) -> SmolStr {
         SmolStr::from_rc_str(shared)
     }
 }
