@@ -28,7 +28,11 @@ use Rattle.smol_str.proofs.TextLemmas.Places.{IsShort-chars}
 use Rattle.smol_str.proofs.TextLemmas.Split.{chars-middle}
 use Rattle.smol_str.proofs.BuilderLemmas.Draft.{kind_with-short}
 use Rattle.smol_str.specs.JoinedLaws.{joined-chars}
-use Rattle.smol_str.proofs.BuilderLemmas.Collect.{joined-drained, not_short-outgrown}
+use Rattle.smol_str.specs.Joined.{joined_strs, joined_string_refs}
+use Rattle.std.specs.Iterator.{Drains, DrainsIf, ExtendsWithItems}
+use Rattle.std.proofs.lemmas.List.{map-id}
+use Rattle.std.proofs.lemmas.Iterator.{items_from_drains}
+use Rattle.smol_str.proofs.BuilderLemmas.Collect.{joined-drained, not_short-outgrown, DrainsIf-drained}
 use Rattle.smol_str.specs.Wire.{prefix_size}
 use Rattle.smol_str.proofs.WireLemmas.Wire.{length-wire, prefix_size-wire, wire-apart, Holds-one, Holds-whole, body-Holds, Holds-written, wire-held, length-Holds}
 use Rattle.std.proofs.Common.{◌^◌, ◌∷◌, All, append_assoc, if◌then◌else◌}
@@ -323,6 +327,68 @@ module _ {S E : Type 0} {steps : S → Option (Bor (List ℕ)) → S → Type 0}
   split_refused r out gives =
       subst (λ t. OnErr r (¬ (IsShort t))) (joined-nothing (cut t p (no_limit t))) (refused (λ q. q) r out gives)
 
+-- the same by std's traits, `iter.collect(alloc)` and `builder.extend(iter)`, where `texts` says the text of the items that
+-- came, and `whole` that of the list
+module _ {S A B : Type 0} {steps : S → Option A → S → Type 0} {s : S} {v : A → B} {all : List B} (texts : List A → List ℕ)
+    (whole : List B → List ℕ) (is : (xs : List A) → texts xs ≡ whole (map v xs)) where
+  drained : (xs : List A) → DrainsIf steps (Unit {0}) s xs → YieldsList steps v s all → texts xs ≡ whole all
+  drained xs d gives = is xs ∙ ap whole (items_from_drains xs d gives)
+
+  made : {E : Type 0} (r : Result Meaning E)
+      → IfOk r (λ y. (xs : List A) × DrainsIf steps (Unit {0}) s xs × IsValueOf (texts xs) y)
+      → YieldsList steps v s all → IfOk r (λ y. IsValueOf (whole all) y)
+  made (Ok y) (xs, d, h) gives = subst (λ t. IsValueOf t y) (drained xs d gives) h
+  made (Err e) h gives = tt
+
+  grown : {E : Type 0} (r : Result (Unit {0}) E) (old new : Draft)
+      → ExtendsWithItems (λ i t. t ≡ i) steps (λ b xs c. c ≡ appended b (texts xs)) s old new r
+      → YieldsList steps v s all → OnOk r (new ≡ appended old (whole all))
+  grown (Ok u) old new (t, xs, b, h, d) gives =
+      let end = DrainsIf-drained steps s xs (subst (λ u. Drains steps u xs) b d) in
+      h ∙ ap (appended old) (drained xs end gives)
+  grown (Err e) old new h gives = tt
+
+module _ {S E : Type 0} {steps : S → Option ℕ → S → Type 0} {s : S} {all : List ℕ} where
+  pub chars_made : (r : Result Meaning E)
+      → IfOk r (λ y. (xs : List ℕ) × DrainsIf steps (Unit {0}) s xs × IsValueOf xs y)
+      → YieldsList steps (λ c. c) s all → IfOk r (λ y. IsValueOf all y)
+  chars_made r is gives = made (λ xs. xs) (λ xs. xs) (λ xs. sym (map-id xs)) r is gives
+
+  pub chars_grown : (r : Result (Unit {0}) E) (old new : Draft)
+      → ExtendsWithItems (λ i t. t ≡ i) steps (λ b xs c. c ≡ appended b xs) s old new r
+      → YieldsList steps (λ c. c) s all → OnOk r (new ≡ appended old all)
+  chars_grown r old new is gives = grown (λ xs. xs) (λ xs. xs) (λ xs. sym (map-id xs)) r old new is gives
+
+module _ {S E : Type 0} {steps : S → Option (Bor (List ℕ)) → S → Type 0} {s : S} {all : List (List ℕ)} where
+  pub strs_made : (r : Result Meaning E)
+      → IfOk r (λ y. (xs : List (Bor (List ℕ))) × DrainsIf steps (Unit {0}) s xs × IsValueOf (joined_strs xs) y)
+      → YieldsList steps (λ x. x.now) s all → IfOk r (λ y. IsValueOf (joined chars all) y)
+  strs_made r is gives = made joined_strs (joined chars) (λ xs. refl) r is gives
+
+  pub strs_grown : (r : Result (Unit {0}) E) (old new : Draft)
+      → ExtendsWithItems (λ i t. t ≡ i) steps (λ b xs c. c ≡ appended b (joined_strs xs)) s old new r
+      → YieldsList steps (λ x. x.now) s all → OnOk r (new ≡ appended old (joined chars all))
+  strs_grown r old new is gives = grown joined_strs (joined chars) (λ xs. refl) r old new is gives
+
+module _ {S E : Type 0} {steps : S → Option (String Global) → S → Type 0} {s : S} {all : List (String Global)} where
+  pub strings_made : (r : Result Meaning E)
+      → IfOk r (λ y. (xs : List (String Global)) × DrainsIf steps (Unit {0}) s xs × IsValueOf (joined string_text xs) y)
+      → YieldsList steps (λ x. x) s all → IfOk r (λ y. IsValueOf (joined string_text all) y)
+  strings_made r is gives =
+      made (joined string_text) (joined string_text) (λ xs. ap (joined string_text) (sym (map-id xs))) r is gives
+
+module _ {S E : Type 0} {steps : S → Option (Bor (String Global)) → S → Type 0} {s : S}
+    {all : List (String Global)} where
+  pub string_refs_made : (r : Result Meaning E)
+      → IfOk r (λ y. (xs : List (Bor (String Global))) × DrainsIf steps (Unit {0}) s xs × IsValueOf (joined_string_refs xs) y)
+      → YieldsList steps (λ x. x.now) s all → IfOk r (λ y. IsValueOf (joined string_text all) y)
+  string_refs_made r is gives = made joined_string_refs (joined string_text) (λ xs. refl) r is gives
+
+  pub string_refs_grown : (r : Result (Unit {0}) E) (old new : Draft)
+      → ExtendsWithItems (λ i t. t ≡ i) steps (λ b xs c. c ≡ appended b (joined_string_refs xs)) s old new r
+      → YieldsList steps (λ x. x.now) s all → OnOk r (new ≡ appended old (joined string_text all))
+  string_refs_grown r old new is gives = grown joined_string_refs (joined string_text) (λ xs. refl) r old new is gives
+
 -- the characters of a text that is short by its bytes: never refused
 pub short_is_ok : {S T E : Type 0} {steps : S → Option ℕ → S → Type 0} {s : S} {bs : List ℕ} (r : Result T E)
     → OnErr r (Outgrown char_text steps s) → YieldsList steps (λ c. c) s (chars bs)
@@ -356,6 +422,13 @@ pub ruleset collecting = (
   split_collected,
   split_refused,
   short_is_ok,
+  chars_made,
+  chars_grown,
+  strs_made,
+  strs_grown,
+  strings_made,
+  string_refs_made,
+  string_refs_grown,
   gives-chars,
   gives-slice,
   YieldsList-from_vec,

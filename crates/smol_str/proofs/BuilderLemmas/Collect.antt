@@ -66,7 +66,8 @@ module _ {S A : Type 0} (steps : S → Option A → S → Type 0) (s : S) (f : A
 appended-heap : (b : Draft) (t u : List ℕ) → (appended b t).kind ≡ OnHeap → (appended b (t ++ u)).kind ≡ OnHeap
 appended-heap b t u heap = grind (arith, common_steps, appended-twice)
 
-DrainsIf-drained : {S A : Type 0} (steps : S → Option A → S → Type 0) (s : S) (xs : List A)
+-- an iterator that was drained
+pub DrainsIf-drained : {S A : Type 0} (steps : S → Option A → S → Type 0) (s : S) (xs : List A)
     → Drains steps s xs → DrainsIf steps (Unit {0}) s xs
 DrainsIf-drained steps s xs d = let end = d.1 in (end.0, end.1, λ _. (d.0, end.2))
 
