@@ -5,6 +5,7 @@
 --     builders    a ruleset: appends after appends, and when a builder leaves its buffer
 --     appended-more, appended-refused     a loop that appends a piece for each item of a list
 --     collecting  a ruleset: collecting and extending from an iterator that gives a list
+--     chars_made, ..   the same by std's `collect` and `extend`
 --     form_is_whole, form-..              bytes that are a wire form: both calls read its text
 --     form-cut-..                         bytes of which the end may be missing: what has not ended early is whole
 --     Holds-parts                         a form that is held, and what follows it
@@ -422,13 +423,9 @@ pub ruleset collecting = (
   split_collected,
   split_refused,
   short_is_ok,
-  chars_made,
-  chars_grown,
   strs_made,
-  strs_grown,
   strings_made,
   string_refs_made,
-  string_refs_grown,
   gives-chars,
   gives-slice,
   YieldsList-from_vec,

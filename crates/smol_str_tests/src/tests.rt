@@ -4,11 +4,13 @@ mod built;
 mod collect;
 mod compare;
 mod convert;
+mod idioms;
 mod kernel;
 mod keys;
 mod large;
 mod places;
 mod replace;
+mod serde_traits;
 mod str_ext;
 
 use smol_str::{BLANK_NEWLINES, BLANK_SPACES, INLINE_CAP};

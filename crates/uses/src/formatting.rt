@@ -54,10 +54,8 @@ pub fn signed(alloc: Global, number: u64) -> Result<SmolStr, FormatError>
     ensures { IfOk result (λ v. encode_utf8_all v.text ≡ decimal number ++ codes "-") }
 {
     let mut builder = SmolStrBuilder::new(alloc);
-    match write!(builder, "{number}-") {
-        Ok(()) => finished(builder),
-        Err(_) => Err(FormatError),
-    }
+    write!(builder, "{number}-")?;
+    finished(builder)
 }
 
 /// A number, with spaces before it where it is narrow.

@@ -54,7 +54,6 @@ pub fn row(alloc: Global, tokens: &[SmolStr]) -> Result<String, AllocError>
 }
 
 /// A text from its last character to its first.
-#[tactic(auto, using(smol_str::proofs::CallerLemmas::collecting))]
 pub fn reversed(alloc: Global, text: &str) -> Result<SmolStr, AllocError>
     ensures { IfOk result (λ v. IsValueOf (reverse (chars text.now)) v) }
 {
@@ -62,7 +61,6 @@ pub fn reversed(alloc: Global, text: &str) -> Result<SmolStr, AllocError>
 }
 
 /// The characters of two texts.
-#[tactic(auto, using(smol_str::proofs::CallerLemmas::collecting))]
 pub fn of_both(alloc: Global, first: &str, second: &str) -> Result<SmolStr, AllocError>
     ensures { IfOk result (λ v. IsValueOf (chars first.now ++ chars second.now) v) }
 {
@@ -86,7 +84,6 @@ pub fn of_lent(alloc: Global, texts: &[String]) -> Result<SmolStr, AllocError>
 }
 
 /// A builder, and the characters of a text after it.
-#[tactic(auto, using(smol_str::proofs::CallerLemmas::collecting))]
 pub fn push_chars(builder: &mut SmolStrBuilder, text: &str) -> Result<(), AllocError>
     ensures { OnOk result (builder.new ≡ appended builder.old (chars text.now)) }
 {
@@ -94,7 +91,6 @@ pub fn push_chars(builder: &mut SmolStrBuilder, text: &str) -> Result<(), AllocE
 }
 
 /// A builder, and the texts of `String`s after it.
-#[tactic(auto, using(smol_str::proofs::CallerLemmas::collecting))]
 pub fn push_strings(builder: &mut SmolStrBuilder, texts: &[String]) -> Result<(), AllocError>
     ensures { OnOk result (builder.new ≡ appended builder.old (joined string_text texts.now)) }
 {
