@@ -245,13 +245,33 @@ fn faults_print(rt: HostRuntime) -> Result<(), Fail> {
     prints(&test, &FormatError, "formatting failed or memory ran out");
     prints(&test, &FromUtf8Fault::OutOfMemory, memory);
     prints(&test, &JsonFault::OutOfMemory, memory);
-    prints(&test, &JsonFault::NotString, "the JSON value is not a string");
+    prints(
+        &test,
+        &JsonFault::NotString,
+        "the JSON value is not a string",
+    );
     prints(&test, &ReadFault::OutOfMemory, memory);
     prints(&test, &DecodeFault::OutOfMemory, memory);
-    prints(&test, &DecodeFault::Ended, "the bytes end before the text does");
-    prints(&test, &EncodeFault::TooLong, "the text has more than 4294967295 bytes");
-    prints(&test, &LimitedFault::TooLong, "the stated length exceeds the limit");
-    prints(&test, &LimitedFault::Decode(DecodeFault::OutOfMemory), memory);
+    prints(
+        &test,
+        &DecodeFault::Ended,
+        "the bytes end before the text does",
+    );
+    prints(
+        &test,
+        &EncodeFault::TooLong,
+        "the text has more than 4294967295 bytes",
+    );
+    prints(
+        &test,
+        &LimitedFault::TooLong,
+        "the stated length exceeds the limit",
+    );
+    prints(
+        &test,
+        &LimitedFault::Decode(DecodeFault::OutOfMemory),
+        memory,
+    );
     test.end()
 }
 
@@ -263,13 +283,21 @@ fn faults_print_their_cause(rt: HostRuntime) -> Result<(), Fail> {
     if let Err(error) = str::from_utf8(b"a\xff") {
         prints(&test, &FromUtf8Fault::NotUtf8(error), utf8);
         prints(&test, &DecodeFault::NotUtf8(error), utf8);
-        prints(&test, &LimitedFault::Decode(DecodeFault::NotUtf8(error)), utf8);
+        prints(
+            &test,
+            &LimitedFault::Decode(DecodeFault::NotUtf8(error)),
+            utf8,
+        );
     }
     let broken = ok(&test, broken_pipe().to_smolstr(test.alloc));
     prints(&test, &ReadFault::Io(broken_pipe()), &broken);
     prints(&test, &DecodeFault::Io(broken_pipe()), &broken);
     prints(&test, &EncodeFault::Io(broken_pipe()), &broken);
-    prints(&test, &LimitedFault::Decode(DecodeFault::Io(broken_pipe())), &broken);
+    prints(
+        &test,
+        &LimitedFault::Decode(DecodeFault::Io(broken_pipe())),
+        &broken,
+    );
     test.end()
 }
 
