@@ -2,18 +2,22 @@
 //! that print.
 #![tactic(auto)]
 
-ghost use Rattle.std.specs.Prelude.{◌≡◌, ◌↔◌, ◌++◌, String, IfOk, OnOk, OnErr, IsTrue, codes, reverse, encode_utf8_all};
+ghost use Rattle.std.specs.Prelude.{◌≡◌, ◌↔◌, ◌++◌, ℕ, List, String, IfOk, OnOk, OnErr, IsTrue, codes, reverse, encode_utf8_all};
+ghost use Rattle.std.specs.Iterator.{Drains, IsFinite};
 ghost use Rattle.std.specs.List.{join_by};
 ghost use Rattle.std.specs.Rc.{rc_str_bytes};
 ghost use Rattle.std.specs.Str.{chars};
 ghost use Rattle.std.specs.String.{string_bytes};
+ghost use Rattle.serde.specs.Event.{Logs, text};
+ghost use Rattle.serde.specs.Steps.{Gives};
+ghost use Rattle.smol_str.specs.Collect.{Outgrown, OutgrownAfter, StoppedAt};
 ghost use Rattle.smol_str.specs.Draft.{appended};
-ghost use Rattle.smol_str.specs.Joined.{joined, string_text};
+ghost use Rattle.smol_str.specs.Joined.{char_text, joined, string_text};
 ghost use Rattle.smol_str.specs.Meaning.{Meaning, IsValueOf};
-ghost use Rattle.smol_str.specs.Text.{IsResident};
+ghost use Rattle.smol_str.specs.Text.{IsResident, place_of};
 
 use anyhow::Context;
-use serde::{Deserialize, Serialize};
+use serde::{Deserialize, DeserializeOwned, Deserializer, Format, Serialize, Serializer};
 use smol_str::{SmolStr, SmolStrBuilder, format_smolstr};
 use std::alloc::{AllocError, Global};
 use std::collections::HashMap;
@@ -97,11 +101,41 @@ pub fn push_strings(builder: &mut SmolStrBuilder, texts: &[String]) -> Result<()
     builder.extend(texts.iter())
 }
 
+/// The characters of whatever is iterated over, by the trait's own call, which also says when memory may be refused.
+pub fn of_characters<U: IntoIterator<Item = char>>(
+    alloc: Global,
+    characters: U,
+) -> Result<SmolStr, AllocError>
+    requires can { (it : U.IntoIter) → U.into_iter_gives characters it → U.IntoIter.can_next it }
+    requires ends { (it : U.IntoIter) → U.into_iter_gives characters it → IsFinite (U.IntoIter.remaining it) }
+    ensures value { IfOk result (λ v. (it : U.IntoIter) × (all : List ℕ) × U.into_iter_gives characters it
+        × Drains U.IntoIter.next_gives it all × IsValueOf all v) }
+    ensures refused { OnErr result ((it : U.IntoIter) × U.into_iter_gives characters it
+        × Outgrown char_text U.IntoIter.next_gives it) }
+{
+    SmolStr::from_iter(alloc, characters)
+}
+
+/// A builder, and such characters after it; a refusal keeps those before the refused one.
+pub fn push_characters<U: IntoIterator<Item = char>>(
+    builder: &mut SmolStrBuilder,
+    characters: U,
+) -> Result<(), AllocError>
+    requires can { (it : U.IntoIter) → U.into_iter_gives characters it → U.IntoIter.can_next it }
+    requires ends { (it : U.IntoIter) → U.into_iter_gives characters it → IsFinite (U.IntoIter.remaining it) }
+    ensures stopped { OnErr result ((it : U.IntoIter) × U.into_iter_gives characters it
+        × StoppedAt char_text U.IntoIter.next_gives it builder.old builder.new) }
+    ensures refused { OnErr result ((it : U.IntoIter) × U.into_iter_gives characters it
+        × OutgrownAfter char_text U.IntoIter.next_gives it builder.old) }
+{
+    builder.extend(characters)
+}
+
 /// A text that is shared already, which takes no memory.
 pub fn of_shared(shared: RcStr) -> SmolStr
     ensures { IsValueOf (chars (rc_str_bytes shared)) result }
 {
-    shared.into()
+    SmolStr::from(shared)
 }
 
 /// What was printed so far at each name: a builder for a new one.
@@ -111,6 +145,35 @@ pub fn print_at(
     text: &str,
 ) -> Result<(), AllocError> {
     pages.entry(name)?.or_default().push_str(text)
+}
+
+/// A value written to any format: one text.
+pub fn send<S: Serializer>(token: &SmolStr, out: &mut S) -> Result<(), S::Error>
+    ensures { OnOk result (Logs (S.written out.old) (S.written out.new) (text (encode_utf8_all token.now.text))) }
+{
+    token.serialize(out)
+}
+
+/// A value read from any format: the text that came, in its place.
+pub fn receive<'de, F: Format>(
+    alloc: Global,
+    from: &mut Deserializer<'de, '_, F>,
+) -> Result<SmolStr, F::Error>
+    ensures text { IfOk result (λ v. Gives F.gives from.old (text (encode_utf8_all v.text)) from.new) }
+    ensures place { IfOk result (λ v. v.place ≡ place_of v.text) }
+{
+    SmolStr::deserialize(alloc, from)
+}
+
+/// The same where nothing is borrowed from the input.
+pub fn receive_owned<F: Format>(
+    alloc: Global,
+    from: &mut Deserializer<'_, '_, F>,
+) -> Result<SmolStr, F::Error>
+    ensures text { IfOk result (λ v. Gives F.gives from.old (text (encode_utf8_all v.text)) from.new) }
+    ensures place { IfOk result (λ v. v.place ≡ place_of v.text) }
+{
+    SmolStr::deserialize_owned(alloc, from)
 }
 
 /// An entry of a settings file.
