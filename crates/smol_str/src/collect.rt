@@ -87,7 +87,8 @@ impl<'a> Piece for &'a String {
 /// An allocator that collects values: `Global`.
 ///
 /// The collecting calls return its `Value`, which is [`SmolStr`]. One that named [`SmolStr`] could not
-/// be called, for the borrow checker, with an iterator whose type names several lifetimes.
+/// be called, for the borrow checker, with an iterator whose type names several lifetimes;
+/// `iter.collect(alloc)` can, in a function that is not generic.
 pub trait ValueAlloc {
     type Value;
 
@@ -123,7 +124,8 @@ impl SmolStr {
     /// A value of the characters, in order.
     ///
     /// While their text is short no memory is needed. A refusal is [`AllocError`]: nothing is made,
-    /// and the iterator is dropped. It stands for upstream's `FromIterator<char>`.
+    /// and the iterator is dropped. `iter.collect(alloc)` does the same, and does not say when memory
+    /// may be refused.
     ///
     /// ```
     /// let shout = SmolStr::from_chars(alloc, "abc".chars().rev())?;
@@ -207,7 +209,7 @@ impl SmolStrBuilder {
     /// Appends the characters, in order.
     ///
     /// A refusal is [`AllocError`]: the characters before the refused one stay appended, and the
-    /// iterator is dropped. It stands for upstream's `Extend<char>`.
+    /// iterator is dropped. `builder.extend(iter)` does the same.
     ///
     /// ```
     /// let mut builder = SmolStrBuilder::new(alloc);

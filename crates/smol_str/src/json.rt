@@ -1,7 +1,8 @@
 //! JSON strings: a value as JSON, and back.
 //!
-//! These calls stand in place of serde's traits on a value. What a JSON value is, and which text
-//! reads as which value, is `serde_json`'s own.
+//! serde's traits write and read a value too, in any format; the contracts of these calls speak of the
+//! JSON value and of the bytes. What a JSON value is, and which text reads as which value, is
+//! `serde_json`'s own.
 ghost use Rattle.std.specs.Prelude.{◌≡◌, ℕ, List, IfOk, IfErr};
 ghost use Rattle.std.specs.String.{string_bytes};
 ghost use Rattle.serde_json.specs.View.{view};
@@ -58,9 +59,9 @@ impl Display for JsonFault {
 
     fn fmt<W: Write>(&self, f: &mut Formatter<W>) -> fmt::Result {
         match self {
-            JsonFault::NotString => f.write_str("the JSON value is not a string"),
+            JsonFault::NotString => write!(f, "the JSON value is not a string"),
             JsonFault::Json(error) => Display::fmt(error, f),
-            JsonFault::OutOfMemory => f.write_str("memory allocation failed"),
+            JsonFault::OutOfMemory => write!(f, "memory allocation failed"),
         }
     }
 }

@@ -7,12 +7,13 @@
 //! The modules lie in layers, and each uses those below it:
 //!
 //! ```text
-//!     json  borsh  str_ext  format  collect    by public items alone, as users do; `.ci/api` looks
-//!     builder                                  a text that grows (its `steps` also use `collect`)
-//!     value                                    a text and its place; what makes, compares and prints it
-//!     buffer  kernel                           a short text in its own bytes; loops over bytes
-//!     stream                                   reading and writing by single calls
-//!     laws                                     what holds of the definitions, by functions that do nothing
+//!     json  serde_impls  borsh  str_ext  format  collect    by public items alone, as users do; `.ci/api` looks
+//!     builder            a text that grows (its `steps` also use `collect`)
+//!     value              a text and its place; what makes, lends, compares and prints it
+//!     shared             the shared text of a value on the heap: the one line to change for several threads
+//!     buffer  kernel     a short text in its own bytes; loops over bytes
+//!     stream             reading and writing by single calls
+//!     laws               what holds of the definitions, by functions that do nothing
 //! ```
 #![tactic(auto)]
 
