@@ -148,7 +148,8 @@ fn push_full(test: &Test, all: &mut Vec<Row>) {
     let line = line.as_str();
     let report = answer(alloc, "static", long_blank());
     push_text(test, all, &["replace", "x", " "], line, report);
-    let input = ok_string(test, format!(in alloc; " \n{}", &long_blank()[1..]));
+    let spaces = test.repeated(" ", INLINE_CAP);
+    let input = ok_string(test, format!(in alloc; " \n{spaces}"));
     let report = answer(alloc, "static", long_blank());
     push_text(test, all, &["join"], input.as_str(), report)
 }
