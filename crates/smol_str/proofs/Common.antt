@@ -3,7 +3,7 @@ pub use Rattle.std.proofs.Common.{◌≡◌, ℕ, ◌<◌, List, [], ◌∷◌, 
 pub use Rattle.smol_str.specs.Buffer.{IsPacked, packed, padded, unpacked, HaveOneBuffer}
 pub use Rattle.smol_str.specs.Case.{front, lower, upper, lowercased, uppercased, IsAsciiText, HasSigma, BeginsPastAscii}
 pub use Rattle.smol_str.specs.Collect.{AppendedAll, StoppedAt, Collected, Outgrown, IsValueOfRun, AppendsRun}
-pub use Rattle.smol_str.specs.InCase.{converted, full_case, mapped, IsMappedAlone, IsAsciiFront}
+pub use Rattle.smol_str.specs.InCase.{letter, converted, letters, full_case, mapped, IsMappedAlone, IsAsciiFront}
 pub use Rattle.smol_str.specs.Cut.{StandsAt, Occurs, IsNextMatch, IsCut, joined_by, IsFirstAfter, IsCutAt, but_last, IsSpelled, IsCutBetween}
 pub use Rattle.smol_str.specs.Draft.{Draft, OnHeap, empty_draft, kind_for, appended, Kind, InBuffer, kind_with, draft_of}
 pub use Rattle.smol_str.specs.Joined.{joined, char_text, str_text, string_text, string_ref_text, joined_strs, joined_string_refs}
@@ -15,8 +15,8 @@ pub use Rattle.smol_str.specs.Wire.{HasWire, wire, Holds, prefix_size, HasEndedE
 pub use Rattle.smol_str.specs.Words.{word, put_at, with_zeros}
 pub use Rattle.smol_str.specs.declared.buffer.TheConstants.{INLINE_CAP, PACKED_LEN}
 pub use Rattle.smol_str.specs.declared.buffer.words.TheConstants.{WORDS}
-pub use Rattle.smol_str.specs.declared.kernel.AsciiCase.{AsciiCase}
-pub use Rattle.smol_str.specs.declared.kernel.AsciiCase.TheVariants.{Lower, Upper}
+pub use Rattle.smol_str.specs.declared.bytes.ascii.AsciiCase.{AsciiCase}
+pub use Rattle.smol_str.specs.declared.bytes.ascii.AsciiCase.TheVariants.{Lower, Upper}
 pub use Rattle.std.proofs.KnownBytes.{Appends-trans, Consumes-trans}
 pub use Rattle.std.proofs.Math.Seq.{take-append-add, drop-append-add, drop-append_seam}
 pub use Rattle.std.proofs.lemmas.Bool.{cases_lt, cases_order, false_from_ne_true, false≢true, and_parts}

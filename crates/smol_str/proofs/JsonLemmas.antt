@@ -9,6 +9,7 @@ use Rattle.serde_json.specs.declared.value.Value as value
 use Rattle.smol_str.specs.declared.json.JsonFault.{JsonFault}
 use Rattle.smol_str.specs.declared.json.JsonFault.TheVariants.{NotString, Json, OutOfMemory}
 use Rattle.smol_str.specs.Json.{json_value, IsJsonText, IsJsonOf, AfterValueFault, AfterJsonFault}
+use Rattle.smol_str.proofs.WireLemmas.Stream.{IfErr-is}
 
 view-String : (s : String Global) → view (value.String s) ≡ json.string (string_bytes s)
 view-String s = search (rules, value.the_lemmas)
@@ -50,3 +51,7 @@ pub IsJsonText-read : {E : Type 0} (r : Result Meaning E) (bs : List ℕ) (d : j
     → IfOk r (IsJsonOf d) → IfOk r (λ v. IsJsonText bs v.text)
 IsJsonText-read (Ok v) bs d e h = e ∙ ap Some h.text
 IsJsonText-read (Err fault) bs d e h = tt
+
+pub ruleset read_texts = (IsJsonText-read, AfterJsonFault-read)
+
+pub ruleset read_values = (view-chars, json_value-same, IsJsonOf-IsValueOf, IfErr-is)

@@ -34,7 +34,7 @@ pub record IsNextMatch (a b p : List ℕ) (i : ℕ) : Type 0 where
   pub before : List ℕ
   pub after : List ℕ
   pub reads : b ≡ before ++ (p ++ after)
-  pub place : size (a ++ before) ≡ i
+  pub index : size (a ++ before) ≡ i
   pub first : IsFirstAfter p before
 
 -- `pieces.join(p)`

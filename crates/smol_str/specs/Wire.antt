@@ -2,7 +2,7 @@
 --     HasWire t            t is short enough to have one
 --     wire t               its size as a little-endian `u32`, and then its UTF-8 bytes
 --     Holds b t n          the first n bytes of b are the wire form of t
---     prefix_size b             the size that the first four bytes of b state
+--     prefix_size b        the size that the first four bytes of b state
 --     HasEndedEarly b      b is shorter than four bytes, or than four bytes and the size that they state
 --     body b               as many bytes as b states, from its fifth on
 use Rattle.std.specs.Prelude.{◌≡◌, ℕ, ◌+◌, ◌<◌, ◌≤◌, ◌^◌, ◌⊎◌, List, ◌++◌, length, take, drop, IsTrue, encode_utf8_all}

@@ -1,16 +1,17 @@
--- What stands after the wire form was written or read, and after each fault.
+-- What is known after the wire form was written or read, and after each fault.
 --     AfterEncodeFault      of a writer
---     AfterDecodeFault        of a reader
---     StopsEarly            the bytes that were consumed have ended early
+--     AfterDecodeFault      of a reader
+--     GaveTooFew            the reader gave bytes that end early
+--     GaveSomeOfBody        it gave the size and some of the body
 --     AfterLimitedFault     of a reader of values that have a greatest size
 --     AfterFromWireFault    of bytes
 -- A reader gives a size first, and then a body of this size.
 --     HasReadSize           the size came
 --     HasReadBody           the body came, and is the text of a value
 --     AfterBodyFault        it did not, or is no text, or memory was refused
--- And the faults that other calls' faults become.
---     of_read_fault         of a reader that was read by pieces
---     of_utf8_fault         of bytes that were to be a value's text
+-- And what other calls' faults become.
+--     of_read_fault         the fault of a reader that was read by chunks
+--     of_utf8_fault         the fault of bytes that were to be a value's text
 use Rattle.std.specs.Prelude.{◌≡◌, ℕ, ◌+◌, ◌<◌, ◌≤◌, ◌^◌, List, length, take, Option, IfSome, ⊤}
 use Rattle.std.specs.Int.{to_le_bytes, w32}
 use Rattle.std.specs.Str.{chars, IsUtf8}
@@ -30,7 +31,7 @@ use Rattle.smol_str.specs.declared.buffer.TheConstants.{INLINE_CAP}
 use Rattle.smol_str.specs.Text.{IsResident}
 use Rattle.smol_str.specs.Meaning.{Meaning, IsValueOf}
 use Rattle.smol_str.specs.Faults.{IsUtf8FaultOf}
-use Rattle.smol_str.specs.Stream.{AppendsBeginning, EndsBelow, StopsBelow, ConsumesSome}
+use Rattle.smol_str.specs.Stream.{AppendsBeginning, GaveAllBelow, GaveBelow, GaveUpTo}
 use Rattle.smol_str.specs.Wire.{prefix_size, HasEndedEarly, body}
 
 -- too long: the value has no form, and nothing was written; else it has, and a beginning of it was written, but not all
@@ -42,13 +43,13 @@ AfterEncodeFault form HasForm held holds (WriteFailed e) = HasForm × AppendsBeg
 abbrev pub IsRefusedBody : List ℕ → Utf8Error → Type 0
 IsRefusedBody bytes e = (¬ (IsUtf8 bytes)) × IsUtf8FaultOf bytes e
 
--- the bytes that were consumed have ended early, as P says of them too: others may be left, and the whole form never came
-abbrev pub StopsEarly : Option (List ℕ) → Option (List ℕ) → (List ℕ → Type 0) → Type 0
-StopsEarly input left P = (bytes : List ℕ) × HasEndedEarly bytes × P bytes × Consumes input left bytes
+-- the reader gave bytes that end early and of which P holds; it may have more, but it never gave the whole form
+abbrev pub GaveTooFew : Option (List ℕ) → Option (List ℕ) → (List ℕ → Type 0) → Type 0
+GaveTooFew input left P = (bytes : List ℕ) × HasEndedEarly bytes × P bytes × Consumes input left bytes
 
--- the size and some of the body were consumed, and no more than the whole body
-abbrev pub StopsInBody : Option (List ℕ) → Option (List ℕ) → Type 0
-StopsInBody input left =
+-- the reader gave the size and some of the body, and no more than the whole body
+abbrev pub GaveSomeOfBody : Option (List ℕ) → Option (List ℕ) → Type 0
+GaveSomeOfBody input left =
     (bytes : List ℕ) × (4 < length bytes) × (length bytes ≤ 4 + prefix_size bytes) × Consumes input left bytes
 
 -- ended: the bytes had ended early, and none is left; not UTF-8: the size and the whole body were consumed and no more,
@@ -59,25 +60,21 @@ AfterDecodeFault input left Ended = IfSome input HasEndedEarly × IsAtEnd left
 AfterDecodeFault input left (NotUtf8 e) =
     IfSome input (λ b. (¬ (HasEndedEarly b)) × IsRefusedBody (body b) e × Consumes input left (take (4 + prefix_size b) b))
 AfterDecodeFault input left OutOfMemory =
-    IfSome input (λ b. (4 ≤ length b) × (INLINE_CAP < prefix_size b)) × StopsInBody input left
-AfterDecodeFault input left (ReadFailed e) = StopsEarly input left (λ bytes. ⊤)
+    IfSome input (λ b. (4 ≤ length b) × (INLINE_CAP < prefix_size b)) × GaveSomeOfBody input left
+AfterDecodeFault input left (ReadFailed e) = GaveTooFew input left (λ bytes. ⊤)
 
 -- the size, where all four bytes of it are there, is within the limit
 abbrev pub StatesAtMost : ℕ → List ℕ → Type 0
 StatesAtMost limit b = 4 ≤ length b → prefix_size b ≤ limit
 
--- too long: the size that was stated is above the limit, and nothing behind it was consumed; else a fault of reading, of
--- a size within the limit, if the whole of it came
+-- too long: the prefix states a size above the limit, and nothing behind it was consumed; else a fault of reading, and
+-- the size is within the limit; where the reader failed, that is known of the bytes that it gave
 abbrev pub AfterLimitedFault : ℕ → Option (List ℕ) → Option (List ℕ) → LimitedFault → Type 0
 AfterLimitedFault limit input left AboveLimit =
     IfSome input (λ b. (4 ≤ length b) × (limit < prefix_size b) × Consumes input left (take 4 b))
-AfterLimitedFault limit input left (Decode Ended) =
-    AfterDecodeFault input left Ended × IfSome input (StatesAtMost limit)
-AfterLimitedFault limit input left (Decode (NotUtf8 e)) =
-    AfterDecodeFault input left (NotUtf8 e) × IfSome input (StatesAtMost limit)
-AfterLimitedFault limit input left (Decode OutOfMemory) =
-    AfterDecodeFault input left OutOfMemory × IfSome input (StatesAtMost limit)
-AfterLimitedFault limit input left (Decode (ReadFailed e)) = StopsEarly input left (StatesAtMost limit)
+AfterLimitedFault limit input left (Decode (ReadFailed e)) = GaveTooFew input left (StatesAtMost limit)
+AfterLimitedFault limit input left (Decode fault) =
+    AfterDecodeFault input left fault × IfSome input (StatesAtMost limit)
 
 -- ended: the bytes have; else the body is there, and is not UTF-8, or is that of a text that is not resident; no reader
 -- is asked, and so none fails
@@ -87,11 +84,11 @@ AfterFromWireFault b (NotUtf8 e) = (¬ (HasEndedEarly b)) × IsRefusedBody (body
 AfterFromWireFault b OutOfMemory = (¬ (HasEndedEarly b)) × IsUtf8 (body b) × (¬ (IsResident (chars (body b))))
 AfterFromWireFault b (ReadFailed e) = ⊥
 
--- the reader lost four bytes, which state the size n
+-- the reader gave four bytes, which state the size n
 abbrev pub HasReadSize : Option (List ℕ) → Option (List ℕ) → ℕ → Type 0
 HasReadSize input left n = (n < 2 ^ 32) × Consumes input left (to_le_bytes w32 n)
 
--- the reader lost n bytes, which are the value's text
+-- the reader gave n bytes, which are the value's text
 pub record HasReadBody (input left : Option (List ℕ)) (n : ℕ) (v : Meaning) : Type 0 where
   pub body : List ℕ
   pub whole : length body ≡ n
@@ -99,7 +96,7 @@ pub record HasReadBody (input left : Option (List ℕ)) (n : ℕ) (v : Meaning) 
   pub bytes : Consumes input left body
   pub value : IsValueOf (chars body) v
 
--- the reader lost n bytes, which are not UTF-8
+-- the reader gave n bytes, which are not UTF-8
 pub record HasReadNoText (input left : Option (List ℕ)) (n : ℕ) (e : Utf8Error) : Type 0 where
   pub body : List ℕ
   pub whole : length body ≡ n
@@ -109,10 +106,10 @@ pub record HasReadNoText (input left : Option (List ℕ)) (n : ℕ) (e : Utf8Err
 -- after reading a body of n bytes: out of memory comes only of a body above INLINE_CAP, and where some of it came; the
 -- reader failed before the whole body had come
 abbrev pub AfterBodyFault : Option (List ℕ) → Option (List ℕ) → ℕ → DecodeFault → Type 0
-AfterBodyFault input left n Ended = EndsBelow input left n
+AfterBodyFault input left n Ended = GaveAllBelow input left n
 AfterBodyFault input left n (NotUtf8 e) = HasReadNoText input left n e
-AfterBodyFault input left n OutOfMemory = (INLINE_CAP < n) × ConsumesSome input left n
-AfterBodyFault input left n (ReadFailed e) = StopsBelow input left n
+AfterBodyFault input left n OutOfMemory = (INLINE_CAP < n) × GaveUpTo input left n
+AfterBodyFault input left n (ReadFailed e) = GaveBelow input left n
 
 abbrev pub of_read_fault : ReadFault → DecodeFault
 of_read_fault NoMemoryToRead = OutOfMemory

@@ -10,7 +10,7 @@ ghost use Rattle.smol_str.specs.InCase.{converted};
 
 mod words;
 
-use crate::kernel::{AsciiCase, convert_all, is_all_ascii};
+use crate::bytes::ascii::{AsciiCase, convert_all, is_all_ascii};
 use std::cmp::Ordering;
 use std::marker::Model;
 pub(crate) use words::same_text;

@@ -41,7 +41,7 @@ impl From<AllocError> for JsonFault {
     }
 }
 
-/// So that `?` may follow a refused `push`; what comes back of it is dropped.
+/// For `?` after a refused `push`; the item that comes back is dropped.
 impl<T: Drop> From<AllocFailed<T>> for JsonFault {
     ghost use Rattle.std.specs.Prelude.{◌≡◌};
     ghost use Rattle.smol_str.specs.declared.json.JsonFault.TheVariants.{OutOfMemory};
@@ -87,16 +87,15 @@ pub fn to_value(alloc: Global, value: &SmolStr) -> Result<Value, AllocError>
 /// It is [`JsonFault::NotString`] for any other JSON value; the value of a number is not looked at.
 /// Resident text needs no memory; any other is refused with [`JsonFault::OutOfMemory`] where the
 /// heap has no room for it. [`JsonFault::Json`] never comes.
+#[tactic(auto, using(crate::proofs::JsonLemmas::read_values))]
 pub fn from_value(alloc: Global, value: &Value) -> Result<SmolStr, JsonFault>
     ensures ok { IfOk result (λ v. IsJsonOf (view value.now) v) }
-    ensures of_text { (t : List ℕ) → view value.now ≡ json_value t → IfOk result (λ v. IsValueOf t v) }
+    ensures of_text { (t : List ℕ) → view value.now ≡ json_value t →
+        IfOk result (λ v. IsValueOf t v) }
     ensures fault { IfErr result (AfterValueFault (view value.now)) }
 {
     match value {
-        Value::String(text) => match SmolStr::from_string_ref(alloc, text) {
-            Ok(value) => Ok(value),
-            Err(AllocError) => Err(JsonFault::OutOfMemory),
-        },
+        Value::String(text) => Ok(SmolStr::from_string_ref(alloc, text)?),
         _ => Err(JsonFault::NotString),
     }
 }
@@ -109,7 +108,8 @@ pub fn from_value(alloc: Global, value: &Value) -> Result<SmolStr, JsonFault>
 /// assert_eq!(rt; quoted.as_str(), "\"a\\\"b\"");
 /// ```
 pub fn to_json(alloc: Global, value: &SmolStr) -> Result<String, AllocError>
-    ensures compact { IfOk result (λ json. string_bytes json ≡ compact_text (json_value value.now.text)) }
+    ensures compact { IfOk result (λ json.
+        string_bytes json ≡ compact_text (json_value value.now.text)) }
     ensures reads_back { IfOk result (λ json. IsJsonText (string_bytes json) value.now.text) }
 {
     to_value(alloc, value)?.to_string(alloc)
@@ -117,15 +117,16 @@ pub fn to_json(alloc: Global, value: &SmolStr) -> Result<String, AllocError>
 
 /// The value of a JSON text that is one string, with nothing but white space around it.
 ///
-/// The whole text is read first: one that is no JSON is [`JsonFault::Json`], one that is another JSON
-/// value [`JsonFault::NotString`]. Lists and objects may nest 127 deep, as `serde_json` reads them.
-/// Reading needs memory for a copy of the text, so any call may be refused with
+/// The whole text is read first: one that is no JSON is [`JsonFault::Json`], one that is another
+/// JSON value [`JsonFault::NotString`]. Lists and objects may nest 127 deep, as `serde_json` reads
+/// them. Reading needs memory for a copy of the text, so any call may be refused with
 /// [`JsonFault::OutOfMemory`].
 ///
 /// ```
 /// let name = json::from_json(alloc, "\"if\"")?;
 /// assert_eq!(rt; name.as_str(), "if");
 /// ```
+#[tactic(auto, using(crate::proofs::JsonLemmas::read_texts))]
 pub fn from_json(alloc: Global, text: &str) -> Result<SmolStr, JsonFault>
     ensures text { IfOk result (λ v. IsJsonText text.now v.text) }
     ensures place { IfOk result (λ v. v.place ≡ place_of v.text) }

@@ -11,8 +11,9 @@
 //!     builder            a text that grows (its `steps` also use `collect`)
 //!     value              a text and its place; what makes, lends, compares and prints it
 //!     shared             the shared text of a value on the heap: the one line to change for several threads
-//!     buffer  kernel     a short text in its own bytes; loops over bytes
-//!     stream             reading and writing by single calls
+//!     kernel             building blocks for loops of your own
+//!     buffer  stream     a short text in its own bytes; reading and writing by single calls
+//!     bytes              slices, zeroed arrays, searches and ASCII
 //!     laws               what holds of the definitions, by functions that do nothing
 //! ```
 #![tactic(auto)]
@@ -20,6 +21,7 @@
 pub mod borsh;
 mod buffer;
 mod builder;
+mod bytes;
 mod collect;
 mod format;
 pub mod json;

@@ -1,4 +1,4 @@
-//! New texts of a `str`, as values: its matches replaced, or its case changed.
+//! New texts made from a `str`, as values: its matches replaced, or its case changed.
 ghost use Rattle.std.specs.Prelude.{◌≡◌, ℕ, List, ◌++◌, IfOk, OnErr};
 ghost use Rattle.std.specs.Str.{chars};
 ghost use Rattle.smol_str.specs.Text.{IsShort, place_of};
@@ -7,12 +7,11 @@ ghost use Rattle.smol_str.specs.Case.{lower, upper, front, lowercased, uppercase
 ghost use Rattle.smol_str.specs.Cut.{IsCut, joined_by};
 ghost use Rattle.smol_str.specs.Replace.{no_limit, replaced, replaced_all};
 
-mod bytes;
+mod ascii;
 mod case;
 mod full;
 mod letters;
 mod replace;
-mod search;
 
 use crate::kernel::AsciiCase;
 use crate::value::SmolStr;
@@ -23,12 +22,12 @@ use std::alloc::{AllocError, Global};
 
 /// Calls of a `str` that return a new text, as a [`SmolStr`].
 ///
-/// Each returns the text that Rust's `str` does in its call of the same beginning, in the place of
-/// that text. A replacement and a text in ASCII case are built in a builder, so a short one takes no
-/// memory, however long the text is that the call reads. Full case takes none for a short ASCII text;
-/// a text with `Σ` in it is mapped in memory of its own, also where the result is short.
-/// A call that is refused memory returns [`AllocError`] and makes nothing. Case follows the Unicode
-/// of the toolchain, 18.0.
+/// Each returns the text that the method of Rust's `str` does whose name it begins with, in the
+/// place of that text. A replacement or a text in ASCII case takes no memory if it is short,
+/// however long the text is that the call reads. Full case takes none for short ASCII text; the
+/// lower case of a text with `Σ` takes memory of its own, even if the result is short. A call that
+/// is refused memory returns [`AllocError`] and makes nothing. Case follows the toolchain's
+/// Unicode, 18.0.
 ///
 /// ```
 /// let line = "Let x = 1";
@@ -41,8 +40,8 @@ pub trait StrExt {
 
     /// The text with `to` in place of the first `count` matches of `from`, as `str::replacen`.
     ///
-    /// Matches are taken from the left, and the search goes on behind each. The empty pattern matches
-    /// before each character and at the end.
+    /// Matches are taken from the left, and the search goes on behind each. The empty pattern
+    /// matches before each character and at the end.
     fn replacen_smolstr(
         &self,
         alloc: Global,
@@ -52,8 +51,10 @@ pub trait StrExt {
     ) -> Result<SmolStr, AllocError>
         ensures ok { IfOk result (λ v.
             IsValueOf (replaced (content self.now) (chars from.now) (chars to.now) count) v) }
-        ensures cut { (pieces : List (List ℕ)) × IsCut (content self.now) (chars from.now) count pieces }
-        ensures one_cut { (xs ys : List (List ℕ)) → IsCut (content self.now) (chars from.now) count xs →
+        ensures cut { (pieces : List (List ℕ)) ×
+            IsCut (content self.now) (chars from.now) count pieces }
+        ensures one_cut { (xs ys : List (List ℕ)) →
+            IsCut (content self.now) (chars from.now) count xs →
             IsCut (content self.now) (chars from.now) count ys → xs ≡ ys }
         ensures text { (pieces : List (List ℕ)) →
             IsCut (content self.now) (chars from.now) count pieces →
@@ -96,7 +97,8 @@ pub trait StrExt {
     /// The text in lower case as Unicode maps it, as `str::to_lowercase`: `Σ` at the end of a word
     /// becomes `ς`, in short texts too.
     ///
-    /// No short ASCII text is refused. Any other may be, one with `Σ` even where the result is short.
+    /// No short ASCII text is refused. Any other may be, one with `Σ` even where the result is
+    /// short.
     ///
     /// ```
     /// let word = "ΟΔΟΣ".to_lowercase_smolstr(alloc)?;
@@ -109,7 +111,8 @@ pub trait StrExt {
         ensures front { IfOk result (λ v.
             (r : List ℕ) × (v.text ≡ lower (front (content self.now)) ++ r)) }
         ensures place { IfOk result (λ v. v.place ≡ place_of v.text) }
-        ensures refused { OnErr result (¬ (IsAsciiText (content self.now) × IsShort (content self.now))) };
+        ensures refused { OnErr result
+            (¬ (IsAsciiText (content self.now) × IsShort (content self.now))) };
 
     /// The text in upper case as Unicode maps it, as `str::to_uppercase`: `ß` becomes `SS`.
     ///
@@ -121,12 +124,14 @@ pub trait StrExt {
         ensures front { IfOk result (λ v.
             (r : List ℕ) × (v.text ≡ upper (front (content self.now)) ++ r)) }
         ensures place { IfOk result (λ v. v.place ≡ place_of v.text) }
-        ensures refused { OnErr result (¬ (IsAsciiText (content self.now) × IsShort (content self.now))) };
+        ensures refused { OnErr result
+            (¬ (IsAsciiText (content self.now) × IsShort (content self.now))) };
 }
 
 impl StrExt for &str {
     ghost content = { λ s. chars s.now };
 
+    #[tactic(auto, using(crate::proofs::CutLemmas::Replacing::replacements))]
     fn replacen_smolstr(
         &self,
         alloc: Global,
@@ -137,6 +142,7 @@ impl StrExt for &str {
         replace(alloc, self, from, to, count)
     }
 
+    #[tactic(auto, using(crate::proofs::CutLemmas::Replacing::replacements))]
     fn replace_smolstr(&self, alloc: Global, from: &str, to: &str) -> Result<SmolStr, AllocError> {
         // No text has so many matches that this limit leaves one out.
         replace(alloc, self, from, to, usize::MAX)

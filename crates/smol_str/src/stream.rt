@@ -1,14 +1,15 @@
 //! Reading and writing by single calls, for the wire form and for programs.
 //!
-//! std's own `read_exact`, `read_to_end` and `write_all` go on after `Interrupted`, which a reader or
-//! a writer may return without end; these return every error at once. Of a reader or writer whose
-//! bytes are not known nothing is claimed.
+//! std's `read_exact`, `read_to_end` and `write_all` try again after `Interrupted`, which a reader
+//! or writer may return for ever. These functions return every error at once. Nothing is claimed of
+//! a reader or writer whose bytes are not known.
 ghost use Rattle.std.specs.Prelude.{◌≡◌, ◌<◌, ◌≤◌, ◌-◌, ◌^◌, length, take, IfOk, OnOk, IfErr, OnErr, IfSome};
 ghost use Rattle.std.specs.Io.KnownBytes.{Appends, Consumes, IsAtEnd};
-ghost use Rattle.smol_str.specs.Stream.{AppendsBeginning, StopsBelow, AfterStreamFault};
+ghost use Rattle.smol_str.specs.Stream.{AppendsBeginning, GaveBelow, AfterReadFault};
 ghost use Rattle.smol_str.specs.Said.{read_said};
 ghost use Rattle.smol_str.specs.declared.stream.ReadFault.TheVariants.{OutOfMemory, Io};
 
+use crate::bytes::zeros;
 use std::alloc::{AllocError, Global};
 use std::error::Error;
 use std::fmt::{Display, Formatter};
@@ -16,7 +17,7 @@ use std::io::{ErrorKind, Read, Write};
 use std::{fmt, io};
 
 /// The most bytes that one `read` is asked for by [`read_up_to`] and [`read_all`].
-pub const PIECE: usize = 4096;
+pub const CHUNK: usize = 4096;
 
 /// Why bytes were not read.
 #[derive(Debug, Drop)]
@@ -57,10 +58,10 @@ impl Display for ReadFault {
 
 impl Error for ReadFault {}
 
-/// Fills `buf` from its front, each step by one `read` into what is left of it, and returns how many
-/// bytes came: fewer than `buf` has only where the reader is at its end.
+/// Fills `buf` from its front by single `read`s, and returns how many bytes came: fewer than `buf`
+/// holds only where the reader is at its end.
 ///
-/// An empty `buf` makes no `read`. Where the reader failed, fewer bytes came than `buf` has.
+/// An empty `buf` is not read into. After an error fewer bytes have come than `buf` holds.
 ///
 /// ```
 /// let mut reader = b"abc".as_slice();
@@ -73,7 +74,8 @@ pub fn fill<R: Read>(reader: &mut R, buf: &mut [u8]) -> Result<usize, io::Error>
     ensures bytes { IfOk result (λ n.
         Consumes (R.remaining reader.old) (R.remaining reader.new) (take n buf.new)) }
     ensures end { IfOk result (λ n. n < length buf.old → IsAtEnd (R.remaining reader.new)) }
-    ensures failed { OnErr result (StopsBelow (R.remaining reader.old) (R.remaining reader.new) (length buf.old)) }
+    ensures failed { OnErr result
+        (GaveBelow (R.remaining reader.old) (R.remaining reader.new) (length buf.old)) }
 {
     let mut filled = 0;
     while filled < buf.len() {
@@ -86,8 +88,8 @@ pub fn fill<R: Read>(reader: &mut R, buf: &mut [u8]) -> Result<usize, io::Error>
     Ok(filled)
 }
 
-/// Reads `limit` bytes, or all that there are where these are fewer, by pieces of at most [`PIECE`]
-/// bytes. Memory is asked for by what came, and not by `limit`.
+/// Reads `limit` bytes, or up to the reader's end, in chunks of at most [`CHUNK`] bytes. Memory is
+/// asked for by what came, and not by `limit`.
 ///
 /// ```
 /// let mut reader = b"abc".as_slice();
@@ -104,14 +106,14 @@ pub fn read_up_to<R: Read>(
         Consumes (R.remaining reader.old) (R.remaining reader.new) all.items) }
     ensures end { IfOk result (λ all. length all.items < limit → IsAtEnd (R.remaining reader.new)) }
     ensures fault { IfErr result
-        (AfterStreamFault limit (R.remaining reader.old) (R.remaining reader.new)) }
+        (AfterReadFault limit (R.remaining reader.old) (R.remaining reader.new)) }
 {
     let mut all = Vec::new(alloc);
-    let mut piece = empty_piece();
+    let mut chunk = zeros::<CHUNK>();
     while all.len() < limit {
-        let room = PIECE.min(limit - all.len());
-        let n = fill(reader, &mut piece[..room])?;
-        all.extend_from_slice(&piece[..n])?;
+        let room = CHUNK.min(limit - all.len());
+        let n = fill(reader, &mut chunk[..room])?;
+        all.extend_from_slice(&chunk[..n])?;
         if n < room {
             return Ok(all);
         }
@@ -119,28 +121,21 @@ pub fn read_up_to<R: Read>(
     Ok(all)
 }
 
-/// Room for a piece: a function, so that no goal of its caller shows the zeros.
-#[inline(always)]
-fn empty_piece() -> [u8; PIECE]
-    ensures { length result ≡ PIECE }
-{
-    [0; PIECE]
-}
-
-/// Reads to the end, by pieces of at most [`PIECE`] bytes.
+/// Reads to the end, in chunks of at most [`CHUNK`] bytes.
 pub fn read_all<R: Read>(alloc: Global, reader: &mut R) -> Result<Vec<u8>, ReadFault>
     ensures bytes { IfOk result (λ all.
         Consumes (R.remaining reader.old) (R.remaining reader.new) all.items) }
     ensures end { OnOk result (IsAtEnd (R.remaining reader.new)) }
-    ensures whole { IfOk result (λ all. IfSome (R.remaining reader.old) (λ input. all.items ≡ input)) }
+    ensures whole { IfOk result (λ all.
+        IfSome (R.remaining reader.old) (λ input. all.items ≡ input)) }
     ensures fault { IfErr result
-        (AfterStreamFault (2 ^ 64 - 1) (R.remaining reader.old) (R.remaining reader.new)) }
+        (AfterReadFault (2 ^ 64 - 1) (R.remaining reader.old) (R.remaining reader.new)) }
 {
     read_up_to(alloc, reader, usize::MAX)
 }
 
-/// Writes all of `bytes`, each step by one `write` of what is left; a `write` that takes no byte
-/// is the error `WriteZero`. After an error a beginning of `bytes` was written, and not all of them.
+/// Writes all of `bytes` by single `write`s; one that takes no byte is the error `WriteZero`. After
+/// an error a beginning of `bytes` has been written, but not all of them.
 ///
 /// ```
 /// let mut written = Vec::new(alloc);

@@ -3,13 +3,13 @@
 ghost use Rattle.std.specs.Prelude.{Some, ◌≡◌, []};
 
 use crate::test::{Test, holds, same};
-use smol_str::stream::PIECE;
+use smol_str::stream::CHUNK;
 use std::alloc::Global;
 use std::io;
 use std::io::{ErrorKind, Read, Write};
 
 /// How many bytes a call the readers and writers give and take at most.
-pub const STEPS: [usize; 7] = [1, 2, 3, PIECE - 1, PIECE, PIECE + 1, usize::MAX];
+pub const STEPS: [usize; 7] = [1, 2, 3, CHUNK - 1, CHUNK, CHUNK + 1, usize::MAX];
 
 /// The errors that readers return. Upstream's readers call again after the first, ours do not.
 const READ_ERRORS: [ErrorKind; 2] = [ErrorKind::Interrupted, ErrorKind::BrokenPipe];
@@ -17,7 +17,7 @@ const READ_ERRORS: [ErrorKind; 2] = [ErrorKind::Interrupted, ErrorKind::BrokenPi
 /// Whether a place in so many bytes is tried: each in a few, and in many those about the ends of pieces.
 fn is_tried(place: usize, size: usize) -> bool {
     let after = place.saturating_add(3);
-    size < 200 || after % PIECE < 7 || after > size
+    size < 200 || after % CHUNK < 7 || after > size
 }
 
 /// A reader that gives its bytes, at most `step` a call, and returns the error `failure` at the call

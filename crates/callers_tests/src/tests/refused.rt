@@ -2,7 +2,7 @@
 use super::reports::report_by;
 use super::runs::{Words, kind_of};
 use super::words::mode_by;
-use smol_str::stream::PIECE;
+use smol_str::stream::CHUNK;
 use smol_tokens_core::mode::Mode;
 use smol_tokens_core::run::run;
 use std::alloc::Global;
@@ -73,7 +73,7 @@ impl Refusable for Run<'_> {
     type Fault = (Kind, Vec<u8>);
 
     fn input(&self, test: &Test) -> (Mode, Drip) {
-        let mut writer = empty_drip(test.alloc, PIECE, 0, Failure::TakesNone);
+        let mut writer = empty_drip(test.alloc, CHUNK, 0, Failure::TakesNone);
         writer.taken = ok_bytes(test, Vec::with_capacity(test.alloc, self.report.len()));
         (mode_by(test, self.words), writer)
     }
@@ -83,7 +83,7 @@ impl Refusable for Run<'_> {
         alloc: Global,
         (mode, mut writer): (Mode, Drip),
     ) -> Result<Vec<u8>, (Kind, Vec<u8>)> {
-        let mut reader = trickle_of(self.input, PIECE, 0);
+        let mut reader = trickle_of(self.input, CHUNK, 0);
         match run(alloc, fixed_state(), mode, &mut reader, &mut writer) {
             Ok(()) => Ok(writer.taken),
             Err(fault) => Err((kind_of(&fault), writer.taken)),

@@ -2,7 +2,7 @@
 //! UTF-8.
 use super::reports::{all_rows, letters};
 use super::runs::{Words, run_by};
-use smol_str::stream::PIECE;
+use smol_str::stream::CHUNK;
 use std::alloc::Global;
 use std::io::ErrorKind;
 use std::test::Fail;
@@ -24,7 +24,7 @@ impl Reading for Runs {
     }
 
     fn largest_buffer(&self) -> usize {
-        PIECE
+        CHUNK
     }
 
     fn reads_the_end(&self) -> bool {
@@ -128,7 +128,7 @@ fn check_ended(test: &Test, words: Words, input: &[u8], step: usize, wanted: Opt
 fn not_utf8(rt: HostRuntime) -> Result<(), Fail> {
     let test = Test::begin(rt);
     for &(words, ..) in letters() {
-        for count in [0, PIECE - 1, 9000] {
+        for count in [0, CHUNK - 1, 9000] {
             let input = ending_badly(&test, count);
             for step in STEPS {
                 check_ended(&test, words, input.as_slice(), step, Some(Kind::NotUtf8));
@@ -143,13 +143,13 @@ fn not_utf8(rt: HostRuntime) -> Result<(), Fail> {
 #[test]
 fn long_not_utf8(rt: HostRuntime) -> Result<(), Fail> {
     let test = Test::begin(rt);
-    for count in [PIECE, 65_536, 5_000_000] {
+    for count in [CHUNK, 65_536, 5_000_000] {
         let input = ending_badly(&test, count);
         check_ended(
             &test,
             &["show"],
             input.as_slice(),
-            PIECE,
+            CHUNK,
             Some(Kind::NotUtf8),
         );
     }

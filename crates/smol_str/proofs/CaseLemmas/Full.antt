@@ -1,7 +1,7 @@
 -- For `str_ext::case` and `str_ext::full`: the ASCII front of a text and the rest of it, in a case.
-use Rattle.smol_str.proofs.Common.{◌≡◌, ℕ, List, [], ◌++◌, length, take, drop, sym, ap, ◌∙◌, arith, length-append, IsUtf8, IsAscii, IsCharBoundary, chars, encode_utf8_all, take_at, IsUtf8-from_ascii, chars-IsAscii, encodes-IsAscii, IsAscii-from_all, AsciiCase, Lower, Upper, size, IsShort, padded, front, converted, Draft, OnHeap, draft_of, appended, common_steps, rules, suc, ◌<◌, ◌∷◌, Bool, false, Option, None, Some, Result, IfOk, flat_map, refl, subst, append-nil, ne_eqb, to_ascii_lowercase, to_ascii_uppercase, chars-encodes, encodes_same, IsAscii-cons, IsAscii-nil, INLINE_CAP, Meaning, IsValueOf, Occurs, lower, upper, lowercased, uppercased, IsAsciiText, HasSigma, full_case, mapped, IsMappedAlone, IfOk-weaker}
-use Rattle.smol_str.proofs.CaseLemmas.Ascii.{front-parts, size-lower, size-upper, front-append, converted-append, length-converted, IsAscii-converted}
-use Rattle.smol_str.proofs.BuilderLemmas.Push.{draft_of-heap, appended-heap}
+use Rattle.smol_str.proofs.Common.{◌≡◌, ℕ, List, [], ◌++◌, length, take, drop, sym, ap, ◌∙◌, arith, length-append, IsUtf8, IsAscii, IsCharBoundary, chars, encode_utf8_all, take_at, IsUtf8-from_ascii, chars-IsAscii, encodes-IsAscii, IsAscii-from_all, AsciiCase, Lower, Upper, size, IsShort, padded, front, converted, Draft, OnHeap, draft_of, appended, common_steps, rules, suc, ◌<◌, ◌∷◌, Bool, false, Option, None, Some, Result, IfOk, flat_map, refl, subst, append-nil, ne_eqb, to_ascii_lowercase, to_ascii_uppercase, chars-encodes, encodes_same, IsAscii-cons, IsAscii-nil, INLINE_CAP, Meaning, IsValueOf, Occurs, lower, upper, lowercased, uppercased, IsAsciiText, HasSigma, letter, letters, full_case, mapped, IsMappedAlone, IfOk-weaker, length-map, map-append, IsUtf8-string_bytes, nat_tests}
+use Rattle.smol_str.proofs.CaseLemmas.Ascii.{front-parts, size-converted, front-append, IsAscii-converted, IsAscii-chars, ascii-converted}
+use Rattle.smol_str.proofs.BuilderLemmas.Push.{draft_of-heap, appended-heap, draft_of-appended, appended-thrice, appended-first_heap, appended-second_heap}
 use Rattle.smol_str.proofs.TextLemmas.Split.{boundary-parts, chars-drop}
 use Rattle.std.specs.Option.{option_to_list, is_some}
 use Rattle.std.specs.declared.char.ToLowercase.{CaseChanged}
@@ -12,13 +12,11 @@ use Rattle.std.specs.StrCase.Upper.{str_to_uppercase}
 use Rattle.std.specs.StrCase.Lower.{lowercase_chars, is_in_word_after, str_to_lowercase}
 use Rattle.std.proofs.StrCases.{str_to_uppercase-IsAscii, str_to_lowercase-IsAscii}
 use Rattle.std.proofs.lemmas.Grind.{flat_map-append}
-use Rattle.smol_str.proofs.TextLemmas.Places.{size-chars}
+use Rattle.smol_str.proofs.TextLemmas.Places.{OnErr-always, size-chars, chars-of}
 use Rattle.smol_str.proofs.BuilderLemmas.Draft.{appended-twice}
 use Rattle.smol_str.proofs.CutLemmas.Cut.{not_later}
-
-pub size-converted : (case : AsciiCase) (t : List ℕ) → size (converted case t) ≡ size t
-size-converted Lower t = size-lower t
-size-converted Upper t = size-upper t
+use Rattle.smol_str.proofs.CutLemmas.Match.{some_char}
+use Rattle.smol_str.proofs.CutLemmas.Replacing.{chars-empty}
 
 pub IsAscii-front : (t : List ℕ) → IsAscii (front t)
 IsAscii-front t = IsAscii-from_all (front t) (front-parts t).2
@@ -30,7 +28,7 @@ size-front t = ap length (encodes-IsAscii (front t) (IsAscii-front t))
 module _ (case : AsciiCase) (t buffer : List ℕ) (len : ℕ) (is : buffer
     ≡ padded (encode_utf8_all (converted case (front t)))) (long : len ≡ length (front t)) where
   pub take-front : take len buffer ≡ converted case (front t)
-  take-front = grind (arith, common_steps, encodes-IsAscii, IsAscii-converted, IsAscii-front, length-converted, take_at)
+  take-front = grind (arith, common_steps, encodes-IsAscii, IsAscii-converted, IsAscii-front, length-map, take_at)
 
   pub IsUtf8-front : IsUtf8 (take len buffer)
   IsUtf8-front = search (rules, take-front, IsUtf8-from_ascii, IsAscii-converted, IsAscii-front)
@@ -39,21 +37,21 @@ module _ (case : AsciiCase) (t buffer : List ℕ) (len : ℕ) (is : buffer
   chars-front = search (rules, take-front, chars-IsAscii, IsAscii-converted, IsAscii-front)
 
 -- where the rest of a text begins
-module _ (bs : List ℕ) (place : ℕ) (u : IsUtf8 bs) (e : place ≡ length (front (chars bs))) where
-  pub front-boundary : IsCharBoundary bs place
+module _ (bs : List ℕ) (index : ℕ) (u : IsUtf8 bs) (e : index ≡ length (front (chars bs))) where
+  pub front-boundary : IsCharBoundary bs index
   front-boundary = let h = front-parts (chars bs) in
-      boundary-parts bs (front (chars bs)) h.0 place u h.1 (size-front (chars bs) ∙ sym e)
+      boundary-parts bs (front (chars bs)) h.0 index u h.1 (size-front (chars bs) ∙ sym e)
 
-  pub front-rest : front (chars bs) ++ chars (drop place bs) ≡ chars bs
+  pub front-rest : front (chars bs) ++ chars (drop index bs) ≡ chars bs
   front-rest =
       let h = front-parts (chars bs) in
       ap (λ r. front (chars bs) ++ r)
-      (chars-drop bs (front (chars bs)) h.0 place u h.1 (size-front (chars bs) ∙ sym e)) ∙ sym h.1
+      (chars-drop bs (front (chars bs)) h.0 index u h.1 (size-front (chars bs) ∙ sym e)) ∙ sym h.1
 
 -- the front and the rest of a text, in a case
 pub converted-parts : (case : AsciiCase) (t r : List ℕ) → front t ++ r ≡ t
     → converted case (front t) ++ converted case r ≡ converted case t
-converted-parts case t r e = sym (converted-append case (front t) r) ∙ ap (converted case) e
+converted-parts case t r e = sym (map-append (letter case) (front t) r) ∙ ap (converted case) e
 
 -- a builder that the front outgrows is outgrown by the text
 pub front-heap : (case : AsciiCase) (t : List ℕ) (b : Draft) → (appended b (converted case (front t))).kind ≡ OnHeap
@@ -86,6 +84,9 @@ ascii_same Upper t low =
     encodes_same (uppercased t) (upper t)
     (ap (λ x. encode_utf8_all (uppercased x)) (sym (chars-IsAscii t low)) ∙ sym (upper_is t)
     ∙ str_to_uppercase-IsAscii t low ∙ sym (encodes-IsAscii (upper t) (IsAscii-converted Upper t low)))
+
+pub full-ascii : (case : AsciiCase) (t : List ℕ) → IsAsciiText t → full_case case t ≡ converted case t
+full-ascii case t h = ascii_same case t (IsAscii-from_all t h)
 
 to_lowercase_ascii : (c : ℕ) → c < 128 → to_lowercase c ≡ to_ascii_lowercase c ∷ []
 to_lowercase_ascii c low =
@@ -142,9 +143,6 @@ full-front Upper t =
 pub front-whole : (t : List ℕ) → IsAsciiText t → front t ≡ t
 front-whole t h = ap front (sym (append-nil t)) ∙ front-append t [] h tt
 
-pub full-ascii : (case : AsciiCase) (t : List ℕ) → IsAsciiText t → full_case case t ≡ converted case t
-full-ascii case t h = ascii_same case t (IsAscii-from_all t h)
-
 -- the rest of an ASCII text is empty
 pub rest-none : (t r : List ℕ) → front t ++ r ≡ t → IsAsciiText t → r ≡ []
 rest-none t [] e h = refl
@@ -155,7 +153,9 @@ pub full-long : (case : AsciiCase) (t : List ℕ) → ¬ (IsShort (full_case cas
 full-long case t long h = search (rules, full-ascii, size-converted)
 
 pub long-refused : (bs : List ℕ) → IsUtf8 bs → INLINE_CAP < length bs → ¬ (IsAsciiText (chars bs) × IsShort (chars bs))
-long-refused bs u l h = omega (arith, h.1, size-chars bs u)
+long-refused bs u l h = omega (arith, size-chars bs u)
+
+pub ruleset sizes_of_bytes = (OnErr-always, size-chars)
 
 -- the letters that one character is mapped to
 pub letters-listed : (s : CaseChanged) (a b c : Option ℕ)
@@ -164,8 +164,7 @@ pub letters-listed : (s : CaseChanged) (a b c : Option ℕ)
 letters-listed s a b c p q r = search (rules, arith)
 
 pub mapped-append : (case : AsciiCase) (a b : List ℕ) → mapped case (a ++ b) ≡ mapped case a ++ mapped case b
-mapped-append Lower a b = flat_map-append to_lowercase a b
-mapped-append Upper a b = flat_map-append to_uppercase a b
+mapped-append case a b = flat_map-append (letters case) a b
 
 -- no text without characters has a character that is mapped by what stands around it
 pub alone-nil : (case : AsciiCase) → IsMappedAlone case []
@@ -205,3 +204,17 @@ module _ {E : Type 0} (r : Result Meaning E) (case : AsciiCase) (t : List ℕ) w
   pub ok-front : IfOk r (λ v. IsValueOf (full_case case t) v)
       → IfOk r (λ v. (m : List ℕ) × (v.text ≡ converted case (front t) ++ m))
   ok-front h = IfOk-weaker r _ _ (λ v g. let k = full-front case t in (k.0, g.text ∙ k.1)) h
+
+pub ruleset whole_texts = (chars-of, IsUtf8-string_bytes, lower_is, upper_is)
+
+pub ruleset fronts = (IsUtf8-front, chars-front, front-boundary, front-rest, OnErr-always)
+
+pub ruleset ascii_texts = (IsAscii-chars, full-ascii, full-alone)
+
+pub ruleset three_letters = (common_steps, letters-listed, OnErr-always, draft_of-appended, appended-thrice, appended-first_heap, appended-second_heap)
+
+pub ruleset short_texts = (OnErr-always, long-refused, ascii-converted, full-ascii)
+
+pub ruleset short_fronts = (OnErr-always, front-heap, converted-heap, rest-none, short-text, short-refused, full-long)
+
+pub ruleset contexts = (none-found, alone-nil, alone-lower, some_char, chars-empty, nat_tests)

@@ -1,5 +1,5 @@
 -- For the lanes of `kernel`: side by side they give what a map over the bytes gives.
-use Rattle.smol_str.proofs.Common.{◌≡◌, ◌↔◌, ℕ, ◌+◌, ◌-◌, ◌*◌, ◌%◌, ◌^◌, ◌≤◌, ◌<◌, List, [], ◌∷◌, Bool, true, false, cond, leb, ltb, length, map, replicate, refl, sym, ap, subst, ◌∙◌, arith, w8, bit_and, nat_eq, not, eqb-true, zip2, sel_l, mask_l, top, Each1, to_ascii_lowercase, to_ascii_uppercase, leb-true, leb-false, ltb-true, ltb-false, lowercase_is, uppercase_is, mask_l-mod, tops_compared, length-map, common_steps, rules}
+use Rattle.smol_str.proofs.Common.{◌≡◌, ◌↔◌, ℕ, ◌+◌, ◌-◌, ◌*◌, ◌%◌, ◌^◌, ◌≤◌, ◌<◌, List, [], ◌∷◌, Bool, true, false, cond, leb, ltb, length, map, replicate, refl, sym, ap, ◌∙◌, arith, w8, bit_and, nat_eq, not, eqb-true, zip2, sel_l, mask_l, top, Each1, to_ascii_lowercase, to_ascii_uppercase, leb-true, leb-false, ltb-true, ltb-false, lowercase_is, uppercase_is, mask_l-mod, tops_compared, length-map, common_steps, suc, IsAscii, IsAscii-nil, IsAscii-cons}
 
 abbrev pub at_most_mask : ℕ → ℕ → ℕ
 at_most_mask a b = cond (leb a b) 255 0
@@ -45,7 +45,7 @@ upper-lanes = grind (arith, common_steps, maps_lanes, uppercase_is)
 -- a bit for each lane above 127
 splat_zip2 : {Z : Type 0} (f : ℕ → ℕ → Z) (x : ℕ) (ys : List ℕ) → zip2 f (replicate (length ys) x) ys ≡ map (f x) ys
 splat_zip2 f x [] = refl
-splat_zip2 f x (y ∷ ys) = ap (λ rest. f x y ∷ rest) (splat_zip2 f x ys)
+splat_zip2 f x (y ∷ ys) = simp (splat_zip2 f x ys)
 
 high_bitmask : (v : List ℕ) (n : ℕ) → length v ≡ n → n ≤ 64
     → mask_l (map (top 7) (zip2 below_mask (replicate n 127) v)) % 2 ^ 64 ≡ mask_l (map (ltb 127) v)
@@ -58,10 +58,10 @@ mask_step : (b : Bool) (x : ℕ) (m : ℕ) → ltb 127 x ≡ b → cond b 1 0 + 
 mask_step true x m f e = absurd (omega arith)
 mask_step false x m f e = let h : x ≤ 127 = ltb-false 127 x f in (omega arith, omega arith)
 
-low_from_mask : (xs : List ℕ) → mask_l (map (ltb 127) xs) ≡ 0 → Each1 (λ x. x < 128) xs
-low_from_mask [] e = tt
+low_from_mask : (xs : List ℕ) → mask_l (map (ltb 127) xs) ≡ 0 → IsAscii xs
+low_from_mask [] e = IsAscii-nil
 low_from_mask (x ∷ xs) e = let h = mask_step (ltb 127 x) x (mask_l (map (ltb 127) xs)) refl e in
-    (h.0, low_from_mask xs h.1)
+    IsAscii-cons x xs h.0 (low_from_mask xs h.1)
 
 no_bit : (n : ℕ) (b : Bool) → nat_eq n 0 ≡ b → not b ≡ false → n ≡ 0
 no_bit n true e f = eqb-true n 0 e
@@ -69,17 +69,16 @@ no_bit n false e f = absurd (cc)
 
 low_step : (b : Bool) (x m : ℕ) → ltb 127 x ≡ b → x < 128 → m ≡ 0 → cond b 1 0 + 2 * m ≡ 0
 low_step true x m f low e = absurd (omega (arith, ltb-true 127 x f))
-low_step false x m f low e = omega (arith, e)
+low_step false x m f low e = omega arith
 
-mask_from_low : (xs : List ℕ) → Each1 (λ x. x < 128) xs → mask_l (map (ltb 127) xs) ≡ 0
+mask_from_low : (xs : List ℕ) → IsAscii xs → mask_l (map (ltb 127) xs) ≡ 0
 mask_from_low [] low = refl
-mask_from_low (x ∷ xs) low = search (rules, low_step, mask_from_low xs low.1)
+mask_from_low (x ∷ xs) low = low_step (ltb 127 x) x _ refl (low 0) (mask_from_low xs (λ i. low (suc i)))
 
 none_set : (n : ℕ) → n ≡ 0 → not (nat_eq n 0) ≡ false
-none_set n e = subst (λ k. not (nat_eq k 0) ≡ false) (sym e) refl
+none_set n e = rw e
 
--- no bit is set exactly where each lane is below 128
+-- no bit is set exactly where each lane is ASCII
 pub low-lanes : (v : List ℕ) (n : ℕ) → length v ≡ n → n ≤ 64
-    → (not (nat_eq (mask_l (map (top 7) (zip2 below_mask (replicate n 127) v)) % 2 ^ 64) 0) ≡ false)
-    ↔ Each1 (λ x. x < 128) v
+    → (not (nat_eq (mask_l (map (top 7) (zip2 below_mask (replicate n 127) v)) % 2 ^ 64) 0) ≡ false) ↔ IsAscii v
 low-lanes v n long small = grind (arith, common_steps, high_bitmask, low_from_mask, no_bit, none_set, mask_from_low)

@@ -1,6 +1,9 @@
 -- For `str_ext::letters`: each letter of a range is mapped as Unicode's tables map it, seen one by one.
-use Rattle.smol_str.proofs.Common.{◌≡◌, ℕ, ◌+◌, ◌<◌, ◌≤◌, List, [], ◌∷◌, Bool, true, ◌&&◌, zero, suc, ⊎_elim, ap, ◌∙◌, arith, and_parts, bytes_eq, cases_lt}
+use Rattle.smol_str.proofs.Common.{◌≡◌, ℕ, ◌+◌, ◌-◌, ◌<◌, ◌≤◌, List, [], ◌∷◌, Bool, true, ◌&&◌, zero, suc, refl, ⊎_elim, ap, ◌∙◌, arith, and_parts, bytes_eq, cases_lt}
 use Rattle.std.proofs.lemmas.Slice.Eq.{bytes_eq-Decides}
+use Rattle.std.specs.Char.Unicode.Rows.{by_runs, by_strings}
+use Rattle.std.specs.Char.Unicode.ToLowercase.{to_lowercase, lowercase_runs, lowercase_strings}
+use Rattle.std.specs.Char.Unicode.ToUppercase.{to_uppercase, uppercase_runs, uppercase_strings}
 
 -- the test holds of n numbers from a on
 abbrev pub all_from : (ℕ → Bool) → ℕ → ℕ → Bool
@@ -8,16 +11,71 @@ all_from test a zero = true
 all_from test a (suc n) = test (a + n) && all_from test a n
 
 all_from-at : (test : ℕ → Bool) (a n c : ℕ) → all_from test a n ≡ true → a ≤ c → c < a + n → test c ≡ true
-all_from-at test a zero c ok least most = absurd (omega (arith, least, most))
+all_from-at test a zero c ok least most = absurd (omega arith)
 all_from-at test a (suc n) c ok least most =
     let parts = and_parts (test (a + n)) (all_from test a n) ok in
-    ⊎_elim (λ low. all_from-at test a n c parts.1 least low)
-    (λ high. ap test (antisym a n c least most high) ∙ parts.0) (cases_lt c (a + n))
+    ⊎_elim (λ low. all_from-at test a n c parts.1 least low) (λ high. ap test (last c a n most high) ∙ parts.0)
+    (cases_lt c (a + n))
   where
-    antisym : (a n c : ℕ) → a ≤ c → c < a + suc n → a + n ≤ c → c ≡ a + n
-    antisym a n c least most high = omega (arith, most, high)
+    last : (c a n : ℕ) → c < a + suc n → a + n ≤ c → c ≡ a + n
+    last c a n most high = omega arith
 
--- what maps each of n characters from a on as g does
-pub moves : (f : ℕ → List ℕ) (g : ℕ → ℕ) (a n : ℕ) → all_from (λ c. bytes_eq (f c) (g c ∷ [])) a n ≡ true
-    → (c : ℕ) → a ≤ c → c < a + n → f c ≡ g c ∷ []
-moves f g a n ok c least most = (bytes_eq-Decides (f c) (g c ∷ [])).0 (all_from-at (λ x. bytes_eq (f x) (g x ∷ [])) a n c ok least most)
+-- a range: its first character, how many it has, and what each is moved to
+pub record Range : Type 0 where
+  pub first : ℕ
+  pub count : ℕ
+  pub moved : ℕ → ℕ
+
+-- f maps each character of the range as the range says
+abbrev pub Moves : (ℕ → List ℕ) → Range → Type 0
+Moves f r = (c : ℕ) → r.first ≤ c → c < r.first + r.count → f c ≡ r.moved c ∷ []
+
+abbrev pub AllMove : (ℕ → List ℕ) → List Range → Type 0
+AllMove f [] = Unit {0}
+AllMove f (r ∷ rs) = Moves f r × AllMove f rs
+
+abbrev pub moves : (ℕ → List ℕ) → Range → Bool
+moves f r = all_from (λ c. bytes_eq (f c) (r.moved c ∷ [])) r.first r.count
+
+abbrev pub all_move : (ℕ → List ℕ) → List Range → Bool
+all_move f [] = true
+all_move f (r ∷ rs) = moves f r && all_move f rs
+
+AllMove-computed : (f : ℕ → List ℕ) (rs : List Range) → all_move f rs ≡ true → AllMove f rs
+AllMove-computed f [] ok = tt
+AllMove-computed f (r ∷ rs) ok =
+    let parts = and_parts (moves f r) (all_move f rs) ok in (
+      λ c least most. (bytes_eq-Decides (f c) (r.moved c ∷ [])).0
+          (all_from-at (λ x. bytes_eq (f x) (r.moved x ∷ [])) r.first r.count c parts.0 least most),
+      AllMove-computed f rs parts.1,
+    )
+
+-- n characters from a on, which stay, or move up or down by k
+abbrev pub stay : ℕ → ℕ → Range
+stay a n = record { first = a; count = n; moved = λ c. c }
+
+abbrev pub up : ℕ → ℕ → ℕ → Range
+up k a n = record { first = a; count = n; moved = λ c. c + k }
+
+abbrev pub down : ℕ → ℕ → ℕ → Range
+down k a n = record { first = a; count = n; moved = λ c. c - k }
+
+abbrev pub lowercase_ranges : List Range
+lowercase_ranges =
+    stay 0x0 65 ∷ up 32 0x41 26 ∷ stay 0x5b 101 ∷ up 32 0xc0 23 ∷ up 32 0xd8 7 ∷ stay 0xdf 33 ∷ up 32 0x391 17
+    ∷ up 32 0x3a3 9 ∷ stay 0x3ac 35 ∷ up 80 0x400 16 ∷ up 32 0x410 32 ∷ stay 0x430 48 ∷ up 48 0x531 38
+    ∷ stay 0x561 38 ∷ []
+
+pub lowercase_moves : AllMove to_lowercase lowercase_ranges
+unfolding by_runs by_strings to_lowercase lowercase_runs lowercase_strings
+lowercase_moves = AllMove-computed to_lowercase lowercase_ranges refl
+
+abbrev pub uppercase_ranges : List Range
+uppercase_ranges =
+    stay 0x0 97 ∷ down 32 0x61 26 ∷ stay 0x7b 58 ∷ stay 0xc0 31 ∷ down 32 0xe0 23 ∷ down 32 0xf8 7 ∷ stay 0x391 27
+    ∷ down 32 0x3b1 17 ∷ down 32 0x3c3 9 ∷ stay 0x400 48 ∷ down 32 0x430 32 ∷ down 80 0x450 16 ∷ stay 0x531 38
+    ∷ down 48 0x561 38 ∷ []
+
+pub uppercase_moves : AllMove to_uppercase uppercase_ranges
+unfolding by_runs by_strings to_uppercase uppercase_runs uppercase_strings
+uppercase_moves = AllMove-computed to_uppercase uppercase_ranges refl

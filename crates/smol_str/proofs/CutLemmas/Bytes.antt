@@ -1,7 +1,7 @@
--- For `str_ext::bytes`: each of one ASCII character replaced by another, byte for byte.
+-- For `str_ext::ascii`: each of one ASCII character replaced by another, byte for byte.
 use Rattle.smol_str.proofs.Common.{◌≡◌, ℕ, zero, suc, ◌<◌, ◌≤◌, List, [], ◌∷◌, ◌++◌, Bool, true, false, nat_eq, length, get_or, take, refl, sym, ap, ◌∙◌, arith, append-nil, length-append, ne_eqb, if◌then◌else◌, IsUtf8, chars, encode_utf8_all, encode, Decides-eqb, length-map, take_at, encodes-chars, length-le-encodes, INLINE_CAP, IsShort, no_limit, replaced, replaced_all, each_replaced, not_from_Decides, rules}
 use Rattle.smol_str.proofs.CaseLemmas.Ascii.{MovesAscii, IsUtf8-map, chars-map, size-mapped}
-use Rattle.smol_str.proofs.TextLemmas.Places.{size-chars}
+use Rattle.smol_str.proofs.TextLemmas.Places.{OnErr-always, size-chars}
 use Rattle.smol_str.proofs.TextLemmas.Utf8.{Form, one, two, three, four, form}
 use Rattle.smol_str.proofs.CutLemmas.Replace.{replaced-unmatched, replaced-matched, replaced-passed}
 use Rattle.smol_str.proofs.TextLemmas.Lists.{head_same}
@@ -30,6 +30,8 @@ module _ (x y : ℕ) (low : x < 128) (small : y < 128) (bs : List ℕ) (u : IsUt
   pub long-each : INLINE_CAP < length bs → ¬ (IsShort (each_replaced x y (chars bs)))
   long-each long short = search (rules, size-mapped, each-moves, low)
 
+pub ruleset refused_where_long = (OnErr-always, long-each)
+
 -- what is read of a vector with these bytes, and room behind them
 pub whole-each : (x y : ℕ) (text new rest : List ℕ) (len : ℕ) → new ≡ each_replaced x y text → len ≡ length text
     → take len (new ++ rest) ≡ each_replaced x y text
@@ -54,7 +56,7 @@ each-swapped : (x y : ℕ) (t : List ℕ) (n : ℕ) → length t ≤ n → each_
 each-swapped x y [] n h = sym (swapped-nil x y n)
 each-swapped x y (c ∷ t) zero h = absurd (omega arith)
 each-swapped x y (c ∷ t) (suc n) h =
-    first (nat_eq c x) refl (each-swapped x y t n (omega (arith, h))) (each-swapped x y t (suc n) (omega (arith, h)))
+    first (nat_eq c x) refl (each-swapped x y t n (omega arith)) (each-swapped x y t (suc n) (omega arith))
   where
     first : (b : Bool) → nat_eq c x ≡ b → each_replaced x y t ≡ swapped x y t n
         → each_replaced x y t ≡ swapped x y t (suc n) → each_replaced x y (c ∷ t) ≡ swapped x y (c ∷ t) (suc n)
@@ -92,3 +94,5 @@ one-byte bs u long = alone (chars bs) refl (encodes-chars bs u)
         by_form (two l h k) = absurd (omega (arith, ap length f, ap length (append-nil (encode c) ∙ k)))
         by_form (three l h k) = absurd (omega (arith, ap length f, ap length (append-nil (encode c) ∙ k)))
         by_form (four l k) = absurd (omega (arith, ap length f, ap length (append-nil (encode c) ∙ k)))
+
+pub ruleset each_byte = (IsUtf8-each, chars-each, whole-each)

@@ -20,16 +20,14 @@ last_part [] = []
 last_part (x ∷ []) = x ∷ []
 last_part (x ∷ y ∷ rest) = last_part (y ∷ rest)
 
-two_parts : (p : List ℕ) → but_last p ++ last_part p ≡ p
-two_parts [] = refl
-two_parts (x ∷ []) = refl
-two_parts (x ∷ y ∷ rest) = ap (λ s. x ∷ s) (two_parts (y ∷ rest))
+two_parts : (p r : List ℕ) → but_last p ++ (last_part p ++ r) ≡ p ++ r
+two_parts [] r = refl
+two_parts (x ∷ []) r = refl
+two_parts (x ∷ y ∷ rest) r = ap (λ s. x ∷ s) (two_parts (y ∷ rest) r)
 
 -- q followed by p is q and p without its last character, and then that character
 pub append-last_part : (p q x : List ℕ) → q ++ (p ++ x) ≡ (q ++ but_last p) ++ (last_part p ++ x)
-append-last_part p q x =
-    ap (λ s. q ++ (s ++ x)) (sym (two_parts p)) ∙ ap (λ s. q ++ s) (append_assoc (but_last p) (last_part p) x)
-    ∙ sym (append_assoc q (but_last p) (last_part p ++ x))
+append-last_part p q x = sym (append_assoc q (but_last p) (last_part p ++ x) ∙ ap (λ s. q ++ s) (two_parts p x))
 
 pub length_but_last : {X : Type 0} (p : List X) → length (but_last p) ≡ length p - 1
 length_but_last [] = refl
@@ -59,11 +57,7 @@ pub one_first : (p q q' x y : List ℕ) → 0 < length p → q ++ (p ++ x) ≡ q
 one_first p [] [] x y some e f g = refl
 one_first p [] (d ∷ q') x y some e f g = absurd (g (occurs_before p (d ∷ q') x y some (omega arith) e))
 one_first p (c ∷ q) [] x y some e f g = absurd (f (occurs_before p (c ∷ q) y x some (omega arith) (sym e)))
-one_first p (c ∷ q) (d ∷ q') x y some e f g =
-    let same : q ≡ q' =
-    one_first p q q' x y some (tail_same c d (q ++ (p ++ x)) (q' ++ (p ++ y)) e)
-    (not_later p c (q ++ but_last p) f) (not_later p d (q' ++ but_last p) g) in
-    ap (λ k. k ∷ q) (head_same c d (q ++ (p ++ x)) (q' ++ (p ++ y)) e) ∙ ap (λ s. d ∷ s) same
+one_first p (c ∷ q) (d ∷ q') x y some e f g = search (rules, arith, not_later, one_first p q q' x y some (tail_same c d (q ++ (p ++ x)) (q' ++ (p ++ y)) e) (not_later p c (q ++ but_last p) f) (not_later p d (q' ++ but_last p) g))
 
 -- the first match is the one after the shortest text
 shortest : (p q a r s : List ℕ) → 0 < length p → q ++ (p ++ r) ≡ a ++ (p ++ s) → IsFirstAfter p q → length q ≤ length a
@@ -81,15 +75,7 @@ first-shortest p q r some = (
       let later = append-last_part p q r ∙ ap (λ x. x ++ (last_part p ++ r)) o.2 ∙ append_assoc o.0 (p ++ o.1) (last_part p ++ r)
       ∙ ap (λ x. o.0 ++ x) (append_assoc p o.1 (last_part p ++ r)) in
       let sizes = ap length o.2 in
-      omega (
-        arith,
-        least o.0 (o.1 ++ (last_part p ++ r)) later,
-        sizes,
-        length-append q (but_last p),
-        length-append o.0 (p ++ o.1),
-        length-append p o.1,
-        length_but_last p,
-      )),
+      omega (arith, least o.0 (o.1 ++ (last_part p ++ r)) later, length-append q (but_last p), length-append o.0 (p ++ o.1), length-append p o.1, length_but_last p)),
 )
 
 -- without its first piece a cut is a cut of what is left
@@ -97,19 +83,19 @@ rest_cut : (t p : List ℕ) (n : ℕ) (q r : List ℕ) (rs : List (List ℕ)) �
     IsCutAt (joined_by p (r ∷ rs)) p (n - 1) (r ∷ rs)
 rest_cut t p n q r rs h = record {
   some = omega arith;
-  limited = omega (arith, h.limited);
+  limited = omega arith;
   joined = refl;
   first = All-tail (IsFirstAfter p) q (but_last (r ∷ rs)) h.first;
-  complete = λ l. h.complete (omega (arith, h.limited));
+  complete = λ l. h.complete (omega arith);
 }
 
 pub IsCutAt-unique : (xs ys : List (List ℕ)) (t p : List ℕ) (n : ℕ) → 0 < length p → IsCutAt t p n xs →
     IsCutAt t p n ys → xs ≡ ys
-IsCutAt-unique [] ys t p n some h k = absurd (omega (arith, h.some))
-IsCutAt-unique (q ∷ []) [] t p n some h k = absurd (omega (arith, k.some))
+IsCutAt-unique [] ys t p n some h k = absurd (omega arith)
+IsCutAt-unique (q ∷ []) [] t p n some h k = absurd (omega arith)
 IsCutAt-unique (q ∷ []) (q' ∷ []) t p n some h k = search (rules, joined_one)
 IsCutAt-unique (q ∷ []) (q' ∷ r' ∷ rs') t p n some h k = search (rules, arith, joined_one, joined_more)
-IsCutAt-unique (q ∷ r ∷ rs) [] t p n some h k = absurd (omega (arith, k.some))
+IsCutAt-unique (q ∷ r ∷ rs) [] t p n some h k = absurd (omega arith)
 IsCutAt-unique (q ∷ r ∷ rs) (q' ∷ []) t p n some h k = search (rules, arith, joined_one, joined_more)
 IsCutAt-unique (q ∷ r ∷ rs) (q' ∷ r' ∷ rs') t p n some h k =
     let whole : q ++ (p ++ joined_by p (r ∷ rs)) ≡ q' ++ (p ++ joined_by p (r' ∷ rs')) =
@@ -130,10 +116,10 @@ IsCutAt-unique (q ∷ r ∷ rs) (q' ∷ r' ∷ rs') t p n some h k =
 -- a first match in front of a cut
 pub IsCutAt-step : (t p q r : List ℕ) (n : ℕ) (pieces : List (List ℕ)) → t ≡ q ++ (p ++ r) → IsFirstAfter p q →
     IsCutAt r p n pieces → IsCutAt t p (n + 1) (q ∷ pieces)
-IsCutAt-step t p q r n [] e none h = absurd (omega (arith, h.some))
+IsCutAt-step t p q r n [] e none h = absurd (omega arith)
 IsCutAt-step t p q r n (s ∷ ss) e none h = record {
   some = omega arith;
-  limited = omega (arith, h.limited);
+  limited = omega arith;
   joined = joined_more p q s ss ∙ ap (λ x. q ++ (p ++ x)) h.joined ∙ sym e;
   first = All-cons (IsFirstAfter p) q (but_last (s ∷ ss)) none h.first;
   complete = λ l. h.complete (omega arith);

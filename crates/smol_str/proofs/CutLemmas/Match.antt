@@ -1,5 +1,5 @@
 -- For `kernel::next_match`: the first place of a pattern's bytes is the first match of its characters.
-use Rattle.smol_str.proofs.Common.{◌≡◌, ◌↔◌, get_or, ℕ, ◌+◌, ◌<◌, List, [], ◌++◌, Option, None, Some, length, take, drop, refl, sym, ap, ◌∙◌, subst, arith, length-append, append_assoc, take-append-drop, length-take-le, IsUtf8, chars, encode_utf8_all, encodes-append, encodes-chars, length-le-encodes, take_at, drop_at, length-drop, take-append-le, Decides-eqb, size, Occurs, StandsAt, IsCharBoundary, but_last, IsNextMatch, same_Some, nil_from_length, ⊎_elim, cases_lt, ◌≤◌, common_steps, rules}
+use Rattle.smol_str.proofs.Common.{◌≡◌, ◌↔◌, get_or, ℕ, ◌+◌, ◌<◌, List, [], ◌++◌, Option, None, Some, length, take, drop, refl, sym, ap, ◌∙◌, subst, arith, length-append, append_assoc, take-append-drop, length-take-le, IsUtf8, chars, encode_utf8_all, encodes-append, encodes-chars, length-le-encodes, take_at, drop_at, length-drop, take-append-le, size, Occurs, StandsAt, IsCharBoundary, but_last, IsNextMatch, same_Some, nil_from_length, ⊎_elim, cases_lt, ◌≤◌, common_steps, rules}
 use Rattle.memchr.specs.Find.{OccursAt, FindsNeedle, is_byte, IsFirstByte}
 use Rattle.memchr.proofs.lemmas.FindLemmas.{OccursAt-byte, byte-OccursAt}
 use Rattle.memchr.proofs.lemmas.MatchLemmas.{OccursAt-split, OccursAt-from_part}
@@ -11,13 +11,8 @@ use Rattle.smol_str.proofs.TextLemmas.Split.{boundary-parts, drop-parts}
 -- one byte is found as a needle of one byte
 pub one_byte : (hay nd : List ℕ) → length nd ≡ 1 → (r : Option ℕ) → IsFirstByte (is_byte (get_or nd 0 0)) hay r
     → FindsNeedle hay nd 0 r
-one_byte hay nd one None f = λ k low high o. f k low (omega (arith, o.fits)) (byte-OccursAt hay nd one k o)
+one_byte hay nd one None f = λ k low high o. f k low (omega arith) (byte-OccursAt hay nd one k o)
 one_byte hay nd one (Some at) f = grind (arith, common_steps, byte-OccursAt, OccursAt-byte)
-
--- no needle is found whose first byte is not
-pub none_first : (hay nd : List ℕ) → 0 < length nd → (r : Option ℕ) → r ≡ None
-    → (f : Option ℕ) → f ≡ None → IsFirstByte (is_byte (get_or nd 0 0)) hay f → FindsNeedle hay nd 0 r
-none_first hay nd some r none f e first = search (rules, arith, Decides-eqb)
 
 -- characters that stand have bytes that stand
 chars_stand : (b p a r : List ℕ) → b ≡ a ++ (p ++ r) → OccursAt (encode_utf8_all b) (encode_utf8_all p) (size a)
@@ -61,7 +56,7 @@ module _ (a b p : List ℕ) (i : ℕ) where
   found_none : FindsNeedle (encode_utf8_all b) (encode_utf8_all p) 0 None → ¬ Occurs p b
   found_none f = λ o.
       let at = chars_stand b p o.0 o.1 o.2 in
-      f (size o.0) (omega arith) (omega (arith, at.fits)) at
+      f (size o.0) (omega arith) (omega arith) at
 
   found_some : (k : ℕ) → 0 < length p → size a ≡ i → FindsNeedle (encode_utf8_all b) (encode_utf8_all p) 0 (Some k)
       → IsNextMatch a b p (i + k)
@@ -72,15 +67,15 @@ module _ (a b p : List ℕ) (i : ℕ) where
       let reads : bs ≡ take k bs ++ (nd ++ y) = sym (take-append-drop k bs)
       ∙ ap (λ xs. take k bs ++ xs) (OccursAt-split bs nd k f.1) in
       let h = StandsBetween-bytes b p (take k bs) y some reads in
-      let long : size h.0 ≡ k = ap length h.3 ∙ length-take-le k bs (omega (arith, f.1.fits)) in
+      let long : size h.0 ≡ k = ap length h.3 ∙ length-take-le k bs (omega arith) in
       record {
         before = h.0;
         after = h.1;
         reads = h.2;
-        place = omega (arith, size-append a h.0);
+        index = omega (arith, size-append a h.0);
         first = λ o.
             let x = earlier b p h.0 h.1 h.2 some o in
-            f.0.before (size x.0.0) (omega arith) (omega (arith, x.1)) (chars_stand b p x.0.0 x.0.1 x.0.2);
+            f.0.before (size x.0.0) (omega arith) (omega arith) (chars_stand b p x.0.0 x.0.1 x.0.2);
       }
 
 -- a pattern that is not empty has a character
@@ -88,7 +83,7 @@ pub some_char : (nd : List ℕ) → IsUtf8 nd → 0 < length nd → 0 < length (
 some_char nd u some =
     let empty = λ (none : length (chars nd) ≤ 0).
     sym (encodes-chars nd u) ∙ ap encode_utf8_all (nil_from_length (chars nd) (omega arith)) in
-    ⊎_elim (λ l. l) (λ none. absurd (omega (arith, some, ap length (empty none)))) (cases_lt 0 (length (chars nd)))
+    ⊎_elim (λ l. l) (λ none. absurd (omega (arith, ap length (empty none)))) (cases_lt 0 (length (chars nd)))
 
 -- at most one place is that of the next match
 pub one_next : (a b p : List ℕ) (i j : ℕ) → 0 < length p → IsNextMatch a b p i → IsNextMatch a b p j → i ≡ j
@@ -149,7 +144,7 @@ module _ (bs nd : List ℕ) (u : IsUtf8 bs) (v : IsUtf8 nd) (some : 0 < length n
       let behind : chars bs ≡ (h.0 ++ chars nd) ++ h.1 = h.2 ∙ sym (append_assoc h.0 (chars nd) h.1) in (
         boundary-parts bs h.0 (chars nd ++ h.1) i u h.2 (h.3 ∙ long),
         boundary-parts bs (h.0 ++ chars nd) h.1 (i + length nd) u behind
-            (omega (arith, h.3, long, size-append h.0 (chars nd), size-chars nd v)),
+            (omega (arith, size-append h.0 (chars nd), size-chars nd v)),
       )
 
   pub found-boundaries : (i k : ℕ) → i ≤ length bs → FindsNeedle (drop i bs) nd 0 (Some k)
@@ -163,10 +158,4 @@ module _ (bs nd : List ℕ) (u : IsUtf8 bs) (v : IsUtf8 nd) (some : 0 < length n
       ∙ ap (λ xs. take i bs ++ xs) found ∙ sym (append_assoc (take i bs) (take k rest) (nd ++ y)) in
       let fits = f.1.fits in
       boundaries (take i bs ++ take k rest) y reads (i + k)
-      (omega (
-        arith,
-        fits,
-        length-append (take i bs) (take k rest),
-        length-take-le i bs inside,
-        length-take-le k rest (omega (arith, fits)),
-      ))
+      (omega (arith, length-append (take i bs) (take k rest), length-take-le i bs inside, length-take-le k rest (omega (arith, fits))))

@@ -24,14 +24,7 @@ replaced-itself t (c ∷ p) n = (IsCutAt-cut n (c ∷ p) t (omega arith)).joined
 few_pieces : (p : List ℕ) (pieces : List (List ℕ)) → 0 < length p → length pieces ≤ length (joined_by p pieces) + 1
 few_pieces p [] some = omega arith
 few_pieces p (q ∷ []) some = omega arith
-few_pieces p (q ∷ r ∷ rs) some =
-    omega (
-      arith,
-      few_pieces p (r ∷ rs) some,
-      ap length (joined_more p q r rs),
-      length-append q (p ++ joined_by p (r ∷ rs)),
-      length-append p (joined_by p (r ∷ rs)),
-    )
+few_pieces p (q ∷ r ∷ rs) some = search (rules, arith, joined_more, length-append, few_pieces p (r ∷ rs) some)
 
 raised_at : (t p : List ℕ) (m n : ℕ) (pieces : List (List ℕ)) → length pieces < m + 1 → length pieces - 1 ≤ n →
     IsCutAt t p m pieces → IsCutAt t p n pieces
@@ -105,7 +98,7 @@ count_at t (c ∷ p) n xs some is h below =
       ap length (IsCut-unique t (c ∷ p) (no_limit t) xs (cut t (c ∷ p) (no_limit t)) all
           (IsCut-cut t (c ∷ p) (no_limit t))),
     )))
-    (λ l. omega (arith, h.limited))
+    (λ l. omega arith)
     (cases_lt (length xs) (n + 1))
 
 some_whole : (t p : List ℕ) → 1 ≤ length (cut t p (no_limit t))

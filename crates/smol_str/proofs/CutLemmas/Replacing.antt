@@ -1,13 +1,52 @@
 -- For `str_ext::replace`: replacing match by match.
-use Rattle.smol_str.proofs.Common.{◌≡◌, ℕ, ◌+◌, ◌-◌, ◌<◌, ◌≤◌, List, [], ◌∷◌, ◌++◌, length, take, drop, refl, sym, ap, ◌∙◌, subst, arith, append_assoc, append-nil, length-append, Option, MatchOption, Result, IfOk, IsUtf8, IsCharBoundary, chars, encode_utf8_all, len_utf8, slice_get, encode, length-encode, length-le-encodes, chars-nil, size, IsShort, Occurs, IsNextMatch, IsCut, joined_by, Meaning, IsValueOf, replaced, replaced_all, IsReplacing, Draft, OnHeap, draft_of, appended, nil_from_length, IfOk-weaker, common_steps, rules}
-use Rattle.smol_str.proofs.TextLemmas.Places.{size-append, size-chars, IsShort-front}
-use Rattle.smol_str.proofs.BuilderLemmas.Push.{appended-draft_of, draft_of-heap}
+use Rattle.smol_str.proofs.Common.{◌≡◌, ℕ, ◌+◌, ◌-◌, ◌<◌, ◌≤◌, List, [], ◌∷◌, ◌++◌, length, take, drop, None, Some, refl, sym, ap, ◌∙◌, subst, arith, append_assoc, append-nil, length-append, Option, MatchOption, Result, IfOk, IsUtf8, IsCharBoundary, chars, encode_utf8_all, len_utf8, slice_get, encode, length-encode, length-le-encodes, chars-nil, size, IsShort, Occurs, IsNextMatch, IsCut, joined_by, Meaning, IsValueOf, replaced, replaced_all, IsReplacing, Draft, OnHeap, draft_of, appended, nil_from_length, IfOk-weaker, nat_tests, common_steps, rules}
+use Rattle.smol_str.proofs.TextLemmas.Places.{size-append, size-chars, IsShort-front, OnErr-always}
+use Rattle.memchr.specs.Find.{FindsNeedle}
+use Rattle.smol_str.proofs.BuilderLemmas.Draft.{appended-twice}
+use Rattle.smol_str.proofs.BuilderLemmas.Push.{appended-draft_of, draft_of-heap, appended-heap}
+use Rattle.smol_str.proofs.CutLemmas.Match.{IsNextMatch-found, Occurs-none, not_found}
 use Rattle.smol_str.proofs.CutLemmas.Replace.{replaced-none, replaced-matched, replaced-unmatched, replaced-between, replaced-end, replaced-enough, replaced-cut, match_count-limit}
 use Rattle.smol_str.proofs.TextLemmas.Split.{boundary-parts, chars-drop, chars-middle}
 
 pub replacing-boundary : (bs p w : List ℕ) (n m : ℕ) (b : Draft) (i : ℕ) → IsReplacing (chars bs) p w n m b i
     → IsUtf8 bs → IsCharBoundary bs i
 replacing-boundary bs p w n m b i h u = boundary-parts bs h.done h.rest i u h.parts h.at
+
+pub replacing-inside : (bs p w : List ℕ) (n m : ℕ) (b : Draft) (i : ℕ) → IsReplacing (chars bs) p w n m b i
+    → IsUtf8 bs → i ≤ length bs
+replacing-inside bs p w n m b i h u = omega (arith, size-chars bs u, ap size h.parts, size-append h.done h.rest)
+
+-- nothing is replaced in a text without a match
+pub replacing-nothing : (t p w : List ℕ) (n : ℕ) (b : Draft) → b ≡ draft_of [] → ¬ Occurs p t → IsReplacing t p w n 0 b 0
+replacing-nothing t p w n b empty none = search (rules, arith, replaced-none, replaced-unmatched)
+
+-- no match is left, or none is wanted
+pub replacing-unmatched : (t p w : List ℕ) (n m : ℕ) (b : Draft) (i : ℕ) (h : IsReplacing t p w n m b i)
+    → ¬ Occurs p h.rest → IsReplacing t p w n 0 b i
+replacing-unmatched t p w n m b i h none = search (rules, arith, replaced-none, replaced-unmatched)
+
+-- the next match, found in the bytes of the rest
+pub replacing-found : (bs nd w : List ℕ) (n m : ℕ) (b : Draft) (i k : ℕ) (rest needle : List ℕ)
+    (h : IsReplacing (chars bs) (chars nd) w n m b i) → IsUtf8 bs → IsUtf8 nd → 0 < length nd → rest ≡ drop i bs
+    → needle ≡ nd → FindsNeedle rest needle 0 (Some k) → IsNextMatch h.done h.rest (chars nd) (i + k)
+replacing-found bs nd w n m b i k rest needle h u v some e f found =
+    IsNextMatch-found bs nd i k u v some (rw (e, f) at found) h.done h.rest h.parts h.at
+
+-- or there is none
+pub replacing-none : (bs nd w : List ℕ) (n m : ℕ) (b : Draft) (i : ℕ) (rest needle : List ℕ)
+    (h : IsReplacing (chars bs) (chars nd) w n m b i) → IsUtf8 bs → IsUtf8 nd → rest ≡ drop i bs
+    → needle ≡ nd → FindsNeedle rest needle 0 None → IsReplacing (chars bs) (chars nd) w n 0 b i
+replacing-none bs nd w n m b i rest needle h u v e f found =
+    replacing-unmatched (chars bs) (chars nd) w n m b i h
+    (Occurs-none bs nd i u v (rw (e, f) at found) h.done h.rest h.parts h.at)
+
+-- two texts appended, one after the other
+pub appended-both : (b c d : Draft) (u v : List ℕ) → c ≡ appended b u → d ≡ appended c v → d ≡ appended b (u ++ v)
+appended-both b c d u v first second = second ∙ ap (λ x. appended x v) first ∙ appended-twice b u v
+
+pub second-heap : (b c : Draft) (u v : List ℕ) → c ≡ appended b u → (appended c v).kind ≡ OnHeap
+    → (appended b (u ++ v)).kind ≡ OnHeap
+second-heap b c u v first heap = ap (λ x. x.kind) (sym (appended-both b c (appended c v) u v first refl)) ∙ heap
 
 pub size-one : (c : ℕ) → size (c ∷ []) ≡ len_utf8 c
 size-one c = omega (arith, length-append (encode c) [], length-encode c)
@@ -28,7 +67,7 @@ module _ (t p w : List ℕ) (n m l : ℕ) (b : Draft) (i : ℕ) (h : IsReplacing
         done = h.done ++ q;
         rest = r;
         parts = h.parts ∙ ap (λ y. h.done ++ y) reads ∙ sym (append_assoc h.done q r);
-        at = omega (arith, size-append h.done q, h.at);
+        at = omega (arith, size-append h.done q);
         draft = more-draft_of d e ∙ ap draft_of (sym now);
         text = ap (λ y. y ++ replaced r p w l) now ∙ more-text;
       }
@@ -43,22 +82,11 @@ module _ (bs nd w : List ℕ) (n m : ℕ) (b : Draft) (i j : ℕ) (h : IsReplaci
   match-parts = h.parts ∙ ap (λ x. h.done ++ x) k.reads ∙ sym (append_assoc h.done k.before (chars nd ++ k.after))
 
   pub match-boundary : IsUtf8 bs → IsCharBoundary bs j
-  match-boundary u = boundary-parts bs (h.done ++ k.before) (chars nd ++ k.after) j u match-parts k.place
-
-  pub match-after : i ≤ j
-  match-after = omega (arith, h.at, k.place, size-append h.done k.before)
+  match-boundary u = boundary-parts bs (h.done ++ k.before) (chars nd ++ k.after) j u match-parts k.index
 
   pub match-end : IsUtf8 bs → IsUtf8 nd → j + length nd ≤ length bs
   match-end u v =
-      omega (
-        arith,
-        size-chars bs u,
-        size-chars nd v,
-        ap size match-parts,
-        size-append (h.done ++ k.before) (chars nd ++ k.after),
-        size-append (chars nd) k.after,
-        k.place,
-      )
+      omega (arith, size-chars bs u, size-chars nd v, ap size match-parts, size-append (h.done ++ k.before) (chars nd ++ k.after), size-append (chars nd) k.after)
 
   pub match-piece : IsUtf8 bs → chars (take (j - i) (drop i bs)) ≡ k.before
   match-piece u = search (rules, chars-middle)
@@ -74,7 +102,7 @@ module _ (bs nd w : List ℕ) (n m : ℕ) (b : Draft) (i j : ℕ) (h : IsReplaci
         → IsReplacing (chars bs) (chars nd) w n l d (j + length nd)
     match-step v d e =
         let at : i + size (k.before ++ chars nd) ≡ j + length nd =
-        omega (arith, size-append k.before (chars nd), size-append h.done k.before, k.place, h.at, size-chars nd v) in
+        omega (arith, size-append k.before (chars nd), size-append h.done k.before, size-chars nd v) in
         subst (IsReplacing (chars bs) (chars nd) w n l d) at
         (replacing-more (chars bs) (chars nd) w n m l b i h (k.before ++ chars nd) k.after (k.before ++ w) match-passed
         match-made d e)
@@ -83,15 +111,6 @@ module _ (bs nd w : List ℕ) (n m : ℕ) (b : Draft) (i j : ℕ) (h : IsReplaci
     match-refused =
         replacing-refused (chars bs) (chars nd) w n m l b i h (k.before ++ chars nd) k.after (k.before ++ w)
         match-passed match-made
-
--- nothing is replaced in a text without a match
-pub replacing-nothing : (t p w : List ℕ) (n : ℕ) (b : Draft) → b ≡ draft_of [] → ¬ Occurs p t → IsReplacing t p w n 0 b 0
-replacing-nothing t p w n b empty none = search (rules, arith, replaced-none, replaced-unmatched)
-
--- no match is left, or none is wanted
-pub replacing-unmatched : (t p w : List ℕ) (n m : ℕ) (b : Draft) (i : ℕ) (h : IsReplacing t p w n m b i)
-    → ¬ Occurs p h.rest → IsReplacing t p w n 0 b i
-replacing-unmatched t p w n m b i h none = search (rules, arith, replaced-none, replaced-unmatched)
 
 -- in the text t, at the empty pattern, the next character is c
 module _ (t w : List ℕ) (n m l : ℕ) (b : Draft) (i : ℕ) (h : IsReplacing t [] w n m b i) (next : m ≡ l + 1) where
@@ -117,28 +136,28 @@ module _ (t w : List ℕ) (n m l : ℕ) (b : Draft) (i : ℕ) (h : IsReplacing t
         let at : i + 0 ≡ i = omega arith in
         subst (IsReplacing t [] w n 0 d) at (replacing-more t [] w n m 0 b i h [] [] w reads end-made d e)
 
-    pub end-refused : (appended b w).kind ≡ OnHeap → ¬ (IsShort (replaced t [] w n))
+    end-refused : (appended b w).kind ≡ OnHeap → ¬ (IsShort (replaced t [] w n))
     end-refused = replacing-refused t [] w n m 0 b i h [] [] w reads end-made
 
--- the first character of a list
-pub first_char : (b : List ℕ) (r : Option ℕ) → r ≡ slice_get b 0
-    → MatchOption r (b ≡ []) (λ c. (s : List ℕ) × (b ≡ c ∷ s))
+  -- either way w comes next
+  pub before-refused : (rest : List ℕ) → h.rest ≡ rest → (appended b w).kind ≡ OnHeap → ¬ (IsShort (replaced t [] w n))
+  before-refused [] e heap = end-refused e heap
+  before-refused (c ∷ r) e heap = taken-refused c r e (appended-heap b w (c ∷ []) heap)
+
+-- the next character of the rest, or none
+first_char : (b : List ℕ) (r : Option ℕ) → r ≡ slice_get b 0 → MatchOption r (b ≡ []) (λ c. (s : List ℕ) × (b ≡ c ∷ s))
 first_char [] r e = rw e refl
 first_char (c ∷ s) r e = rw e (s, refl)
+
+pub next-char : (bs p w : List ℕ) (n m : ℕ) (b : Draft) (i : ℕ) (rest : List ℕ) (r : Option ℕ)
+    (h : IsReplacing (chars bs) p w n m b i) → IsUtf8 bs → rest ≡ drop i bs → r ≡ slice_get (chars rest) 0
+    → MatchOption r (h.rest ≡ []) (λ c. (s : List ℕ) × (h.rest ≡ c ∷ s))
+next-char bs p w n m b i rest r h u e is = grind (arith, common_steps, first_char, chars-drop)
 
 pub taken-inside : (bs p w : List ℕ) (n m : ℕ) (b : Draft) (i : ℕ) (h : IsReplacing (chars bs) p w n m b i) (c : ℕ)
     (r : List ℕ) → h.rest ≡ c ∷ r → IsUtf8 bs → i + len_utf8 c ≤ length bs
 taken-inside bs p w n m b i h c r reads u =
-    omega (
-      arith,
-      size-chars bs u,
-      ap size h.parts,
-      size-append h.done h.rest,
-      ap size reads,
-      length-append (encode c) (encode_utf8_all r),
-      length-encode c,
-      h.at,
-    )
+    omega (arith, size-chars bs u, ap size h.parts, size-append h.done h.rest, ap size reads, length-append (encode c) (encode_utf8_all r), length-encode c)
 
 pub chars-empty : (bs : List ℕ) → length bs ≡ 0 → chars bs ≡ []
 chars-empty bs e = ap chars (nil_from_length bs e) ∙ chars-nil
@@ -170,3 +189,9 @@ pub joined-text : {E : Type 0} (r : Result Meaning E) (t p w : List ℕ) (n : �
     → IsCut t p n pieces
     → IfOk r (λ v. IsValueOf (replaced t p w n) v) → IfOk r (λ v. v.text ≡ joined_by w pieces)
 joined-text r t p w n pieces h e = IfOk-weaker r _ _ (λ v g. g.text ∙ replaced-cut t p w n pieces h) e
+
+pub ruleset replacements = (replaced-unlimited, joined-text)
+
+pub ruleset first_steps = (chars-empty, replacing-nothing, not_found, nat_tests)
+
+pub ruleset last_steps = (OnErr-always, replacing-boundary, rest-whole, rest-refused)

@@ -43,9 +43,7 @@ follows-apart : (s rest u : List ℕ) (b : ℕ) (v : List ℕ) → Follows s →
     (w : List ℕ) × (u ≡ s ++ w) × (rest ≡ w ++ (b ∷ v))
 follows-apart [] rest u b v f l e = (u, refl, e)
 follows-apart (x ∷ s) rest [] b v f l e = search (rules, arith, head_same)
-follows-apart (x ∷ s) rest (d ∷ u) b v f l e =
-    let h = follows-apart s rest u b v f.1 l (tail_same x d (s ++ rest) (u ++ (b ∷ v)) e) in
-    (h.0, ap (λ k. k ∷ u) (sym (head_same x d (s ++ rest) (u ++ (b ∷ v)) e)) ∙ ap (λ z. x ∷ z) h.1, h.2)
+follows-apart (x ∷ s) rest (d ∷ u) b v f l e = search (rules, arith, rest, tail_same, head_same, follows-apart s rest u b v f.1 l (tail_same x d (s ++ rest) (u ++ (b ∷ v)) e))
 
 -- p stands in t between x and y, as characters and as bytes
 abbrev pub StandsBetween : List ℕ → List ℕ → List ℕ → List ℕ → Type 0

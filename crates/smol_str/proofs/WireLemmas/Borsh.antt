@@ -1,5 +1,5 @@
 -- A wire form in two parts, its size and its text, for the calls that write and read one part after the other.
-use Rattle.smol_str.proofs.Common.{inr, ◌≡◌, ℕ, ◌+◌, ◌<◌, ◌≤◌, ◌^◌, Err, List, ◌++◌, Option, None, Some, IfSome, length, take, refl, sym, ap, ◌∙◌, subst, arith, append_assoc, append-nil, to_le_bytes, from_le_bytes, w32, encode_utf8_all, from_le_bytes-to_le_bytes_4, encodes-chars, take_at, drop_at, length-append, Appends, Consumes, IsAtEnd, Appends-trans, Consumes-trans, Result, err_from_is_err_and, INLINE_CAP, size, place_of, Meaning, HasWire, HasEndedEarly, body, common_steps, rules}
+use Rattle.smol_str.proofs.Common.{inr, cases_lt, IsUtf8, IsResident, chars, ◌≡◌, ℕ, ◌+◌, ◌<◌, ◌≤◌, ◌^◌, List, ◌++◌, Option, None, Some, IfSome, length, take, refl, sym, ap, ◌∙◌, subst, arith, append_assoc, append-nil, to_le_bytes, from_le_bytes, w32, encode_utf8_all, from_le_bytes-to_le_bytes_4, encodes-chars, take_at, drop_at, length-append, Appends, Consumes, IsAtEnd, Appends-trans, Consumes-trans, Result, err_from_is_err_and, INLINE_CAP, size, place_of, Meaning, HasWire, HasEndedEarly, body, common_steps, rules}
 use Rattle.std.specs.declared.str.Utf8Error.{Utf8Error}
 use Rattle.std.specs.declared.io.Error.{Error}
 use Rattle.std.specs.Result.{IsErrAnd, IfErr}
@@ -14,36 +14,28 @@ use Rattle.smol_str.specs.declared.value.convert.FromUtf8Fault.TheVariants.{NotU
 use Rattle.smol_str.specs.Faults.{AfterFromUtf8Fault}
 use Rattle.smol_str.specs.Wire.{wire, prefix_size}
 use Rattle.std.specs.Prelude.{⊤}
-use Rattle.smol_str.specs.Stream.{AppendsBeginning, EndsBelow, StopsBelow, ConsumesSome}
-use Rattle.smol_str.specs.WireFaults.{AfterEncodeFault, IsRefusedBody, AfterDecodeFault, StopsEarly, StopsInBody, HasReadBody, AfterBodyFault, StatesAtMost, AfterLimitedFault, AfterFromWireFault, of_utf8_fault}
-use Rattle.smol_str.proofs.WireLemmas.Stream.{beginning-of_first, beginning-of_second}
+use Rattle.smol_str.specs.Stream.{AppendsBeginning, GaveAllBelow, GaveBelow, GaveUpTo}
+use Rattle.smol_str.specs.WireFaults.{AfterEncodeFault, IsRefusedBody, AfterDecodeFault, GaveTooFew, GaveSomeOfBody, HasReadBody, AfterBodyFault, StatesAtMost, AfterLimitedFault, AfterFromWireFault, of_utf8_fault}
+use Rattle.smol_str.proofs.TextLemmas.Places.{size-chars}
+use Rattle.smol_str.proofs.WireLemmas.Stream.{IfErr-is, beginning-of_first, beginning-of_second, Consumes-full}
 
 -- ---- faults that another call's become
-
--- a result that is known to be a fault
-pub IfErr-is : {T F : Type 0} (P : F → Type 0) (r : Result T F) (f : F) → IsErrAnd r (λ fault. fault ≡ f) → P f → IfErr r P
-IfErr-is P r f failed p =
-    let (fault, is_err, is) = err_from_is_err_and r failed in
-    subst (λ r. IfErr r P) (sym (is_err ∙ ap Err is)) p
-
--- of a body of n bytes, as long as a buffer
-pub AfterBodyFault-of_fill : {T : Type 0} (a b : Option (List ℕ)) (m n : ℕ) (r : Result T DecodeFault) (f : DecodeFault)
-    → IsErrAnd r (λ fault. fault ≡ f) → AfterBodyFault a b m f → m ≡ n → IfErr r (AfterBodyFault a b n)
-AfterBodyFault-of_fill a b m n r f failed h same =
-    IfErr-is (AfterBodyFault a b n) r f failed (subst (λ n. AfterBodyFault a b n f) same h)
 
 pub AfterFromWireFault-of_text : (b : List ℕ) (e : FromUtf8Fault) → ¬ HasEndedEarly b → AfterFromUtf8Fault (body b) e
     → AfterFromWireFault b (of_utf8_fault e)
 AfterFromWireFault-of_text b (BytesNotUtf8 e) whole h = (whole, h)
 AfterFromWireFault-of_text b NoMemoryForText whole (utf8, large) = (whole, utf8, large)
 
--- of a body of n bytes, which is above INLINE_CAP
-module _ (a b : Option (List ℕ)) (n : ℕ) (long : INLINE_CAP < n) where
-  pub AfterBodyFault-of_text : (bytes : List ℕ) (e : FromUtf8Fault) → length bytes ≡ n → Consumes a b bytes
-      → AfterFromUtf8Fault bytes e → AfterBodyFault a b n (of_utf8_fault e)
-  AfterBodyFault-of_text bytes (BytesNotUtf8 e) whole consumed h =
-      record { body = bytes; whole = whole; refused = h; bytes = consumed }
-  AfterBodyFault-of_text bytes NoMemoryForText whole consumed h = (long, (bytes, omega arith, omega arith, consumed))
+-- a text that is not resident has more than INLINE_CAP bytes
+above_cap : (bytes : List ℕ) → IsUtf8 bytes → ¬ (IsResident (chars bytes)) → INLINE_CAP < length bytes
+above_cap bytes u large = grind (arith, common_steps, size-chars, cases_lt)
+
+pub AfterBodyFault-of_text : (a b : Option (List ℕ)) (n : ℕ) (bytes : List ℕ) (e : FromUtf8Fault)
+    → length bytes ≡ n → Consumes a b bytes → AfterFromUtf8Fault bytes e → AfterBodyFault a b n (of_utf8_fault e)
+AfterBodyFault-of_text a b n bytes (BytesNotUtf8 e) whole consumed h =
+    record { body = bytes; whole = whole; refused = h; bytes = consumed }
+AfterBodyFault-of_text a b n bytes NoMemoryForText whole consumed (utf8, large) =
+    let above = above_cap bytes utf8 large in (omega arith, (bytes, omega arith, omega arith, consumed))
 
 -- ---- writing: the size of a text as it is found, and the text's bytes
 
@@ -72,13 +64,20 @@ module _ (t prefix bytes : List ℕ) (is : bytes ≡ encode_utf8_all t)
 
 -- ---- bytes
 
--- the size that four bytes at the front of b are read as
-pub prefix_size-of_bytes : (b front prefix : List ℕ) (n : ℕ) → front ≡ take 4 b → prefix ≡ front
-    → n ≡ from_le_bytes w32 prefix → prefix_size b ≡ n
+-- the size that the first four bytes of b are read as
+pub prefix_size_of_bytes : (b prefix : List ℕ) (n : ℕ) → prefix ≡ take 4 b → n ≡ from_le_bytes w32 prefix
+    → prefix_size b ≡ n
 unfolding prefix_size
-prefix_size-of_bytes b front prefix n e f is = sym (is ∙ ap (from_le_bytes w32) (f ∙ e))
+prefix_size_of_bytes b prefix n e is = sym (is ∙ ap (from_le_bytes w32) e)
 
 -- ---- reading: a reader that gave the size n, below 2 ^ 32
+
+-- what is so of all that begins with some bytes is so of what a reader had, which gave them
+IfSome-begun : (P : List ℕ → Type 0) (a b : Option (List ℕ)) (bytes : List ℕ) → Consumes a b bytes
+    → ((r : List ℕ) → P (bytes ++ r)) → IfSome a P
+IfSome-begun P None b bytes p h = tt
+IfSome-begun P (Some x) None bytes p h = absurd p
+IfSome-begun P (Some x) (Some y) bytes p h = subst P (sym p) (h y)
 
 module _ (n : ℕ) (fits : n < 2 ^ 32) where
   -- bytes that begin with the size n
@@ -117,7 +116,7 @@ module _ (n : ℕ) (fits : n < 2 ^ 32) where
     Consumes-of_body a p = search (rules, size-of_body, same_bytes, Consumes-trans)
 
   -- and then fewer bytes
-  ended-of_body : (a b c : Option (List ℕ)) → Consumes a b (to_le_bytes w32 n) → EndsBelow b c n
+  ended-of_body : (a b c : Option (List ℕ)) → Consumes a b (to_le_bytes w32 n) → GaveAllBelow b c n
       → IfSome a HasEndedEarly × IsAtEnd c
   ended-of_body None b c p q = (tt, q.3)
   ended-of_body (Some x) None c p q = absurd p
@@ -126,24 +125,24 @@ module _ (n : ℕ) (fits : n < 2 ^ 32) where
 
   -- and then fewer bytes, with others left
   pub early-of_body : (P : List ℕ → Type 0) → ((r : List ℕ) → P (to_le_bytes w32 n ++ r)) → (a b c : Option (List ℕ))
-      → Consumes a b (to_le_bytes w32 n) → StopsBelow b c n → StopsEarly a c P
+      → Consumes a b (to_le_bytes w32 n) → GaveBelow b c n → GaveTooFew a c P
   early-of_body P holds a b c p (bs, short, consumed) =
       let says = prefix_size-front bs in
       let long = length_front bs in (
         to_le_bytes w32 n ++ bs,
-        inr (omega (arith, says, long)),
+        inr (omega arith),
         holds bs,
         Consumes-trans a b c (to_le_bytes w32 n) bs p consumed,
       )
 
   -- and then some bytes, n of them at the most
-  within-of_body : (a b c : Option (List ℕ)) → Consumes a b (to_le_bytes w32 n) → ConsumesSome b c n → StopsInBody a c
+  within-of_body : (a b c : Option (List ℕ)) → Consumes a b (to_le_bytes w32 n) → GaveUpTo b c n → GaveSomeOfBody a c
   within-of_body a b c p (bs, some, most, consumed) =
       let says = prefix_size-front bs in
       let long = length_front bs in (
         to_le_bytes w32 n ++ bs,
-        omega (arith, long),
-        omega (arith, says, long),
+        omega arith,
+        omega arith,
         Consumes-trans a b c (to_le_bytes w32 n) bs p consumed,
       )
 
@@ -155,9 +154,8 @@ module _ (n : ℕ) (fits : n < 2 ^ 32) where
 
   long-of_body : (a b : Option (List ℕ)) → Consumes a b (to_le_bytes w32 n) → INLINE_CAP < n
       → IfSome a (λ b. (4 ≤ length b) × (INLINE_CAP < prefix_size b))
-  long-of_body None b p h = tt
-  long-of_body (Some x) None p h = absurd p
-  long-of_body (Some x) (Some y) p h = search (rules, arith, prefix_size-front, length_front)
+  long-of_body a b p long =
+      IfSome-begun _ a b _ p (λ r. let says = prefix_size-front r in let size = length_front r in (omega arith, omega arith))
 
   pub AfterDecodeFault-of_body : (a b c : Option (List ℕ)) (fault : DecodeFault) → Consumes a b (to_le_bytes w32 n)
       → AfterBodyFault b c n fault → AfterDecodeFault a c fault
@@ -180,21 +178,22 @@ module _ (n : ℕ) (fits : n < 2 ^ 32) where
   -- and with one that is not
   states_within : (a b : Option (List ℕ)) (limit : ℕ) → Consumes a b (to_le_bytes w32 n) → n ≤ limit
       → IfSome a (StatesAtMost limit)
-  states_within None b limit p h = tt
-  states_within (Some x) None limit p h = absurd p
-  states_within (Some x) (Some y) limit p h = let says : prefix_size x ≡ n = ap prefix_size p ∙ prefix_size-front y in λ _. omega arith
+  states_within a b limit p h = IfSome-begun _ a b _ p (λ r _. let says = prefix_size-front r in omega arith)
 
   AfterLimitedFault-of_fault : (a b c : Option (List ℕ)) (limit : ℕ) (fault : DecodeFault)
       → Consumes a b (to_le_bytes w32 n) → n ≤ limit → AfterBodyFault b c n fault → AfterLimitedFault limit a c (Decode fault)
-  AfterLimitedFault-of_fault a b c limit Ended p l h = search (rules, arith, AfterDecodeFault-of_body, states_within)
-  AfterLimitedFault-of_fault a b c limit (NotUtf8 e) p l h =
-      (AfterDecodeFault-of_body a b c (NotUtf8 e) p h, states_within a b limit p l)
-  AfterLimitedFault-of_fault a b c limit OutOfMemory p l h =
-      (AfterDecodeFault-of_body a b c OutOfMemory p h, states_within a b limit p l)
   AfterLimitedFault-of_fault a b c limit (Io e) p l h = search (rules, arith, early-of_body, prefix_size-front)
+  AfterLimitedFault-of_fault a b c limit fault p l h =
+      (AfterDecodeFault-of_body a b c fault p h, states_within a b limit p l)
 
   pub AfterLimitedFault-of_body : {T : Type 0} (r : Result T LimitedFault) (a b c : Option (List ℕ)) (limit : ℕ)
       (fault : DecodeFault) → IsErrAnd r (λ f. f ≡ Decode fault) → Consumes a b (to_le_bytes w32 n) → n ≤ limit
       → AfterBodyFault b c n fault → IfErr r (AfterLimitedFault limit a c)
   AfterLimitedFault-of_body r a b c limit fault failed p l h =
       IfErr-is (AfterLimitedFault limit a c) r (Decode fault) failed (AfterLimitedFault-of_fault a b c limit fault p l h)
+
+pub ruleset written_forms = (failed-in_prefix, failed-in_bytes, Appends-parts)
+
+pub ruleset read_bodies = (IfErr-is, Consumes-full, AfterBodyFault-of_text)
+
+pub ruleset limited_reads = (IfErr-is, is_read-of_body, Consumes-of_body, size-of_body, AfterLimitedFault-above, AfterLimitedFault-of_body)

@@ -1,10 +1,10 @@
--- A beginning of what is written in two parts: for `serialize`, which writes a size and then a text. And what is gone
--- where a reader failed: for `stream`.
+-- A beginning of what is written in two parts: for `serialize`, which writes a size and then a text. And what a
+-- reader gave that failed: for `stream`.
 use Rattle.smol_str.proofs.Common.{◌≡◌, Result, err_from_is_err_and, ℕ, ◌+◌, ◌<◌, ◌≤◌, length, List, ◌++◌, Option, sym, ap, ◌∙◌, arith, append_assoc, length-append, Appends, Appends-trans, Consumes, Consumes-trans, rules, take, subst}
 use Rattle.std.specs.Io.KnownBytes.{Keeps}
 use Rattle.std.proofs.KnownBytes.{Consumes-kept}
 use Rattle.std.proofs.lemmas.List.{take_all}
-use Rattle.smol_str.specs.Stream.{AppendsBeginning, StopsBelow, ConsumesSome, AfterStreamFault}
+use Rattle.smol_str.specs.Stream.{AppendsBeginning, GaveBelow, GaveUpTo, AfterReadFault}
 use Rattle.std.specs.declared.io.Error.{Error}
 use Rattle.std.specs.Result.{IsErrAnd, IfErr}
 use Rattle.smol_str.specs.declared.stream.ReadFault.{ReadFault}
@@ -15,7 +15,7 @@ module _ (first second : List ℕ) where
       → AppendsBeginning a b (first ++ second)
   beginning-of_first a b (front, rest, split, some, appended) =
       let more = length-append rest second in
-      (front, rest ++ second, ap (λ l. l ++ second) split ∙ append_assoc front rest second, omega (arith, more), appended)
+      (front, rest ++ second, ap (λ l. l ++ second) split ∙ append_assoc front rest second, omega arith, appended)
 
   pub beginning-of_second : (a b c : Option (List ℕ)) → Appends a b first → AppendsBeginning b c second
       → AppendsBeginning a c (first ++ second)
@@ -27,35 +27,39 @@ module _ (first second : List ℕ) where
     Appends-trans a b c first front p appended,
   )
 
--- ---- reading: a reader that lost some bytes, and then failed, lost no others
+-- a result that is known to be a fault
+pub IfErr-is : {T F : Type 0} (P : F → Type 0) (r : Result T F) (f : F) → IsErrAnd r (λ fault. fault ≡ f) → P f → IfErr r P
+IfErr-is P r f failed p = search (rules, arith, err_from_is_err_and)
+
+-- ---- reading: a reader that gave some bytes, and then failed, gave no others
 
 module _ (a b c : Option (List ℕ)) (kept : Keeps b c) where
-  pub StopsBelow-failed : (bytes : List ℕ) (n : ℕ) → Consumes a b bytes → length bytes < n → StopsBelow a c n
-  StopsBelow-failed bytes n consumed short = (bytes, short, Consumes-kept a b c bytes consumed kept)
+  pub GaveBelow-failed : (bytes : List ℕ) (n : ℕ) → Consumes a b bytes → length bytes < n → GaveBelow a c n
+  GaveBelow-failed bytes n consumed short = (bytes, short, Consumes-kept a b c bytes consumed kept)
 
--- a reader that lost some bytes, and then fewer than there was room for
-pub StopsBelow-after : (a b c : Option (List ℕ)) (bytes : List ℕ) (room n : ℕ) → Consumes a b bytes → StopsBelow b c room
-    → length bytes + room ≤ n → StopsBelow a c n
-StopsBelow-after a b c bytes room n consumed (more, short, then) within =
+-- a reader that gave some bytes, and then fewer than there was room for
+pub GaveBelow-after : (a b c : Option (List ℕ)) (bytes : List ℕ) (room n : ℕ) → Consumes a b bytes → GaveBelow b c room
+    → length bytes + room ≤ n → GaveBelow a c n
+GaveBelow-after a b c bytes room n consumed (more, short, then) within =
     let long = length-append bytes more in
-    (bytes ++ more, omega (arith, long), Consumes-trans a b c bytes more consumed then)
+    (bytes ++ more, omega arith, Consumes-trans a b c bytes more consumed then)
 
--- a reader that lost some bytes, and then some more
-pub ConsumesSome-after : (a b c : Option (List ℕ)) (bytes more : List ℕ) (n : ℕ) → Consumes a b bytes
-    → Consumes b c more → 0 < length more → length bytes + length more ≤ n → ConsumesSome a c n
-ConsumesSome-after a b c bytes more n consumed then some within = search (rules, arith, length-append, Consumes-trans)
+-- a reader that gave some bytes, and then some more
+pub GaveUpTo-after : (a b c : Option (List ℕ)) (bytes more : List ℕ) (n : ℕ) → Consumes a b bytes
+    → Consumes b c more → 0 < length more → length bytes + length more ≤ n → GaveUpTo a c n
+GaveUpTo-after a b c bytes more n consumed then some within = search (rules, arith, length-append, Consumes-trans)
 
 -- reading up to a limit, which the reader's failure ended, or want of memory
 module _ {T : Type 0} (limit : ℕ) (a b : Option (List ℕ)) (r : Result T ReadFault) where
-  pub AfterStreamFault-failed : (e : Error) → IsErrAnd r (λ fault. fault ≡ Io e) → StopsBelow a b limit
-      → IfErr r (AfterStreamFault limit a b)
-  AfterStreamFault-failed e failed stops = search (rules, arith, err_from_is_err_and)
+  pub AfterReadFault-failed : (e : Error) → IsErrAnd r (λ fault. fault ≡ Io e) → GaveBelow a b limit
+      → IfErr r (AfterReadFault limit a b)
+  AfterReadFault-failed e failed gave = IfErr-is (AfterReadFault limit a b) r (Io e) failed gave
 
-  pub AfterStreamFault-refused : IsErrAnd r (λ fault. fault ≡ OutOfMemory) → ConsumesSome a b limit
-      → IfErr r (AfterStreamFault limit a b)
-  AfterStreamFault-refused failed some = search (rules, arith, err_from_is_err_and)
+  pub AfterReadFault-refused : IsErrAnd r (λ fault. fault ≡ OutOfMemory) → GaveUpTo a b limit
+      → IfErr r (AfterReadFault limit a b)
+  AfterReadFault-refused failed gave = IfErr-is (AfterReadFault limit a b) r OutOfMemory failed gave
 
--- a reader lost what fills a buffer
+-- a reader gave what fills a buffer
 pub Consumes-full : (a b : Option (List ℕ)) (n : ℕ) (buffer : List ℕ) → Consumes a b (take n buffer) → length buffer ≤ n
     → Consumes a b buffer
 Consumes-full a b n buffer consumed full = subst (Consumes a b) (take_all n buffer full) consumed

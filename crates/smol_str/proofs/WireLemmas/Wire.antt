@@ -44,7 +44,7 @@ pub Holds-whole : (b t : List ℕ) (n : ℕ) → Holds b t n → ¬ HasEndedEarl
 Holds-whole b t n h early =
     let says : prefix_size b ≡ size t = ap prefix_size (wire-held b t n h) ∙ prefix_size-wire t (drop n b) h.sized in
     let long : n ≡ size t + 4 = length-Holds b t n h in
-    ⊎_elim (λ l. omega (arith, h.within)) (λ l. omega (arith, h.within)) early
+    ⊎_elim (λ l. omega arith) (λ l. omega arith) early
 
 pub body-Holds : (b t : List ℕ) (n : ℕ) → Holds b t n → body b ≡ encode_utf8_all t
 body-Holds b t n h =

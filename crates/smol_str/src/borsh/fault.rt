@@ -26,7 +26,7 @@ pub enum EncodeFault {
 /// Why no value was read.
 #[derive(Debug, Drop)]
 pub enum DecodeFault {
-    /// The bytes end before the size does, or before as many bytes as it states.
+    /// The bytes end within the length prefix or within the body.
     Ended,
     /// The body is not UTF-8; std's fault says where the valid bytes end.
     NotUtf8(Utf8Error),
@@ -36,7 +36,7 @@ pub enum DecodeFault {
     Io(io::Error),
 }
 
-/// Why no value of at most so many bytes was read.
+/// Why no value within a limit was read.
 #[derive(Debug, Drop)]
 pub enum LimitedFault {
     /// The length prefix states more bytes than the limit.
@@ -91,7 +91,7 @@ impl From<AllocError> for DecodeFault {
     }
 }
 
-/// So that `?` may follow a refused `push`; what comes back of it is dropped.
+/// For `?` after a refused `push`; the item that comes back is dropped.
 impl<T: Drop> From<AllocFailed<T>> for DecodeFault {
     ghost from_gives = { λ error fault. fault ≡ NoMemory };
 
@@ -124,7 +124,7 @@ impl From<AllocError> for LimitedFault {
     }
 }
 
-/// So that `?` may follow a refused `push`; what comes back of it is dropped.
+/// For `?` after a refused `push`; the item that comes back is dropped.
 impl<T: Drop> From<AllocFailed<T>> for LimitedFault {
     ghost from_gives = { λ error fault. fault ≡ Decode NoMemory };
 

@@ -22,7 +22,7 @@ ghost use Rattle.smol_str.specs.Buffer.{packed};
 ghost use Rattle.smol_str.specs.Words.{word, put_at, with_zeros};
 
 use super::{INLINE_CAP, PACKED_LEN, Packed};
-use crate::kernel::store;
+use crate::bytes::ascii::store;
 use std::cmp::Ordering;
 use std::simd::prelude::*;
 

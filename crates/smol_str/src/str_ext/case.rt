@@ -15,6 +15,7 @@ use std::alloc::{AllocError, Global};
 
 /// The text with its ASCII letters in a case.
 #[inline(always)]
+#[tactic(auto, using(crate::proofs::CaseLemmas::Full::sizes_of_bytes))]
 pub(super) fn to_ascii_case(
     alloc: Global,
     text: &str,
@@ -29,7 +30,8 @@ pub(super) fn to_ascii_case(
     to_ascii_case_on_heap(alloc, text, case)
 }
 
-/// The same of any text, in a copy of it.
+/// The same of any text, in a copy of it. Slow path, kept out of line so that the fast path
+/// inlines.
 #[inline(never)]
 pub(super) fn to_ascii_case_on_heap(
     alloc: Global,
@@ -47,6 +49,7 @@ pub(super) fn to_ascii_case_on_heap(
 }
 
 /// Appends the ASCII front of a short text in a case; returns the rest of the text.
+#[tactic(auto, using(crate::proofs::CaseLemmas::Full::fronts))]
 pub(super) fn push_front<'a>(
     builder: &mut SmolStrBuilder,
     text: &'a str,

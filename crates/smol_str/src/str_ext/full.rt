@@ -1,9 +1,8 @@
-//! Full case: of an ASCII text that of ASCII; else the ASCII front of a short text by lanes, and the rest
-//! by the mapping of each character, unless one is mapped by what stands around it.
+//! Full case. ASCII text takes ASCII case. Of any other text each character is mapped by itself,
+//! and a short text's ASCII front by lanes, unless a character is mapped by what stands around it.
 ghost use Rattle.std.specs.Prelude.{◌≡◌, ◌<◌, ◌≤◌, [], ◌∷◌, false, length, IfOk, OnOk, OnErr, IsTrue};
 ghost use Rattle.std.specs.Option.{option_to_list};
 ghost use Rattle.std.specs.Str.{chars};
-ghost use Rattle.std.specs.String.{string_bytes};
 ghost use Rattle.std.specs.Char.Iter.{case_mapping_chars};
 ghost use Rattle.smol_str.specs.Text.{IsShort};
 ghost use Rattle.smol_str.specs.Meaning.{IsValueOf};
@@ -22,6 +21,7 @@ use std::char::ToLowercase;
 
 /// The text in a case, as Unicode maps it.
 #[inline(always)]
+#[tactic(auto, using(crate::proofs::CaseLemmas::Full::short_texts))]
 pub(super) fn to_full_case(
     alloc: Global,
     text: &str,
@@ -40,8 +40,9 @@ pub(super) fn to_full_case(
     short_full_case(alloc, text, case)
 }
 
-/// The same of any text.
+/// The same of any text. Slow path, kept out of line so that the fast path inlines.
 #[inline(never)]
+#[tactic(auto, using(crate::proofs::CaseLemmas::Full::ascii_texts))]
 fn long_full_case(alloc: Global, text: &str, case: AsciiCase) -> Result<SmolStr, AllocError>
     ensures { IfOk result (λ v. IsValueOf (full_case case (chars text.now)) v) }
 {
@@ -56,9 +57,10 @@ fn long_full_case(alloc: Global, text: &str, case: AsciiCase) -> Result<SmolStr,
     builder.into_value()
 }
 
-/// The same of a short text, with no memory while the result is short, unless a character has to be
-/// mapped by what stands around it.
+/// The same of a short text. A short result takes no memory, unless a character is mapped by what
+/// stands around it.
 #[inline(never)]
+#[tactic(auto, using(crate::proofs::CaseLemmas::Full::short_fronts))]
 fn short_full_case(alloc: Global, text: &str, case: AsciiCase) -> Result<SmolStr, AllocError>
     requires { length text.now ≤ INLINE_CAP }
     ensures ok { IfOk result (λ v. IsValueOf (full_case case (chars text.now)) v) }
@@ -74,6 +76,7 @@ fn short_full_case(alloc: Global, text: &str, case: AsciiCase) -> Result<SmolStr
 }
 
 /// Whether a character is mapped by what stands around it.
+#[tactic(auto, using(crate::proofs::CaseLemmas::Full::contexts))]
 fn has_context(text: &str, case: AsciiCase) -> bool
     ensures alone { result ≡ false → IsMappedAlone case (chars text.now) }
     ensures some { IsTrue result → 0 < length (chars text.now) }
@@ -85,20 +88,13 @@ fn has_context(text: &str, case: AsciiCase) -> bool
 }
 
 /// The text in a case by std's mapping of a whole text, which takes memory.
+#[tactic(auto, using(crate::proofs::CaseLemmas::Full::whole_texts))]
 fn whole_full_case(alloc: Global, text: &str, case: AsciiCase) -> Result<SmolStr, AllocError>
     ensures { IfOk result (λ v. IsValueOf (full_case case (chars text.now)) v) }
 {
-    let whole = whole_text(alloc, text, case)?;
-    SmolStr::new(alloc, whole.as_str())
-}
-
-/// The whole text in a case, as a `String`.
-fn whole_text(alloc: Global, text: &str, case: AsciiCase) -> Result<String, AllocError>
-    ensures { IfOk result (λ s. chars (string_bytes s) ≡ full_case case (chars text.now)) }
-{
     match case {
-        AsciiCase::Lower => text.to_lowercase(alloc),
-        AsciiCase::Upper => text.to_uppercase(alloc),
+        AsciiCase::Lower => SmolStr::new(alloc, text.to_lowercase(alloc)?.as_str()),
+        AsciiCase::Upper => SmolStr::new(alloc, text.to_uppercase(alloc)?.as_str()),
     }
 }
 
@@ -106,7 +102,8 @@ fn whole_text(alloc: Global, text: &str, case: AsciiCase) -> Result<String, Allo
 fn push_mapped(builder: &mut SmolStrBuilder, text: &str, case: AsciiCase) -> Result<(), AllocError>
     requires { builder.old ≡ draft_of builder.old.text }
     ensures ok { OnOk result (builder.new ≡ appended builder.old (mapped case (chars text.now))) }
-    ensures refused { OnErr result ((appended builder.old (mapped case (chars text.now))).kind ≡ OnHeap) }
+    ensures refused { OnErr result
+        ((appended builder.old (mapped case (chars text.now))).kind ≡ OnHeap) }
 {
     for character in text.chars() {
         push_one(builder, character, case)?;
@@ -114,7 +111,8 @@ fn push_mapped(builder: &mut SmolStrBuilder, text: &str, case: AsciiCase) -> Res
     Ok(())
 }
 
-/// Appends what one character is mapped to.
+/// Appends what one character is mapped to. It is not part of the loop, whose proof does not close
+/// with this `match` in it.
 #[inline(always)]
 fn push_one(
     builder: &mut SmolStrBuilder,
@@ -123,7 +121,8 @@ fn push_one(
 ) -> Result<(), AllocError>
     requires { builder.old ≡ draft_of builder.old.text }
     ensures ok { OnOk result (builder.new ≡ appended builder.old (mapped case (character ∷ []))) }
-    ensures refused { OnErr result ((appended builder.old (mapped case (character ∷ []))).kind ≡ OnHeap) }
+    ensures refused { OnErr result
+        ((appended builder.old (mapped case (character ∷ []))).kind ≡ OnHeap) }
 {
     match letter_of(character, case) {
         Some(letter) => builder.push(letter),
@@ -142,10 +141,12 @@ fn letters_of(character: char, case: AsciiCase) -> ToLowercase
 }
 
 /// Appends the letters that one character is mapped to: at most three.
+#[tactic(auto, using(crate::proofs::CaseLemmas::Full::three_letters))]
 fn push_letters(builder: &mut SmolStrBuilder, mut letters: ToLowercase) -> Result<(), AllocError>
     requires { builder.old ≡ draft_of builder.old.text }
     ensures ok { OnOk result (builder.new ≡ appended builder.old (case_mapping_chars letters)) }
-    ensures refused { OnErr result ((appended builder.old (case_mapping_chars letters)).kind ≡ OnHeap) }
+    ensures refused { OnErr result
+        ((appended builder.old (case_mapping_chars letters)).kind ≡ OnHeap) }
 {
     push_some(builder, letters.next())?;
     push_some(builder, letters.next())?;

@@ -1,74 +1,71 @@
-//! Letters of at most two bytes that are mapped as their whole range is: Latin, Greek, Cyrillic and
-//! Armenian, without std's search through all ranges of Unicode.
-//!
-//! `small` and `capital` return the code point in their case, and 0 for a character that std is asked for.
-ghost use Rattle.std.specs.Prelude.{◌≡◌, ◌<◌, ◌≤◌, [], ◌∷◌, IfSome};
+//! A fast path for letters whose range maps by a constant offset: Latin, Greek, Cyrillic and
+//! Armenian. std searches through all ranges of Unicode.
+ghost use Rattle.std.specs.Prelude.{◌≡◌, [], ◌∷◌, IfSome};
 ghost use Rattle.std.specs.Char.Unicode.ToLowercase.{to_lowercase};
 ghost use Rattle.std.specs.Char.Unicode.ToUppercase.{to_uppercase};
 ghost use Rattle.smol_str.specs.InCase.{mapped};
 
 use crate::kernel::AsciiCase;
 
-/// The letter that a character is mapped to by itself; `None` where std is asked.
+/// The one letter that a character becomes in a case; `None` where std has to be asked.
 #[inline(always)]
 pub(super) fn letter_of(character: char, case: AsciiCase) -> Option<char>
     ensures { IfSome result (λ letter. mapped case (character ∷ []) ≡ letter ∷ []) }
 {
     let code = character as u32;
-    let moved = match case {
-        AsciiCase::Lower => small(code),
-        AsciiCase::Upper => capital(code),
+    let letter = match case {
+        AsciiCase::Lower => lowercase_by_range(code)?,
+        AsciiCase::Upper => uppercase_by_range(code)?,
     };
-    if moved == 0 {
-        return None;
-    }
-    char::from_u32(moved)
+    char::from_u32(letter)
 }
 
-/// Lower case.
+/// The code point in lower case; `None` where its range is not listed.
 #[inline(always)]
-fn small(code: u32) -> u32
-    ensures { 0 < result → to_lowercase code ≡ result ∷ [] }
+#[tactic(auto, using(crate::proofs::CaseLemmas::Letters::lowercase_moves))]
+fn lowercase_by_range(code: u32) -> Option<u32>
+    ensures { IfSome result (λ letter. to_lowercase code ≡ letter ∷ []) }
 {
     match code {
-        0..=0x40 => code,
-        0x41..=0x5a => code + 32,
-        0x5b..=0xbf => code,
-        0xc0..=0xd6 => code + 32,
-        0xd8..=0xde => code + 32,
-        0xdf..=0xff => code,
-        0x391..=0x3a1 => code + 32,
-        0x3a3..=0x3ab => code + 32,
-        0x3ac..=0x3ce => code,
-        0x400..=0x40f => code + 80,
-        0x410..=0x42f => code + 32,
-        0x430..=0x45f => code,
-        0x531..=0x556 => code + 48,
-        0x561..=0x586 => code,
-        _ => 0,
+        0..=0x40 => Some(code),
+        0x41..=0x5a => Some(code + 32),
+        0x5b..=0xbf => Some(code),
+        0xc0..=0xd6 => Some(code + 32),
+        0xd8..=0xde => Some(code + 32),
+        0xdf..=0xff => Some(code),
+        0x391..=0x3a1 => Some(code + 32),
+        0x3a3..=0x3ab => Some(code + 32),
+        0x3ac..=0x3ce => Some(code),
+        0x400..=0x40f => Some(code + 80),
+        0x410..=0x42f => Some(code + 32),
+        0x430..=0x45f => Some(code),
+        0x531..=0x556 => Some(code + 48),
+        0x561..=0x586 => Some(code),
+        _ => None,
     }
 }
 
-/// Upper case.
+/// The code point in upper case; `None` where its range is not listed.
 #[inline(always)]
-fn capital(code: u32) -> u32
-    ensures { 0 < result → to_uppercase code ≡ result ∷ [] }
+#[tactic(auto, using(crate::proofs::CaseLemmas::Letters::uppercase_moves))]
+fn uppercase_by_range(code: u32) -> Option<u32>
+    ensures { IfSome result (λ letter. to_uppercase code ≡ letter ∷ []) }
 {
     match code {
-        0..=0x60 => code,
-        0x61..=0x7a => code - 32,
-        0x7b..=0xb4 => code,
-        0xc0..=0xde => code,
-        0xe0..=0xf6 => code - 32,
-        0xf8..=0xfe => code - 32,
-        0x391..=0x3ab => code,
-        0x3b1..=0x3c1 => code - 32,
-        0x3c3..=0x3cb => code - 32,
-        0x400..=0x42f => code,
-        0x430..=0x44f => code - 32,
-        0x450..=0x45f => code - 80,
-        0x531..=0x556 => code,
-        0x561..=0x586 => code - 48,
-        _ => 0,
+        0..=0x60 => Some(code),
+        0x61..=0x7a => Some(code - 32),
+        0x7b..=0xb4 => Some(code),
+        0xc0..=0xde => Some(code),
+        0xe0..=0xf6 => Some(code - 32),
+        0xf8..=0xfe => Some(code - 32),
+        0x391..=0x3ab => Some(code),
+        0x3b1..=0x3c1 => Some(code - 32),
+        0x3c3..=0x3cb => Some(code - 32),
+        0x400..=0x42f => Some(code),
+        0x430..=0x44f => Some(code - 32),
+        0x450..=0x45f => Some(code - 80),
+        0x531..=0x556 => Some(code),
+        0x561..=0x586 => Some(code - 48),
+        _ => None,
     }
 }

@@ -3,7 +3,7 @@ use super::wire::{LETTERS, ROWS, form_of, of_units};
 use super::wire_faults::{kind_of, kind_of_limited};
 use smol_str::SmolStr;
 use smol_str::borsh::{BorshDeserialize, BorshSerialize, deserialize_limited};
-use smol_str::stream::{PIECE, ReadFault, fill, read_all, read_up_to};
+use smol_str::stream::{CHUNK, ReadFault, fill, read_all, read_up_to};
 use std::alloc::Global;
 use std::test::Fail;
 use test_support::streams::{Kind, Reading, Trickle, fails_at_each_read, trickle_of};
@@ -49,7 +49,7 @@ impl Reading for Reads {
     fn largest_buffer(&self) -> usize {
         match self.call {
             Call::Fill => self.size,
-            _ => PIECE,
+            _ => CHUNK,
         }
     }
 

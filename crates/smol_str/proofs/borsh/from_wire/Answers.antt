@@ -1,6 +1,7 @@
 use Rattle.smol_str.proofs.Common.{◌≡◌, ◌<◌, ◌^◌, IsTrue, length, arith, sym, ap, ◌∙◌, subst, encode_utf8_all, all_scalars, encodes-chars, scalars-chars, All-from_get_or, Holds}
 use Rattle.smol_str.proofs.WireLemmas.Wire.{Holds-stated}
-use Rattle.smol_str.proofs.WireLemmas.Borsh.{IfErr-is, AfterFromWireFault-of_text}
+use Rattle.smol_str.proofs.WireLemmas.Stream.{IfErr-is}
+use Rattle.smol_str.proofs.WireLemmas.Borsh.{AfterFromWireFault-of_text}
 use Rattle.smol_str.specs.Faults.{AfterFromUtf8Fault}
 use Rattle.smol_str.proofs.borsh.from_wire.Goals as goal
 

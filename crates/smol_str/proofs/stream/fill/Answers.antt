@@ -1,7 +1,7 @@
 use Rattle.smol_str.proofs.Common.{◌≡◌, ℕ, ◌+◌, ◌-◌, ◌≤◌, List, ◌++◌, rules, arith, length, take, slice_range, sym, ap, ◌∙◌, subst, le_refl, drop_at, length-take-le, Consumes, Consumes-trans, take-add, take-append-le}
 use Rattle.std.proofs.lemmas.Slice.{take-put_mid_below}
-use borrow.Rule.Slice.PartMut.{put_mid, post_of}
-use Rattle.smol_str.proofs.WireLemmas.Stream.{StopsBelow-failed}
+use borrow.Rule.Slice.PartMut.{put_mid}
+use Rattle.smol_str.proofs.WireLemmas.Stream.{GaveBelow-failed}
 use Rattle.smol_str.proofs.stream.fill.Goals as goal
 
 take_split : (a b : ℕ) (old new : List ℕ) → a ≤ b → take a new ≡ take a old
@@ -12,11 +12,7 @@ take_split a b old new h front =
 
 slice_range-put_mid : (a k n : ℕ) (xs ys : List ℕ) → a ≤ length xs → n ≤ length ys
     → slice_range (put_mid a k xs ys) a (a + n) ≡ take n ys
-slice_range-put_mid a k n xs ys within fits =
-    let same : (a + n) - a ≡ n = omega arith in
-    let after = post_of a k xs in
-    ap (take ((a + n) - a)) (drop_at (take a xs) (ys ++ after) a (length-take-le a xs within))
-    ∙ ap (λ m. take m (ys ++ after)) same ∙ take-append-le n ys after fits
+slice_range-put_mid a k n xs ys within fits = search (rules, arith, drop_at, length-take-le, take-append-le)
 
 pub loop-filled-preserved : goal.loop-filled-preserved
 loop-filled-preserved g c =
@@ -35,5 +31,5 @@ loop-filled-preserved g c =
 pub returns-in_err-n-clause-failed : goal.returns-in_err-n-clause-failed
 returns-in_err-n-clause-failed g c =
     let gone = length-take-le c.loop-filled.filled c.loop-filled.buf c.loop-filled.invariant.0 in
-    let stops = StopsBelow-failed _ _ _ c.in_err-n.ensures.bytes _ (length c.args.buf.now) c.loop-filled.invariant.1 (omega arith) in
+    let stops = GaveBelow-failed _ _ _ c.in_err-n.ensures.bytes _ (length c.args.buf.now) c.loop-filled.invariant.1 (omega arith) in
     search (rules, stops)

@@ -1,4 +1,4 @@
--- What is filled is what the reader lost.
+-- What is filled is what the reader gave.
 use Rattle.smol_str.proofs.Common.{◌-◌, ◌≤◌, length, take, Consumes}
 use Rattle.smol_str.proofs.stream.fill.Given as goal
 

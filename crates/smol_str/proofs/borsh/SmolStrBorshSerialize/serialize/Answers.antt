@@ -1,5 +1,5 @@
 use Rattle.smol_str.proofs.Common.{◌∙◌}
-use Rattle.smol_str.proofs.WireLemmas.Borsh.{Appends-parts, failed-in_prefix, failed-in_bytes}
+use Rattle.smol_str.proofs.WireLemmas.Borsh.{failed-in_prefix, failed-in_bytes}
 use Rattle.smol_str.proofs.borsh.SmolStrBorshSerialize.serialize.Goals as goal
 
 pub returns-in_err-write_steps-clause-fault : goal.returns-in_err-write_steps-clause-fault
@@ -12,8 +12,3 @@ returns-in_err-write_steps-2-clause-fault g c =
     failed-in_bytes _ _ _ (c.as_bytes-bytes.ensures.value ∙ c.as_str.ensures.bytes) c.in-Some.ensures _ _ _ _
     c.from_residual-in_err-write_steps-2.ensures.1 _ c.in_ok-write_steps.ensures.ok
     c.in_err-write_steps-2.ensures.beginning
-
-pub returns-clause-ok : goal.returns-clause-ok
-returns-clause-ok g c =
-    Appends-parts _ _ _ (c.as_bytes-bytes.ensures.value ∙ c.as_str.ensures.bytes) c.in-Some.ensures _ _ _
-    c.in_ok-write_steps.ensures.ok c.in_ok-write_steps-2.ensures.ok

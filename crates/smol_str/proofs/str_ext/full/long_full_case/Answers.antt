@@ -1,6 +1,6 @@
-use Rattle.smol_str.proofs.Common.{chars, rules, arith}
+use Rattle.smol_str.proofs.Common.{chars}
 use Rattle.smol_str.proofs.CaseLemmas.Ascii.{IsAscii-chars}
-use Rattle.smol_str.proofs.CaseLemmas.Full.{full-ascii, full-alone}
+use Rattle.smol_str.proofs.CaseLemmas.Full.{full-ascii}
 use Rattle.smol_str.proofs.str_ext.full.long_full_case.Goals as goal
 
 pub returns-then-is_ascii : goal.returns-then-is_ascii
@@ -8,6 +8,3 @@ returns-then-is_ascii c =
     let text = c.args.text.now in
     let ascii = (IsAscii-chars text c.utf8.text).0 c.if-is_ascii.ensures.cases in
     rw (full-ascii c.args.case (chars text) ascii) c.to_ascii_case_on_heap.ensures
-
-pub returns : goal.returns
-returns c = search (rules, arith, full-alone)

@@ -1,4 +1,4 @@
-use Rattle.smol_str.proofs.Common.{mapped, refl, YieldsList-from_chars, rules}
+use Rattle.smol_str.proofs.Common.{mapped, refl, YieldsList-from_chars}
 use Rattle.smol_str.proofs.TextLemmas.Places.{OnErr-always}
 use Rattle.smol_str.proofs.CaseLemmas.Full.{mapped-append}
 use Rattle.smol_str.proofs.BuilderLemmas.Push.{draft_of-appended, mapped-more, mapped-refused, mapped-all}
@@ -9,7 +9,9 @@ pub push_one-requires : goal.push_one-requires
 push_one-requires c = draft_of-appended _ _ _ c.requires c.loop-character.invariant
 
 pub loop-character-preserved : goal.loop-character-preserved
-loop-character-preserved c = search (rules, mapped-more, mapped-append)
+loop-character-preserved c =
+    mapped-more (mapped c.args.case) (mapped-append c.args.case) _ _ _ c.loop-character.yielded _ c.in-Some.character
+    c.loop-character.invariant refl c.in_ok-push_one.ensures.ok
 
 pub returns-in_err-push_one-clause-refused : goal.returns-in_err-push_one-clause-refused
 returns-in_err-push_one-clause-refused c =

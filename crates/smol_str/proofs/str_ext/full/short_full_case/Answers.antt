@@ -1,6 +1,6 @@
-use Rattle.smol_str.proofs.Common.{inl, chars, on_err_weaker, rules}
+use Rattle.smol_str.proofs.Common.{inl, chars, on_err_weaker}
 use Rattle.smol_str.proofs.TextLemmas.Places.{OnErr-always}
-use Rattle.smol_str.proofs.CaseLemmas.Full.{front-heap, converted-heap, rest-none, short-text, short-refused, full-long}
+use Rattle.smol_str.proofs.CaseLemmas.Full.{front-heap, converted-heap, short-text, full-long}
 use Rattle.smol_str.proofs.str_ext.full.short_full_case.Goals as goal
 
 pub returns-in_err-rest-clause-refused : goal.returns-in_err-rest-clause-refused
@@ -8,12 +8,6 @@ returns-in_err-rest-clause-refused c =
     let t = chars c.args.text.now in
     let heap = front-heap c.args.case t c.new-builder.result c.in_err-rest.ensures.refused in
     OnErr-always c.from_residual.result _ (λ h. converted-heap c.args.case t (rw c.new-builder.ensures at heap) h.1)
-
-pub returns-then-has_context-clause-refused : goal.returns-then-has_context-clause-refused
-returns-then-has_context-clause-refused c = search (rules, OnErr-always, rest-none)
-
-pub returns-in_err-push_mapped-clause-refused : goal.returns-in_err-push_mapped-clause-refused
-returns-in_err-push_mapped-clause-refused c = search (rules, OnErr-always, short-refused)
 
 pub returns : goal.returns
 returns c =

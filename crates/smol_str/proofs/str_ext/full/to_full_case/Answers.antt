@@ -1,13 +1,7 @@
 use Rattle.smol_str.proofs.Common.{chars}
-use Rattle.smol_str.proofs.TextLemmas.Places.{OnErr-always}
 use Rattle.smol_str.proofs.CaseLemmas.Ascii.{ascii-converted}
-use Rattle.smol_str.proofs.CaseLemmas.Full.{full-ascii, long-refused}
+use Rattle.smol_str.proofs.CaseLemmas.Full.{full-ascii}
 use Rattle.smol_str.proofs.str_ext.full.to_full_case.Goals as goal
-
-pub returns-then-text-gt-INLINE_CAP-clause-refused :
-    goal.returns-then-text-gt-INLINE_CAP-clause-refused
-returns-then-text-gt-INLINE_CAP-clause-refused c =
-    OnErr-always c.long_full_case.result _ (long-refused c.args.text.now c.utf8.text c.if-text-gt-INLINE_CAP.true)
 
 pub returns-then-is_ascii-clause-ok : goal.returns-then-is_ascii-clause-ok
 returns-then-is_ascii-clause-ok c =

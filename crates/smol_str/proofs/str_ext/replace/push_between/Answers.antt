@@ -1,48 +1,51 @@
-use Rattle.smol_str.proofs.Common.{◌+◌, ◌-◌, arith}
+use Rattle.smol_str.proofs.Common.{◌+◌, ◌-◌, [], ◌∷◌, None, Some, chars, arith, refl, rules}
 use Rattle.smol_str.proofs.TextLemmas.Places.{OnErr-always}
-use Rattle.smol_str.proofs.CutLemmas.Replacing.{replacing-boundary, taken-inside, taken-step, taken-refused, taken-end, end-refused}
+use Rattle.smol_str.proofs.CutLemmas.Replacing.{replacing-boundary, next-char, before-refused, appended-both, second-heap, taken-inside, taken-step, taken-refused, taken-end}
 use Rattle.smol_str.proofs.str_ext.replace.push_between.Goals as goal
 
-pub char_at-requires : goal.char_at-requires
-char_at-requires c = replacing-boundary _ _ _ _ _ _ _ c.loop-passed.invariant c.utf8.text
+pub returns-in_err-push_str-clause-refused : goal.returns-in_err-push_str-clause-refused
+returns-in_err-push_str-clause-refused c =
+    let h = c.loop-passed.invariant in
+    OnErr-always c.from_residual.result _
+    (before-refused _ _ _ _ (c.args.count - (c.loop-passed.passed + 1)) _ _ h
+    (omega arith) h.rest refl c.in_err-push_str.ensures.refused)
+
+pub range_from-requires : goal.range_from-requires
+range_from-requires c = λ _. replacing-boundary _ _ _ _ _ _ _ c.loop-passed.invariant c.utf8.text
+
+pub returns-in_default-clause-ok : goal.returns-in_default-clause-ok
+returns-in_default-clause-ok c =
+    let h = c.loop-passed.invariant in
+    let none = next-char _ _ _ _ _ _ _ c.chars.result.rest.now None h c.utf8.text (search rules) c.in_default.ensures.steps.2 in
+    taken-end _ _ _ _ (c.args.count - (c.loop-passed.passed + 1)) _ _ h (omega arith) none
+    _ c.in_ok-push_str.ensures.ok
+
+pub returns-in_err-push-clause-refused : goal.returns-in_err-push-clause-refused
+returns-in_err-push-clause-refused c =
+    let h = c.loop-passed.invariant in
+    let character = c.in-Some.character in
+    let next = next-char _ _ _ _ _ _ _ c.chars.result.rest.now (Some character) h c.utf8.text (search rules) c.in-Some.ensures.steps.2 in
+    OnErr-always c.from_residual-in_err-push.result _
+    (taken-refused _ _ _ _ (c.args.count - (c.loop-passed.passed + 1)) _ _ h (omega arith)
+    character next.0 next.1
+    (second-heap c.loop-passed.builder c.push_str.new.self (chars c.args.to.now) (character ∷ [])
+    c.in_ok-push_str.ensures.ok c.in_err-push.ensures.refused))
+
+pub overflow_add-index : goal.overflow_add-index
+overflow_add-index c =
+    let h = c.loop-passed.invariant in
+    let character = c.in-Some.character in
+    let next = next-char _ _ _ _ _ _ _ c.chars.result.rest.now (Some character) h c.utf8.text (search rules) c.in-Some.ensures.steps.2 in
+    let inside = taken-inside _ _ _ _ _ _ _ h character next.0 next.1 c.utf8.text in
+    omega arith
 
 pub loop-passed-preserved : goal.loop-passed-preserved
 loop-passed-preserved c =
     let h = c.loop-passed.invariant in
-    let k = c.in-Some.ensures h.done h.rest h.parts h.at in
+    let character = c.in-Some.character in
+    let next = next-char _ _ _ _ _ _ _ c.chars.result.rest.now (Some character) h c.utf8.text (search rules) c.in-Some.ensures.steps.2 in
     let more = taken-step _ _ _ _ (c.args.count - (c.loop-passed.passed + 1)) _ _ h
-    (omega (arith, c.loop-passed-test.true)) c.in-Some.character k.0 k.1 _ c.in_ok-push_before-in-Some.ensures.ok in
-    rw c.len_utf8-place.ensures.value more
-
-pub returns-in_err-push_before-in-Some-clause-refused :
-    goal.returns-in_err-push_before-in-Some-clause-refused
-returns-in_err-push_before-in-Some-clause-refused c =
-    let h = c.loop-passed.invariant in
-    let k = c.in-Some.ensures h.done h.rest h.parts h.at in
-    OnErr-always c.from_residual.result _
-    (taken-refused _ _ _ _ (c.args.count - (c.loop-passed.passed + 1)) _ _ h
-    (omega (arith, c.loop-passed-test.true)) c.in-Some.character k.0 k.1
-    c.in_err-push_before-in-Some.ensures.refused)
-
-pub overflow_add-place : goal.overflow_add-place
-overflow_add-place c =
-    let h = c.loop-passed.invariant in
-    let k = c.in-Some.ensures h.done h.rest h.parts h.at in
-    let inside = taken-inside _ _ _ _ _ _ _ h c.in-Some.character k.0 k.1 c.utf8.text in
-    omega (arith, inside, c.len_utf8-place.ensures.value)
-
-pub returns-in_err-push_str-in-None-clause-refused :
-    goal.returns-in_err-push_str-in-None-clause-refused
-returns-in_err-push_str-in-None-clause-refused c =
-    let h = c.loop-passed.invariant in
-    let k = c.in-None.ensures h.done h.rest h.parts h.at in
-    OnErr-always c.from_residual-in_err-push_str-in-None.result _
-    (end-refused _ _ _ _ (c.args.count - (c.loop-passed.passed + 1)) _ _ h
-    (omega (arith, c.loop-passed-test.true)) k c.in_err-push_str-in-None.ensures.refused)
-
-pub returns-in-None-clause-ok : goal.returns-in-None-clause-ok
-returns-in-None-clause-ok c =
-    let h = c.loop-passed.invariant in
-    let k = c.in-None.ensures h.done h.rest h.parts h.at in
-    taken-end _ _ _ _ (c.args.count - (c.loop-passed.passed + 1)) _ _ h
-    (omega (arith, c.loop-passed-test.true)) k _ c.in_ok-push_str-in-None.ensures.ok
+    (omega arith) character next.0 next.1 _
+    (appended-both c.loop-passed.builder c.push_str.new.self c.push.new.self (chars c.args.to.now) (character ∷ [])
+    c.in_ok-push_str.ensures.ok c.in_ok-push.ensures.ok) in
+    rw c.len_utf8-index.ensures.value more

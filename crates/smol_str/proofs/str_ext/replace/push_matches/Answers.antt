@@ -1,16 +1,24 @@
-use Rattle.smol_str.proofs.Common.{◌+◌, ◌-◌, refl, arith}
+use Rattle.smol_str.proofs.Common.{◌+◌, ◌-◌, chars, arith}
 use Rattle.smol_str.proofs.TextLemmas.Places.{OnErr-always}
-use Rattle.smol_str.proofs.CutLemmas.Replacing.{replacing-boundary, match-boundary, match-after, match-end, match-piece, match-step, match-refused, replacing-unmatched}
+use Rattle.smol_str.proofs.BuilderLemmas.Push.{appended-heap}
+use Rattle.smol_str.proofs.CutLemmas.Replacing.{replacing-boundary, replacing-inside, replacing-found, replacing-none, appended-both, second-heap, match-boundary, match-end, match-piece, match-step, match-refused}
 use Rattle.smol_str.proofs.str_ext.replace.push_matches.Goals as goal
 
-pub next_match_by-requires-clause-boundary : goal.next_match_by-requires-clause-boundary
-next_match_by-requires-clause-boundary c = λ _. replacing-boundary _ _ _ _ _ _ _ c.loop-taken.invariant c.utf8.text
+pub bytes_from-requires : goal.bytes_from-requires
+bytes_from-requires c = replacing-inside _ _ _ _ _ _ _ c.loop-taken.invariant c.utf8.text
 
-pub range-requires-clause-start_le_end : goal.range-requires-clause-start_le_end
-range-requires-clause-start_le_end c =
+pub returns-in_default-clause-ok : goal.returns-in_default-clause-ok
+returns-in_default-clause-ok c =
+    replacing-none _ _ _ _ _ _ _ _ _ c.loop-taken.invariant c.utf8.text c.utf8.from c.bytes_from.ensures
+    c.requires.search c.in_default.ensures
+
+pub overflow_add-found : goal.overflow_add-found
+overflow_add-found c =
     let h = c.loop-taken.invariant in
-    let k = (c.in-Some.ensures.found h.done h.rest h.parts h.at c.in-Some.found).0 refl in
-    match-after _ _ _ _ _ _ _ _ h k
+    let k = replacing-found _ _ _ _ _ _ _ _ _ _ h c.utf8.text c.utf8.from c.requires.some c.bytes_from.ensures
+    c.requires.search c.in-Some.ensures in
+    let inside = match-end _ _ _ _ _ _ _ _ h k c.utf8.text c.utf8.from in
+    omega arith
 
 pub range-requires-clause-start_boundary : goal.range-requires-clause-start_boundary
 range-requires-clause-start_boundary c = λ _. replacing-boundary _ _ _ _ _ _ _ c.loop-taken.invariant c.utf8.text
@@ -18,37 +26,44 @@ range-requires-clause-start_boundary c = λ _. replacing-boundary _ _ _ _ _ _ _ 
 pub range-requires-clause-end_boundary : goal.range-requires-clause-end_boundary
 range-requires-clause-end_boundary c =
     let h = c.loop-taken.invariant in
-    let k = (c.in-Some.ensures.found h.done h.rest h.parts h.at c.in-Some.found).0 refl in
+    let k = replacing-found _ _ _ _ _ _ _ _ _ _ h c.utf8.text c.utf8.from c.requires.some c.bytes_from.ensures
+    c.requires.search c.in-Some.ensures in
     match-boundary _ _ _ _ _ _ _ _ h k c.utf8.text
 
-pub returns-in_err-push_two-in-Some-clause-refused :
-    goal.returns-in_err-push_two-in-Some-clause-refused
-returns-in_err-push_two-in-Some-clause-refused c =
+pub returns-in_err-push_str-clause-refused : goal.returns-in_err-push_str-clause-refused
+returns-in_err-push_str-clause-refused c =
     let h = c.loop-taken.invariant in
-    let k = (c.in-Some.ensures.found h.done h.rest h.parts h.at c.in-Some.found).0 refl in
-    let heap = rw (c.range.ensures.value, match-piece _ _ _ _ _ _ _ _ h k c.utf8.text) at
-    c.in_err-push_two-in-Some.ensures.refused in
+    let k = replacing-found _ _ _ _ _ _ _ _ _ _ h c.utf8.text c.utf8.from c.requires.some c.bytes_from.ensures
+    c.requires.search c.in-Some.ensures in
+    let heap = rw (c.range.ensures.value, match-piece _ _ _ _ _ _ _ _ h k c.utf8.text) at c.in_err-push_str.ensures.refused in
     OnErr-always c.from_residual.result _
-    (match-refused _ _ _ _ _ _ _ _ h k (c.args.count - (c.loop-taken.taken + 1))
-    (omega (arith, c.loop-taken-test.true)) heap)
+    (match-refused _ _ _ _ _ _ _ _ h k (c.args.count - (c.loop-taken.taken + 1)) (omega arith)
+    (appended-heap c.loop-taken.builder k.before (chars c.args.to.now) heap))
 
-pub overflow_add-place : goal.overflow_add-place
-overflow_add-place c =
+pub returns-in_err-push_str-2-clause-refused : goal.returns-in_err-push_str-2-clause-refused
+returns-in_err-push_str-2-clause-refused c =
     let h = c.loop-taken.invariant in
-    let k = (c.in-Some.ensures.found h.done h.rest h.parts h.at c.in-Some.found).0 refl in
+    let k = replacing-found _ _ _ _ _ _ _ _ _ _ h c.utf8.text c.utf8.from c.requires.some c.bytes_from.ensures
+    c.requires.search c.in-Some.ensures in
+    let first = rw (c.range.ensures.value, match-piece _ _ _ _ _ _ _ _ h k c.utf8.text) at c.in_ok-push_str.ensures.ok in
+    OnErr-always c.from_residual-in_err-push_str-2.result _
+    (match-refused _ _ _ _ _ _ _ _ h k (c.args.count - (c.loop-taken.taken + 1)) (omega arith)
+    (second-heap c.loop-taken.builder c.push_str.new.self k.before (chars c.args.to.now) first
+    c.in_err-push_str-2.ensures.refused))
+
+pub overflow_add-index : goal.overflow_add-index
+overflow_add-index c =
+    let h = c.loop-taken.invariant in
+    let k = replacing-found _ _ _ _ _ _ _ _ _ _ h c.utf8.text c.utf8.from c.requires.some c.bytes_from.ensures
+    c.requires.search c.in-Some.ensures in
     let inside = match-end _ _ _ _ _ _ _ _ h k c.utf8.text c.utf8.from in
-    omega (arith, inside)
-
-pub returns-in-None-clause-ok : goal.returns-in-None-clause-ok
-returns-in-None-clause-ok c =
-    let h = c.loop-taken.invariant in
-    replacing-unmatched _ _ _ _ _ _ _ h ((c.in-None.ensures.none h.done h.rest h.parts h.at).0 refl)
+    omega arith
 
 pub loop-taken-preserved : goal.loop-taken-preserved
 loop-taken-preserved c =
     let h = c.loop-taken.invariant in
-    let k = (c.in-Some.ensures.found h.done h.rest h.parts h.at c.in-Some.found).0 refl in
-    let more = rw (c.range.ensures.value, match-piece _ _ _ _ _ _ _ _ h k c.utf8.text) at
-    c.in_ok-push_two-in-Some.ensures.ok in
-    match-step _ _ _ _ _ _ _ _ h k (c.args.count - (c.loop-taken.taken + 1)) (omega (arith, c.loop-taken-test.true))
-    c.utf8.from _ more
+    let k = replacing-found _ _ _ _ _ _ _ _ _ _ h c.utf8.text c.utf8.from c.requires.some c.bytes_from.ensures
+    c.requires.search c.in-Some.ensures in
+    let first = rw (c.range.ensures.value, match-piece _ _ _ _ _ _ _ _ h k c.utf8.text) at c.in_ok-push_str.ensures.ok in
+    match-step _ _ _ _ _ _ _ _ h k (c.args.count - (c.loop-taken.taken + 1)) (omega arith)
+    c.utf8.from _ (appended-both _ _ _ _ _ first c.in_ok-push_str-2.ensures.ok)

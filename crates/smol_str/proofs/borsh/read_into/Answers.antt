@@ -1,0 +1,10 @@
+use Rattle.smol_str.proofs.Common.{arith, rules}
+use Rattle.smol_str.proofs.WireLemmas.Stream.{IfErr-is, Consumes-full}
+use Rattle.smol_str.proofs.WireLemmas.Borsh.{AfterBodyFault-of_text}
+use Rattle.smol_str.proofs.borsh.read_into.Goals as goal
+
+pub returns-in_err-from_utf8-clause-fault : goal.returns-in_err-from_utf8-clause-fault
+returns-in_err-from_utf8-clause-fault g c =
+    IfErr-is _ _ _ c.from_residual-in_err-from_utf8.ensures.1
+    (AfterBodyFault-of_text _ _ _ c.fill.new.buf c.in_err-from_utf8.field-0.0 (search rules)
+    (Consumes-full _ _ _ _ c.in_ok-fill.ensures.bytes (omega arith)) c.in_err-from_utf8.ensures.fault)

@@ -1,0 +1,12 @@
+use Rattle.smol_str.proofs.Common.{◌≡◌, length, drop, rules}
+use Rattle.smol_str.proofs.CutLemmas.Bytes.{IsUtf8-each, whole-each}
+use Rattle.smol_str.proofs.str_ext.ascii.replace_on_heap.Goals as goal
+
+pub from_utf8_unchecked-requires : goal.from_utf8_unchecked-requires
+from_utf8_unchecked-requires c =
+    let text : c.deref_mut.result.now ≡ c.args.text.now = search rules in
+    let long : c.in_ok-bytes.bytes.len ≡ length c.args.text.now = search rules in
+    let new = c.replace_each.new.bytes in
+    let read = whole-each c.args.from c.args.to c.args.text.now new (drop (length new) c.in_ok-bytes.bytes.items)
+    c.in_ok-bytes.bytes.len (rw text at c.replace_each.ensures) long in
+    rw read (IsUtf8-each _ _ c.requires.ascii_from c.requires.ascii_to c.args.text.now c.utf8.text)

@@ -1,6 +1,0 @@
-use Rattle.smol_str.proofs.Common.{rules}
-use Rattle.smol_str.proofs.TextLemmas.Places.{chars-one}
-use Rattle.smol_str.proofs.str_ext.replace.push_before.Goals as goal
-
-pub returns : goal.returns
-returns c = search (rules, chars-one)

@@ -1,0 +1,23 @@
+//! Bytes, below texts and buffers: slices, zeroed arrays, searches and ASCII. It uses no other
+//! module.
+ghost use Rattle.std.specs.Prelude.{◌≡◌, ◌≤◌, length, drop};
+
+pub(crate) mod ascii;
+pub(crate) mod search;
+
+/// The bytes of a text from an index on, as the end of a list of bytes.
+#[inline(always)]
+pub(crate) fn bytes_from(text: &str, from: usize) -> &[u8]
+    requires { from ≤ length text.now }
+    ensures { result.now ≡ drop from text.now }
+{
+    &text.as_bytes()[from..]
+}
+
+/// An array of zeros. It is a function so that a caller's proof has no list of zeros in it.
+#[inline(always)]
+pub(crate) fn zeros<const N: usize>() -> [u8; N]
+    ensures { length result ≡ N }
+{
+    [0; N]
+}

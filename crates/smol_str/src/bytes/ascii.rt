@@ -1,0 +1,174 @@
+//! ASCII bytes, sixteen at a time: how many there are at the front, and their letters in a case.
+ghost use Rattle.std.specs.Prelude.{◌≡◌, ◌↔◌, ◌<◌, ◌≤◌, ◌+◌, false, IsTrue, length, take, drop, slice_index};
+ghost use Rattle.std.specs.Str.{IsAscii};
+ghost use Rattle.std.specs.Simd.Lanes.{Each1, put_chunk};
+ghost use Rattle.smol_str.specs.Case.{lower, upper};
+ghost use Rattle.smol_str.specs.InCase.{converted, IsAsciiFront};
+
+use std::simd::prelude::*;
+
+/// How many bytes are mapped at a time.
+const LANES: usize = 16;
+
+/// A case of ASCII letters.
+#[derive(Clone, Copy, PartialEq, Eq, Debug)]
+pub enum AsciiCase {
+    /// A to Z become a to z.
+    Lower,
+    /// a to z become A to Z.
+    Upper,
+}
+
+/// How many bytes come before the first one past ASCII.
+#[tactic(auto, using(crate::proofs::CaseLemmas::Ascii::ascii_fronts))]
+pub(crate) fn front_len(bytes: &[u8]) -> usize
+    ensures all { IsAsciiFront bytes.now result }
+    ensures stops { result < length bytes.now → 128 ≤ slice_index bytes.now result }
+{
+    let mut at = ascii_chunks(bytes);
+    while at < bytes.len() && bytes[at] < 128 {
+        at += 1;
+    }
+    at
+}
+
+/// How many bytes come before the first chunk of sixteen with a byte past ASCII.
+#[inline(always)]
+#[tactic(auto, using(crate::proofs::CaseLemmas::Ascii::ascii_fronts))]
+fn ascii_chunks(bytes: &[u8]) -> usize
+    ensures all { IsAsciiFront bytes.now result }
+    ensures stops { result + LANES ≤ length bytes.now →
+        ¬ (IsAscii (take LANES (drop result bytes.now))) }
+{
+    let mut at = 0;
+    while bytes.len() - at >= LANES {
+        if has_high(load::<LANES>(bytes, at)) {
+            return at;
+        }
+        at += LANES;
+    }
+    at
+}
+
+/// Whether no byte is past ASCII.
+#[inline(always)]
+pub(crate) fn is_all_ascii(bytes: &[u8]) -> bool
+    ensures { IsTrue result ↔ IsAscii bytes.now }
+{
+    let mut at = ascii_chunks(bytes);
+    if bytes.len() - at >= LANES {
+        return false;
+    }
+    if bytes.len() - at >= 8 {
+        if has_high(load::<8>(bytes, at)) {
+            return false;
+        }
+        at += 8;
+    }
+    bytes[at..].is_ascii()
+}
+
+/// Maps all ASCII letters in place; no other byte changes.
+#[inline(always)]
+#[tactic(auto, using(crate::proofs::CaseLemmas::Ascii::mappings))]
+pub(crate) fn convert_all(bytes: &mut [u8], case: AsciiCase)
+    ensures { bytes.new ≡ converted case bytes.old }
+{
+    let mut at = 0;
+    while bytes.len() - at >= LANES {
+        convert_part::<LANES>(bytes, at, case);
+        at += LANES;
+    }
+    if bytes.len() - at >= 8 {
+        convert_part::<8>(bytes, at, case);
+        at += 8;
+    }
+    convert_rest(&mut bytes[at..], case);
+}
+
+/// Maps the `N` bytes from an index on.
+#[inline(always)]
+fn convert_part<const N: usize>(bytes: &mut [u8], at: usize, case: AsciiCase)
+    requires { at + N ≤ length bytes.old }
+    ensures { bytes.new ≡ put_chunk at bytes.old (converted case (take N (drop at bytes.old))) }
+{
+    let lanes = load::<N>(bytes, at);
+    store(bytes, at, convert_lanes(lanes, case));
+}
+
+/// Maps bytes one by one.
+#[inline(always)]
+fn convert_rest(bytes: &mut [u8], case: AsciiCase)
+    ensures { bytes.new ≡ converted case bytes.old }
+{
+    match case {
+        AsciiCase::Lower => bytes.make_ascii_lowercase(),
+        AsciiCase::Upper => bytes.make_ascii_uppercase(),
+    }
+}
+
+/// The lanes in a case.
+#[inline(always)]
+fn convert_lanes<const N: usize>(lanes: Simd<u8, N>, case: AsciiCase) -> Simd<u8, N>
+    requires long { length lanes ≡ N }
+    requires bytes { Each1 (λ x. x < 256) lanes }
+    ensures { result ≡ converted case lanes.entry }
+{
+    match case {
+        AsciiCase::Lower => lower_lanes(lanes),
+        AsciiCase::Upper => upper_lanes(lanes),
+    }
+}
+
+/// The lanes with A to Z as a to z.
+#[inline(always)]
+fn lower_lanes<const N: usize>(lanes: Simd<u8, N>) -> Simd<u8, N>
+    requires long { length lanes ≡ N }
+    requires bytes { Each1 (λ x. x < 256) lanes }
+    ensures { result ≡ lower lanes.entry }
+{
+    let is_capital = lanes.simd_ge(Simd::splat(b'A')) & lanes.simd_le(Simd::splat(b'Z'));
+    is_capital.select(lanes + Simd::splat(32), lanes)
+}
+
+/// The lanes with a to z as A to Z.
+#[inline(always)]
+fn upper_lanes<const N: usize>(lanes: Simd<u8, N>) -> Simd<u8, N>
+    requires long { length lanes ≡ N }
+    requires bytes { Each1 (λ x. x < 256) lanes }
+    ensures { result ≡ upper lanes.entry }
+{
+    let is_small = lanes.simd_ge(Simd::splat(b'a')) & lanes.simd_le(Simd::splat(b'z'));
+    is_small.select(lanes - Simd::splat(32), lanes)
+}
+
+/// Whether a lane is past ASCII.
+#[inline(always)]
+fn has_high<const N: usize>(lanes: Simd<u8, N>) -> bool
+    requires long { length lanes ≡ N }
+    requires few { N ≤ 64 }
+    ensures { (result ≡ false) ↔ IsAscii lanes.entry }
+{
+    lanes.simd_gt(Simd::splat(127)).any()
+}
+
+/// The `N` bytes from an index on.
+#[inline(always)]
+fn load<const N: usize>(bytes: &[u8], at: usize) -> Simd<u8, N>
+    requires { at + N ≤ length bytes.now }
+    ensures lanes { result ≡ take N (drop at bytes.now) }
+    ensures long { length result ≡ N }
+    ensures fits { Each1 (λ x. x < 256) result }
+{
+    Simd::from_slice(&bytes[at..])
+}
+
+/// Stores the lanes from an index on.
+#[inline(always)]
+pub(crate) fn store<const N: usize>(out: &mut [u8], at: usize, lanes: Simd<u8, N>)
+    requires room { at + N ≤ length out.old }
+    requires long { length lanes ≡ N }
+    ensures { out.new ≡ put_chunk at out.old lanes.entry }
+{
+    lanes.copy_to_slice(&mut out[at..]);
+}
