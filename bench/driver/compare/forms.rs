@@ -5,7 +5,7 @@
 use crate::departures::Departure;
 use crate::mirror::{Mirror, Run, is_resident};
 use crate::operation::Operation;
-use crate::prints::PIECE;
+use crate::prints::CHUNK;
 use crate::report::Report;
 use crate::texts::INLINE_CAP;
 use borsh::{BorshDeserialize, BorshSerialize};
@@ -98,7 +98,7 @@ fn reading(it: &Operation, rooms: impl Iterator<Item = usize>) -> (usize, bool) 
 
 /// The rooms of so many bytes, a piece at a time.
 fn by_pieces(size: usize) -> impl Iterator<Item = usize> {
-    (0..size.div_ceil(PIECE)).map(move |at| PIECE.min(size - at * PIECE))
+    (0..size.div_ceil(CHUNK)).map(move |at| CHUNK.min(size - at * CHUNK))
 }
 
 /// The rest of a reader, as the machine tells it: each buffer had room, and none more than a piece.
@@ -234,7 +234,7 @@ impl Mirror {
                 let (taken, has_failed) = reading(it, std::iter::once(room.len()));
                 out.size(bytes.len() - taken);
                 out.flag(true);
-                out.flag(room.len() <= PIECE);
+                out.flag(room.len() <= CHUNK);
                 if has_failed { self.io_error(it, out) } else { out.byte(b'W') }
                 room[..taken].copy_from_slice(&bytes[..taken]);
                 out.bytes(&room);

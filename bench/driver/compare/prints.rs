@@ -9,7 +9,7 @@ use std::fmt::Write as _;
 use std::hash::{DefaultHasher, Hash, Hasher};
 
 /// The most bytes that one read asks for, by docs/DIFFERENCES.md.
-pub const PIECE: usize = 4096;
+pub const CHUNK: usize = 4096;
 
 /// FNV-1a by bytes, as the machine has it.
 struct Fnv(u64);
@@ -73,7 +73,7 @@ impl Mirror {
                 Err(_) => out.byte(b'-'),
             },
             "constants" => {
-                let constants = [INLINE_CAP, SmolStr::INLINE_CAP, BLANK_NEWLINES, BLANK_SPACES, PIECE];
+                let constants = [INLINE_CAP, SmolStr::INLINE_CAP, BLANK_NEWLINES, BLANK_SPACES, CHUNK];
                 constants.iter().for_each(|constant| out.size(*constant));
             }
             _ => self.changed(it, run, out),

@@ -6,7 +6,7 @@ use Rattle.std.specs.Str.{chars}
 use Rattle.std.specs.Io.KnownBytes.{IsAtEnd, Keeps}
 use Rattle.std.proofs.lemmas.Option.{IfSome_then}
 use Rattle.std.proofs.lemmas.Result.{err_from_is_err_and}
-use Rattle.smol_str.specs.Stream.{AfterStreamFault}
+use Rattle.smol_str.specs.Stream.{AfterReadFault}
 use Rattle.smol_str.specs.declared.stream.ReadFault.{ReadFault}
 use Rattle.smol_str.specs.declared.stream.ReadFault.TheVariants as reading
 use Rattle.smol_tokens_core.specs.Faults.{AfterFault}
@@ -23,7 +23,7 @@ Keeps-itself (Some bytes) = refl
 
 -- the input was not read to its end
 pub after-reading : (mode : Mode) (limit : ℕ) (input left held : Option (List ℕ)) (fault : ReadFault)
-    → AfterStreamFault limit input left fault → AfterFault mode input left held held (of_read_fault fault)
+    → AfterReadFault limit input left fault → AfterFault mode input left held held (of_read_fault fault)
 after-reading mode limit input left held reading.OutOfMemory (bytes, some, within, consumed) =
     (Keeps-itself held, inl (bytes, some, consumed))
 after-reading mode limit input left held (reading.Io e) (bytes, short, consumed) =
