@@ -1,7 +1,8 @@
 -- Kinds of small builders, computed by the checker. Where a limit matters, the example names the constant.
-use Rattle.std.specs.Prelude.{◌≡◌, ◌+◌, ◌-◌, [], ◌∷◌, replicate, refl}
+use Rattle.std.specs.Prelude.{◌≡◌, ◌+◌, ◌-◌, [], ◌∷◌, codes, replicate, refl}
 use Rattle.smol_str.specs.declared.buffer.TheConstants.{INLINE_CAP}
-use Rattle.smol_str.specs.Draft.{InBuffer, OnHeap, appended, kind_for}
+use Rattle.smol_str.specs.Draft.{Kind, InBuffer, OnHeap, empty_draft, appended, kind_for, draft_of}
+use Rattle.smol_str.specs.Joined.{joined, char_text}
 
 -- a builder leaves its buffer with the first character that does not fit
 last_byte : (appended (record { text = replicate (INLINE_CAP - 1) 97; kind = InBuffer }) (98 ∷ [])).kind ≡ InBuffer
@@ -18,3 +19,27 @@ capacity_of_the_buffer = refl
 
 larger_capacity : kind_for (INLINE_CAP + 1) [] ≡ OnHeap
 larger_capacity = refl
+
+-- a new builder has no text, in either kind
+empty : (kind : Kind) → empty_draft kind ≡ record { text = []; kind = kind }
+empty kind = refl
+
+-- what is appended goes to the end, and text on the heap stays there
+in_order : appended (record { text = codes "ab"; kind = OnHeap }) (codes "c") ≡ record { text = codes "abc"; kind = OnHeap }
+in_order = refl
+
+-- of a whole text, one kind as if it had been appended
+short_draft : draft_of (codes "ab") ≡ record { text = codes "ab"; kind = InBuffer }
+unfolding lib.Utf8.encode
+short_draft = refl
+
+long_draft : (draft_of (replicate (INLINE_CAP + 1) 97)).kind ≡ OnHeap
+unfolding lib.Utf8.encode
+long_draft = refl
+
+-- texts in their order, and empty ones among them
+texts_in_a_row : joined (λ t. t) (codes "ab" ∷ [] ∷ codes "c" ∷ []) ≡ codes "abc"
+texts_in_a_row = refl
+
+characters_in_a_row : joined char_text (codes "abc") ≡ codes "abc"
+characters_in_a_row = refl

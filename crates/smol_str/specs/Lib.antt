@@ -24,6 +24,7 @@ pub mod Wire
 pub mod Json
 pub mod CutExamples
 pub mod CaseExamples
+pub mod JsonExamples
 pub mod WireExamples
 pub mod Said
 pub mod Stream

@@ -11,3 +11,4 @@ pub mod LineExamples
 pub mod TallyExamples
 pub mod ReportExamples
 pub mod ModeWordExamples
+pub mod FaultLineExamples

@@ -1,7 +1,12 @@
 -- What some words ask for, computed by the checker.
-use Rattle.std.specs.Prelude.{◌≡◌, [], codes, Some, None, refl}
+use Rattle.std.specs.Prelude.{◌≡◌, List, [], ◌∷◌, codes, Some, None, if◌then◌else◌, refl}
+use Rattle.std.proofs.Common.{ap}
+use Rattle.std.specs.Str.{bytes_eq}
+use Rattle.std.specs.String.{string_bytes}
+use Rattle.std.specs.declared.string.String.{String}
+use Rattle.std.specs.declared.alloc.Global.{Global}
 use Rattle.smol_tokens_core.specs.ModeWords.{asked_mode, mode_of_word}
-use Rattle.smol_tokens_core.specs.declared.mode.Mode.TheVariants.{Show, Join, Lower, Upper, Tokens}
+use Rattle.smol_tokens_core.specs.declared.mode.Mode.TheVariants.{Show, Join, Lower, Upper, Replace, Tokens}
 
 no_word : asked_mode [] ≡ Some Show
 no_word = refl
@@ -27,3 +32,23 @@ replace_alone = refl
 
 other_word : mode_of_word (codes "nonsense") ≡ None
 other_word = refl
+
+-- behind it stands first what is replaced, and then what by
+replace_words : (word from to : String Global) → string_bytes word ≡ codes "replace"
+    → asked_mode (word ∷ from ∷ to ∷ []) ≡ Some (Replace from to)
+replace_words word from to is = ap (λ w. if bytes_eq w (codes "replace") then Some (Replace from to) else None) is
+
+-- no other word has two behind it
+other_words : (word from to : String Global) → string_bytes word ≡ codes "lower"
+    → asked_mode (word ∷ from ∷ to ∷ []) ≡ None
+other_words word from to is = ap (λ w. if bytes_eq w (codes "replace") then Some (Replace from to) else None) is
+
+one_word : (word : String Global) → string_bytes word ≡ codes "upper" → asked_mode (word ∷ []) ≡ Some Upper
+one_word word is = ap mode_of_word is
+
+two_words : (word other : String Global) → asked_mode (word ∷ other ∷ []) ≡ None
+two_words word other = refl
+
+too_many_words : (word from to more : String Global) (words : List (String Global))
+    → asked_mode (word ∷ from ∷ to ∷ more ∷ words) ≡ None
+too_many_words word from to more words = refl

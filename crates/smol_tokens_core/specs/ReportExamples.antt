@@ -1,13 +1,17 @@
 -- What the program writes of small texts, computed by the checker.
 use Rattle.std.specs.Prelude.{◌≡◌, ℕ, ◌+◌, List, [], ◌++◌, replicate, codes, if◌then◌else◌, nat_le, refl}
 use Rattle.std.specs.Fmt.{decimal, digits}
+use Rattle.std.specs.Str.{chars}
+use Rattle.std.specs.String.{string_bytes}
+use Rattle.std.specs.declared.string.String.{String}
+use Rattle.std.specs.declared.alloc.Global.{Global}
 use Rattle.smol_str.specs.declared.buffer.TheConstants.{INLINE_CAP}
 use Rattle.smol_str.specs.declared.value.blank.TheConstants.{BLANK_SPACES}
 use Rattle.smol_str.specs.Text.{place_of, is_blank_run}
 use Rattle.smol_tokens_core.specs.Lines.{lines}
 use Rattle.smol_tokens_core.specs.Report.{value_line, report, join_report, lower_report, upper_report, replace_report}
 use Rattle.smol_tokens_core.specs.Report.{tokens_report}
-use Rattle.smol_tokens_core.specs.declared.mode.Mode.TheVariants.{Show}
+use Rattle.smol_tokens_core.specs.declared.mode.Mode.TheVariants.{Show, Join, Lower, Upper, Replace, Tokens}
 
 -- a character so often that it is a byte too long for the buffer of a value
 abbrev too_many : ℕ → List ℕ
@@ -107,3 +111,25 @@ counted_empty_lines = refl
 counted_nothing : tokens_report [] ≡ []
 unfolding lines
 counted_nothing = refl
+
+-- each mode has the report of its name
+report_joined : report Join (codes "a\nb") ≡ codes "inline 2 ab\n"
+unfolding lines place_of is_blank_run digits lib.Utf8.encode
+report_joined = refl
+
+report_lower : report Lower (codes "Ab") ≡ codes "inline 2 ab\n"
+unfolding lines place_of is_blank_run digits lib.Utf8.encode
+report_lower = refl
+
+report_upper : report Upper (codes "Ab") ≡ codes "inline 2 AB\n"
+unfolding lines place_of is_blank_run digits lib.Utf8.encode
+report_upper = refl
+
+-- what is replaced comes first
+report_replaced : (from to : String Global) (t : List ℕ)
+    → report (Replace from to) t ≡ replace_report (chars (string_bytes from)) (chars (string_bytes to)) t
+report_replaced from to t = refl
+
+report_tokens : report Tokens (codes "a\na") ≡ codes "2 a\n"
+unfolding lines digits
+report_tokens = refl
