@@ -1,9 +1,12 @@
 -- For `tally_lines`: lines counted one after another, and what a count that is full says of all lines.
-use Rattle.std.proofs.Common.{◌≡◌, ℕ, ◌+◌, ◌<◌, ◌≤◌, ◌^◌, length, ◌⊎◌, inl, inr, List, [], ◌∷◌, ◌++◌, cond, map, Result, Ok, Err}
+use Rattle.std.proofs.Common.{◌≡◌, ℕ, ◌+◌, ◌<◌, ◌≤◌, ◌^◌, length, ◌⊎◌, inl, inr, List, [], ◌∷◌, ◌++◌, cond, map, All, ⊎_elim, unwrap_or, Result, Ok, Err}
 use Rattle.std.proofs.Common.{refl, sym, ap, subst, ◌∙◌, arith, rules}
 use Rattle.std.specs.Prelude.{count_by}
 use Rattle.std.specs.Result.{IsErrAnd, IfErr}
 use Rattle.std.proofs.lemmas.List.{map-append, append_assoc, length-append}
+use Rattle.std.proofs.lemmas.Bool.{cases_lt}
+use Rattle.std.proofs.lemmas.List.Elements.{All-head, All-tail, All-weaker}
+use Rattle.std.specs.Map.{lookup}
 use Rattle.std.proofs.lemmas.List.Sums.{sum_by-cons, sum_by-append}
 use Rattle.smol_tokens_core.specs.Lines.{lines}
 use Rattle.smol_tokens_core.specs.Tally.{is_same, times_of, tally, seen_once}
@@ -12,8 +15,9 @@ use Rattle.smol_tokens_core.specs.declared.fault.RunFault.{RunFault}
 use Rattle.smol_tokens_core.specs.declared.fault.RunFault.TheVariants as run
 use Rattle.smol_tokens_core.specs.declared.mode.Mode.TheVariants.{Tokens}
 use Rattle.smol_tokens_core.proofs.PieceLemmas.{lines-nil}
-use Rattle.smol_tokens_core.proofs.SightLemmas.{is_same_itself}
-use Rattle.smol_tokens_core.proofs.TallyLemmas.{times_of-tally, tally-again}
+use Rattle.smol_tokens_core.proofs.SightLemmas.{is_same_itself, by_same}
+use Rattle.smol_tokens_core.proofs.TableLemmas.{lookup-tally}
+use Rattle.smol_tokens_core.proofs.TallyLemmas.{times_of-tally, counts-tally, tally-again}
 
 -- of texts that were seen once each, the times are how often a text stands
 pub times_of-seen_once : (t : List ℕ) (texts : List (List ℕ))
@@ -78,3 +82,26 @@ no_report-line (Err e) t line seen rest left old fault made so_far is next (inl 
     subst (HasNoReport Tokens t) (sym (made ∙ refused)) (inr (some_text t seen left rest line is next))
 no_report-line (Err e) t line seen rest left old fault made so_far is next (inr full) =
     subst (HasNoReport Tokens t) (sym (made ∙ full.0)) (refl, no_report-add t line seen rest left old so_far is next full.1)
+
+-- ---- the counts of all lines are `u64`s, exactly where no line stands too often
+
+-- a count that is looked up is one of the counts
+lookup-below : (n : ℕ) (line : List ℕ) (es : List (List ℕ × ℕ)) → 0 < n → All (λ e. e.1 < n) es
+    → unwrap_or (lookup (is_same line) es) 0 < n
+lookup-below n line [] some fit = some
+lookup-below n line (e ∷ es) some fit = by_same line e.0
+    (λ here. rw here (All-head (λ e. e.1 < n) e es fit))
+    (λ other. rw other (lookup-below n line es some (All-tail (λ e. e.1 < n) e es fit)))
+
+pub no_line_too_often : (t : List ℕ) → All (λ e. e.1 < 2 ^ 64) (tally (seen_once (lines t))) → ¬ HasALineTooOften t
+no_line_too_often t fit = λ h.
+    let seen = seen_once (lines t) in
+    let count = lookup-tally seen h.0 ∙ times_of-seen_once h.0 (lines t) in
+    omega (arith, h.1, count, lookup-below (2 ^ 64) h.0 (tally seen) (omega arith) fit)
+
+pub counts_fit : (t : List ℕ) → ¬ HasALineTooOften t → All (λ e. e.1 < 2 ^ 64) (tally (seen_once (lines t)))
+counts_fit t none = All-weaker (λ e. e.1 ≡ times_of e.0 (seen_once (lines t))) (λ e. e.1 < 2 ^ 64)
+    (λ e is. ⊎_elim (λ below. below)
+    (λ above. absurd (none (e.0, omega (arith, above, is, times_of-seen_once e.0 (lines t)))))
+    (cases_lt e.1 (2 ^ 64)))
+    (tally (seen_once (lines t))) (counts-tally (seen_once (lines t)))

@@ -1,12 +1,13 @@
 //! What the definitions in `specs/` mean: laws over every text and every list of pairs, each the
 //! contract of a function that does nothing.
-ghost use Rattle.std.specs.Prelude.{◌≡◌, ◌≢◌, ◌⊎◌, ◌+◌, ℕ, List, [], ◌∷◌, ◌++◌, All, AllPairs, unwrap_or, count_by};
+ghost use Rattle.std.specs.Prelude.{◌≡◌, ◌≢◌, ◌⊎◌, ◌↔◌, ◌+◌, ◌<◌, ◌^◌, ℕ, List, [], ◌∷◌, ◌++◌, All, AllPairs, unwrap_or, count_by};
 ghost use Rattle.std.specs.List.{onto_first, slice_split};
 ghost use Rattle.std.specs.Map.{lookup};
 ghost use Rattle.indexmap.specs.IndexMap.{insert_entry};
 ghost use Rattle.smol_str.specs.Cut.{IsCut, joined_by};
 ghost use Rattle.smol_str.specs.Replace.{no_limit};
 ghost use Rattle.smol_tokens_core.specs.Lines.{is_newline, newline, lines, without_empty_last, HasNoNewline, ended};
+ghost use Rattle.smol_tokens_core.specs.ReportFaults.{HasALineTooOften};
 ghost use Rattle.smol_tokens_core.specs.Tally.{is_same, tokens, times_of, tally, seen_once};
 
 /// The lines of a text are the pieces between newlines that std's `split` of a slice gives, without
@@ -64,4 +65,10 @@ pub fn tally_by_steps()
         unwrap_or (lookup (is_same t) (tally pairs)) 0 ≡ times_of t pairs }
     ensures without_repeats { (pairs : List (List ℕ × ℕ)) →
         AllPairs (λ s t. s ≢ t) (tokens pairs) → tally pairs ≡ pairs }
+{}
+
+/// A text has a line too often exactly where not all counts of its lines are `u64`s.
+pub fn lines_too_often()
+    ensures { (t : List ℕ) →
+        All (λ entry. entry.1 < 2 ^ 64) (tally (seen_once (lines t))) ↔ ¬ HasALineTooOften t }
 {}
