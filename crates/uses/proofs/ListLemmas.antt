@@ -3,7 +3,7 @@ use Rattle.std.proofs.Common.{◌≡◌, ℕ, ◌+◌, ◌<◌, ◌^◌, List, [
 use Rattle.std.specs.Str.{all_scalars}
 use Rattle.std.specs.Prelude.{Option}
 use Rattle.std.proofs.lemmas.List.{map-append, length-map, take_more, flat_map_more, get_or-map}
-use Rattle.std.proofs.lemmas.List.Elements.{All-push, All-get_or}
+use Rattle.std.proofs.lemmas.List.Elements.{All-nil, All-cons, All-push, All-get_or}
 use Rattle.smol_str.specs.declared.borsh.fault.EncodeFault.{EncodeFault}
 use Rattle.smol_str.specs.declared.borsh.fault.EncodeFault.TheVariants.{TooLong, Io as WriteFailed}
 use Rattle.smol_str.specs.declared.borsh.fault.DecodeFault.{DecodeFault}
@@ -29,6 +29,13 @@ not_whole bytes missing left ss ts h k cut some e =
     let whole = ap (λ l. l ++ missing) (sym e) ∙ cut ∙ sym (append-nil (list_form ts)) in
     let none = lists-apart ss ts (left ++ missing) [] h k (sym (append_assoc (list_form ss) left missing) ∙ whole) in
     omega (arith, length-append left missing, ap length none.1, some)
+
+-- the form of a list of one text, and what follows it
+pub one_begins : (bytes t rest : List ℕ) → HasWire t → IsTrue (all_scalars t) → bytes ≡ list_form (t ∷ []) ++ rest
+    → BeginsWithList bytes
+one_begins bytes t rest fits scalars is =
+    let can : CanBeListed (t ∷ []) = record { few = omega arith; sized = All-cons HasWire t [] fits (All-nil HasWire) } in
+    (t ∷ [], rest, can, All-cons (λ u. IsTrue (all_scalars u)) t [] scalars (All-nil (λ u. IsTrue (all_scalars u))), is)
 
 -- ---- writing: the i-th value
 

@@ -1,0 +1,71 @@
+-- For messages behind one another: where the next begins, and what is left of the bytes b after each fault.
+use Rattle.std.proofs.Common.{◌≡◌, ℕ, ◌+◌, ◌<◌, ◌≤◌, ◌⊎◌, inl, inr, ⊎_elim, List, [], ◌++◌, length, take, drop, Some, Result, Ok, Err, IfErr, OnErr, sym, ap, ◌∙◌, subst, arith, length-append, take-append-drop, length-drop}
+use Rattle.std.proofs.lemmas.Bool.{cases_lt}
+use Rattle.std.proofs.lemmas.List.{append_cancel_left, take-append-le, length-take-le}
+use Rattle.std.proofs.Math.Seq.{drop-append_seam}
+use Rattle.std.specs.Int.{from_le_bytes, w32}
+use Rattle.smol_str.specs.declared.borsh.fault.DecodeFault.{DecodeFault}
+use Rattle.smol_str.specs.declared.borsh.fault.DecodeFault.TheVariants.{Ended, NotUtf8, OutOfMemory, Io}
+use Rattle.smol_str.specs.declared.borsh.fault.LimitedFault.{LimitedFault}
+use Rattle.smol_str.specs.declared.borsh.fault.LimitedFault.TheVariants.{TooLong, Decode}
+use Rattle.smol_str.specs.Wire.{HasWire, wire, prefix_size}
+use Rattle.smol_str.specs.WireFaults.{AfterDecodeFault, AfterLimitedFault}
+use Rattle.smol_str.proofs.WireLemmas.Wire.{length-wire, prefix_size-wire}
+
+-- the size that four bytes state does not depend on what follows them
+prefix_size-front : (a x : List ℕ) → 4 ≤ length a → prefix_size (a ++ x) ≡ prefix_size a
+unfolding prefix_size
+prefix_size-front a x four = ap (from_le_bytes w32) (take-append-le 4 a x four)
+
+pub behind-value : (b l t : List ℕ) → HasWire t → b ≡ wire t ++ l → l ≡ drop (4 + prefix_size b) b
+behind-value b l t sized is =
+    let states = ap prefix_size is ∙ prefix_size-wire t l sized in
+    let whole : length (wire t) ≡ 4 + prefix_size b = omega (arith, length-wire t, states) in
+    sym (ap (λ n. drop n b) (sym whole) ∙ ap (drop (length (wire t))) is ∙ drop-append_seam (wire t) l)
+
+pub behind-no_text : (b l : List ℕ) (n : ℕ) → b ≡ take n b ++ l → l ≡ drop n b
+behind-no_text b l n is = append_cancel_left (take n b) l (drop n b) (sym is ∙ sym (take-append-drop n b))
+
+-- bytes that came are of the first message alone
+inside : (b l bytes : List ℕ) → b ≡ bytes ++ l → (length bytes < 4) ⊎ (length bytes ≤ 4 + prefix_size bytes)
+    → length b ≤ length l + (4 + prefix_size b)
+inside b l bytes is few =
+    let all = ap length is ∙ length-append bytes l in
+    ⊎_elim (λ (h : length bytes < 4). omega (arith, all, h)) (λ most. ⊎_elim
+    (λ (h : length bytes < 4). omega (arith, all, h))
+    (λ four. omega (arith, all, most, ap prefix_size is ∙ prefix_size-front bytes l four))
+    (cases_lt (length bytes) 4)) few
+
+pub within : (b l : List ℕ) (fault : DecodeFault) → AfterDecodeFault (Some b) (Some l) fault
+    → length b ≤ length l + (4 + prefix_size b)
+within b l Ended (inl h, end) = omega (arith, h)
+within b l Ended (inr h, end) = omega (arith, h)
+within b l (NotUtf8 e) (whole, body, is) =
+    omega (arith, ap length (behind-no_text b l (4 + prefix_size b) is), length-drop (4 + prefix_size b) b)
+within b l OutOfMemory (large, (bytes, four, most, is)) = inside b l bytes is (inr most)
+within b l (Io e) (bytes, inl few, any, is) = inside b l bytes is (inl few)
+within b l (Io e) (bytes, inr few, any, is) = inside b l bytes is (inr (omega (arith, few)))
+
+pub nothing_left : (b l : List ℕ) (fault : DecodeFault) → AfterDecodeFault (Some b) (Some l) fault → fault ≡ Ended → l ≡ []
+nothing_left b l fault h is = (subst (AfterDecodeFault (Some b) (Some l)) is h).1
+
+pub some_came : (b l : List ℕ) (fault : DecodeFault) → AfterDecodeFault (Some b) (Some l) fault → fault ≡ OutOfMemory
+    → length l + 4 < length b
+some_came b l fault h is =
+    let (large, (bytes, four, most, whole)) = subst (AfterDecodeFault (Some b) (Some l)) is h in
+    omega (arith, four, ap length whole, length-append bytes l)
+
+-- of a size above the limit, the size alone was consumed
+pub size_alone : {T : Type 0} (b l : List ℕ) (limit : ℕ) (r : Result T LimitedFault)
+    → IfErr r (AfterLimitedFault limit (Some b) (Some l)) → 4 ≤ length b → limit < prefix_size b
+    → OnErr r (length b ≤ length l + 4)
+size_alone b l limit (Ok v) h four above = tt
+size_alone b l limit (Err TooLong) (some, larger, is) four above =
+    omega (arith, ap length is, length-append (take 4 b) l, length-take-le 4 b four)
+size_alone b l limit (Err (Decode Ended)) (h, states) four above = absurd (omega (arith, states four, above))
+size_alone b l limit (Err (Decode (NotUtf8 e))) (h, states) four above = absurd (omega (arith, states four, above))
+size_alone b l limit (Err (Decode OutOfMemory)) (h, states) four above = absurd (omega (arith, states four, above))
+size_alone b l limit (Err (Decode (Io e))) (bytes, early, states, is) four above = ⊎_elim
+    (λ (h : length bytes < 4). omega (arith, h, ap length is, length-append bytes l))
+    (λ some. absurd (omega (arith, states some, above, ap prefix_size is ∙ prefix_size-front bytes l some)))
+    (cases_lt (length bytes) 4)

@@ -1,0 +1,39 @@
+//! The program's report on some bytes, behind what a `Vec` has.
+ghost use Rattle.std.specs.Prelude.{◌≡◌, ◌<◌, ◌⊎◌, ℕ, List, [], ◌++◌, length, IfOk, OnOk, OnErr, IfErr, encode_utf8_all};
+ghost use Rattle.std.specs.Str.{chars, IsUtf8};
+ghost use Rattle.smol_tokens_core.specs.Report.{report};
+ghost use Rattle.smol_tokens_core.specs.ReportFaults.{HasALineTooOften};
+ghost use Rattle.smol_tokens_core.specs.declared.mode.Mode.TheVariants.{Join, Tokens};
+
+use smol_tokens_core::fault::RunFault;
+use smol_tokens_core::mode::Mode;
+use smol_tokens_core::run::run;
+use std::alloc::Global;
+use std::hash::BuildHasher;
+
+/// Appends the report on the bytes. Where there is none, `out` is as before, or the bytes are a text and a beginning of
+/// its report was appended.
+pub fn append_report<S: BuildHasher + Drop>(
+    alloc: Global,
+    state: S,
+    mode: Mode,
+    bytes: &mut &[u8],
+    out: &mut Vec<u8>,
+) -> Result<(), RunFault>
+    ensures text { OnOk result (IsUtf8 bytes.old.now) }
+    ensures end { OnOk result (bytes.new.now ≡ []) }
+    ensures report { OnOk result (out.new.items ≡ out.old.items ++ encode_utf8_all (report mode (chars bytes.old.now))) }
+
+    ensures not_text { IfErr result (λ fault. fault ≡ RunFault.NotUtf8 →
+        (¬ (IsUtf8 bytes.old.now)) × (bytes.new.now ≡ []) × (out.new.items ≡ out.old.items)) }
+    ensures memory { IfErr result (λ fault. fault ≡ RunFault.OutOfMemory →
+        ((mode ≡ Join) ⊎ (0 < length bytes.old.now)) × (out.new.items ≡ out.old.items)) }
+    ensures full { IfErr result (λ fault. fault ≡ RunFault.Full →
+        (mode ≡ Tokens) × HasALineTooOften (chars bytes.old.now) × (out.new.items ≡ out.old.items)) }
+    ensures beginning { OnErr result ((out.new.items ≡ out.old.items)
+        ⊎ ((bytes.new.now ≡ []) × IsUtf8 bytes.old.now × ((front : List ℕ) × (rest : List ℕ)
+        × (encode_utf8_all (report mode (chars bytes.old.now)) ≡ front ++ rest)
+        × (0 < length rest) × (out.new.items ≡ out.old.items ++ front)))) }
+{
+    run(alloc, state, mode, bytes, out)
+}
