@@ -24,6 +24,7 @@ pub mod plain;
 pub mod records;
 pub mod replacing;
 pub mod reports;
+pub mod runs;
 pub mod slicing;
 pub mod symbols;
 pub mod values;

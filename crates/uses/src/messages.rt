@@ -1,9 +1,12 @@
 //! Messages behind one another: what is left of them after each outcome, so that a caller knows where the next begins.
 ghost use Rattle.std.specs.Prelude.{◌≡◌, ◌+◌, ◌<◌, ◌≤◌, [], length, drop, OnOk, OnErr, IfErr};
-ghost use Rattle.smol_str.specs.Wire.{prefix_size};
+ghost use Rattle.std.specs.Str.{IsUtf8};
+ghost use Rattle.smol_str.specs.Wire.{HasEndedEarly, prefix_size, body};
 
 use smol_str::SmolStr;
-use smol_str::borsh::{BorshDeserialize, DecodeFault, LimitedFault, deserialize_limited};
+use smol_str::borsh::{
+    BorshDeserialize, DecodeFault, LimitedFault, deserialize_limited, split_wire,
+};
 use std::alloc::Global;
 
 /// The next message; `None` for one that is no text, and then the message behind it is the next.
@@ -37,4 +40,12 @@ pub fn next_limited(
         messages.new.now ≡ drop 4 messages.old.now) }
 {
     deserialize_limited(alloc, messages, limit)
+}
+
+/// The first message, and the others: whatever the memory, one that is cut short or no text is told as that.
+pub fn split_message(alloc: Global, messages: &[u8]) -> Result<(SmolStr, &[u8]), DecodeFault>
+    ensures tested { IfErr result (λ fault. fault ≡ DecodeFault.OutOfMemory →
+        (¬ HasEndedEarly messages.now) × IsUtf8 (body messages.now)) }
+{
+    split_wire(alloc, messages)
 }
