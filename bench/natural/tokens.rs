@@ -1,4 +1,4 @@
-//! Mode `tokens` of `smol_tokens` in natural Rust, with std alone: `bench/tokens` builds it, and holds the program's time
+//! Mode `tokens` of `smol_tokens` in natural Rust, with std alone: `bench/program` builds it, and holds the program's time
 //! against its. The table is std's own, hashed by its `RandomState`, and borrows each line from the input, so that no
 //! token is copied; the list beside it has the order of first sight.
 use std::collections::HashMap;
