@@ -5,7 +5,7 @@ use Rattle.std.specs.Char.Unicode.ToLowercase.{to_lowercase, lowercase_runs, low
 use Rattle.std.specs.Char.Unicode.ToUppercase.{to_uppercase, uppercase_runs, uppercase_strings}
 use Rattle.std.specs.Char.Unicode.Cased.{is_cased, cased_ranges}
 use Rattle.std.specs.Char.Unicode.CaseIgnorable.{is_case_ignorable, case_ignorable_ranges}
-use Rattle.smol_str.specs.declared.kernel.AsciiCase.TheVariants.{Lower, Upper}
+use Rattle.smol_str.specs.declared.bytes.ascii.AsciiCase.TheVariants.{Lower, Upper}
 use Rattle.smol_str.specs.Case.{lower, upper, front, lowercased, uppercased}
 use Rattle.smol_str.specs.InCase.{converted, full_case, mapped}
 
