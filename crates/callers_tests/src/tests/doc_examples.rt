@@ -53,6 +53,7 @@ fn values(rt: HostRuntime) -> Result<(), Fail> {
     ended(&test, from_owned_example(&test, alloc), "from_owned");
     eq_str_example(&test);
     cmp_str_example(&test);
+    deref_example(&test);
     from_utf8_example(&test, alloc);
     ended(&test, from_string_example(&test, alloc), "from_string");
     from_cow_str_example(&test, alloc);
@@ -96,6 +97,11 @@ fn eq_str_example(rt: &Test) {
 
 fn cmp_str_example(rt: &Test) {
     expect_eq!(rt; SmolStr::new_inline("if").cmp_str("of"), Ordering::Less);
+}
+
+fn deref_example(rt: &Test) {
+    let token = SmolStr::new_inline(" let ");
+    expect!(rt; token.trim().starts_with("let") && &*token == " let ");
 }
 
 fn from_utf8_example(rt: &Test, alloc: Global) {

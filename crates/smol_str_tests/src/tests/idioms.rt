@@ -6,12 +6,13 @@ use smol_str::{FormatError, FromUtf8Fault, Place, SmolStr, SmolStrBuilder, ToSmo
 use std::alloc::{AllocError, Global};
 use std::collections::HashMap;
 use std::convert::AsStr;
+use std::default::Emptied;
 use std::error::Error;
 use std::io::ErrorKind;
 use std::rc::RcStr;
 use std::test::Fail;
 use std::{io, mem};
-use test_support::refuse::{Refusable, can_refuse, each_refused};
+use test_support::refuse::{Refusable, can_refuse, each_refused, end_refusals, refuse_all};
 use test_support::test::{
     Test, has_text, is_so, of_shared, ok, ok_string, ok_value, same_count, same_flag, same_str,
 };
@@ -68,6 +69,11 @@ enum Call {
     ExtendStrings,
     ExtendStringRefs,
 }
+
+/// The names of the two calls.
+const FROM_ITER: &str = "SmolStr::from_iter";
+
+const EXTEND: &str = "SmolStrBuilder::extend";
 
 const CALLS: [(Call, &str); 8] = [
     (Call::CollectChars, "collect of characters"),
@@ -149,7 +155,15 @@ fn collected_and_extended_refused(rt: HostRuntime) -> Result<(), Fail> {
     for (text, place) in texts() {
         for (call, name) in CALLS {
             let row = Row { call, text };
-            let asked = each_refused(&test, name, &row);
+            let is_made = matches!(
+                call,
+                Call::CollectChars
+                    | Call::CollectStrs
+                    | Call::CollectStrings
+                    | Call::CollectStringRefs
+            );
+            let called = if is_made { FROM_ITER } else { EXTEND };
+            let asked = each_refused(&test, called, &row);
             let wants_memory = place != Place::Inline && can_refuse(test.alloc);
             same_flag(&test, asked.requests > 0, wants_memory, name);
         }
@@ -213,6 +227,10 @@ fn empty_builders(rt: HostRuntime) -> Result<(), Fail> {
     same_str(&test, taken.as_str(), "taken", "try_take");
     is_so(&test, builder.is_empty(), "try_take");
     is_so(&test, builder.inline_buffer().is_some(), "try_take");
+    refuse_all(test.alloc);
+    let made = SmolStrBuilder::emptied(&taken).is_ok();
+    let was_refused = end_refusals(test.alloc);
+    is_so(&test, made && !was_refused, "SmolStrBuilder::emptied");
     test.end()
 }
 
