@@ -10,36 +10,22 @@ use crate::unicode;
 /// No letter with a case stands from here on, so that fewer contexts are enough.
 const NO_CASE_FROM: char = '\u{20000}';
 
-const AROUND: &[(&str, &str)] = &[
-    ("a", "b"),
-    ("A", ""),
-    ("", "A"),
-    ("Σ", ""),
-    ("", "Σ"),
-    ("aΣ", ""),
-    ("aΣ", "a"),
-    ("aΣ", " "),
-    ("", "Σa"),
-    ("a", "Σ"),
-    ("a", "Σb"),
-    ("é", "Z"),
-    ("ΑΣ", "Σ"),
-    ("İ", "ß"),
-];
-const AROUND_LONG: &[(&str, &str)] = &[("", ""), ("aΣ", "a"), ("aΣ", ""), ("a", "Σ"), (" ", "Σ"), ("ß", "İ")];
+/// What stands around a character, which `_` stands for here; and behind a text that is not short.
+const AROUND: &str = "a_b|A_|_A|Σ_|_Σ|aΣ_|aΣ_a|aΣ_ |_Σa|a_Σ|a_Σb|é_Z|ΑΣ_Σ|İ_ß";
+const AROUND_LONG: &str = "_|aΣ_a|aΣ_|a_Σ| _Σ|ß_İ";
 
 fn contexts(character: char) -> Vec<String> {
     let long = "a".repeat(INLINE_CAP + 1);
+    let alone = character.to_string();
     if character >= NO_CASE_FROM {
-        let around = [("aΣ", "a"), ("a", "Σ")].map(|(before, behind)| format!("{before}{character}{behind}"));
-        return [vec![character.to_string(), format!("{long}aΣ{character}a")], around.to_vec()].concat();
+        return ["_".to_string(), long + "aΣ_a", "aΣ_a".into(), "a_Σ".into()].map(|it| it.replace('_', &alone)).to_vec();
     }
-    let mut all = vec![character.to_string()];
-    all.extend(AROUND.iter().map(|(before, behind)| format!("{before}{character}{behind}")));
-    all.extend(AROUND_LONG.iter().map(|(before, behind)| format!("{long} {before}{character}{behind}")));
-    all.push("A".repeat(INLINE_CAP - character.len_utf8()) + &character.to_string());
-    all.push(format!("{}{character}", "Z".repeat(INLINE_CAP - 3)));
-    all.push(format!("{}{character}{}", "a".repeat(15), "B".repeat(18)));
+    let mut all = vec![alone.clone()];
+    all.extend(AROUND.split('|').map(|around| around.replace('_', &alone)));
+    all.extend(AROUND_LONG.split('|').map(|around| format!("{long} {}", around.replace('_', &alone))));
+    all.push("A".repeat(INLINE_CAP - alone.len()) + &alone);
+    all.push("Z".repeat(INLINE_CAP - 3) + &alone);
+    all.push("a".repeat(15) + &alone + &"B".repeat(18));
     all
 }
 

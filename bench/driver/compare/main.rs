@@ -8,7 +8,8 @@
 mod builders;
 mod chars;
 mod departures;
-mod faults;
+#[path = "../fnv.rs"]
+mod fnv;
 mod forms;
 mod limits;
 mod machine;

@@ -1,4 +1,5 @@
 //! Comparisons, hashes, case, prints of values, and values of prints.
+use crate::fnv::Fnv;
 use crate::mirror::{Mirror, Run, is_short};
 use crate::operation::Operation;
 use crate::report::Report;
@@ -10,25 +11,6 @@ use std::hash::{DefaultHasher, Hash, Hasher};
 
 /// The most bytes that one read asks for, by docs/DIFFERENCES.md.
 pub const CHUNK: usize = 4096;
-
-/// FNV-1a by bytes, as the machine has it.
-struct Fnv(u64);
-
-impl Fnv {
-    fn new() -> Fnv {
-        Fnv(0xcbf2_9ce4_8422_2325)
-    }
-}
-
-impl Hasher for Fnv {
-    fn write(&mut self, bytes: &[u8]) {
-        bytes.iter().for_each(|byte| self.0 = (self.0 ^ u64::from(*byte)).wrapping_mul(1_099_511_628_211));
-    }
-
-    fn finish(&self) -> u64 {
-        self.0
-    }
-}
 
 /// The text's bytes by FNV-1a.
 pub fn digest(text: &str) -> u64 {

@@ -36,4 +36,14 @@ impl Random {
     pub fn pick<T: Copy>(&mut self, from: &[T]) -> T {
         from[self.below(from.len())]
     }
+    pub fn char_of(&mut self, from: &str) -> char {
+        let at = self.below(from.chars().count());
+        from.chars().nth(at).unwrap()
+    }
+
+    /// One of the words between single spaces.
+    pub fn word_of<'a>(&mut self, from: &'a str) -> &'a str {
+        let at = self.below(from.split(' ').count());
+        from.split(' ').nth(at).unwrap()
+    }
 }

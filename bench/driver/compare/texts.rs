@@ -1,6 +1,5 @@
 //! Random texts, bytes, wire forms and JSON, weighted toward what the library treats apart.
 use crate::random::Random;
-use crate::table::Texts;
 use crate::unicode;
 
 pub use crate::limits::{BLANK_NEWLINES, BLANK_SPACES, INLINE_CAP};
@@ -11,27 +10,18 @@ const EDGES: &[usize] =
 const LONG_EDGES: &[usize] = &[959, 960, 961, 1023, 1024, 1025, 4095, 4096, 4097, 8192, 65535, 65536, 65537, 70_000];
 
 /// Characters whose case is more than one ASCII letter for another.
-const CASED: &[char] = &[
-    'Σ', 'σ', 'ς', 'İ', 'ı', 'ß', 'ẞ', 'ŉ', 'ǰ', 'ΐ', 'ΰ', 'և', 'ﬀ', 'ﬁ', 'ﬂ', 'ﬃ', 'ﬄ', 'ﬅ', 'ﬆ', 'ﬓ', 'Ǆ', 'ǅ', 'ǆ',
-    'Ǉ', 'ǈ', 'ǉ', 'K', 'Å', 'Ω', 'ᾳ', 'ᾼ', 'ᾀ', 'ᾈ', 'ῳ', 'ῼ', 'ẖ', 'ẗ', 'ẘ', 'é', 'É', 'ÿ', 'Ÿ', 'µ', 'ſ', 'Ა', 'ა',
-    'Ꭰ', 'ꭰ', 'Ᏸ', 'ᏸ', 'Ⱥ', 'ⱥ', 'Ⱦ', 'ⱦ', '𐐀', '𐐨', '𞤀', '𞤢', 'Ａ', 'ａ', 'Ⓐ', 'ⓐ', 'Ⅷ', 'ⅷ', '\u{307}', '\u{345}',
-    '\u{301}', '\'', '’', '.', ':', '·', '\u{ad}', 'Δ', 'δ', 'А', 'а', 'ё', 'Ё', '\u{212a}', '\u{2126}',
-];
+const WITH_CASE: &str = "ΣσςİıßẞŉǰΐΰևﬀﬁﬂﬃﬄﬅﬆﬓǄǅǆǇǈǉKÅΩᾳᾼᾀᾈῳῼẖẗẘéÉÿŸµſᲐაᎠꭰᏰᏸȺⱥȾⱦ𐐀𐐨𞤀𞤢ＡａⒶⓐⅧⅷ\
+    \u{307}\u{345}\u{301}'’.:·\u{ad}ΔδАаёЁ\u{212a}\u{2126}";
 
 /// The ends of the ranges of two, three and four bytes, and characters between them.
-#[rustfmt::skip]
-const WIDE: &[char] = &[
-    'é', 'ß', '\u{80}', '\u{7ff}', '€', '\u{800}', '\u{fffd}', '\u{ffff}', '\u{d7ff}', '\u{e000}', '🦀', '\u{10000}',
-    '\u{10ffff}', '中',
-];
+const WIDE: &str = "éß\u{80}\u{7ff}€\u{800}\u{fffd}\u{ffff}\u{d7ff}\u{e000}🦀\u{10000}\u{10ffff}中";
 
 /// Characters that stand in another order by their code units of 16 bits.
-const ORDERED: &[char] = &['é', '中', '\u{e000}', '\u{ffff}', '\u{10000}', '🦀'];
+const ORDERED: &str = "é中\u{e000}\u{ffff}\u{10000}🦀";
 
-const QUOTED: &[char] = &[
-    '"', '\\', '/', '\n', '\r', '\t', '\u{8}', '\u{c}', '\0', '\u{1f}', '\u{7f}', '\u{2028}', '\u{ad}', '\u{300}', 'a',
-    'é',
-];
+const QUOTED: &str = "\"\\/\n\r\t\u{8}\u{c}\0\u{1f}\u{7f}\u{2028}\u{ad}\u{300}aé";
+
+const NEAR_LETTERS: &str = "abAZz@[`{\u{7f}0";
 
 #[rustfmt::skip]
 const NOT_UTF8: &[&[u8]] = &[
@@ -63,8 +53,8 @@ pub fn character(random: &mut Random) -> char {
     match random.below(10) {
         0..=3 => (b'a' + random.below(26) as u8) as char,
         4 => (random.below(128) as u8) as char,
-        5 | 6 => random.pick(CASED),
-        7 | 8 => random.pick(WIDE),
+        5 | 6 => random.char_of(WITH_CASE),
+        7 | 8 => random.char_of(WIDE),
         _ => unicode::agreed(random),
     }
 }
@@ -76,8 +66,8 @@ fn cased(random: &mut Random) -> String {
     }
     let count = if random.one_in(2) { random.below(14) } else { random.below(60) };
     let mut letter = || match random.below(5) {
-        0 => random.pick(&['a', 'Z', ' ', 'Σ']),
-        1 => random.pick(CASED),
+        0 => random.char_of("aZ Σ"),
+        1 => random.char_of(WITH_CASE),
         _ => unicode::letter(random),
     };
     (0..count).map(|_| letter()).collect()
@@ -106,20 +96,19 @@ fn blank(random: &mut Random) -> String {
 
 /// A text of about so many bytes.
 fn sized(random: &mut Random, length: usize) -> String {
-    const NEAR_LETTERS: &[char] = &['a', 'b', 'A', 'Z', 'z', '@', '[', '`', '{', '\u{7f}', '0'];
     let mut text = String::new();
     let drawn: fn(&mut Random) -> char = match random.below(6) {
         0 => |random| (b'a' + random.below(26) as u8) as char,
-        1 => |random| random.pick(NEAR_LETTERS),
+        1 => |random| random.char_of(NEAR_LETTERS),
         2 => {
             // ASCII with one wide character, which ends at, before or behind the length
             text.push_str(&"a".repeat(random.below(length + 1)));
-            text.push(random.pick(WIDE));
+            text.push(random.char_of(WIDE));
             |random| (b'A' + random.below(26) as u8) as char
         }
-        3 => |random| if random.one_in(4) { random.pick(&['a', 'A', ' ', 'é']) } else { random.pick(CASED) },
+        3 => |random| if random.one_in(4) { random.char_of("aA é") } else { random.char_of(WITH_CASE) },
         4 => {
-            let unit: String = (0..1 + random.below(4)).map(|_| random.pick(&['a', 'b', 'é', '€'])).collect();
+            let unit: String = (0..1 + random.below(4)).map(|_| random.char_of("abé€")).collect();
             text.push_str(&unit.repeat(length / unit.len() + 1));
             |_| 'a'
         }
@@ -143,7 +132,7 @@ fn cut(text: &mut String, length: usize) {
 /// One of few texts that begin in the same way, so that orders are decided late and by wide characters.
 fn alike(random: &mut Random) -> String {
     let mut text = "a".repeat(random.pick(&[0, 0, 15, 39]));
-    text.push(random.pick(ORDERED));
+    text.push(random.char_of(ORDERED));
     text.push_str(random.pick(&["", "a"]));
     text
 }
@@ -153,7 +142,7 @@ fn text(random: &mut Random) -> String {
         return blank(random);
     }
     if random.one_in(12) {
-        return (0..length(random)).map(|_| random.pick(QUOTED)).collect();
+        return (0..length(random)).map(|_| random.char_of(QUOTED)).collect();
     }
     if random.one_in(8) {
         return alike(random);
@@ -277,33 +266,22 @@ fn stream(random: &mut Random) -> Vec<u8> {
     (0..length).map(|at| at as u8 ^ 0x5a).collect()
 }
 
-#[rustfmt::skip]
-const JSON_WORDS: &[&str] = &[
-    "null", "true", "false", "nul", "tru", "0", "-0", "-", "01", "1.5", "1.", ".5", "1e5", "1e", "1E+5", "1e-400",
-    "1e400", "-1e999", "18446744073709551615", "18446744073709551616", "-9223372036854775808",
-    "-9223372036854775809", "123456789012345678901234567890", "0.1e1", "-1", "+1", "NaN", "Infinity", "'a'", "\"",
-    "\"\\", "",
-];
-#[rustfmt::skip]
-const JSON_LISTS: &[&str] = &[
-    "[\"a\"]", "{\"a\":\"b\"}", "[", "]", "[\"a\",]", "{\"a\"}", "{}", "[]", "{\"a\":1,\"a\":2}", "[1,2,[3]]",
-    "{\"a\":}", "[\"\\ud800\"]", "[1e999]",
-];
-const ESCAPES: &[&str] = &["\\\"", "\\\\", "\\/", "\\b", "\\f", "\\n", "\\r", "\\t"];
-#[rustfmt::skip]
-const BAD_ESCAPES: &[&str] = &[
-    "\\ud800", "\\udc00", "\\ud800\\ud800", "\\udc00\\ud800", "\\ud800a", "\\ud800\\n", "\\ud800\\u0041", "\\x41",
-    "\\u12", "\\u12g4", "\\U0041", "\\", "\"", "\n", "\u{1f}", "\0", "\\a", "\\'", "\\u", "\\ud800\\", "\\ud800\\u",
-    "\\uD83E\\uDD80", "\\ud83e\\uDD80",
-];
+/// By one space each, so that the last is the empty one.
+const JSON_WORDS: &str = "null true false nul tru 0 -0 - 01 1.5 1. .5 1e5 1e 1E+5 1e-400 1e400 -1e999 \
+    18446744073709551615 18446744073709551616 -9223372036854775808 -9223372036854775809 123456789012345678901234567890 0.1e1 \
+    -1 +1 NaN Infinity 'a' \" \"\\ ";
+const JSON_LISTS: &str = r#"["a"] {"a":"b"} [ ] ["a",] {"a"} {} [] {"a":1,"a":2} [1,2,[3]] {"a":} ["\ud800"] [1e999]"#;
+const ESCAPES: &str = r#"\" \\ \/ \b \f \n \r \t"#;
+const BAD_ESCAPES: &str = "\\ud800 \\udc00 \\ud800\\ud800 \\udc00\\ud800 \\ud800a \\ud800\\n \\ud800\\u0041 \
+    \\x41 \\u12 \\u12g4 \\U0041 \\ \" \n \u{1f} \0 \\a \\' \\u \\ud800\\ \\ud800\\u \\uD83E\\uDD80 \\ud83e\\uDD80";
 
 /// A JSON text, or nearly one.
 fn json(random: &mut Random) -> String {
     let mut json = String::new();
     push_space(random, &mut json);
     match random.below(12) {
-        0 => json.push_str(random.pick(JSON_WORDS)),
-        1 => json.push_str(random.pick(JSON_LISTS)),
+        0 => json.push_str(random.word_of(JSON_WORDS)),
+        1 => json.push_str(random.word_of(JSON_LISTS)),
         2 => push_nested(random, &mut json),
         _ => push_string(random, &mut json),
     }
@@ -318,10 +296,10 @@ fn json(random: &mut Random) -> String {
 
 fn push_space(random: &mut Random, json: &mut String) {
     while random.one_in(4) {
-        json.push(random.pick(&[' ', '\n', '\t', '\r']));
+        json.push(random.char_of(" \n\t\r"));
     }
     if random.one_in(60) {
-        json.push(random.pick(&['\u{a0}', '\u{feff}', '\u{b}', '\u{c}', '\0']));
+        json.push(random.char_of("\u{a0}\u{feff}\u{b}\u{c}\0"));
     }
 }
 
@@ -344,7 +322,7 @@ fn push_string(random: &mut Random, json: &mut String) {
     json.push('"');
     for _ in 0..length(random).min(most) {
         match random.below(14) {
-            0 => json.push_str(random.pick(ESCAPES)),
+            0 => json.push_str(random.word_of(ESCAPES)),
             1 => {
                 let number =
                     random.pick(&[0u32, 0x1f, 0x22, 0x41, 0x5c, 0x7f, 0x80, 0xe9, 0x7ff, 0x800, 0x2028, 0xfffd]);
@@ -355,7 +333,7 @@ fn push_string(random: &mut Random, json: &mut String) {
                     (random.pick(&[0xd800u32, 0xd83e, 0xdbff]), random.pick(&[0xdc00u32, 0xdd80, 0xdfff]));
                 json.push_str(&format!("\\u{high:04x}\\u{low:04x}"));
             }
-            3 if random.one_in(12) => json.push_str(random.pick(BAD_ESCAPES)),
+            3 if random.one_in(12) => json.push_str(random.word_of(BAD_ESCAPES)),
             4 => json.push(character(random)),
             _ => json.push((b'a' + random.below(26) as u8) as char),
         }
@@ -367,12 +345,12 @@ fn push_string(random: &mut Random, json: &mut String) {
 fn haystack(random: &mut Random) -> String {
     match random.below(3) {
         0 => {
-            let unit: String = (0..=random.below(5)).map(|_| random.pick(&['a', 'b', 'é', '€', '🦀', ' '])).collect();
+            let unit: String = (0..=random.below(5)).map(|_| random.char_of("abé€🦀 ")).collect();
             let times = random.below(if random.is_long { 2000 } else { 30 });
             let tail = if random.one_in(3) { piece(random) } else { String::new() };
             unit.repeat(times) + &tail
         }
-        1 => (0..length(random)).map(|_| random.pick(&['a', 'a', 'b'])).collect(),
+        1 => (0..length(random)).map(|_| random.char_of("aab")).collect(),
         _ => text(random),
     }
 }
@@ -407,22 +385,18 @@ fn replaced(random: &mut Random) -> Vec<Vec<u8>> {
     [haystack, from, if is_small { to } else { "y".to_string() }].map(String::into_bytes).to_vec()
 }
 
-/// The texts of an operation.
-pub fn of(random: &mut Random, kind: Texts) -> Vec<Vec<u8>> {
-    let one = match kind {
-        Texts::None => return vec![],
-        Texts::Pieces => return pieces(random),
-        Texts::Replaced => return replaced(random),
-        Texts::Bytes => agreed(random, nearly_text),
-        Texts::Wire => agreed(random, nearly_wire),
-        Texts::Stream => stream(random),
-        Texts::Text => text(random).into(),
-        Texts::Short => short(random).into(),
-        Texts::Piece if random.one_in(2) => piece(random).into(),
-        Texts::Piece => text(random).into(),
-        Texts::Character => character(random).to_string().into(),
-        Texts::Cased => cased(random).into(),
-        Texts::Json => json(random).into(),
-    };
-    vec![one]
-}
+/// What draws the texts of an operation.
+pub type Texts = fn(&mut Random) -> Vec<Vec<u8>>;
+
+pub const NONE: Texts = |_| vec![];
+pub const TEXT: Texts = |random| vec![text(random).into()];
+pub const SHORT: Texts = |random| vec![short(random).into()];
+pub const PIECE: Texts = |random| vec![if random.one_in(2) { piece(random) } else { text(random) }.into()];
+pub const CHARACTER: Texts = |random| vec![character(random).to_string().into()];
+pub const CASED: Texts = |random| vec![cased(random).into()];
+pub const BYTES: Texts = |random| vec![agreed(random, nearly_text)];
+pub const WIRE: Texts = |random| vec![agreed(random, nearly_wire)];
+pub const STREAM: Texts = |random| vec![stream(random)];
+pub const JSON: Texts = |random| vec![json(random).into()];
+pub const PIECES: Texts = pieces;
+pub const REPLACED: Texts = replaced;

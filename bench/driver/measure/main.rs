@@ -8,6 +8,8 @@
 //!     measure times     each row's name, and the least nanoseconds of an operation, ours and upstream's
 //!
 //! A word after that leaves out the rows whose name does not begin with it, or with one of several.
+#[path = "../fnv.rs"]
+mod fnv;
 mod rows;
 mod upstream;
 

@@ -1,4 +1,5 @@
 //! The operations over upstream's crate; loops.rt.in has the same names over ours.
+use crate::fnv::Fnv;
 use borsh::{BorshDeserialize, BorshSerialize};
 use smol_str::{SmolStr, SmolStrBuilder, StrExt, ToSmolStr, format_smolstr};
 use std::collections::HashMap;
@@ -17,39 +18,23 @@ struct Case {
 /// The input cut into texts of `size` bytes.
 fn cases(texts: &[u8], others: &[u8], size: usize) -> Vec<Case> {
     let text = |bytes: &[u8]| str::from_utf8(bytes).unwrap().to_string();
-    let pairs = texts.chunks_exact(size).zip(others.chunks_exact(size));
-    let pairs = pairs.map(|(one, other)| (text(one), text(other)));
-    let case = |(text, other): (String, String)| Case {
-        value: SmolStr::new(&text),
-        other_value: SmolStr::new(&other),
-        form: form_of(&SmolStr::new(&text)),
-        text,
-        other,
+    let case = |(one, other)| {
+        let (text, other) = (text(one), text(other));
+        let (value, other_value) = (SmolStr::new(&text), SmolStr::new(&other));
+        Case { form: form_of(&value), text, other, value, other_value }
     };
-    pairs.map(case).collect()
-}
-
-/// FNV-1a, by bytes.
-struct Fnv(u64);
-
-impl Hasher for Fnv {
-    #[inline]
-    fn write(&mut self, bytes: &[u8]) {
-        let next = |hash: u64, byte: &u8| (hash ^ u64::from(*byte)).wrapping_mul(1099511628211);
-        self.0 = bytes.iter().fold(self.0, next);
-    }
-
-    #[inline]
-    fn finish(&self) -> u64 {
-        self.0
-    }
+    texts.chunks_exact(size).zip(others.chunks_exact(size)).map(case).collect()
 }
 
 /// The length and one byte of a text.
 #[inline(always)]
 fn seen(text: &str, pick: usize) -> u64 {
-    let byte = text.as_bytes().get(pick).copied().unwrap_or(0);
-    u64::from(byte).wrapping_add(text.len() as u64)
+    seen_bytes(text.as_bytes(), pick)
+}
+
+#[inline(always)]
+fn seen_bytes(bytes: &[u8], pick: usize) -> u64 {
+    u64::from(bytes.get(pick).copied().unwrap_or(0)).wrapping_add(bytes.len() as u64)
 }
 
 #[inline(always)]
@@ -69,87 +54,49 @@ fn hashed<H: Hasher>(value: &(impl Hash + ?Sized), mut hasher: H, pick: usize) -
 }
 
 #[inline(always)]
-fn new_inline(text: &str, pick: usize) -> u64 {
-    if text.len() > SmolStr::INLINE_CAP {
-        return 0;
-    }
-    seen(&SmolStr::new_inline(text), pick)
+fn seen_if<E>(made: Result<SmolStr, E>, pick: usize) -> u64 {
+    made.map_or(0, |value| seen(&value, pick))
 }
 
+/// What a builder makes of what is done to it.
 #[inline(always)]
-fn from_utf8(bytes: &[u8], pick: usize) -> u64 {
-    match SmolStr::from_utf8(bytes) {
-        Ok(value) => seen(&value, pick),
-        Err(_) => 0,
-    }
-}
-
-#[inline(always)]
-fn from_char(text: &str, pick: usize) -> u64 {
-    match text.as_bytes().get(pick) {
-        Some(byte) => seen(&SmolStr::from(char::from(*byte)), pick),
-        None => 0,
-    }
+fn grown(mut builder: SmolStrBuilder, pick: usize, grow: impl FnOnce(&mut SmolStrBuilder)) -> u64 {
+    grow(&mut builder);
+    seen(&builder.finish(), pick)
 }
 
 #[inline(always)]
 fn push_str(case: &Case, pick: usize) -> u64 {
-    let mut builder = SmolStrBuilder::new();
-    builder.push_str(&case.text);
-    builder.push_str(&case.other);
-    builder.push_str(&case.text);
-    seen(&builder.finish(), pick)
+    let texts = [&case.text, &case.other, &case.text];
+    grown(SmolStrBuilder::new(), pick, |builder| texts.iter().for_each(|text| builder.push_str(text)))
 }
 
 #[inline(always)]
 fn push(text: &str, pick: usize) -> u64 {
-    let mut builder = SmolStrBuilder::new();
-    for byte in text.as_bytes() {
-        builder.push(char::from(*byte));
-    }
-    seen(&builder.finish(), pick)
+    grown(SmolStrBuilder::new(), pick, |builder| text.bytes().for_each(|byte| builder.push(char::from(byte))))
 }
 
 #[inline(always)]
-fn finish(text: &str, pick: usize) -> u64 {
-    let mut builder = SmolStrBuilder::with_capacity(100);
-    builder.push_str(text);
-    seen(&builder.finish(), pick)
+fn new_inline(text: &str, pick: usize) -> u64 {
+    if text.len() > SmolStr::INLINE_CAP { 0 } else { seen(&SmolStr::new_inline(text), pick) }
 }
 
+/// A literal; the compiler does not know which.
 #[inline(always)]
-fn extend_chars(text: &str, pick: usize) -> u64 {
-    let mut builder = SmolStrBuilder::new();
-    builder.extend(text.chars());
-    seen(&builder.finish(), pick)
-}
-
-#[inline(always)]
-fn extend_strs(text: &str, pick: usize) -> u64 {
-    let mut builder = SmolStrBuilder::new();
-    builder.extend(text.split(' '));
-    seen(&builder.finish(), pick)
+fn new_static(text: &str, pick: usize) -> u64 {
+    seen(&SmolStr::new_static(if text.len() > pick { "a literal of some length" } else { "another" }), pick)
 }
 
 #[inline(always)]
 fn display(out: &mut String, value: &SmolStr, pick: usize) -> u64 {
     out.clear();
-    if write!(out, "{value}").is_err() {
-        return 0;
-    }
-    seen(out, pick)
+    write!(out, "{value}").map_or(0, |()| seen(out, pick))
 }
 
 /// A number of eight or nine digits that the text decides.
 #[inline(always)]
 fn number_of(text: &str, pick: usize) -> u64 {
     u64::from(text.as_bytes().get(pick).copied().unwrap_or(0)).wrapping_mul(1_000_003)
-}
-
-#[inline(always)]
-fn format(text: &str, pick: usize) -> u64 {
-    let number = number_of(text, pick);
-    seen(&format_smolstr!("{text}-{number}"), pick)
 }
 
 /// The wire form, in a `Vec` that begins empty.
@@ -161,26 +108,10 @@ fn form_of(value: &SmolStr) -> Vec<u8> {
 }
 
 #[inline(always)]
-fn serialize(value: &SmolStr, pick: usize) -> u64 {
-    let form = form_of(value);
-    u64::from(form.get(pick).copied().unwrap_or(0)).wrapping_add(form.len() as u64)
-}
-
-#[inline(always)]
 fn reader(form: &[u8], pick: usize) -> u64 {
-    let mut reader = form;
-    match SmolStr::deserialize_reader(&mut reader) {
-        Ok(value) => seen(&value, pick).wrapping_add((form.len() - reader.len()) as u64),
-        Err(_) => 0,
-    }
-}
-
-#[inline(always)]
-fn from_json(json: &str, pick: usize) -> u64 {
-    match serde_json::from_str::<SmolStr>(json) {
-        Ok(value) => seen(&value, pick),
-        Err(_) => 0,
-    }
+    let mut rest = form;
+    let made = SmolStr::deserialize_reader(&mut rest);
+    made.map_or(0, |value| seen(&value, pick).wrapping_add((form.len() - rest.len()) as u64))
 }
 
 type Places = HashMap<SmolStr, usize, BuildHasherDefault<DefaultHasher>>;
@@ -212,7 +143,7 @@ pub fn bench_upstream(operation: &str, texts: &[u8], others: &[u8], size: usize,
         "string" => run(all, n, |it, at| seen(&String::from(it.text.as_str()), at)),
         "new" => run(all, n, |it, at| seen(&SmolStr::new(&it.text), at)),
         "new_inline" => run(all, n, |it, at| new_inline(&it.text, at)),
-        "new_static" => run(all, n, |it, at| seen(&SmolStr::new_static(if it.text.len() > at { "a literal of some length" } else { "another" }), at)),
+        "new_static" => run(all, n, |it, at| new_static(&it.text, at)),
         "as_str" => run(all, n, |it, at| seen(it.value.as_str(), at)),
         "len" => run(all, n, |it, at| told(it.value.len() as u64, at)),
         "clone" => run(all, n, |it, at| seen(&it.value.clone(), at)),
@@ -220,20 +151,20 @@ pub fn bench_upstream(operation: &str, texts: &[u8], others: &[u8], size: usize,
         "eq_str" => run(all, n, |it, at| told(u64::from(it.value == *it.other), at)),
         "cmp" => run(all, n, |it, at| told(number(it.value.cmp(&it.other_value)), at)),
         "cmp_str" => run(all, n, |it, at| told(number(it.value.as_str().cmp(&it.other)), at)),
-        "hash-fnv" => run(all, n, |it, at| hashed(&it.value, Fnv(0xcbf29ce484222325), at)),
+        "hash-fnv" => run(all, n, |it, at| hashed(&it.value, Fnv::new(), at)),
         "hash-sip" => run(all, n, |it, at| hashed(&it.value, DefaultHasher::new(), at)),
-        "from_utf8" => run(all, n, |it, at| from_utf8(it.text.as_bytes(), at)),
+        "from_utf8" => run(all, n, |it, at| seen_if(SmolStr::from_utf8(it.text.as_bytes()), at)),
         "from_string" => run(all, n, |it, at| seen(&SmolStr::from(String::from(it.text.as_str())), at)),
         "into_string" => run(all, n, |it, at| seen(&String::from(it.value.clone()), at)),
-        "from_char" => run(all, n, |it, at| from_char(&it.text, at)),
+        "from_char" => run(all, n, |it, at| it.text.as_bytes().get(at).map_or(0, |byte| seen(&SmolStr::from(char::from(*byte)), at))),
         "from_chars" => run(all, n, |it, at| seen(&it.text.chars().collect::<SmolStr>(), at)),
         "push_str" => run(all, n, |it, at| push_str(it, at)),
         "push" => run(all, n, |it, at| push(&it.text, at)),
         // its one call for both of ours
-        "finish" | "into_value" => run(all, n, |it, at| finish(&it.text, at)),
+        "finish" | "into_value" => run(all, n, |it, at| grown(SmolStrBuilder::with_capacity(100), at, |builder| builder.push_str(&it.text))),
         "from_strs" => run(all, n, |it, at| seen(&it.text.split(' ').collect::<SmolStr>(), at)),
-        "extend_chars" => run(all, n, |it, at| extend_chars(&it.text, at)),
-        "extend_strs" => run(all, n, |it, at| extend_strs(&it.text, at)),
+        "extend_chars" => run(all, n, |it, at| grown(SmolStrBuilder::new(), at, |builder| builder.extend(it.text.chars()))),
+        "extend_strs" => run(all, n, |it, at| grown(SmolStrBuilder::new(), at, |builder| builder.extend(it.text.split(' ')))),
         "str-eq" => run(all, n, |it, at| told(u64::from(it.text == it.other), at)),
         "str-cmp" => run(all, n, |it, at| told(number(it.text.cmp(&it.other)), at)),
         "str-sip" => run(all, n, |it, at| hashed(it.text.as_str(), DefaultHasher::new(), at)),
@@ -242,15 +173,15 @@ pub fn bench_upstream(operation: &str, texts: &[u8], others: &[u8], size: usize,
             run(all, n, |it, at| told(places[&it.other_value] as u64, at))
         }
         "display" => run(all, n, |it, at| display(&mut out, &it.value, at)),
-        "serialize" => run(all, n, |it, at| serialize(&it.value, at)),
+        "serialize" => run(all, n, |it, at| seen_bytes(&form_of(&it.value), at)),
         // its reader for our call on a slice too
         "from_wire" | "reader" => run(all, n, |it, at| reader(&it.form, at)),
         "to_json" => run(all, n, |it, at| seen(&serde_json::to_string(&it.value).unwrap(), at)),
         "from_json" => {
             let jsons: Vec<String> = all.iter().map(|it| serde_json::to_string(&it.value).unwrap()).collect();
-            run(&jsons, n, |it, at| from_json(it, at))
+            run(&jsons, n, |it, at| seen_if(serde_json::from_str(it), at))
         }
-        "format" => run(all, n, |it, at| format(&it.text, at)),
+        "format" => run(all, n, |it, at| seen(&format_smolstr!("{}-{}", it.text, number_of(&it.text, at)), at)),
         "number" => run(all, n, |it, at| seen(&number_of(&it.text, at).to_smolstr(), at)),
         "to_smolstr" => run(all, n, |it, at| seen(&it.text.as_str().to_smolstr(), at)),
         "ascii_lower" => run(all, n, |it, at| seen(&it.text.to_ascii_lowercase_smolstr(), at)),
