@@ -25,8 +25,7 @@ impl Mirror {
             "finish" | "from_builder" | "finished" | "into_value" => self.finish(it, run, out),
             "builder ==" => {
                 let (left, right) = (&self.builders[it.dst as usize].text, &self.builders[it.src as usize].text);
-                out.flag(left == right);
-                out.flag(left != right);
+                out.flags(&[left == right, left != right]);
             }
             "build" => {
                 let text = built(it);
@@ -36,11 +35,8 @@ impl Mirror {
             "from_chars" => self.made(it, run, of_chars(it), out),
             "from_strs" | "ValueAlloc" => self.made(it, run, it.strs().into_iter().collect(), out),
             "from_strs of a split" => self.made(it, run, it.text(0).split(' ').collect(), out),
-            "from_strings" => self.made(it, run, it.strs().into_iter().map(String::from).collect(), out),
-            "from_string_refs" => {
-                let strings: Vec<String> = it.strs().into_iter().map(String::from).collect();
-                self.made(it, run, strings.iter().collect(), out);
-            }
+            "from_strings" => self.made(it, run, it.strings().into_iter().collect(), out),
+            "from_string_refs" => self.made(it, run, it.strings().iter().collect(), out),
             _ => self.push(it, run, out),
         }
     }
@@ -72,7 +68,7 @@ impl Mirror {
             "push_str of a value" => vec![self.at(it.src).text.to_string()],
             "Piece::append_to" => vec![if matches!(it.form, 1..=3) { it.text(0).into() } else { character }],
             "extend_chars" => it.text(0).chars().map(String::from).collect(),
-            _ => it.strs().into_iter().map(String::from).collect(),
+            _ => it.strings(),
         };
         match it.row.name {
             "push" => pushed.push(it.character()),
@@ -82,10 +78,8 @@ impl Mirror {
             _ => pushed.push_str(&pieces[0]),
         }
         self.append(run, it.dst, &pieces, true, out);
-        self.expect(
-            run.is_refused() || pushed == self.builders[it.dst as usize].text,
-            "upstream's call is not its push_str of each item",
-        );
+        let is_same = run.is_refused() || pushed == self.builders[it.dst as usize].text;
+        self.expect(is_same, "upstream's call is not its push_str of each item");
     }
 
     /// Appends pieces. Where a request was refused, by as much of them as the machine reports, which must end where a
@@ -93,21 +87,19 @@ impl Mirror {
     pub fn append(&mut self, run: &Run, at: u8, pieces: &[String], are_whole: bool, out: &mut Report) {
         let builder = &mut self.builders[at as usize];
         let joined = pieces.concat();
-        if !run.is_refused() {
-            let stays = !builder.is_on_heap && builder.text.len() + joined.len() <= INLINE_CAP;
+        let stays = !builder.is_on_heap && builder.text.len() + joined.len() <= INLINE_CAP;
+        if run.is_refused() {
+            let added = run.actual_number(LENGTH_AT).saturating_sub(builder.text.len());
+            if added > 0 && is_end(pieces, &joined, added, are_whole) {
+                builder.text.push_str(&joined[..added]);
+            }
+        } else {
             pieces.iter().for_each(|piece| builder.text.push_str(piece));
-            builder.is_on_heap |= !is_short(builder.text.as_str());
-            out.byte(b'W');
-            out.builder(builder);
-            return self.takes_none(run, stays);
         }
-        out.byte(b'R');
-        let added = run.actual_number(LENGTH_AT).saturating_sub(builder.text.len());
-        if added > 0 && is_end(pieces, &joined, added, are_whole) {
-            builder.text.push_str(&joined[..added]);
-            builder.is_on_heap |= !is_short(builder.text.as_str());
-        }
+        builder.is_on_heap |= !is_short(builder.text.as_str());
+        out.byte(if run.is_refused() { b'R' } else { b'W' });
         out.builder(builder);
+        self.takes_none(run, stays);
     }
 
     fn finish(&mut self, it: &Operation, run: &Run, out: &mut Report) {

@@ -5,14 +5,13 @@
 use crate::departures::Departure;
 use crate::mirror::{Mirror, Run, is_resident};
 use crate::operation::Operation;
-use crate::prints::CHUNK;
+use crate::prints::PIECE;
 use crate::report::Report;
 use crate::texts::INLINE_CAP;
 use borsh::{BorshDeserialize, BorshSerialize};
 use serde_json::Value;
 use smol_str::SmolStr;
 use std::io::{self, ErrorKind, Read, Write};
-use std::str::Utf8Error;
 
 /// The bytes of a wire form before its body.
 const PREFIX: usize = 4;
@@ -20,26 +19,19 @@ const PREFIX: usize = 4;
 /// The failure by which a writer takes no byte.
 const TAKES_NONE: u8 = 3;
 
-/// Why bytes make no value.
-enum Fault {
-    Ended,
-    NotUtf8(Utf8Error),
-    OutOfMemory,
-    Io,
-}
+/// The error with which a reader or a writer fails, by the operation's form.
+const FAILURES: [ErrorKind; 4] =
+    [ErrorKind::Interrupted, ErrorKind::BrokenPipe, ErrorKind::UnexpectedEof, ErrorKind::WriteZero];
 
-/// The error with which a reader or a writer fails.
-pub fn failure(form: u8) -> ErrorKind {
-    match form {
-        0 => ErrorKind::Interrupted,
-        1 => ErrorKind::BrokenPipe,
-        TAKES_NONE => ErrorKind::WriteZero,
-        _ => ErrorKind::UnexpectedEof,
-    }
+/// Why bytes make no value: its debug text, and what the report has of it.
+type Fault = (String, Report);
+
+fn fault(text: &str, code: u8) -> Fault {
+    (text.to_string(), Report(vec![code]))
 }
 
 fn io_text(it: &Operation) -> String {
-    format!("Io(Kind({:?}))", failure(it.form))
+    format!("Io(Kind({:?}))", FAILURES[it.form as usize])
 }
 
 /// A writer that behaves as the machine's does. It fails with another error in place of `Interrupted`, after which
@@ -57,7 +49,7 @@ impl Write for SlowWriter<'_> {
             _ if self.calls != self.it.digits => {}
             TAKES_NONE => return Ok(0),
             0 => return Err(ErrorKind::BrokenPipe.into()),
-            form => return Err(failure(form).into()),
+            form => return Err(FAILURES[form as usize].into()),
         }
         let n = self.it.width.max(1).min(buf.len());
         self.taken.extend(&buf[..n]);
@@ -98,14 +90,13 @@ fn reading(it: &Operation, rooms: impl Iterator<Item = usize>) -> (usize, bool) 
 
 /// The rooms of so many bytes, a piece at a time.
 fn by_pieces(size: usize) -> impl Iterator<Item = usize> {
-    (0..size.div_ceil(CHUNK)).map(move |at| CHUNK.min(size - at * CHUNK))
+    (0..size.div_ceil(PIECE)).map(move |at| PIECE.min(size - at * PIECE))
 }
 
 /// The rest of a reader, as the machine tells it: each buffer had room, and none more than a piece.
 fn tell_reader(left: usize, out: &mut Report) {
     out.size(left);
-    out.flag(true);
-    out.flag(true);
+    out.flags(&[true, true]);
 }
 
 fn stated(bytes: &[u8]) -> Option<usize> {
@@ -114,10 +105,11 @@ fn stated(bytes: &[u8]) -> Option<usize> {
 
 /// Why these bytes hold no wire form, where upstream has an error of borsh or std.
 fn fault_of(bytes: &[u8]) -> Fault {
-    match stated(bytes).and_then(|size| bytes[PREFIX..].get(..size)) {
-        None => Fault::Ended,
-        Some(body) => Fault::NotUtf8(str::from_utf8(body).expect_err("upstream reads a body that is UTF-8")),
-    }
+    let Some(body) = stated(bytes).and_then(|size| bytes[PREFIX..].get(..size)) else { return fault("Ended", b'E') };
+    let error = str::from_utf8(body).expect_err("upstream reads a body that is UTF-8");
+    let mut out = Report::default();
+    out.utf8_error(&error);
+    (format!("NotUtf8({error:?})"), out)
 }
 
 impl Mirror {
@@ -149,7 +141,7 @@ impl Mirror {
         if it.form == 0 {
             self.departs(Departure::Interrupted);
         }
-        out.io_error(failure(it.form));
+        out.0.extend([b'I', it.form]);
     }
 
     fn from_bytes(&mut self, it: &Operation, run: &Run, out: &mut Report) {
@@ -158,7 +150,7 @@ impl Mirror {
             Ok(text) => {
                 self.takes_none(run, is_resident(&text));
                 if run.is_refused() {
-                    return self.not_decoded(it, Fault::OutOfMemory, out);
+                    return self.not_decoded(it, fault("OutOfMemory", b'R'), out);
                 }
                 if it.row.name == "from_wire" { out.size(it.bytes().len() - rest.len()) } else { out.bytes(rest) }
                 self.keep(it.dst, text, out);
@@ -171,22 +163,10 @@ impl Mirror {
     }
 
     /// What the machine reports of a fault: its debug text, and what it holds.
-    fn not_decoded(&mut self, it: &Operation, fault: Fault, out: &mut Report) {
+    fn not_decoded(&mut self, it: &Operation, (text, report): Fault, out: &mut Report) {
         self.departs(Departure::WireFault);
-        let text = match &fault {
-            Fault::Ended => "Ended".to_string(),
-            Fault::NotUtf8(error) => format!("NotUtf8({error:?})"),
-            Fault::OutOfMemory => "OutOfMemory".to_string(),
-            Fault::Io => io_text(it),
-        };
-        let is_limited = it.row.name == "deserialize_limited";
-        out.show(&if is_limited { format!("Decode({text})") } else { text });
-        match fault {
-            Fault::Ended => out.byte(b'E'),
-            Fault::NotUtf8(error) => out.utf8_error(&error),
-            Fault::OutOfMemory => out.byte(b'R'),
-            Fault::Io => self.io_error(it, out),
-        }
+        out.show(&if it.row.name == "deserialize_limited" { format!("Decode({text})") } else { text });
+        out.0.extend(report.0);
     }
 
     fn read_form(&mut self, it: &Operation, run: &Run, out: &mut Report) {
@@ -197,13 +177,14 @@ impl Mirror {
         self.takes_none(run, body <= INLINE_CAP);
         if run.is_refused() {
             tell_reader(run.actual_number(0).min(bytes.len()), out);
-            return self.not_decoded(it, Fault::OutOfMemory, out);
+            return self.not_decoded(it, fault("OutOfMemory", b'R'), out);
         }
         let rooms = if body <= INLINE_CAP { vec![body] } else { by_pieces(body).collect() };
         let (taken, has_failed) = reading(it, std::iter::once(PREFIX).chain(rooms));
         tell_reader(bytes.len() - taken, out);
         if has_failed {
-            return self.not_decoded(it, Fault::Io, out);
+            self.not_decoded(it, (io_text(it), Report::default()), out);
+            return self.io_error(it, out);
         }
         if is_too_long {
             self.departs(Departure::WireFault);
@@ -233,8 +214,7 @@ impl Mirror {
                 let mut room = vec![0; limit.min(MOST_FILLED)];
                 let (taken, has_failed) = reading(it, std::iter::once(room.len()));
                 out.size(bytes.len() - taken);
-                out.flag(true);
-                out.flag(room.len() <= CHUNK);
+                out.flags(&[true, room.len() <= PIECE]);
                 if has_failed { self.io_error(it, out) } else { out.byte(b'W') }
                 room[..taken].copy_from_slice(&bytes[..taken]);
                 out.bytes(&room);
@@ -294,15 +274,14 @@ const PLACES: [(&str, bool, bool); 5] =
     [("Inline", false, true), ("Static", true, true), ("Heap", false, false), ("Lower", true, false), ("Upper", false, true)];
 
 /// What the machine reports of faults and of small types: debug texts are what std derives for types of the same form.
-pub fn fault(it: &Operation, out: &mut Report) {
+pub fn faults(it: &Operation, out: &mut Report) {
     match it.row.name {
         "faults of memory" => OF_MEMORY.split(' ').for_each(|text| out.show(text)),
         "faults of streams" => of_streams(it, out),
         _ => {
             for (text, one, other) in PLACES {
                 out.show(text);
-                out.flag(one);
-                out.flag(other);
+                out.flags(&[one, other]);
             }
             ["FormatError", "NotString"].iter().for_each(|text| out.show(text));
             for text in it.strs() {

@@ -16,8 +16,8 @@ pub enum Refusal {
 }
 
 impl Refusal {
-    /// The head of a program, as heap.c reads it.
-    fn head(self) -> [u8; 16] {
+    /// The head of a program, as heap.c reads it: a byte that says which, seven of a number, and eight of a seed.
+    fn head(self) -> Vec<u8> {
         let (which, n, seed) = match self {
             Refusal::None => (0, 0, 0),
             Refusal::One(n) => (1, n, 0),
@@ -25,11 +25,7 @@ impl Refusal {
             Refusal::Chance(n, seed) => (3, n, seed),
             Refusal::Smaller => (4, 0, 0),
         };
-        let mut head = [0; 16];
-        head[0] = which;
-        head[1..8].copy_from_slice(&n.to_le_bytes()[..7]);
-        head[8..].copy_from_slice(&seed.to_le_bytes());
-        head
+        [(n << 8 | which).to_le_bytes(), seed.to_le_bytes()].concat()
     }
 }
 

@@ -113,7 +113,7 @@ impl Mirror {
             b'f' => self.form(it, run, &mut out),
             b's' => self.stream(it, run, &mut out),
             b'j' => self.json(it, run, &mut out),
-            _ => crate::forms::fault(it, &mut out),
+            _ => crate::forms::faults(it, &mut out),
         }
         out.0
     }

@@ -32,6 +32,10 @@ impl Operation {
         (0..self.texts.len()).map(|at| self.text(at)).collect()
     }
 
+    pub fn strings(&self) -> Vec<String> {
+        self.strs().into_iter().map(String::from).collect()
+    }
+
     pub fn character(&self) -> char {
         self.text(0).chars().next().unwrap_or('x')
     }

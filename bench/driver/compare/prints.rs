@@ -136,12 +136,7 @@ impl Mirror {
 }
 
 fn compare(left: &SmolStr, right: &SmolStr, out: &mut Report) {
-    out.flag(left == right);
-    out.flag(left != right);
-    out.flag(left < right);
-    out.flag(left <= right);
-    out.flag(left > right);
-    out.flag(left >= right);
+    out.flags(&[left == right, left != right, left < right, left <= right, left > right, left >= right]);
     out.order(left.cmp(right));
     out.order(left.partial_cmp(right).unwrap());
     hash(left, out);
@@ -150,8 +145,7 @@ fn compare(left: &SmolStr, right: &SmolStr, out: &mut Report) {
 
 fn compare_text(left: &SmolStr, text: &str, out: &mut Report) {
     let owned = text.to_string();
-    out.flag(left == text && text == left);
-    out.flag(*left == owned && owned == *left);
+    out.flags(&[left == text && text == left, *left == owned && owned == *left]);
     out.order(left.partial_cmp(text).unwrap());
     out.order(left.partial_cmp(&owned).unwrap());
 }

@@ -2,7 +2,6 @@
 use crate::mirror::{Builder, Place, Value};
 use crate::texts::INLINE_CAP;
 use std::cmp::Ordering;
-use std::io::ErrorKind;
 use std::str::Utf8Error;
 
 #[derive(Default)]
@@ -13,8 +12,8 @@ impl Report {
         self.0.push(byte);
     }
 
-    pub fn flag(&mut self, flag: bool) {
-        self.byte(u8::from(flag));
+    pub fn flags(&mut self, flags: &[bool]) {
+        self.0.extend(flags.iter().map(|flag| u8::from(*flag)));
     }
 
     pub fn number(&mut self, number: u64) {
@@ -50,9 +49,7 @@ impl Report {
         self.byte(b'V');
         self.byte(place as u8);
         self.size(value.text.len());
-        self.flag(value.text.is_empty());
-        self.flag(text.is_ascii());
-        self.flag(place == Place::Heap);
+        self.flags(&[value.text.is_empty(), text.is_ascii(), place == Place::Heap]);
         self.text(text);
         if place == Place::Inline { self.buffer(text) } else { self.byte(b'-') }
     }
@@ -61,7 +58,7 @@ impl Report {
         let text = builder.text.as_str();
         self.byte(b'B');
         self.size(builder.text.len());
-        self.flag(builder.text.is_empty());
+        self.flags(&[builder.text.is_empty()]);
         self.text(text);
         if builder.is_on_heap { self.byte(b'-') } else { self.buffer(text) }
     }
@@ -70,12 +67,6 @@ impl Report {
         self.byte(b'U');
         self.size(error.valid_up_to());
         self.byte(error.error_len().unwrap_or(0) as u8);
-    }
-
-    pub fn io_error(&mut self, kind: ErrorKind) {
-        let kinds = [ErrorKind::Interrupted, ErrorKind::BrokenPipe, ErrorKind::UnexpectedEof, ErrorKind::WriteZero];
-        self.byte(b'I');
-        self.byte(kinds.iter().position(|it| *it == kind).unwrap_or(9) as u8);
     }
 
     /// A debug text, and its length.

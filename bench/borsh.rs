@@ -1,4 +1,5 @@
-//! What upstream's smol_str calls of borsh: a size as four bytes, the lowest first, and then so many bytes.
+//! Stands for the crate borsh where no registry has it. What upstream's smol_str calls of it: a size as four bytes, the
+//! lowest first, and then so many bytes.
 pub mod io {
     pub use std::io::{Error, ErrorKind, Read, Result, Write};
 }
