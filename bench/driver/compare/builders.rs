@@ -15,7 +15,7 @@ const LENGTH_AT: usize = 2;
 impl Mirror {
     pub fn growing(&mut self, it: &Operation, run: &Run, out: &mut Report) {
         match it.row.name {
-            "SmolStrBuilder::new" => self.keep_builder(it.dst, Builder::default(), out),
+            "SmolStrBuilder::new" | "made_with" => self.keep_builder(it.dst, Builder::default(), out),
             "with_capacity" => self.with_capacity(it, run, out),
             "builder clone" | "builder Clone::clone" => {
                 let copy = self.builders[it.src as usize].clone();
@@ -23,6 +23,10 @@ impl Mirror {
                 if run.is_refused() { out.byte(b'R') } else { self.keep_builder(it.dst, copy, out) }
             }
             "finish" | "from_builder" | "finished" | "into_value" => self.finish(it, run, out),
+            "try_take" => {
+                out.builder(&Builder::default());
+                out.builder(&self.builders[it.dst as usize]);
+            }
             "builder ==" => {
                 let (left, right) = (&self.builders[it.dst as usize].text, &self.builders[it.src as usize].text);
                 out.flags(&[left == right, left != right]);
@@ -33,7 +37,8 @@ impl Mirror {
                 if run.is_refused() { out.byte(b'R') } else { self.keep(it.dst, text, out) }
             }
             "from_chars" => self.made(it, run, of_chars(it), out),
-            "from_strs" | "ValueAlloc" => self.made(it, run, it.strs().into_iter().collect(), out),
+            "collect" if it.form == 0 => self.made(it, run, it.text(0).chars().collect(), out),
+            "from_strs" | "ValueAlloc" | "collect" => self.made(it, run, it.strs().into_iter().collect(), out),
             "from_strs of a split" => self.made(it, run, it.text(0).split(' ').collect(), out),
             "from_strings" => self.made(it, run, it.strings().into_iter().collect(), out),
             "from_string_refs" => self.made(it, run, it.strings().iter().collect(), out),
@@ -67,12 +72,14 @@ impl Mirror {
             "push_str" => vec![it.text(0).into()],
             "push_str of a value" => vec![self.at(it.src).text.to_string()],
             "Piece::append_to" => vec![if matches!(it.form, 1..=3) { it.text(0).into() } else { character }],
+            "extend" if it.form == 0 => it.text(0).chars().map(String::from).collect(),
             "extend_chars" => it.text(0).chars().map(String::from).collect(),
             _ => it.strings(),
         };
         match it.row.name {
             "push" => pushed.push(it.character()),
             "extend_chars" => pushed.extend(it.text(0).chars()),
+            "extend" => pushed.extend(pieces.iter()),
             "extend_strs" => pushed.extend(it.strs()),
             "extend_strings" => pushed.extend(pieces.iter()),
             _ => pushed.push_str(&pieces[0]),

@@ -241,10 +241,12 @@ impl Mirror {
     pub fn json(&mut self, it: &Operation, run: &Run, out: &mut Report) {
         let read = serde_json::from_str::<Value>(it.text(0));
         match (it.row.name, read) {
-            ("from_value", Err(_)) => out.byte(b'E'),
+            ("from_value" | "serde_json::from_value", Err(_)) => out.byte(b'E'),
             _ if run.is_refused() => out.byte(b'R'),
-            ("to_json", _) => out.text(&serde_json::to_string(&self.at(it.src).text).unwrap()),
+            ("to_json" | "serde_json::to_string", _) => out.text(&serde_json::to_string(&self.at(it.src).text).unwrap()),
             ("to_value", _) => out.text(serde_json::to_value(&self.at(it.src).text).unwrap().as_str().unwrap()),
+            ("serde_json::from_str", _) => self.of_serde(it, serde_json::from_str(it.text(0)), out),
+            ("serde_json::from_value", Ok(value)) => self.of_serde(it, serde_json::from_value(value), out),
             ("from_value", Ok(value)) => match serde_json::from_value::<SmolStr>(value) {
                 Ok(text) => self.made(it, run, text, out),
                 Err(_) => self.no_string(out),
@@ -259,6 +261,13 @@ impl Mirror {
         }
     }
 
+    fn of_serde(&mut self, it: &Operation, made: serde_json::Result<SmolStr>, out: &mut Report) {
+        match made {
+            Ok(text) => self.keep(it.dst, text, out),
+            Err(_) => out.byte(b'E'),
+        }
+    }
+
     fn no_string(&mut self, out: &mut Report) {
         self.departs(Departure::NoString);
         out.byte(b'N');
@@ -269,6 +278,12 @@ impl Mirror {
 const OF_MEMORY: &str = "AllocError AllocError OutOfMemory OutOfMemory Decode(OutOfMemory) OutOfMemory OutOfMemory \
     OutOfMemory OutOfMemory Decode(OutOfMemory) OutOfMemory";
 
+/// Its sentence of each fault.
+const IN_WORDS: &str = "formatting failed or memory ran out\nformatting failed or memory ran out\n\
+    formatting failed or memory ran out\nmemory allocation failed\nthe JSON value is not a string\n\
+    memory allocation failed\nmemory allocation failed\nthe text has more than 4294967295 bytes\n\
+    the stated length exceeds the limit\nthe bytes end before the text does\nmemory allocation failed\n";
+
 /// The debug texts of places and cases, each with whether two comparisons hold.
 const PLACES: [(&str, bool, bool); 5] =
     [("Inline", false, true), ("Static", true, true), ("Heap", false, false), ("Lower", true, false), ("Upper", false, true)];
@@ -278,6 +293,12 @@ pub fn faults(it: &Operation, out: &mut Report) {
     match it.row.name {
         "faults of memory" => OF_MEMORY.split(' ').for_each(|text| out.show(text)),
         "faults of streams" => of_streams(it, out),
+        "faults in words" => {
+            out.0.extend(IN_WORDS.bytes());
+            if let Err(error) = str::from_utf8(it.bytes()) {
+                out.0.extend(format!("{error}\n").bytes());
+            }
+        }
         _ => {
             for (text, one, other) in PLACES {
                 out.show(text);

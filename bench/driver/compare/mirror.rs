@@ -269,7 +269,7 @@ fn constructed(name: &str, text: &str) -> SmolStr {
         "from_boxed_str" => SmolStr::from(text.to_string().into_boxed_str()),
         "from_cow_str, borrowed" => SmolStr::from(Cow::Borrowed(text)),
         "from_cow_str, owned" => SmolStr::from(Cow::<str>::Owned(text.to_string())),
-        "from_rc_str" => SmolStr::from(Arc::<str>::from(text)),
+        "from_rc_str" | "From<RcStr>" => SmolStr::from(Arc::<str>::from(text)),
         // SAFETY: these are the bytes of a text
         "from_utf8_unchecked" => unsafe { SmolStr::from_utf8_unchecked(text.as_bytes()) },
         _ => panic!("{name} makes no value of a text"),

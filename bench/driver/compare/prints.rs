@@ -33,6 +33,7 @@ impl Mirror {
         match it.row.name {
             "== < cmp hash" => compare(&self.at(it.dst).text, &self.at(it.src).text, out),
             "eq_str cmp_str" => compare_text(&self.at(it.src).text, it.text(0), out),
+            "deref" => [&self.at(it.src).text, it.character().to_string().as_str()].iter().for_each(|text| out.text(text)),
             "values in containers" if run.is_refused() => out.byte(b'R'),
             "values in containers" => self.containers(out),
             "convert_while_ascii" if !is_short(it.text(0)) => out.byte(b'!'),

@@ -74,6 +74,10 @@ const OF_STREAMS: &str = "EncodeFault::from DecodeFaultFromIoError::from Limited
     ReadFaultFromIoError::from DecodeFaultFromReadFault::from DecodeFaultFromFromUtf8Fault::from \
     LimitedFaultFromDecodeFault::from";
 
+const IN_WORDS: &str = "DecodeFault::fmt EncodeFault::fmt FormatError::fmt FromUtf8Fault::fmt JsonFault::fmt \
+    LimitedFault::fmt ReadFault::fmt FormatErrorFromAllocError::from FormatErrorFromAllocFailed::from \
+    FormatErrorFromFmtError::from";
+
 #[rustfmt::skip]
 pub static ROWS: &[Row] = &[
     row(b'v', "new", 18, 1, texts::TEXT, ANY, NotResident, "SmolStr::new"),
@@ -84,7 +88,7 @@ pub static ROWS: &[Row] = &[
     row(b'v', "new_static", 14, 8, texts::NONE, ANY, Never, "SmolStr::new_static"),
     row(b'v', "from_utf8", 17, 1, texts::BYTES, ANY, Other, "SmolStr::from_utf8 FromUtf8FaultDebug::fmt"),
     row(b'v', "from_utf8_unchecked", 8, 1, texts::TEXT, ANY, NotResident, "SmolStr::from_utf8_unchecked"),
-    row(b'v', "From<char>", 8, 1, texts::CHARACTER, ANY, Never, "SmolStr::from"),
+    row(b'v', "From<char>", 8, 1, texts::CHARACTER, ANY, Never, "SmolStrFromChar::from"),
     row(b'v', "Default", 2, 1, texts::NONE, ANY, Never, "SmolStr::default"),
     row(b'v', "clone", 10, 1, texts::NONE, ANY, Other, "SmolStr::clone"),
     row(b'v', "Clone::clone", 10, 1, texts::NONE, ANY, Other, "SmolStr::clone"),
@@ -153,6 +157,16 @@ pub static ROWS: &[Row] = &[
     row(b'x', "faults of memory", 3, 1, texts::NONE, ANY, Never, OF_MEMORY),
     row(b'x', "faults of streams", 3, 3, texts::BYTES, ANY, Never, OF_STREAMS),
     row(b'x', "debug texts", 3, 2, texts::TEXT, ANY, Never, DEBUGS),
+    row(b'o', "From<RcStr>", 5, 1, texts::TEXT, ANY, Never, "SmolStrFromSharedText::from"),
+    row(b't', "deref", 5, 1, texts::CHARACTER, ANY, Never, "SmolStr::deref SmolStr::shown"),
+    row(b'c', "collect", 15, 4, texts::PIECES, ANY, NotShort, "SmolStr::from_iter"),
+    row(b'c', "extend", 10, 3, texts::PIECES, ANY, Other, "SmolStrBuilder::extend"),
+    row(b'b', "made_with", 5, 1, texts::NONE, ANY, Never, "SmolStrBuilder::made_with"),
+    row(b'b', "try_take", 5, 1, texts::NONE, ANY, Never, "SmolStrBuilder::emptied"),
+    row(b'j', "serde_json::to_string", 5, 1, texts::NONE, ANY, Other, "SmolStr::serialize SmolStr::described"),
+    row(b'j', "serde_json::from_str", 15, 1, texts::JSON, ANY, Other, "SmolStr::deserialize"),
+    row(b'j', "serde_json::from_value", 5, 1, texts::JSON, ANY, Other, "SmolStr::deserialize_owned"),
+    row(b'x', "faults in words", 3, 1, texts::BYTES, ANY, Never, IN_WORDS),
     row(b'x', "each character", 0, 1, texts::NONE, ANY, Other, ""),
     row(b'x', "version of Unicode", 0, 1, texts::NONE, ANY, Never, ""),
 ];
