@@ -171,8 +171,7 @@ impl Mirror {
         match it.row.name {
             "new_inline" | "new_inline_in_case" if !is_short(text) => out.byte(b'!'),
             "new_inline" => self.keep(it.dst, SmolStr::new_inline(text), out),
-            "new_inline_in_case" if it.form == 0 => self.keep(it.dst, SmolStr::new_inline(&text.to_ascii_lowercase()), out),
-            "new_inline_in_case" => self.keep(it.dst, SmolStr::new_inline(&text.to_ascii_uppercase()), out),
+            "new_inline_in_case" => self.keep(it.dst, SmolStr::new_inline(&it.in_case(text)), out),
             "From<char>" => self.keep(it.dst, SmolStr::from(it.character()), out),
             "Default" => self.keep(it.dst, SmolStr::default(), out),
             "new_static" => {

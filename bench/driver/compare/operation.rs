@@ -40,6 +40,11 @@ impl Operation {
         self.text(0).chars().next().unwrap_or('x')
     }
 
+    /// A text in the ASCII case of the form.
+    pub fn in_case(&self, text: &str) -> String {
+        if self.form == 0 { text.to_ascii_lowercase() } else { text.to_ascii_uppercase() }
+    }
+
     pub fn encode(&self, to: &mut Vec<u8>) {
         let bytes = |bytes: &[u8], to: &mut Vec<u8>| {
             to.extend((bytes.len() as u64).to_le_bytes());

@@ -10,7 +10,9 @@ use std::fmt::Write as _;
 use std::hash::{DefaultHasher, Hash, Hasher};
 
 /// The most bytes that one read asks for, by docs/DIFFERENCES.md.
-pub const CHUNK: usize = 4096;
+pub const PIECE: usize = 4096;
+
+const CONSTANTS: [usize; 5] = [INLINE_CAP, SmolStr::INLINE_CAP, BLANK_NEWLINES, BLANK_SPACES, PIECE];
 
 /// The text's bytes by FNV-1a.
 pub fn digest(text: &str) -> u64 {
@@ -39,8 +41,7 @@ impl Mirror {
             "convert_while_ascii" if !is_short(it.text(0)) => out.byte(b'!'),
             "convert_while_ascii" => {
                 let front: String = it.text(0).chars().take_while(char::is_ascii).collect();
-                let front = if it.form == 0 { front.to_ascii_lowercase() } else { front.to_ascii_uppercase() };
-                out.buffer(&front);
+                out.buffer(&it.in_case(&front));
                 out.size(front.len());
             }
             "next_match" => {
@@ -55,10 +56,7 @@ impl Mirror {
                 Ok(size) => out.bytes(&size.to_le_bytes()),
                 Err(_) => out.byte(b'-'),
             },
-            "constants" => {
-                let constants = [INLINE_CAP, SmolStr::INLINE_CAP, BLANK_NEWLINES, BLANK_SPACES, CHUNK];
-                constants.iter().for_each(|constant| out.size(*constant));
-            }
+            "constants" => CONSTANTS.iter().for_each(|constant| out.size(*constant)),
             _ => self.changed(it, run, out),
         }
     }

@@ -118,15 +118,9 @@ fn sized(random: &mut Random, length: usize) -> String {
         text.push(drawn(random));
     }
     if random.one_in(2) {
-        cut(&mut text, length);
+        text.truncate(text.floor_char_boundary(length));
     }
     text
-}
-
-fn cut(text: &mut String, length: usize) {
-    while text.len() > length {
-        text.pop();
-    }
 }
 
 /// One of few texts that begin in the same way, so that orders are decided late and by wide characters.
@@ -158,7 +152,7 @@ fn text(random: &mut Random) -> String {
 /// A text of at most `INLINE_CAP` bytes.
 fn short(random: &mut Random) -> String {
     let mut text = text(random);
-    cut(&mut text, INLINE_CAP);
+    text.truncate(text.floor_char_boundary(INLINE_CAP));
     text
 }
 
@@ -175,12 +169,9 @@ fn pieces(random: &mut Random) -> Vec<Vec<u8>> {
     let mut pieces = vec![];
     let mut rest = whole.as_str();
     while !rest.is_empty() && pieces.len() < 50 {
-        let mut at = random.below(most).min(rest.len());
-        while !rest.is_char_boundary(at) {
-            at += 1;
-        }
-        pieces.push(rest[..at].into());
-        rest = &rest[at..];
+        let (piece, behind) = rest.split_at(rest.ceil_char_boundary(random.below(most)));
+        pieces.push(piece.into());
+        rest = behind;
     }
     pieces.push(rest.into());
     pieces
@@ -218,6 +209,10 @@ fn nearly_text(random: &mut Random) -> Vec<u8> {
     bytes
 }
 
+fn wire_of(stated: u32, body: Vec<u8>) -> Vec<u8> {
+    [stated.to_le_bytes().to_vec(), body].concat()
+}
+
 /// A wire form, or nearly one.
 fn nearly_wire(random: &mut Random) -> Vec<u8> {
     if random.one_in(12) {
@@ -229,15 +224,12 @@ fn nearly_wire(random: &mut Random) -> Vec<u8> {
         let near = [stated.wrapping_add(1), stated.wrapping_sub(1), stated | 0x100, stated ^ 0x8000_0000];
         stated = if random.one_in(2) { random.pick(&near) } else { random.pick(&[0, u32::MAX, 38, 39, 40, 4096]) };
     }
-    let mut form = stated.to_le_bytes().to_vec();
-    form.extend(body);
+    let mut form = wire_of(stated, body);
+    let at = random.below(form.len());
     match random.below(6) {
-        0 => form.truncate(random.below(form.len() + 1)),
+        0 => form.truncate(at),
         1 => form.extend(text(random).bytes().take(10)),
-        2 => {
-            let at = random.below(form.len());
-            form[at] = odd_byte(random);
-        }
+        2 => form[at] = odd_byte(random),
         _ => {}
     }
     form
@@ -255,15 +247,7 @@ fn long_wire(random: &mut Random) -> Vec<u8> {
         let at = random.below(body.len());
         body[at] = odd_byte(random);
     }
-    let mut form = (length as u32).to_le_bytes().to_vec();
-    form.extend(body);
-    form
-}
-
-/// Bytes for a stream, about a piece or two.
-fn stream(random: &mut Random) -> Vec<u8> {
-    let length = random.pick(&[0usize, 1, 38, 39, 100, 4095, 4096, 4097, 8191, 8192, 8193]);
-    (0..length).map(|at| at as u8 ^ 0x5a).collect()
+    wire_of(length as u32, body)
 }
 
 /// By one space each, so that the last is the empty one.
@@ -272,6 +256,9 @@ const JSON_WORDS: &str = "null true false nul tru 0 -0 - 01 1.5 1. .5 1e5 1e 1E+
     -1 +1 NaN Infinity 'a' \" \"\\ ";
 const JSON_LISTS: &str = r#"["a"] {"a":"b"} [ ] ["a",] {"a"} {} [] {"a":1,"a":2} [1,2,[3]] {"a":} ["\ud800"] [1e999]"#;
 const ESCAPES: &str = r#"\" \\ \/ \b \f \n \r \t"#;
+const CODES: &[u32] = &[0, 0x1f, 0x22, 0x41, 0x5c, 0x7f, 0x80, 0xe9, 0x7ff, 0x800, 0x2028, 0xfffd];
+const PAIRS: &str =
+    r"\ud800\udc00 \ud800\udd80 \ud800\udfff \ud83e\udc00 \ud83e\udd80 \ud83e\udfff \udbff\udc00 \udbff\udfff";
 const BAD_ESCAPES: &str = "\\ud800 \\udc00 \\ud800\\ud800 \\udc00\\ud800 \\ud800a \\ud800\\n \\ud800\\u0041 \
     \\x41 \\u12 \\u12g4 \\U0041 \\ \" \n \u{1f} \0 \\a \\' \\u \\ud800\\ \\ud800\\u \\uD83E\\uDD80 \\ud83e\\uDD80";
 
@@ -307,14 +294,8 @@ fn push_space(random: &mut Random, json: &mut String) {
 fn push_nested(random: &mut Random, json: &mut String) {
     let depth = random.pick(&[1, 2, 126, 127, 128, 129, 300]);
     let closed = if random.one_in(3) { depth - 1 } else { depth };
-    if random.one_in(2) {
-        json.push_str(&"[".repeat(depth));
-        json.push_str(&"]".repeat(closed));
-    } else {
-        json.push_str(&"{\"a\":".repeat(depth));
-        json.push('1');
-        json.push_str(&"}".repeat(closed));
-    }
+    let (open, inside, close) = random.pick(&[("[", "", "]"), ("{\"a\":", "1", "}")]);
+    json.push_str(&(open.repeat(depth) + inside + &close.repeat(closed)));
 }
 
 fn push_string(random: &mut Random, json: &mut String) {
@@ -323,16 +304,9 @@ fn push_string(random: &mut Random, json: &mut String) {
     for _ in 0..length(random).min(most) {
         match random.below(14) {
             0 => json.push_str(random.word_of(ESCAPES)),
-            1 => {
-                let number =
-                    random.pick(&[0u32, 0x1f, 0x22, 0x41, 0x5c, 0x7f, 0x80, 0xe9, 0x7ff, 0x800, 0x2028, 0xfffd]);
-                json.push_str(&if random.one_in(2) { format!("\\u{number:04x}") } else { format!("\\u{number:04X}") });
-            }
-            2 => {
-                let (high, low) =
-                    (random.pick(&[0xd800u32, 0xd83e, 0xdbff]), random.pick(&[0xdc00u32, 0xdd80, 0xdfff]));
-                json.push_str(&format!("\\u{high:04x}\\u{low:04x}"));
-            }
+            1 if random.one_in(2) => json.push_str(&format!("\\u{:04x}", random.pick(CODES))),
+            1 => json.push_str(&format!("\\u{:04X}", random.pick(CODES))),
+            2 => json.push_str(random.word_of(PAIRS)),
             3 if random.one_in(12) => json.push_str(random.word_of(BAD_ESCAPES)),
             4 => json.push(character(random)),
             _ => json.push((b'a' + random.below(26) as u8) as char),
@@ -396,7 +370,11 @@ pub const CHARACTER: Texts = |random| vec![character(random).to_string().into()]
 pub const CASED: Texts = |random| vec![cased(random).into()];
 pub const BYTES: Texts = |random| vec![agreed(random, nearly_text)];
 pub const WIRE: Texts = |random| vec![agreed(random, nearly_wire)];
-pub const STREAM: Texts = |random| vec![stream(random)];
+/// About a piece or two.
+pub const STREAM: Texts = |random| {
+    let length = random.pick(&[0, 1, 38, 39, 100, 4095, 4096, 4097, 8191, 8192, 8193]);
+    vec![(0..length).map(|at| at as u8 ^ 0x5a).collect()]
+};
 pub const JSON: Texts = |random| vec![json(random).into()];
 pub const PIECES: Texts = pieces;
 pub const REPLACED: Texts = replaced;

@@ -17,14 +17,6 @@ pub struct Program {
     pub refusal: Refusal,
 }
 
-impl Program {
-    pub fn encoded(&self) -> Vec<u8> {
-        let mut bytes = vec![];
-        self.operations.iter().for_each(|operation| operation.encode(&mut bytes));
-        bytes
-    }
-}
-
 /// Where a program differs.
 pub struct Difference {
     pub operation: usize,
@@ -48,7 +40,8 @@ impl Totals {
     /// Runs a program on both sides and compares the reports, up to the first difference.
     pub fn run(&mut self, machine: &mut Machine, name: u64, program: &Program) -> Option<Difference> {
         RUNNING.store(name, Ordering::Relaxed);
-        let encoded = program.encoded();
+        let mut encoded = vec![];
+        program.operations.iter().for_each(|operation| operation.encode(&mut encoded));
         // where blocks cannot be made smaller, no call asks for other memory in place of that
         let ample = (program.refusal == Refusal::Smaller).then(|| machine.run(&encoded, Refusal::None)).flatten();
         let answer = machine.run(&encoded, program.refusal);
@@ -73,25 +66,17 @@ impl Totals {
             *counts = [counts[0] + 1, counts[1] + u64::from(asked.refused > 0)];
             self.requests += u64::from(asked.requests);
             let wanted = mirror.run(operation, &Run { asked, actual: rest });
-            let why = match (rest.starts_with(&wanted), mirror.faults.first()) {
-                (true, None) => {
-                    rest = &rest[wanted.len()..];
-                    continue;
-                }
-                (true, Some(fault)) => fault,
-                (false, _) => "the reports differ",
-            };
-            let actual = rest[..rest.len().min(wanted.len() + 64)].to_vec();
-            return Some(Difference { operation: at, why: why.to_string(), wanted, actual, asked });
+            let fault = if rest.starts_with(&wanted) { mirror.faults.first().copied() } else { Some("the reports differ") };
+            if let Some(why) = fault {
+                let actual = rest[..rest.len().min(wanted.len() + 64)].to_vec();
+                return Some(Difference { operation: at, why: why.to_string(), wanted, actual, asked });
+            }
+            rest = &rest[wanted.len()..];
         }
         for (departure, times) in &mirror.departures {
             *self.departures.entry(*departure).or_default() += times;
         }
         left_over(program, answer, rest, mirror.most_bytes())
-    }
-
-    pub fn number_of_calls(&self) -> u64 {
-        self.calls.values().map(|counts| counts[0]).sum()
     }
 
     /// A line for each operation: `call`, how often, how often refused, its name, and the calls of the library.
@@ -100,7 +85,7 @@ impl Totals {
             let [times, refused] = self.calls.get(row.name).copied().unwrap_or_default();
             println!("call {times:>9} {refused:>8}  {:30}  {}", row.name, row.calls);
         }
-        let calls = self.number_of_calls();
+        let calls: u64 = self.calls.values().map(|counts| counts[0]).sum();
         println!("call {calls:>9} {:>8}  {:30}  {READS} {BUILDER_READS}", 0, "what is reported is read");
         for (departure, operations, upstream) in DEPARTURES {
             let times = self.departures.get(departure).copied().unwrap_or(0);

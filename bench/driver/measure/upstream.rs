@@ -54,8 +54,25 @@ fn hashed<H: Hasher>(value: &(impl Hash + ?Sized), mut hasher: H, pick: usize) -
 }
 
 #[inline(always)]
-fn seen_if<E>(made: Result<SmolStr, E>, pick: usize) -> u64 {
-    made.map_or(0, |value| seen(&value, pick))
+fn from_utf8(bytes: &[u8], pick: usize) -> u64 {
+    match SmolStr::from_utf8(bytes) {
+        Ok(value) => seen(&value, pick),
+        Err(_) => 0,
+    }
+}
+
+#[inline(always)]
+fn from_char(text: &str, pick: usize) -> u64 {
+    match text.as_bytes().get(pick) {
+        Some(byte) => seen(&SmolStr::from(char::from(*byte)), pick),
+        None => 0,
+    }
+}
+
+#[inline(always)]
+fn format(text: &str, pick: usize) -> u64 {
+    let number = number_of(text, pick);
+    seen(&format_smolstr!("{text}-{number}"), pick)
 }
 
 /// What a builder makes of what is done to it.
@@ -110,8 +127,10 @@ fn form_of(value: &SmolStr) -> Vec<u8> {
 #[inline(always)]
 fn reader(form: &[u8], pick: usize) -> u64 {
     let mut rest = form;
-    let made = SmolStr::deserialize_reader(&mut rest);
-    made.map_or(0, |value| seen(&value, pick).wrapping_add((form.len() - rest.len()) as u64))
+    match SmolStr::deserialize_reader(&mut rest) {
+        Ok(value) => seen(&value, pick).wrapping_add((form.len() - rest.len()) as u64),
+        Err(_) => 0,
+    }
 }
 
 type Places = HashMap<SmolStr, usize, BuildHasherDefault<DefaultHasher>>;
@@ -153,10 +172,10 @@ pub fn bench_upstream(operation: &str, texts: &[u8], others: &[u8], size: usize,
         "cmp_str" => run(all, n, |it, at| told(number(it.value.as_str().cmp(&it.other)), at)),
         "hash-fnv" => run(all, n, |it, at| hashed(&it.value, Fnv::new(), at)),
         "hash-sip" => run(all, n, |it, at| hashed(&it.value, DefaultHasher::new(), at)),
-        "from_utf8" => run(all, n, |it, at| seen_if(SmolStr::from_utf8(it.text.as_bytes()), at)),
+        "from_utf8" => run(all, n, |it, at| from_utf8(it.text.as_bytes(), at)),
         "from_string" => run(all, n, |it, at| seen(&SmolStr::from(String::from(it.text.as_str())), at)),
         "into_string" => run(all, n, |it, at| seen(&String::from(it.value.clone()), at)),
-        "from_char" => run(all, n, |it, at| it.text.as_bytes().get(at).map_or(0, |byte| seen(&SmolStr::from(char::from(*byte)), at))),
+        "from_char" => run(all, n, |it, at| from_char(&it.text, at)),
         "from_chars" => run(all, n, |it, at| seen(&it.text.chars().collect::<SmolStr>(), at)),
         "push_str" => run(all, n, |it, at| push_str(it, at)),
         "push" => run(all, n, |it, at| push(&it.text, at)),
@@ -179,9 +198,9 @@ pub fn bench_upstream(operation: &str, texts: &[u8], others: &[u8], size: usize,
         "to_json" => run(all, n, |it, at| seen(&serde_json::to_string(&it.value).unwrap(), at)),
         "from_json" => {
             let jsons: Vec<String> = all.iter().map(|it| serde_json::to_string(&it.value).unwrap()).collect();
-            run(&jsons, n, |it, at| seen_if(serde_json::from_str(it), at))
+            run(&jsons, n, |it, at| serde_json::from_str(it).map_or(0, |value: SmolStr| seen(&value, at)))
         }
-        "format" => run(all, n, |it, at| seen(&format_smolstr!("{}-{}", it.text, number_of(&it.text, at)), at)),
+        "format" => run(all, n, |it, at| format(&it.text, at)),
         "number" => run(all, n, |it, at| seen(&number_of(&it.text, at).to_smolstr(), at)),
         "to_smolstr" => run(all, n, |it, at| seen(&it.text.as_str().to_smolstr(), at)),
         "ascii_lower" => run(all, n, |it, at| seen(&it.text.to_ascii_lowercase_smolstr(), at)),
