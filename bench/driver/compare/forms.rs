@@ -23,15 +23,12 @@ const TAKES_NONE: u8 = 3;
 const FAILURES: [ErrorKind; 4] =
     [ErrorKind::Interrupted, ErrorKind::BrokenPipe, ErrorKind::UnexpectedEof, ErrorKind::WriteZero];
 
-/// Why bytes make no value: its debug text, and what the report has of it.
-type Fault = (String, Report);
-
-fn fault(text: &str, code: u8) -> Fault {
-    (text.to_string(), Report(vec![code]))
+fn kind_text(it: &Operation) -> String {
+    format!("Kind({:?})", FAILURES[it.form as usize])
 }
 
 fn io_text(it: &Operation) -> String {
-    format!("Io(Kind({:?}))", FAILURES[it.form as usize])
+    format!("Io({})", kind_text(it))
 }
 
 /// A writer that behaves as the machine's does. It fails with another error in place of `Interrupted`, after which
@@ -103,13 +100,12 @@ fn stated(bytes: &[u8]) -> Option<usize> {
     bytes.first_chunk().map(|prefix| u32::from_le_bytes(*prefix) as usize)
 }
 
-/// Why these bytes hold no wire form, where upstream has an error of borsh or std.
-fn fault_of(bytes: &[u8]) -> Fault {
-    let Some(body) = stated(bytes).and_then(|size| bytes[PREFIX..].get(..size)) else { return fault("Ended", b'E') };
-    let error = str::from_utf8(body).expect_err("upstream reads a body that is UTF-8");
-    let mut out = Report::default();
-    out.utf8_error(&error);
-    (format!("NotUtf8({error:?})"), out)
+/// The debug text of why these bytes hold no wire form, where upstream has an error of borsh or std.
+fn fault_of(bytes: &[u8]) -> String {
+    match stated(bytes).and_then(|size| bytes[PREFIX..].get(..size)) {
+        None => "Ended".to_string(),
+        Some(body) => format!("NotUtf8({:?})", str::from_utf8(body).expect_err("upstream reads a body that is UTF-8")),
+    }
 }
 
 impl Mirror {
@@ -125,8 +121,7 @@ impl Mirror {
                     Ok(()) => out.byte(b'W'),
                     Err(_) => {
                         self.departs(Departure::WireFault);
-                        out.show(&io_text(it));
-                        self.io_error(it, out);
+                        self.io_error(it, &io_text(it), out);
                     }
                 }
                 out.bytes(&writer.taken);
@@ -137,11 +132,15 @@ impl Mirror {
     }
 
     /// The error of a call that fails: after `Interrupted` std goes on, and these calls do not.
-    fn io_error(&mut self, it: &Operation, out: &mut Report) {
+    fn io_error(&mut self, it: &Operation, text: &str, out: &mut Report) {
+        self.interrupted(it);
+        out.show(text);
+    }
+
+    fn interrupted(&mut self, it: &Operation) {
         if it.form == 0 {
             self.departs(Departure::Interrupted);
         }
-        out.0.extend([b'I', it.form]);
     }
 
     fn from_bytes(&mut self, it: &Operation, run: &Run, out: &mut Report) {
@@ -150,23 +149,21 @@ impl Mirror {
             Ok(text) => {
                 self.takes_none(run, is_resident(&text));
                 if run.is_refused() {
-                    return self.not_decoded(it, fault("OutOfMemory", b'R'), out);
+                    return self.not_decoded(it, "OutOfMemory", out);
                 }
                 if it.row.name == "from_wire" { out.size(it.bytes().len() - rest.len()) } else { out.bytes(rest) }
                 self.keep(it.dst, text, out);
             }
             Err(_) => {
                 self.takes_none(run, true);
-                self.not_decoded(it, fault_of(it.bytes()), out);
+                self.not_decoded(it, &fault_of(it.bytes()), out);
             }
         }
     }
 
-    /// What the machine reports of a fault: its debug text, and what it holds.
-    fn not_decoded(&mut self, it: &Operation, (text, report): Fault, out: &mut Report) {
+    fn not_decoded(&mut self, it: &Operation, text: &str, out: &mut Report) {
         self.departs(Departure::WireFault);
-        out.show(&if it.row.name == "deserialize_limited" { format!("Decode({text})") } else { text });
-        out.0.extend(report.0);
+        out.show(&if it.row.name == "deserialize_limited" { format!("Decode({text})") } else { text.to_string() });
     }
 
     fn read_form(&mut self, it: &Operation, run: &Run, out: &mut Report) {
@@ -177,23 +174,22 @@ impl Mirror {
         self.takes_none(run, body <= INLINE_CAP);
         if run.is_refused() {
             tell_reader(run.actual_number(0).min(bytes.len()), out);
-            return self.not_decoded(it, fault("OutOfMemory", b'R'), out);
+            return self.not_decoded(it, "OutOfMemory", out);
         }
         let rooms = if body <= INLINE_CAP { vec![body] } else { by_pieces(body).collect() };
         let (taken, has_failed) = reading(it, std::iter::once(PREFIX).chain(rooms));
         tell_reader(bytes.len() - taken, out);
         if has_failed {
-            self.not_decoded(it, (io_text(it), Report::default()), out);
-            return self.io_error(it, out);
+            self.not_decoded(it, &io_text(it), out);
+            return self.interrupted(it);
         }
         if is_too_long {
             self.departs(Departure::WireFault);
-            out.show("TooLong");
-            return out.byte(b'L');
+            return out.show("TooLong");
         }
         match SmolStr::deserialize_reader(&mut SlowReader(bytes, it.width)) {
             Ok(text) => self.keep(it.dst, text, out),
-            Err(_) => self.not_decoded(it, fault_of(bytes), out),
+            Err(_) => self.not_decoded(it, &fault_of(bytes), out),
         }
     }
 
@@ -206,7 +202,7 @@ impl Mirror {
                 let mut writer = SlowWriter { taken: vec![], it, calls: 0 };
                 match writer.write_all(bytes) {
                     Ok(()) => out.byte(b'W'),
-                    Err(_) => self.io_error(it, out),
+                    Err(_) => self.io_error(it, &kind_text(it), out),
                 }
                 out.bytes(&writer.taken);
             }
@@ -215,22 +211,20 @@ impl Mirror {
                 let (taken, has_failed) = reading(it, std::iter::once(room.len()));
                 out.size(bytes.len() - taken);
                 out.flags(&[true, room.len() <= PIECE]);
-                if has_failed { self.io_error(it, out) } else { out.byte(b'W') }
+                if has_failed { self.io_error(it, &kind_text(it), out) } else { out.byte(b'W') }
                 room[..taken].copy_from_slice(&bytes[..taken]);
                 out.bytes(&room);
             }
             _ if run.is_refused() => {
                 tell_reader(run.actual_number(0).min(bytes.len()), out);
                 out.show("OutOfMemory");
-                out.byte(b'R');
             }
             name => {
                 let limit = if name == "stream::read_all" { usize::MAX } else { limit };
                 let (taken, has_failed) = reading(it, by_pieces(limit));
                 tell_reader(bytes.len() - taken, out);
                 if has_failed {
-                    out.show(&io_text(it));
-                    self.io_error(it, out);
+                    self.io_error(it, &io_text(it), out);
                 } else {
                     out.bytes(&bytes[..taken]);
                 }
@@ -241,7 +235,7 @@ impl Mirror {
     pub fn json(&mut self, it: &Operation, run: &Run, out: &mut Report) {
         let read = serde_json::from_str::<Value>(it.text(0));
         match (it.row.name, read) {
-            ("from_value" | "serde_json::from_value", Err(_)) => out.byte(b'E'),
+            ("from_value" | "serde_json::from_value", Err(_)) => out.byte(b'!'),
             _ if run.is_refused() => out.byte(b'R'),
             ("to_json" | "serde_json::to_string", _) => out.text(&serde_json::to_string(&self.at(it.src).text).unwrap()),
             ("to_value", _) => out.text(serde_json::to_value(&self.at(it.src).text).unwrap().as_str().unwrap()),

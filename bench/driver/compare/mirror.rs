@@ -196,14 +196,10 @@ impl Mirror {
         match SmolStr::from_utf8(it.bytes()) {
             Ok(text) => {
                 self.takes_none(run, is_resident(&text));
-                self.made(it, run, text, out);
-                if run.is_refused() {
-                    out.show("OutOfMemory");
-                }
+                if run.is_refused() { out.show("OutOfMemory") } else { self.keep(it.dst, text, out) }
             }
             Err(error) => {
                 self.takes_none(run, true);
-                out.utf8_error(&error);
                 out.show(&format!("NotUtf8({error:?})"));
             }
         }

@@ -2,7 +2,6 @@
 use crate::mirror::{Builder, Place, Value};
 use crate::texts::INLINE_CAP;
 use std::cmp::Ordering;
-use std::str::Utf8Error;
 
 #[derive(Default)]
 pub struct Report(pub Vec<u8>);
@@ -61,12 +60,6 @@ impl Report {
         self.flags(&[builder.text.is_empty()]);
         self.text(text);
         if builder.is_on_heap { self.byte(b'-') } else { self.buffer(text) }
-    }
-
-    pub fn utf8_error(&mut self, error: &Utf8Error) {
-        self.byte(b'U');
-        self.size(error.valid_up_to());
-        self.byte(error.error_len().unwrap_or(0) as u8);
     }
 
     /// A debug text, and its length.
