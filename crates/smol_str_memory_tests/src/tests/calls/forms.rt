@@ -80,7 +80,12 @@ impl Row for Call {
     fn input(self, test: &Test, text: &str) -> Vec<u8> {
         match self {
             Call::ReadUpTo | Call::ReadAll => of_units(test, b"", text.as_bytes(), 1),
-            _ => of_units(test, &(text.len() as u32).to_le_bytes(), text.as_bytes(), 1),
+            _ => of_units(
+                test,
+                &u32::try_from(text.len()).unwrap_or(0).to_le_bytes(),
+                text.as_bytes(),
+                1,
+            ),
         }
     }
 
