@@ -70,7 +70,9 @@ impl Test {
 
     /// Appends an item.
     pub fn push<T: Drop>(&self, list: &mut Vec<T>, item: T) {
-        is_so(self, list.push(item).is_ok(), "an item");
+        if list.push(item).is_err() {
+            self.fail(&"an item");
+        }
     }
 
     /// The first wrong row, where there is one, or that nothing was compared.
