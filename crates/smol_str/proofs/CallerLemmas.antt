@@ -27,7 +27,6 @@ use Rattle.smol_str.specs.Keys.{same_key}
 use Rattle.smol_str.proofs.TextLemmas.Lists.{flat_map-more, flat_map-parts}
 use Rattle.smol_str.proofs.TextLemmas.Places.{IsShort-chars}
 use Rattle.smol_str.proofs.TextLemmas.Split.{chars-middle}
-use Rattle.smol_str.proofs.BuilderLemmas.Draft.{kind_with-short}
 use Rattle.smol_str.specs.JoinedLaws.{joined-chars}
 use Rattle.smol_str.specs.Joined.{joined_strs, joined_string_refs}
 use Rattle.std.specs.Iterator.{Drains, DrainsIf, ExtendsWithItems}
@@ -63,8 +62,9 @@ pub use Rattle.smol_str.proofs.TextLemmas.Places.{IsShort-front}
 pub use Rattle.smol_str.proofs.TextLemmas.Places.{size-chars, size-append}
 -- bytes of a text in two parts, at the size of the first: they may be cut there, and behind the cut stands the second
 pub use Rattle.smol_str.proofs.TextLemmas.Split.{boundary-parts, chars-drop}
--- appending twice is appending the joined text; a new builder leaves its buffer only for a text that is not short
-pub use Rattle.smol_str.proofs.BuilderLemmas.Draft.{appended-twice, OnHeap-long}
+-- appending twice is appending the joined text, and nothing changes nothing; a new builder leaves its buffer only for a
+-- text that is not short
+pub use Rattle.smol_str.proofs.BuilderLemmas.Draft.{appended-twice, appended-nothing, OnHeap-long}
 -- whatever the result: for a clause on `Err` that holds anyway
 pub use Rattle.smol_str.proofs.TextLemmas.Places.{OnErr-always}
 -- cuts: the one there is, a first match in front of a cut, a text without a match, and what joins pieces
@@ -101,14 +101,6 @@ pub ruleset texts = (
 )
 
 -- ---- builders
-
-kind_with-same : (k : Kind) (t : List ℕ) → (k ≡ InBuffer → IsShort t) → kind_with k t ≡ k
-kind_with-same InBuffer t short = kind_with-short t (short refl)
-kind_with-same OnHeap t short = refl
-
--- appending nothing changes nothing; the premise is the clause `short` of a builder's `as_str`
-pub appended-nothing : (b : Draft) → (b.kind ≡ InBuffer → IsShort b.text) → appended b [] ≡ b
-appended-nothing b short = search (rules, arith, append-nil, kind_with-same)
 
 pub ruleset builders = (texts, appended-twice, appended-nothing, OnHeap-long)
 

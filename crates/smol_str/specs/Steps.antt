@@ -1,8 +1,8 @@
 -- The text of a step; that of a list of steps is `joined step_text`.
 use Rattle.std.specs.Prelude.{ℕ, List}
 use denote.Ref.{Bor}
-use Rattle.smol_str.specs.declared.builder.steps.Step.{Step}
-use Rattle.smol_str.specs.declared.builder.steps.Step.TheVariants.{Push, PushStr}
+use Rattle.smol_str.specs.declared.collect.steps.Step.{Step}
+use Rattle.smol_str.specs.declared.collect.steps.Step.TheVariants.{Push, PushStr}
 use Rattle.smol_str.specs.Joined.{char_text, string_text}
 
 -- the text that a step appends

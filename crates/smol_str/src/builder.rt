@@ -9,7 +9,6 @@ ghost use Rattle.smol_str.specs.Draft.{InBuffer, OnHeap, empty_draft, appended, 
 
 mod compare;
 mod convert;
-pub mod steps;
 
 use crate::buffer::{INLINE_CAP, InlineBuffer, InlineText};
 use crate::value::SmolStr;

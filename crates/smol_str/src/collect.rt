@@ -12,6 +12,7 @@ ghost use Rattle.smol_str.specs.Joined.{joined, joined_strs, joined_string_refs,
 ghost use Rattle.smol_str.specs.JoinedLaws.{joined-chars, joined-strs, joined-string_refs};
 ghost use Rattle.smol_str.specs.Collect.{AppendedAll, StoppedAt, Collected, Outgrown, OutgrownAfter, IsValueOfRun, AppendsRun};
 
+pub mod steps;
 mod traits;
 
 use crate::buffer::INLINE_CAP;

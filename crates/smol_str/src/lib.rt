@@ -8,7 +8,7 @@
 //!
 //! ```text
 //!     json  serde_impls  borsh  str_ext  format  collect    by public items alone, as users do; `.ci/api` looks
-//!     builder            a text that grows (its `steps` also use `collect`)
+//!     builder            a text that grows
 //!     value              a text and its place; what makes, lends, compares and prints it
 //!     shared             the shared text of a value on the heap: the one line to change for several threads
 //!     kernel             building blocks for loops of your own
@@ -35,7 +35,7 @@ mod value;
 
 pub use buffer::{INLINE_CAP, InlineBuffer};
 pub use builder::SmolStrBuilder;
-pub use builder::steps::{Step, build};
+pub use collect::steps::{Step, build};
 pub use collect::{Piece, ValueAlloc};
 pub use format::{FormatError, ToSmolStr, finished};
 pub use str_ext::StrExt;

@@ -1,5 +1,5 @@
 -- For the builder: its text and kind, before and after an append.
-use Rattle.smol_str.proofs.Common.{◌≡◌, ℕ, ◌-◌, ◌<◌, ◌≤◌, List, ◌++◌, length, Bool, true, false, ◌&&◌, nat_le, cond, refl, append_assoc, arith, ◌⊎◌, inl, inr, chars, IsUtf8, nat_tests, INLINE_CAP, size, is_short, IsShort, Draft, Kind, InBuffer, OnHeap, kind_with, kind_for, appended, empty_draft, common_steps, rules}
+use Rattle.smol_str.proofs.Common.{◌≡◌, ℕ, ◌-◌, ◌<◌, ◌≤◌, List, ◌++◌, length, append-nil, Bool, true, false, ◌&&◌, nat_le, cond, refl, append_assoc, arith, ◌⊎◌, inl, inr, chars, IsUtf8, nat_tests, INLINE_CAP, size, is_short, IsShort, Draft, Kind, InBuffer, OnHeap, kind_with, kind_for, appended, empty_draft, common_steps, rules}
 use Rattle.smol_str.proofs.TextLemmas.Places.{size-append, size-chars, is_short-true, is_short-false, IsShort-front}
 
 -- the bytes fit in the room that is left, or they do not
@@ -55,6 +55,14 @@ kind_with-twice InBuffer s t = kind_by_test s t (is_short s) refl
 -- appending twice is appending the joined text
 pub appended-twice : (b : Draft) (t u : List ℕ) → appended (appended b t) u ≡ appended b (t ++ u)
 appended-twice b t u = search (rules, arith, append_assoc, kind_with-twice)
+
+kind_with-same : (k : Kind) (t : List ℕ) → (k ≡ InBuffer → IsShort t) → kind_with k t ≡ k
+kind_with-same InBuffer t short = kind_with-short t (short refl)
+kind_with-same OnHeap t short = refl
+
+-- appending nothing changes nothing; the premise is the clause `short` of a builder's `as_str`
+pub appended-nothing : (b : Draft) → (b.kind ≡ InBuffer → IsShort b.text) → appended b [] ≡ b
+appended-nothing b short = search (rules, arith, append-nil, kind_with-same)
 
 -- a new builder leaves its buffer only for a text that is not short
 pub OnHeap-long : (t : List ℕ) → (appended (empty_draft InBuffer) t).kind ≡ OnHeap → ¬ (IsShort t)

@@ -6,9 +6,9 @@ ghost use Rattle.smol_str.specs.Meaning.{IsValueOf};
 ghost use Rattle.smol_str.specs.Joined.{joined};
 ghost use Rattle.smol_str.specs.Steps.{step_text, step_ref_text};
 
-use super::SmolStrBuilder;
+use super::{Piece, append_all};
 use crate::buffer::INLINE_CAP;
-use crate::collect::{Piece, append_all};
+use crate::builder::SmolStrBuilder;
 use crate::value::SmolStr;
 use std::alloc::{AllocError, Global};
 

@@ -2,7 +2,7 @@ use Rattle.smol_str.proofs.Common.{inl, inr, YieldsList-from_slice}
 use Rattle.smol_str.specs.Steps.{step_text}
 use Rattle.smol_str.proofs.TextLemmas.Places.{OnErr-always}
 use Rattle.smol_str.proofs.BuilderLemmas.Steps.{why_stopped, text-appended}
-use Rattle.smol_str.proofs.builder.steps.build.Goals as goal
+use Rattle.smol_str.proofs.collect.steps.build.Goals as goal
 
 pub returns-in_err-append_all-clause-refused : goal.returns-in_err-append_all-clause-refused
 returns-in_err-append_all-clause-refused c =
