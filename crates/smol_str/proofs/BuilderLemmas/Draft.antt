@@ -1,5 +1,5 @@
 -- For the builder: its text and kind, before and after an append.
-use Rattle.smol_str.proofs.Common.{◌≡◌, ℕ, ◌-◌, ◌<◌, ◌≤◌, List, ◌++◌, length, append-nil, Bool, true, false, ◌&&◌, nat_le, cond, refl, append_assoc, arith, ◌⊎◌, inl, inr, chars, IsUtf8, nat_tests, INLINE_CAP, size, is_short, IsShort, Draft, Kind, InBuffer, OnHeap, kind_with, kind_for, appended, empty_draft, common_steps, rules}
+use Rattle.smol_str.proofs.Common.{◌≡◌, ℕ, ◌-◌, ◌<◌, ◌≤◌, List, [], ◌++◌, length, append-nil, Bool, true, false, ◌&&◌, nat_le, cond, refl, append_assoc, arith, ◌⊎◌, inl, inr, chars, IsUtf8, nat_tests, INLINE_CAP, size, is_short, IsShort, Draft, Kind, InBuffer, OnHeap, kind_with, kind_for, appended, empty_draft, common_steps, rules}
 use Rattle.smol_str.proofs.TextLemmas.Places.{size-append, size-chars, is_short-true, is_short-false, IsShort-front}
 
 -- the bytes fit in the room that is left, or they do not
