@@ -1,5 +1,5 @@
 -- JSON strings, for module `json`.
-use Rattle.smol_str.proofs.Common.{String, Global, string_bytes, rules, ◌≡◌, ℕ, ◌<◌, List, [], ◌∷◌, length, None, Some, Result, Ok, Err, refl, sym, ap, ◌∙◌, chars, encodes-chars, encodes_same, IsUtf8-string_bytes, place_of, Meaning, IsValueOf, common_steps, arith}
+use Rattle.smol_str.proofs.Common.{String, Global, string_bytes, rules, ◌≡◌, ℕ, ◌<◌, List, [], ◌∷◌, length, None, Some, Result, Ok, Err, refl, sym, ap, subst, ◌∙◌, IsResident, chars, encodes-chars, encodes_same, IsUtf8-string_bytes, place_of, Meaning, IsValueOf, common_steps, arith}
 use Rattle.std.specs.Result.{IfOk, IfErr}
 use Rattle.serde_json.specs.Data as json
 use Rattle.serde_json.specs.Read.{read}
@@ -25,6 +25,11 @@ json_value-same s t e = encodes_same s t cc
 
 pub IsJsonOf-IsValueOf : (t : List ℕ) (v : Meaning) → IsValueOf t v → IsJsonOf (json_value t) v
 IsJsonOf-IsValueOf t v h = record { text = ap json_value (sym h.text); place = h.place ∙ ap place_of (sym h.text) }
+
+-- the string of a text that is not resident: so is each text of which it is the string
+pub not_resident : (d : json.Data) (s : List ℕ) → d ≡ json_value s → ¬ (IsResident s) → AfterValueFault d OutOfMemory
+not_resident d s is long =
+    ((s, is), λ t same. λ resident. long (subst IsResident (json_value-same t s (sym same ∙ is)) resident))
 
 -- no bytes are no JSON text
 read-nil : read [] ≡ None

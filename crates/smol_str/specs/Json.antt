@@ -30,11 +30,12 @@ abbrev pub IsOther : json.Data → Type 0
 IsOther (json.string bytes) = ⊥
 IsOther _ = ⊤
 
--- of a JSON value: it is no string; or it is the string of a text that is not resident
+-- of a JSON value: it is no string; or it is the string of a text, and no text of which it is the string is resident
 abbrev pub AfterValueFault : json.Data → JsonFault → Type 0
 AfterValueFault d NotString = IsOther d
 AfterValueFault d (Json e) = ⊥
-AfterValueFault d OutOfMemory = (t : List ℕ) × (d ≡ json_value t) × (¬ (IsResident t))
+AfterValueFault d OutOfMemory =
+    ((t : List ℕ) × (d ≡ json_value t)) × ((t : List ℕ) → d ≡ json_value t → ¬ (IsResident t))
 
 -- of the bytes of a text: they read as another value than a string, or as none; out of memory: there are bytes, whatever
 -- they read as, since serde_json takes memory before it reads the first
