@@ -5,9 +5,9 @@
 #![tactic(auto)]
 
 use smol_tokens_core::fault::{RunFault, fault_line};
-use smol_tokens_core::mode::mode_of;
+use smol_tokens_core::mode::{Mode, mode_of};
 use smol_tokens_core::run::run;
-use std::hash::RandomState;
+use std::hash::{BuildHasherDefault, FoldHasher, RandomState};
 use std::process::ExitCode;
 use std::{env, io};
 
@@ -36,12 +36,23 @@ fn main(rt: HostRuntime) -> ExitCode {
         let _ = rt.eprintln("usage");
         return ExitCode::from(2);
     };
-    // A seed of the system: whoever writes the input cannot pick lines that all have one hash.
-    let state = match RandomState::new(&rt) {
-        Ok(state) => state,
-        Err(error) => return failed(&rt, &RunFault::Io(error)),
+    let (alloc, mut input, mut output) = (rt.alloc(), rt.stdin(), rt.stdout());
+    let ended = if matches!(&mode, Mode::Tokens) {
+        // A seed of the system: whoever writes the input cannot pick lines that all have one hash.
+        match RandomState::new(&rt) {
+            Ok(state) => run(alloc, state, mode, &mut input, &mut output),
+            Err(error) => Err(RunFault::Io(error)),
+        }
+    } else {
+        run(
+            alloc,
+            BuildHasherDefault::<FoldHasher>::new(),
+            mode,
+            &mut input,
+            &mut output,
+        )
     };
-    match run(rt.alloc(), state, mode, &mut rt.stdin(), &mut rt.stdout()) {
+    match ended {
         Ok(()) => ExitCode::SUCCESS,
         Err(fault) => failed(&rt, &fault),
     }

@@ -12,7 +12,7 @@ use Rattle.smol_str.specs.declared.stream.ReadFault.TheVariants as reading
 use Rattle.smol_tokens_core.specs.Faults.{AfterFault}
 use Rattle.smol_tokens_core.specs.ReadFaults.{of_read_fault}
 use Rattle.smol_tokens_core.specs.Report.{report}
-use Rattle.smol_tokens_core.specs.ReportFaults.{HasALineTooOften, WantsMemory, HasNoReport, AfterInputFault}
+use Rattle.smol_tokens_core.specs.ReportFaults.{HasALineTooOften, WantsMemory, HasNoReport}
 use Rattle.smol_tokens_core.specs.declared.mode.Mode.{Mode}
 use Rattle.smol_tokens_core.specs.declared.fault.RunFault.{RunFault}
 use Rattle.smol_tokens_core.specs.declared.fault.RunFault.TheVariants.{NotUtf8, OutOfMemory, Full, Io}
@@ -29,44 +29,43 @@ after-reading mode limit input left held reading.OutOfMemory (bytes, some, withi
 after-reading mode limit input left held (reading.Io e) (bytes, short, consumed) =
     inl (Keeps-itself held, (bytes, consumed))
 
--- nothing was written
+-- the whole input came, is a text, and there is no report on it: nothing was written
 pub after-no_report : (mode : Mode) (input left held : Option (List ℕ)) (bytes : List ℕ) (fault : RunFault)
-    → IsAtEnd left → IfSome input (λ all. bytes ≡ all) → AfterInputFault mode bytes fault
+    → IsAtEnd left → IfSome input (λ all. bytes ≡ all) → IsUtf8 bytes → HasNoReport mode (chars bytes) fault
     → AfterFault mode input left held held fault
-after-no_report mode input left held bytes NotUtf8 end whole none = (
+after-no_report mode input left held bytes NotUtf8 end whole utf8 none = absurd none
+after-no_report mode input left held bytes OutOfMemory end whole utf8 none = (
+  Keeps-itself held,
+  inr (
+    end,
+    IfSome_then input whole (λ all same. subst (λ all. IsUtf8 all × WantsMemory mode (chars all)) same (utf8, none)),
+  ),
+)
+after-no_report mode input left held bytes Full end whole utf8 none = (
+  none.0,
+  end,
+  IfSome_then input whole
+      (λ all same. subst (λ all. IsUtf8 all × HasALineTooOften (chars all)) same (utf8, none.1)),
+  Keeps-itself held,
+)
+after-no_report mode input left held bytes (Io e) end whole utf8 none = absurd none
+
+-- the whole input came and is no text: nothing was written
+pub after-not_utf8 : (mode : Mode) (input left held : Option (List ℕ)) (bytes : List ℕ) → IsAtEnd left
+    → IfSome input (λ all. bytes ≡ all) → ¬ (IsUtf8 bytes) → AfterFault mode input left held held NotUtf8
+after-not_utf8 mode input left held bytes end whole none = (
   end,
   IfSome_then input whole (λ all same. subst (λ all. ¬ (IsUtf8 all)) same none),
   Keeps-itself held,
 )
-after-no_report mode input left held bytes OutOfMemory end whole none = (
-  Keeps-itself held,
-  inr (
-    end,
-    IfSome_then input whole (λ all same. subst (λ all. IsUtf8 all × WantsMemory mode (chars all)) same none),
-  ),
-)
-after-no_report mode input left held bytes Full end whole none = (
-  none.1,
-  end,
-  IfSome_then input whole
-      (λ all same. subst (λ all. IsUtf8 all × HasALineTooOften (chars all)) same (none.0, none.2)),
-  Keeps-itself held,
-)
-after-no_report mode input left held bytes (Io e) end whole none = absurd none
 
 -- what holds of the bytes of the report holds of those that were written
-pub whole-report : (mode : Mode) (input : Option (List ℕ)) (out : List ℕ) (P : List ℕ → Type 0)
-    → IfSome input (λ bytes. IsUtf8 bytes × (out ≡ encode_utf8_all (report mode (chars bytes)))) → P out
-    → IfSome input (λ bytes. IsUtf8 bytes × P (encode_utf8_all (report mode (chars bytes))))
-whole-report mode input out P is written = IfSome_then input is (λ bytes same. (same.0, subst P same.1 written))
-
--- the bytes are a text, on which there is no report
-pub after-no_report_on_text : (mode : Mode) (bytes : List ℕ) (fault : RunFault) → IsUtf8 bytes
-    → HasNoReport mode (chars bytes) fault → AfterInputFault mode bytes fault
-after-no_report_on_text mode bytes NotUtf8 utf8 none = absurd none
-after-no_report_on_text mode bytes OutOfMemory utf8 none = (utf8, none)
-after-no_report_on_text mode bytes Full utf8 none = (utf8, none.0, none.1)
-after-no_report_on_text mode bytes (Io e) utf8 none = absurd none
+pub whole-report : (mode : Mode) (input : Option (List ℕ)) (bytes out : List ℕ) (P : List ℕ → Type 0)
+    → IfSome input (λ all. bytes ≡ all) → IsUtf8 bytes → out ≡ encode_utf8_all (report mode (chars bytes)) → P out
+    → IfSome input (λ all. IsUtf8 all × P (encode_utf8_all (report mode (chars all))))
+whole-report mode input bytes out P whole utf8 is written =
+    let R : List ℕ → Type 0 = λ all. IsUtf8 all × P (encode_utf8_all (report mode (chars all))) in
+    IfSome_then input whole (λ all same. subst R same (utf8, subst P is written))
 
 -- memory was refused
 pub no_report-refused : {T : Type 0} (r : Result T RunFault) (mode : Mode) (t : List ℕ)

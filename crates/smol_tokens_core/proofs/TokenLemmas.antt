@@ -1,8 +1,7 @@
 -- For `tally_lines`: lines counted one after another, and what a count that is full says of all lines.
-use Rattle.std.proofs.Common.{◌≡◌, ℕ, ◌+◌, ◌<◌, ◌≤◌, ◌^◌, length, ◌⊎◌, inl, inr, List, [], ◌∷◌, ◌++◌, cond, map, All, ⊎_elim, unwrap_or, Result, Ok, Err}
-use Rattle.std.proofs.Common.{refl, sym, ap, subst, ◌∙◌, arith, rules}
+use Rattle.std.proofs.Common.{◌≡◌, ℕ, ◌+◌, ◌<◌, ◌≤◌, ◌^◌, length, List, [], ◌∷◌, ◌++◌, cond, map, All, ⊎_elim, unwrap_or}
+use Rattle.std.proofs.Common.{refl, sym, ap, ◌∙◌, arith, rules}
 use Rattle.std.specs.Prelude.{count_by}
-use Rattle.std.specs.Result.{IsErrAnd, IfErr}
 use Rattle.std.proofs.lemmas.List.{map-append, append_assoc, length-append}
 use Rattle.std.proofs.lemmas.Bool.{cases_lt}
 use Rattle.std.proofs.lemmas.List.Elements.{All-head, All-tail, All-weaker}
@@ -10,10 +9,7 @@ use Rattle.std.specs.Map.{lookup}
 use Rattle.std.proofs.lemmas.List.Sums.{sum_by-cons, sum_by-append}
 use Rattle.smol_tokens_core.specs.Lines.{lines}
 use Rattle.smol_tokens_core.specs.Tally.{is_same, times_of, tally, seen_once}
-use Rattle.smol_tokens_core.specs.ReportFaults.{HasALineTooOften, HasNoReport}
-use Rattle.smol_tokens_core.specs.declared.fault.RunFault.{RunFault}
-use Rattle.smol_tokens_core.specs.declared.fault.RunFault.TheVariants as run
-use Rattle.smol_tokens_core.specs.declared.mode.Mode.TheVariants.{Tokens}
+use Rattle.smol_tokens_core.specs.ReportFaults.{HasALineTooOften}
 use Rattle.smol_tokens_core.proofs.PieceLemmas.{lines-nil}
 use Rattle.smol_tokens_core.proofs.SightLemmas.{is_same_itself, by_same}
 use Rattle.smol_tokens_core.proofs.TableLemmas.{lookup-tally}
@@ -70,18 +66,6 @@ no_report-add t line seen rest left old so_far is next full =
     ≡ count_by (is_same line) seen + count_by (is_same line) (line ∷ rest) =
     ap (count_by (is_same line)) (is ∙ ap (λ us. seen ++ us) next) ∙ sum_by-append worth seen (line ∷ rest) in
     (line, omega (arith, before, first, whole))
-
--- the same of the fault of such a line
-pub no_report-line : {T : Type 0} (r : Result T RunFault) (t line : List ℕ) (seen rest left : List (List ℕ))
-    (old : List (List ℕ × ℕ)) (fault : RunFault) → IsErrAnd r (λ made. made ≡ fault) → old ≡ tally (seen_once seen)
-    → lines t ≡ seen ++ left → left ≡ line ∷ rest
-    → (fault ≡ run.OutOfMemory) ⊎ ((fault ≡ run.Full) × (2 ^ 64 ≤ times_of line old + 1))
-    → IfErr r (HasNoReport Tokens t)
-no_report-line (Ok v) t line seen rest left old fault made so_far is next after = tt
-no_report-line (Err e) t line seen rest left old fault made so_far is next (inl refused) =
-    subst (HasNoReport Tokens t) (sym (made ∙ refused)) (inr (some_text t seen left rest line is next))
-no_report-line (Err e) t line seen rest left old fault made so_far is next (inr full) =
-    subst (HasNoReport Tokens t) (sym (made ∙ full.0)) (refl, no_report-add t line seen rest left old so_far is next full.1)
 
 -- ---- the counts of all lines are `u64`s, exactly where no line stands too often
 

@@ -5,8 +5,7 @@
 --     show_report t, join_report t, lower_report t, upper_report t, replace_report from to t, tokens_report t
 --                        what is written of t in the mode of that name
 --     report mode t      what the program writes in a mode
---     line_text mode l   what a line is made to in a mode
---     lines_report mode t    the report line of what each line is made to
+--     mapped map l       what a line is made to, in the modes with a report line for each
 use Rattle.std.specs.Prelude.{ℕ, List, ◌++◌, codes}
 use Rattle.std.specs.List.{concat, flat_map}
 use Rattle.std.specs.Fmt.{decimal}
@@ -21,6 +20,8 @@ use Rattle.smol_tokens_core.specs.Lines.{lines}
 use Rattle.smol_tokens_core.specs.Tally.{tally, seen_once}
 use Rattle.smol_tokens_core.specs.declared.mode.Mode.{Mode}
 use Rattle.smol_tokens_core.specs.declared.mode.Mode.TheVariants.{Show, Join, Lower, Upper, Replace, Tokens}
+use Rattle.smol_tokens_core.specs.declared.report.LineMap.{LineMap}
+use Rattle.smol_tokens_core.specs.declared.report.LineMap.TheVariants as to
 
 -- the word for a place
 abbrev pub place_word : Place → List ℕ
@@ -73,15 +74,9 @@ report Upper t = upper_report t
 report (Replace from to) t = replace_report (chars (string_bytes from)) (chars (string_bytes to)) t
 report Tokens t = tokens_report t
 
--- what a line is made to in a mode; modes join and tokens take it as it is, too
-abbrev pub line_text : Mode → List ℕ → List ℕ
-line_text Show line = line
-line_text Join line = line
-line_text Lower line = lower line
-line_text Upper line = upper line
-line_text (Replace from to) line = replaced_all line (chars (string_bytes from)) (chars (string_bytes to))
-line_text Tokens line = line
-
--- the report line of what each line is made to: the report of each mode but join and tokens
-abbrev pub lines_report : Mode → List ℕ → List ℕ
-lines_report mode t = flat_map (λ line. value_line (line_text mode line)) (lines t)
+-- what a line is made to
+abbrev pub mapped : LineMap → List ℕ → List ℕ
+mapped to.Keep line = line
+mapped to.Lower line = lower line
+mapped to.Upper line = upper line
+mapped (to.Replace a b) line = replaced_all line (chars a.now) (chars b.now)

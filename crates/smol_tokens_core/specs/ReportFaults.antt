@@ -2,9 +2,7 @@
 --     HasALineTooOften t             some line stands in the text more than `u64::MAX` times
 --     WantsMemory mode t             some report is to be written: always in mode join, else on each text but the empty one
 --     HasNoReport mode t             what is known after each fault; only memory, or a count that is full, can be missing
---     AfterInputFault mode bytes     the same of the bytes of an input; of those that are not UTF-8 nothing else is reported
-use Rattle.std.specs.Prelude.{◌≡◌, ◌⊎◌, ℕ, ◌<◌, ◌≤◌, ◌^◌, List, length, count_by, IsUtf8}
-use Rattle.std.specs.Str.{chars}
+use Rattle.std.specs.Prelude.{◌≡◌, ◌⊎◌, ℕ, ◌<◌, ◌≤◌, ◌^◌, List, length, count_by}
 use Rattle.smol_tokens_core.specs.Lines.{lines}
 use Rattle.smol_tokens_core.specs.Tally.{is_same}
 use Rattle.smol_tokens_core.specs.declared.mode.Mode.{Mode}
@@ -24,10 +22,3 @@ HasNoReport mode t NotUtf8 = ⊥
 HasNoReport mode t OutOfMemory = WantsMemory mode t
 HasNoReport mode t Full = (mode ≡ Tokens) × HasALineTooOften t
 HasNoReport mode t (Io e) = ⊥
-
--- UTF-8 is tested first, whatever the memory
-abbrev pub AfterInputFault : Mode → List ℕ → RunFault → Type 0
-AfterInputFault mode bytes NotUtf8 = ¬ (IsUtf8 bytes)
-AfterInputFault mode bytes OutOfMemory = IsUtf8 bytes × WantsMemory mode (chars bytes)
-AfterInputFault mode bytes Full = IsUtf8 bytes × (mode ≡ Tokens) × HasALineTooOften (chars bytes)
-AfterInputFault mode bytes (Io e) = ⊥

@@ -32,7 +32,7 @@ pub fn count_lines<S: BuildHasher + Drop>(
     Ok(write_counts(alloc, &tally)?)
 }
 
-/// The lines of a text as tokens, each counted once where it stands.
+/// The lines of a text as tokens, each with how often it stands.
 fn tally_lines<S: BuildHasher + Drop>(
     alloc: Global,
     state: S,
@@ -43,31 +43,19 @@ fn tally_lines<S: BuildHasher + Drop>(
 {
     let mut tally = Tally::with_hasher(alloc, state);
     for line in Lines::of(text) {
-        add_line(alloc, &mut tally, line)?;
+        // Most lines stand more than once: a value is made of a new one alone.
+        match tally.add_again(line, 1) {
+            Again::Counted(_) => {}
+            Again::Full => return Err(RunFault::Full),
+            Again::New => {
+                let token = SmolStr::new(alloc, line)?;
+                let Ok(()) = tally.add_new(token, 1) else {
+                    return Err(RunFault::OutOfMemory);
+                };
+            }
+        }
     }
     Ok(tally)
-}
-
-/// Counts a line once more.
-fn add_line<S: BuildHasher>(
-    alloc: Global,
-    counts: &mut Tally<S>,
-    line: &str,
-) -> Result<(), RunFault>
-    ensures ok { OnOk result (counts.new ≡ tally (counts.old ++ (chars line.now, 1) ∷ [])) }
-    ensures fault { IfErr result (λ fault. (fault ≡ OutOfMemory)
-        ⊎ ((fault ≡ Full) × (2 ^ 64 ≤ times_of (chars line.now) counts.old + 1))) }
-    ensures unchanged { OnErr result (counts.new ≡ counts.old) }
-{
-    // Most lines stand more than once: a value is made of a new one alone.
-    match counts.add_again(line, 1) {
-        Again::Counted(_) => Ok(()),
-        Again::Full => Err(RunFault::Full),
-        Again::New => match counts.add_new(SmolStr::new(alloc, line)?, 1) {
-            Ok(()) => Ok(()),
-            Err(_) => Err(RunFault::OutOfMemory),
-        },
-    }
 }
 
 /// The count line of each token.

@@ -36,7 +36,7 @@ pub fn number(alloc: Global, number: u8) -> Result<SmolStr, FormatError>
 
 /// A text.
 pub fn copied(alloc: Global, text: &str) -> Result<SmolStr, FormatError>
-    ensures { IfOk result (λ v. IsValueOf (chars text.now) v) }
+    ensures value { IfOk result (λ v. IsValueOf (chars text.now) v) }
 {
     text.to_smolstr(alloc)
 }

@@ -1,19 +1,21 @@
-//! The headline of the library, said by callers: one contract for every way to make a value, and what two values of
-//! one text have in common, whichever way each was made.
+//! The headline of the library, said by callers: one contract for every way to make a value, and what two values have
+//! in common, whichever way each was made.
 //!
 //! Each way ensures `value`, that the value is of exactly the text that is meant and lies in the place of that text; and
 //! `refused`, that memory may be refused only for text that is not resident, or not short where it comes in parts.
-ghost use Rattle.std.specs.Prelude.{◌≡◌, ◌≢◌, ◌≤◌, ◌++◌, [], ◌∷◌, length, IfOk, OnErr, IsTrue};
+ghost use Rattle.std.specs.Prelude.{◌≡◌, ◌<◌, ◌≤◌, ◌⊎◌, ◌↔◌, ◌++◌, [], ◌∷◌, length, IfOk, OnOk, OnErr, IsTrue};
 ghost use Rattle.std.specs.Str.{chars, IsUtf8};
 ghost use Rattle.std.specs.String.{string_bytes};
 ghost use Rattle.std.specs.Ordering.{nat_cmp};
 ghost use Rattle.std.specs.Cmp.Lexicographic.{slice_cmp};
 ghost use Rattle.std.specs.Box.{boxed_str_bytes};
 ghost use Rattle.std.specs.Cow.{cow_str_bytes};
+ghost use Rattle.std.specs.Iterator.{IsFinite};
 ghost use Rattle.std.specs.Rc.{rc_str_bytes};
 ghost use Rattle.smol_str.specs.Text.{IsShort, IsResident, place_of};
 ghost use Rattle.smol_str.specs.Meaning.{IsValueOf};
-ghost use Rattle.smol_str.specs.Joined.{joined, string_text};
+ghost use Rattle.smol_str.specs.Joined.{joined, char_text, str_text, string_text, string_ref_text};
+ghost use Rattle.smol_str.specs.Collect.{Collected, Outgrown, AppendedAll, OutgrownAfter};
 ghost use Rattle.smol_str.specs.Steps.{step_text};
 ghost use Rattle.smol_str.specs.Case.{lower, upper, lowercased, uppercased, IsAsciiText};
 ghost use Rattle.smol_str.specs.InCase.{converted};
@@ -21,7 +23,7 @@ ghost use Rattle.smol_str.specs.Replace.{replaced, replaced_all};
 
 use crate::collecting::{all_of_slice, copied};
 use smol_str::kernel::AsciiCase;
-use smol_str::{INLINE_CAP, Place, SmolStr, SmolStrBuilder, Step, StrExt, build};
+use smol_str::{INLINE_CAP, Place, SmolStr, SmolStrBuilder, Step, StrExt, ValueAlloc, build};
 use std::alloc::{AllocError, Global};
 use std::borrow::CowStr;
 use std::boxed::BoxedStr;
@@ -167,6 +169,97 @@ pub fn of_pieces(alloc: Global, pieces: &[String]) -> Result<SmolStr, AllocError
     all_of_slice(alloc, pieces)
 }
 
+/// The characters of any iterator that ends.
+pub fn of_any_chars<A: ValueAlloc, I: Iterator<Item = char>>(
+    alloc: A,
+    iter: I,
+) -> Result<A::Value, AllocError>
+    requires can { I.can_next iter }
+    requires ends { IsFinite (I.remaining iter) }
+    ensures value { IfOk result (Collected char_text I.next_gives iter A.meaning) }
+    ensures refused { OnErr result (Outgrown char_text I.next_gives iter) }
+{
+    SmolStr::from_chars(alloc, iter)
+}
+
+/// The `&str`s of any iterator that ends.
+pub fn of_any_strs<'a, A: ValueAlloc, I: Iterator<Item = &'a str>>(
+    alloc: A,
+    iter: I,
+) -> Result<A::Value, AllocError>
+    requires can { I.can_next iter }
+    requires ends { IsFinite (I.remaining iter) }
+    ensures value { IfOk result (Collected str_text I.next_gives iter A.meaning) }
+    ensures refused { OnErr result (Outgrown str_text I.next_gives iter) }
+{
+    SmolStr::from_strs(alloc, iter)
+}
+
+/// The `String`s of any iterator that ends.
+pub fn of_any_strings<A: ValueAlloc, I: Iterator<Item = String>>(
+    alloc: A,
+    iter: I,
+) -> Result<A::Value, AllocError>
+    requires can { I.can_next iter }
+    requires ends { IsFinite (I.remaining iter) }
+    ensures value { IfOk result (Collected string_text I.next_gives iter A.meaning) }
+    ensures refused { OnErr result (Outgrown string_text I.next_gives iter) }
+{
+    SmolStr::from_strings(alloc, iter)
+}
+
+/// The borrowed `String`s of any iterator that ends.
+pub fn of_any_string_refs<'a, A: ValueAlloc, I: Iterator<Item = &'a String>>(
+    alloc: A,
+    iter: I,
+) -> Result<A::Value, AllocError>
+    requires can { I.can_next iter }
+    requires ends { IsFinite (I.remaining iter) }
+    ensures value { IfOk result (Collected string_ref_text I.next_gives iter A.meaning) }
+    ensures refused { OnErr result (Outgrown string_ref_text I.next_gives iter) }
+{
+    SmolStr::from_string_refs(alloc, iter)
+}
+
+/// A builder, and after its text the characters of any iterator that ends.
+pub fn with_any_chars<I: Iterator<Item = char>>(
+    builder: &mut SmolStrBuilder,
+    iter: I,
+) -> Result<(), AllocError>
+    requires can { I.can_next iter }
+    requires ends { IsFinite (I.remaining iter) }
+    ensures value { OnOk result (AppendedAll char_text I.next_gives iter builder.old builder.new) }
+    ensures refused { OnErr result (OutgrownAfter char_text I.next_gives iter builder.old) }
+{
+    builder.extend_chars(iter)
+}
+
+/// A builder, and after its text the `&str`s of any iterator that ends.
+pub fn with_any_strs<'a, I: Iterator<Item = &'a str>>(
+    builder: &mut SmolStrBuilder,
+    iter: I,
+) -> Result<(), AllocError>
+    requires can { I.can_next iter }
+    requires ends { IsFinite (I.remaining iter) }
+    ensures value { OnOk result (AppendedAll str_text I.next_gives iter builder.old builder.new) }
+    ensures refused { OnErr result (OutgrownAfter str_text I.next_gives iter builder.old) }
+{
+    builder.extend_strs(iter)
+}
+
+/// A builder, and after its text the borrowed `String`s of any iterator that ends.
+pub fn with_any_strings<'a, I: Iterator<Item = &'a String>>(
+    builder: &mut SmolStrBuilder,
+    iter: I,
+) -> Result<(), AllocError>
+    requires can { I.can_next iter }
+    requires ends { IsFinite (I.remaining iter) }
+    ensures value { OnOk result (AppendedAll string_ref_text I.next_gives iter builder.old builder.new) }
+    ensures refused { OnErr result (OutgrownAfter string_ref_text I.next_gives iter builder.old) }
+{
+    builder.extend_strings(iter)
+}
+
 /// A builder's calls, each kind of them.
 #[tactic(auto, using(smol_str::proofs::CallerLemmas::builders))]
 pub fn of_calls(alloc: Global, front: &str, last: char) -> Result<SmolStr, AllocError>
@@ -195,12 +288,12 @@ pub fn of_own_builder(builder: SmolStrBuilder) -> Result<SmolStr, AllocError>
     builder.into_value()
 }
 
-/// Any list of a builder's calls.
-pub fn of_steps(alloc: Global, steps: &[Step]) -> Result<SmolStr, AllocError>
+/// Any list of a builder's calls, with any capacity.
+pub fn of_steps(alloc: Global, capacity: usize, steps: &[Step]) -> Result<SmolStr, AllocError>
     ensures value { IfOk result (λ v. IsValueOf (joined step_text steps.now) v) }
-    ensures refused { OnErr result (¬ (IsShort (joined step_text steps.now))) }
+    ensures refused { OnErr result ((INLINE_CAP < capacity) ⊎ (¬ (IsShort (joined step_text steps.now)))) }
 {
-    build(alloc, 0, steps)
+    build(alloc, capacity, steps)
 }
 
 /// A text in lower case of ASCII.
@@ -260,22 +353,27 @@ pub fn with_some_replaced(
     text.replacen_smolstr(alloc, from, to, count)
 }
 
-/// Two values of one text, pinned or not: they are equal, stand in one order to any third, and feed a hasher the same.
-pub fn are_alike<H: Hasher>(
-    left: &SmolStr,
-    right: &SmolStr,
-    third: &SmolStr,
-    left_state: &mut H,
-    right_state: &mut H,
-) -> bool
-    requires one_text { left.now.text ≡ right.now.text }
-    requires one_state { left_state.now ≡ right_state.now }
-    ensures alike { IsTrue result }
-    ensures hashed { left_state.new ≡ right_state.new }
+/// A clone, which means what the value means.
+pub fn cloned(value: &SmolStr) -> Result<SmolStr, AllocError>
+    ensures value { IfOk result (λ copy. copy ≡ value.now) }
+    ensures refused { OnErr result (¬ (IsResident value.now.text)) }
 {
-    left.hash(left_state);
-    right.hash(right_state);
-    left == right && left.cmp(third) == right.cmp(third)
+    value.clone()
+}
+
+/// The place of any value at all.
+pub fn lies(value: &SmolStr) -> Place
+    ensures { (result ≡ place_of value.now.text) ⊎ (result ≡ Place.Static) }
+{
+    value.place()
+}
+
+/// Any two values: whether they are equal, and their order.
+pub fn compared(left: &SmolStr, right: &SmolStr) -> (bool, Ordering)
+    ensures equal { IsTrue result.0 ↔ (left.now.text ≡ right.now.text) }
+    ensures order { result.1 ≡ slice_cmp nat_cmp left.now.text right.now.text }
+{
+    (left == right, left.cmp(right))
 }
 
 /// Two values of one text, neither of them pinned, lie in one place.
@@ -288,13 +386,14 @@ pub fn lie_alike(left: &SmolStr, right: &SmolStr) -> bool
     left.place() == right.place()
 }
 
-/// Two values of different texts, pinned or not: they are unequal, and ordered as their texts are.
-pub fn are_unlike(left: &SmolStr, right: &SmolStr) -> (bool, Ordering)
-    requires { left.now.text ≢ right.now.text }
-    ensures unequal { IsTrue result.0 }
-    ensures order { result.1 ≡ slice_cmp nat_cmp left.now.text right.now.text }
+/// Two values of one text, pinned or not, feed a hasher the same.
+pub fn hash_alike<H: Hasher>(left: &SmolStr, right: &SmolStr, left_state: &mut H, right_state: &mut H)
+    requires one_text { left.now.text ≡ right.now.text }
+    requires one_state { left_state.now ≡ right_state.now }
+    ensures { left_state.new ≡ right_state.new }
 {
-    (left != right, left.cmp(right))
+    left.hash(left_state);
+    right.hash(right_state);
 }
 
 /// A value feeds a hasher what its text feeds it as a `str`.

@@ -1,9 +1,12 @@
 //! A value there and back through JSON.
-ghost use Rattle.std.specs.Prelude.{◌≡◌, IfOk, IfErr};
+ghost use Rattle.std.specs.Prelude.{◌≡◌, IfOk, IfErr, OnErr};
 ghost use Rattle.std.specs.Str.{chars};
-ghost use Rattle.smol_str.specs.Json.{IsJsonText};
+ghost use Rattle.serde_json.specs.View.{view};
+ghost use Rattle.smol_str.specs.Json.{json_value, IsJsonText};
 ghost use Rattle.smol_str.specs.Meaning.{IsValueOf};
+ghost use Rattle.smol_str.specs.Text.{IsResident};
 
+use serde_json::Value;
 use smol_str::SmolStr;
 use smol_str::json::{JsonFault, from_json, from_value, to_json, to_value};
 use std::alloc::{AllocError, Global};
@@ -26,15 +29,25 @@ pub fn known(alloc: Global, json: &str, name: &str) -> Result<SmolStr, JsonFault
     from_json(alloc, json)
 }
 
-/// A value there and back as a JSON value: it can only run out of memory.
-pub fn as_json_value(alloc: Global, value: &SmolStr) -> Result<SmolStr, AllocError>
-    ensures { IfOk result (λ back. IsValueOf value.now.text back) }
+/// The value of a JSON string that is known to be `text`: only memory can be refused, and that not for resident text.
+pub fn of_string(alloc: Global, json: &Value, text: &str) -> Result<SmolStr, AllocError>
+    requires { view json.now ≡ json_value (chars text.now) }
+    ensures value { IfOk result (λ v. IsValueOf (chars text.now) v) }
+    ensures refused { OnErr result (¬ (IsResident (chars text.now))) }
 {
-    let json = to_value(alloc, value)?;
-    match from_value(alloc, &json) {
-        Ok(back) => Ok(back),
+    match from_value(alloc, json) {
+        Ok(value) => Ok(value),
         Err(JsonFault::OutOfMemory) => Err(AllocError),
         Err(JsonFault::NotString) => unreachable!(),
         Err(JsonFault::Json(_)) => unreachable!(),
     }
+}
+
+/// A value there and back as a JSON value: it can only run out of memory.
+pub fn as_json_value(alloc: Global, value: &SmolStr) -> Result<SmolStr, JsonFault>
+    ensures value { IfOk result (λ back. IsValueOf value.now.text back) }
+    ensures refused { IfErr result (λ fault. fault ≡ JsonFault.OutOfMemory) }
+{
+    let json = to_value(alloc, value)?;
+    from_value(alloc, &json)
 }

@@ -1,5 +1,5 @@
 //! A value there and back: its wire form written, and read again by both calls.
-ghost use Rattle.std.specs.Prelude.{◌≡◌, ◌+◌, ◌≤◌, ◌++◌, ℕ, List, Some, IfOk, IfErr, IfSome, OnErr};
+ghost use Rattle.std.specs.Prelude.{◌≡◌, ◌<◌, ◌+◌, ◌≤◌, ◌++◌, ℕ, List, Some, IfOk, IfErr, IfSome, OnErr};
 ghost use Rattle.std.specs.Io.KnownBytes.{Consumes};
 ghost use Rattle.std.specs.Str.{chars};
 ghost use Rattle.smol_str.specs.Text.{size, IsResident, place_of};
@@ -112,14 +112,20 @@ pub fn read_two(alloc: Global, bytes: &[u8]) -> Result<(SmolStr, SmolStr), Decod
     Ok((first, second))
 }
 
-/// A value from a peer that may state any size: nothing is asked for where it states more than `limit`.
-pub fn read_from_peer<R: Read>(alloc: Global, reader: &mut R, limit: usize) -> Option<SmolStr>
-    ensures limited { IfSome result (λ v. size v.text ≤ limit) }
-    ensures read { IfSome result (λ v. Consumes (R.remaining reader.old) (R.remaining reader.new) (wire v.text)) }
-    ensures place { IfSome result (λ v. v.place ≡ place_of v.text) }
+/// A value from a peer that may state any size: nothing is asked for where it states more than `limit`, nor where it
+/// states a short text.
+pub fn read_from_peer<R: Read>(
+    alloc: Global,
+    reader: &mut R,
+    bytes: &[u8],
+    limit: usize,
+) -> Result<SmolStr, LimitedFault>
+    requires known { R.remaining reader.old ≡ Some bytes.now }
+    ensures value { IfOk result (λ v. Consumes (R.remaining reader.old) (R.remaining reader.new) (wire v.text)) }
+    ensures place { IfOk result (λ v. v.place ≡ place_of v.text) }
+    ensures limited { IfOk result (λ v. size v.text ≤ limit) }
+    ensures refused { IfErr result (λ fault.
+        fault ≡ LimitedFault.Decode DecodeFault.OutOfMemory → INLINE_CAP < prefix_size bytes.now) }
 {
-    match deserialize_limited(alloc, reader, limit) {
-        Ok(value) => Some(value),
-        Err(LimitedFault::TooLong | LimitedFault::Decode(_)) => None,
-    }
+    deserialize_limited(alloc, reader, limit)
 }

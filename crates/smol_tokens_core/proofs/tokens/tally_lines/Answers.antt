@@ -1,19 +1,40 @@
-use Rattle.std.proofs.Common.{map, refl}
+use Rattle.std.proofs.Common.{map, refl, inr, ◌∙◌}
 use Rattle.std.specs.Str.{chars}
-use Rattle.smol_tokens_core.proofs.TokenLemmas.{tally-seen, lines-seen, no_report-line}
+use Rattle.smol_tokens_core.proofs.FaultLemmas.{no_report-refused}
+use Rattle.smol_tokens_core.proofs.TokenLemmas.{tally-seen, lines-seen, some_text, no_report-add}
 use Rattle.smol_tokens_core.proofs.tokens.tally_lines.Goals as goal
 
-pub loop-line-preserved : goal.loop-line-preserved
-loop-line-preserved g c = (
-  tally-seen (λ line. chars line.now) c.loop-line.yielded c.in-Some.line _ _ _ c.loop-line.invariant.0 refl
-      c.in_ok-add_line.ensures.ok,
-  lines-seen (λ line. chars line.now) c.loop-line.yielded c.in-Some.line _ _ _ c.loop-line.invariant.1
-      c.in-Some.ensures.steps,
-)
+pub loop-line-preserved-in-Counted : goal.loop-line-preserved-in-Counted
+loop-line-preserved-in-Counted g c =
+    let counted = rw c.in-Counted.is at c.add_again.ensures in (
+      tally-seen (λ line. chars line.now) c.loop-line.yielded c.in-Some.line _ _ _ c.loop-line.invariant.0 refl counted.0,
+      lines-seen (λ line. chars line.now) c.loop-line.yielded c.in-Some.line _ _ _ c.loop-line.invariant.1
+          c.in-Some.ensures.steps,
+    )
 
-pub returns-in_err-add_line-clause-fault : goal.returns-in_err-add_line-clause-fault
-returns-in_err-add_line-clause-fault g c =
-    no_report-line c.from_residual.result (chars c.args.text.now) (chars c.in-Some.line.now)
-    (map (λ line. chars line.now) c.loop-line.yielded) _ _ c.loop-line.tally c.in_err-add_line.field-0.0
-    c.from_residual.ensures.1 c.loop-line.invariant.0 c.loop-line.invariant.1 c.in-Some.ensures.steps
-    c.in_err-add_line.ensures.fault
+pub returns-in-Full-clause-fault : goal.returns-in-Full-clause-fault
+returns-in-Full-clause-fault g c =
+    let full = rw c.in-Full.is at c.add_again.ensures in (
+      refl,
+      no_report-add (chars c.args.text.now) (chars c.in-Some.line.now)
+          (map (λ line. chars line.now) c.loop-line.yielded) _ _ c.loop-line.tally c.loop-line.invariant.0
+          c.loop-line.invariant.1 c.in-Some.ensures.steps full.1,
+    )
+
+pub returns-in_err-token-in-New-clause-fault : goal.returns-in_err-token-in-New-clause-fault
+returns-in_err-token-in-New-clause-fault g c =
+    no_report-refused _ _ (chars c.args.text.now) c.from_residual.ensures.1
+    (inr (some_text (chars c.args.text.now) _ _ _ _ c.loop-line.invariant.1 c.in-Some.ensures.steps))
+
+pub loop-line-preserved : goal.loop-line-preserved
+loop-line-preserved g c =
+    let same = rw c.in-New.is at c.add_again.ensures in (
+      tally-seen (λ line. chars line.now) c.loop-line.yielded c.in-Some.line _ _ _ (same.0 ∙ c.loop-line.invariant.0)
+          c.in_ok-token-in-New.ensures.ok.text c.in-Ok.ensures.ok,
+      lines-seen (λ line. chars line.now) c.loop-line.yielded c.in-Some.line _ _ _ c.loop-line.invariant.1
+          c.in-Some.ensures.steps,
+    )
+
+pub returns-in_default-clause-fault : goal.returns-in_default-clause-fault
+returns-in_default-clause-fault g c =
+    inr (some_text (chars c.args.text.now) _ _ _ _ c.loop-line.invariant.1 c.in-Some.ensures.steps)
