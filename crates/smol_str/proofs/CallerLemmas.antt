@@ -26,7 +26,6 @@ use Rattle.smol_str.specs.declared.value.place.Place.TheVariants.{Inline}
 use Rattle.smol_str.specs.Keys.{same_key}
 use Rattle.smol_str.proofs.TextLemmas.Lists.{flat_map-more, flat_map-parts}
 use Rattle.smol_str.proofs.TextLemmas.Places.{IsShort-chars}
-use Rattle.smol_str.proofs.TextLemmas.Split.{chars-middle}
 use Rattle.smol_str.specs.JoinedLaws.{joined-chars}
 use Rattle.smol_str.specs.Joined.{joined_strs, joined_string_refs}
 use Rattle.std.specs.Iterator.{Drains, DrainsIf, ExtendsWithItems}
@@ -60,8 +59,8 @@ pub use Rattle.smol_str.proofs.PieceLemmas.{gives-split}
 pub use Rattle.smol_str.proofs.TextLemmas.Places.{IsShort-front}
 -- the size of the text that bytes spell, and of two texts, one after the other
 pub use Rattle.smol_str.proofs.TextLemmas.Places.{size-chars, size-append}
--- bytes of a text in two parts, at the size of the first: they may be cut there, and behind the cut stands the second
-pub use Rattle.smol_str.proofs.TextLemmas.Split.{boundary-parts, chars-drop}
+-- bytes of a text in two parts, at the size of the first: they may be cut there, into these
+pub use Rattle.smol_str.proofs.TextLemmas.Split.{boundary-parts, chars-take, chars-drop}
 -- appending twice is appending the joined text, and nothing changes nothing; a new builder leaves its buffer only for a
 -- text that is not short
 pub use Rattle.smol_str.proofs.BuilderLemmas.Draft.{appended-twice, appended-nothing, OnHeap-long}
@@ -79,11 +78,6 @@ chars-as_str t bs scalars e = ap chars e ∙ chars-encodes t scalars
 -- their number is the text's size
 pub length-as_str : (t bs : List ℕ) → bs ≡ encode_utf8_all t → length bs ≡ size t
 length-as_str t bs e = ap length e
-
--- before such a cut stands the first
-pub chars-take : (bs a b : List ℕ) (i : ℕ) → IsUtf8 bs → chars bs ≡ a ++ b → size a ≡ i → chars (take i bs) ≡ a
-chars-take bs a b i u e n =
-    subst (λ k. chars (take k bs) ≡ a) (omega arith) (chars-middle bs [] a b 0 i u e refl n)
 
 -- a text of so few bytes needs no memory
 pub IsResident-few : (bs : List ℕ) → IsUtf8 bs → length bs ≤ INLINE_CAP → IsResident (chars bs)

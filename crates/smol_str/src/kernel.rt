@@ -1,12 +1,12 @@
 //! Building blocks for loops of your own over a text: its ASCII front in a case, and its next
 //! match.
-ghost use Rattle.std.specs.Prelude.{◌≡◌, ◌↔◌, ◌<◌, ◌≤◌, ◌+◌, ℕ, List, ◌++◌, Some, None, IfSome, length, encode_utf8_all};
+ghost use Rattle.std.specs.Prelude.{◌≡◌, ◌↔◌, ◌<◌, ◌≤◌, ◌+◌, ◌-◌, ℕ, List, ◌++◌, Some, None, IfSome, MatchOption, length, take, drop, encode_utf8_all};
 ghost use Rattle.std.specs.Str.{IsCharBoundary, chars};
 ghost use Rattle.smol_str.specs.Text.{size};
 ghost use Rattle.smol_str.specs.Buffer.{padded};
 ghost use Rattle.smol_str.specs.Case.{front};
 ghost use Rattle.smol_str.specs.InCase.{converted};
-ghost use Rattle.smol_str.specs.Cut.{Occurs, StandsAt, IsNextMatch};
+ghost use Rattle.smol_str.specs.Cut.{Occurs, StandsAt, IsFirstAfter, IsNextMatch};
 
 use crate::buffer::{INLINE_CAP, InlineBuffer, InlineText};
 pub use crate::bytes::ascii::AsciiCase;
@@ -37,9 +37,9 @@ pub fn convert_while_ascii(text: &str, case: AsciiCase) -> (InlineBuffer, usize)
 /// The byte index of the first match of a pattern at or after `from`, `None` where there is none.
 ///
 /// `from` must be a char boundary, as 0 always is, and `pattern` not empty. Both the index that is
-/// returned and the one behind the match are char boundaries, so the text may be cut at either. In
-/// the clauses `found` and `none`, `a` is the characters before `from`, and `b` those from there
-/// on.
+/// returned and the one behind the match are char boundaries, so the text may be cut at either: into
+/// what `parts` says, of which the pattern stands nowhere before the index, as `first` says. In the
+/// clauses `found` and `none`, `a` is the characters before `from`, and `b` those from there on.
 ///
 /// ```
 /// assert_eq!(rt; next_match("foo_bar_baz", 5, "ba"), Some(8));
@@ -47,6 +47,10 @@ pub fn convert_while_ascii(text: &str, case: AsciiCase) -> (InlineBuffer, usize)
 pub fn next_match(text: &str, from: usize, pattern: &str) -> Option<usize>
     requires boundary { 0 < from → IsCharBoundary text.now from }
     requires not_empty { 0 < length pattern.now }
+    ensures first { MatchOption result (¬ Occurs (chars pattern.now) (chars (drop from text.now)))
+        (λ i. IsFirstAfter (chars pattern.now) (chars (take (i - from) (drop from text.now)))) }
+    ensures parts { IfSome result (λ i. chars text.now ≡ chars (take i text.now)
+        ++ (chars pattern.now ++ chars (drop (i + length pattern.now) text.now))) }
     ensures found { (a b : List ℕ) → chars text.now ≡ a ++ b → size a ≡ from →
         (i : ℕ) → (result ≡ Some i) ↔ IsNextMatch a b (chars pattern.now) i }
     ensures none { (a b : List ℕ) → chars text.now ≡ a ++ b → size a ≡ from →

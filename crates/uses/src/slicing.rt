@@ -1,24 +1,40 @@
 //! What a caller does with an index or a buffer that a call returns.
 #![tactic(auto)]
 
-ghost use Rattle.std.specs.Prelude.{◌≡◌, ◌<◌, ◌≤◌, ◌↔◌, ◌+◌, [], length, IfSome, IsTrue, encode_utf8_all};
-ghost use Rattle.std.specs.Str.{IsCharBoundary};
+ghost use Rattle.std.specs.Prelude.{◌≡◌, ◌<◌, ◌≤◌, ◌↔◌, ◌++◌, [], codes, drop, length, IfNone, IfSome, IsTrue};
+ghost use Rattle.std.specs.Str.{IsCharBoundary, chars};
+ghost use Rattle.smol_str.specs.Cut.{IsFirstAfter, Occurs};
 
 use smol_str::kernel::{AsciiCase, convert_while_ascii, next_match};
 use smol_str::{INLINE_CAP, SmolStr, SmolStrBuilder};
 
 /// What stands before the first comma of a text, and behind it.
 pub fn at_comma(text: &str) -> Option<(&str, &str)>
-    ensures { IfSome result (λ parts. length parts.0.now + 1 + length parts.1.now ≡ length text.now) }
+    ensures { IfSome result (λ parts.
+        chars text.now ≡ chars parts.0.now ++ (chars (codes ",") ++ chars parts.1.now)) }
 {
     let found = next_match(text, 0, ",")?;
     Some((&text[..found], &text[found + 1..]))
+}
+
+/// A text cut at the first match of a pattern; `None` where the pattern stands nowhere in it.
+pub fn cut_at<'a>(text: &'a str, pattern: &str) -> Option<(&'a str, &'a str)>
+    requires some { 0 < length pattern.now }
+    ensures whole { IfSome result (λ parts.
+        chars text.now ≡ chars parts.0.now ++ (chars pattern.now ++ chars parts.1.now)) }
+    ensures first { IfSome result (λ parts. IsFirstAfter (chars pattern.now) (chars parts.0.now)) }
+    ensures none { IfNone result (¬ Occurs (chars pattern.now) (chars text.now)) }
+{
+    let found = next_match(text, 0, pattern)?;
+    Some((&text[..found], &text[found + pattern.len()..]))
 }
 
 /// What stands between a byte index and the next match of a pattern, and behind the match.
 pub fn at_next<'a>(text: &'a str, from: usize, pattern: &str) -> Option<(&'a str, &'a str)>
     requires boundary { IsCharBoundary text.now from }
     requires some { 0 < length pattern.now }
+    ensures first { IfSome result (λ parts. IsFirstAfter (chars pattern.now) (chars parts.0.now)) }
+    ensures none { IfNone result (¬ Occurs (chars pattern.now) (chars (drop from text.now))) }
 {
     let found = next_match(text, from, pattern)?;
     Some((&text[from..found], &text[found + pattern.len()..]))

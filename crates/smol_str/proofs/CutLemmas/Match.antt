@@ -1,12 +1,13 @@
 -- For `kernel::next_match`: the first place of a pattern's bytes is the first match of its characters.
-use Rattle.smol_str.proofs.Common.{◌≡◌, ◌↔◌, get_or, ℕ, ◌+◌, ◌<◌, List, [], ◌++◌, Option, None, Some, length, take, drop, refl, sym, ap, ◌∙◌, subst, arith, length-append, append_assoc, take-append-drop, length-take-le, IsUtf8, chars, encode_utf8_all, encodes-append, encodes-chars, length-le-encodes, take_at, drop_at, length-drop, take-append-le, size, Occurs, StandsAt, IsCharBoundary, but_last, IsNextMatch, same_Some, nil_from_length, ⊎_elim, cases_lt, ◌≤◌, common_steps, rules}
+use Rattle.smol_str.proofs.Common.{◌≡◌, ◌↔◌, get_or, ℕ, ◌+◌, ◌<◌, List, [], ◌++◌, Option, None, Some, length, take, drop, refl, sym, ap, ◌∙◌, subst, arith, length-append, append_assoc, take-append-drop, length-take-le, IsUtf8, chars, encode_utf8_all, encodes-append, encodes-chars, length-le-encodes, take_at, drop_at, length-drop, take-append-le, size, Occurs, StandsAt, IsCharBoundary, but_last, IsNextMatch, same_Some, nil_from_length, ⊎_elim, cases_lt, ◌≤◌, ◌-◌, IsFirstAfter, IsCharBoundary-start, IsUtf8-drop, chars-append, common_steps, rules}
 use Rattle.memchr.specs.Find.{OccursAt, FindsNeedle, is_byte, IsFirstByte}
 use Rattle.memchr.proofs.lemmas.FindLemmas.{OccursAt-byte, byte-OccursAt}
 use Rattle.memchr.proofs.lemmas.MatchLemmas.{OccursAt-split, OccursAt-from_part}
 use Rattle.smol_str.proofs.TextLemmas.Places.{size-append, size-chars}
 use Rattle.smol_str.proofs.CutLemmas.Cut.{append-last_part, last_part, length_but_last, one_first}
 use Rattle.smol_str.proofs.CutLemmas.Sync.{StandsBetween-bytes, StandsAt-bytes}
-use Rattle.smol_str.proofs.TextLemmas.Split.{boundary-parts, drop-parts}
+use Rattle.smol_str.proofs.TextLemmas.Split.{boundary-parts, drop-parts, chars-take, chars-drop}
+use Rattle.std.proofs.lemmas.Str.{IsUtf8-take}
 
 -- one byte is found as a needle of one byte
 pub one_byte : (hay nd : List ℕ) → length nd ≡ 1 → (r : Option ℕ) → IsFirstByte (is_byte (get_or nd 0 0)) hay r
@@ -159,3 +160,50 @@ module _ (bs nd : List ℕ) (u : IsUtf8 bs) (v : IsUtf8 nd) (some : 0 < length n
       let fits = f.1.fits in
       boundaries (take i bs ++ take k rest) y reads (i + k)
       (omega (arith, length-append (take i bs) (take k rest), length-take-le i bs inside, length-take-le k rest (omega (arith, fits))))
+
+-- of a text from a char boundary on, what a search for a pattern that is not empty finds
+module _ (bs nd : List ℕ) (i : ℕ) (u : IsUtf8 bs) (v : IsUtf8 nd) (some : 0 < length nd)
+    (start : 0 < i → IsCharBoundary bs i) where
+  from_here : IsCharBoundary bs i
+  from_here = ⊎_elim (λ none. subst (IsCharBoundary bs) (omega arith) (IsCharBoundary-start bs u)) start (cases_lt i 1)
+
+  abbrev before : List ℕ
+  before = chars (take i bs)
+
+  abbrev rest : List ℕ
+  rest = chars (drop i bs)
+
+  reads : chars bs ≡ before ++ rest
+  reads =
+      ap chars (sym (take-append-drop i bs))
+      ∙ chars-append (take i bs) (drop i bs) (IsUtf8-take bs i u from_here)
+
+  long : size before ≡ i
+  long = size-chars (take i bs) (IsUtf8-take bs i u from_here) ∙ length-take-le i bs from_here.0
+
+  pub nowhere : FindsNeedle (drop i bs) nd 0 None → ¬ Occurs (chars nd) rest
+  nowhere f = not_found (drop i bs) nd (IsUtf8-drop bs i u from_here) v f
+
+  module _ (k : ℕ) (f : FindsNeedle (drop i bs) nd 0 (Some k)) where
+    match : IsNextMatch before rest (chars nd) (i + k)
+    match = IsNextMatch-found bs nd i k u v some f before rest reads long
+
+    pub is_first : (j : ℕ) → j ≡ i + k → IsFirstAfter (chars nd) (chars (take (j - i) (drop i bs)))
+    is_first j e =
+        let front = size-append before match.before in
+        let skipped = chars-take (drop i bs) match.before (chars nd ++ match.after) (j - i)
+            (IsUtf8-drop bs i u from_here) match.reads (omega (arith, front, match.index, long)) in
+        subst (IsFirstAfter (chars nd)) (sym skipped) match.first
+
+    pub parts : (j : ℕ) → j ≡ i + k
+        → chars bs ≡ chars (take j bs) ++ (chars nd ++ chars (drop (j + length nd) bs))
+    parts j e =
+        let a = before ++ match.before in
+        let p = chars nd in
+        let whole : chars bs ≡ a ++ (p ++ match.after) =
+            reads ∙ ap (λ t. before ++ t) match.reads ∙ sym (append_assoc before match.before (p ++ match.after)) in
+        let behind : chars bs ≡ (a ++ p) ++ match.after = whole ∙ sym (append_assoc a p match.after) in
+        let first = chars-take bs a (p ++ match.after) j u whole (match.index ∙ sym e) in
+        let last = chars-drop bs (a ++ p) match.after (j + length nd) u behind
+            (omega (arith, size-append a p, size-chars nd v, match.index)) in
+        whole ∙ (λ n. sym first n ++ (p ++ sym last n))
