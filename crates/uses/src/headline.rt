@@ -72,7 +72,7 @@ pub fn of_nothing() -> SmolStr
 
 /// A text that lives as long as the program, pinned to place Static; it is never refused.
 pub fn of_constant(text: &'static str) -> SmolStr
-    ensures text { result.text ≡ chars text.now }
+    ensures value { result.text ≡ chars text.now }
     ensures place { result.place ≡ Place.Static }
 {
     SmolStr::new_static(text)
