@@ -13,8 +13,9 @@
        6   the same of the bytes that they asked for
        7   the same of the blocks that were handed out and not freed
        8   the same of the bytes of these blocks, as the C library has made room for them
+       9   nothing is refused from here on, but a block that is to give back more than SPARE bytes stays as it is
 
-   A block that is made smaller is no request: it needs no memory, so it is neither refused nor counted.
+   A block that is made smaller is no request: it needs no memory, so it is not counted, and refused by message 9 alone.
 
    crates/test_support/src/refuse.rt sends these messages. At the process's end one line goes to the
    file that REFUSE_LOG names: how often the program asked for refusals, and how many requests were
@@ -32,10 +33,13 @@ extern void __libc_free(void *);
 static const size_t BASE = (size_t)1 << 62;
 static const size_t WORD = (size_t)1 << 32;
 
+/* What the C library may add to a block: a larger request may fit into it. */
+static const size_t SPARE = 32;
+
 /* What a granted message returns. It is no block: free leaves it alone. */
 static _Alignas(max_align_t) char granted_block[sizeof(max_align_t)];
 
-static enum { NONE, ONE, FROM } mode = NONE;
+static enum { NONE, ONE, FROM, SMALLER } mode = NONE;
 static size_t nth;                     /* the first request to refuse, from 1 */
 static size_t seen, met;               /* requests and refusals since the mode was set */
 static size_t armed, total;            /* the same two numbers for the whole process */
@@ -51,7 +55,7 @@ static void arm(int new_mode, size_t n) {
 
 /* Whether the size is a message; then *block is what malloc returns. */
 static int is_message(size_t size, void **block) {
-    if (size < BASE || size >= BASE + 9 * WORD) return 0;
+    if (size < BASE || size >= BASE + 10 * WORD) return 0;
     size_t n = (size - BASE) % WORD;
     int granted = 0;
     switch ((size - BASE) / WORD) {
@@ -64,6 +68,7 @@ static int is_message(size_t size, void **block) {
     case 6: granted = bytes >> n & 1; break;
     case 7: granted = blocks >> n & 1; break;
     case 8: granted = held >> n & 1; break;
+    case 9: arm(SMALLER, 0); break;
     }
     *block = granted ? granted_block : NULL;
     return 1;
@@ -72,7 +77,7 @@ static int is_message(size_t size, void **block) {
 static int is_refused(size_t size) {
     requests++;
     bytes += size;
-    if (mode == NONE) return 0;
+    if (mode == NONE || mode == SMALLER) return 0;
     seen++;
     if (mode == ONE ? seen != nth : seen < nth) return 0;
     met++;
@@ -91,6 +96,7 @@ void *malloc(size_t size) {
 
 void *realloc(void *old, size_t size) {
     size_t before = malloc_usable_size(old);
+    if (mode == SMALLER && size + SPARE < before) return NULL;
     void *block = size > before && is_refused(size) ? NULL : __libc_realloc(old, size);
     if (block == NULL) return NULL;
     blocks += old == NULL;

@@ -25,6 +25,8 @@ pub enum Refusals {
     One(u32),
     /// The nth, and each later one.
     From(u32),
+    /// None, but no block is made smaller.
+    Smaller,
 }
 
 impl Refusals {
@@ -32,6 +34,7 @@ impl Refusals {
     fn first(self) -> u32 {
         match self {
             Refusals::One(nth) | Refusals::From(nth) => nth,
+            Refusals::Smaller => 0,
         }
     }
 }
@@ -41,6 +44,7 @@ pub fn refuse(alloc: Global, refusals: Refusals) {
     let message = match refusals {
         Refusals::One(nth) => nth as usize,
         Refusals::From(nth) => WORD + nth as usize,
+        Refusals::Smaller => 9 * WORD,
     };
     let _ = is_granted(alloc, BASE + message);
 }
@@ -91,12 +95,13 @@ pub trait Refusable {
 }
 
 /// Makes a call with each of its requests refused in turn, that one alone and that one with all after it, until a run
-/// meets none. Returns what the call asks for where nothing is refused.
+/// meets none; and by `run_once`. Returns what the call asks for where nothing is refused.
 ///
 /// A run fails the test where the call is `Ok` although a request was refused, where it is `Err` although none was, where
 /// it makes another request after one that was refused, and where a block of memory is left once all is dropped. So do two
 /// runs of which one is refused and the other is not, and a call that is refused in each of `MOST` runs.
 pub fn each_refused<C: Refusable>(test: &Test, name: &str, call: &C) -> Asked {
+    let _ = run_once(test, name, call);
     for nth in 1..MOST {
         let alone = run_refused(test, name, Refusals::One(nth), call);
         let with_later = run_refused(test, name, Refusals::From(nth), call);
@@ -111,6 +116,11 @@ pub fn each_refused<C: Refusable>(test: &Test, name: &str, call: &C) -> Asked {
         bytes: 0,
         held: 0,
     }
+}
+
+/// One run with no request refused, and with no block made smaller, which is no reason to give up.
+pub fn run_once<C: Refusable>(test: &Test, name: &str, call: &C) -> Option<Asked> {
+    run_refused(test, name, Refusals::Smaller, call)
 }
 
 /// One run with these requests refused. Returns what the call asked for, and `None` where a request was refused.

@@ -11,8 +11,22 @@ use std::io::{ErrorKind, Read, Write};
 /// How many bytes a call the readers and writers give and take at most.
 pub const STEPS: [usize; 7] = [1, 2, 3, CHUNK - 1, CHUNK, CHUNK + 1, usize::MAX];
 
-/// The errors that readers return. Upstream's readers call again after the first, ours do not.
-const READ_ERRORS: [ErrorKind; 2] = [ErrorKind::Interrupted, ErrorKind::BrokenPipe];
+/// What a stream does where it fails, another thing at each place: it returns an error of its own, or EINTR, EIO, EAGAIN,
+/// ENOSPC, EPIPE or ETIMEDOUT of the system; or it takes no byte. Upstream's calls go on after EINTR, ours do not.
+fn failure_at(place: usize) -> Option<io::Error> {
+    match place % 8 {
+        0 => None,
+        1 => Some(io::Error::from(ErrorKind::UnexpectedEof)),
+        nth => Some(io::Error::from_raw_os_error([4, 5, 11, 28, 32, 110][nth - 2])),
+    }
+}
+
+/// What tells an error from others: its kind, and the system's code where it has one.
+pub type Cause = (ErrorKind, Option<i32>);
+
+pub fn cause_of(error: &io::Error) -> Cause {
+    (error.kind(), error.raw_os_error())
+}
 
 /// Whether a place in so many bytes is tried: each in a few, and in many those about the ends of pieces.
 fn is_tried(place: usize, size: usize) -> bool {
@@ -29,7 +43,7 @@ pub struct Trickle<'a> {
     pub step: usize,
     pub calls: usize,
     pub fails_at: usize,
-    pub failure: ErrorKind,
+    pub failure: io::Error,
     pub least: usize,
     pub most: usize,
 }
@@ -42,7 +56,7 @@ impl Read for Trickle<'_> {
         self.least = self.least.min(buf.len());
         self.most = self.most.max(buf.len());
         if self.calls == self.fails_at {
-            return Err(io::Error::from(self.failure));
+            return Err(self.failure);
         }
         let n = self.step.max(1).min(buf.len()).min(self.rest.len());
         let (front, rest) = self.rest.split_at(n);
@@ -52,7 +66,7 @@ impl Read for Trickle<'_> {
     }
 }
 
-/// A reader of these bytes; it never fails where `fails_at` is 0, and else returns `Interrupted`.
+/// A reader of these bytes; it never fails where `fails_at` is 0, and else returns EINTR.
 pub fn trickle_of(rest: &[u8], step: usize, fails_at: usize) -> Trickle<'_>
     ensures { result.rest.now ≡ rest.now }
 {
@@ -61,42 +75,21 @@ pub fn trickle_of(rest: &[u8], step: usize, fails_at: usize) -> Trickle<'_>
         step,
         calls: 0,
         fails_at,
-        failure: ErrorKind::Interrupted,
+        failure: io::Error::from_raw_os_error(4),
         least: usize::MAX,
         most: 0,
     }
 }
 
-/// What a writer does at the call where it fails.
-#[derive(Clone, Copy, PartialEq, Eq, Debug)]
-pub enum Failure {
-    /// It returns this error.
-    Returns(ErrorKind),
-    /// It takes no byte.
-    TakesNone,
-}
-
-/// What writers do, and the error that is reported then.
-const WRITE_FAILURES: [(Failure, ErrorKind); 3] = [
-    (
-        Failure::Returns(ErrorKind::Interrupted),
-        ErrorKind::Interrupted,
-    ),
-    (
-        Failure::Returns(ErrorKind::BrokenPipe),
-        ErrorKind::BrokenPipe,
-    ),
-    (Failure::TakesNone, ErrorKind::WriteZero),
-];
-
-/// A writer that takes at most `step` bytes a call, and fails at the call `fails_at`, counted from 1.
+/// A writer that takes at most `step` bytes a call, and returns the error `failure` at the call `fails_at`, counted from 1;
+/// without an error it takes no byte there.
 #[derive(Drop)]
 pub struct Drip {
     pub taken: Vec<u8>,
     pub step: usize,
     pub calls: usize,
     pub fails_at: usize,
-    pub failure: Failure,
+    pub failure: Option<io::Error>,
 }
 
 impl Write for Drip {
@@ -106,8 +99,8 @@ impl Write for Drip {
         self.calls = self.calls.wrapping_add(1);
         if self.calls == self.fails_at {
             return match self.failure {
-                Failure::Returns(error) => Err(io::Error::from(error)),
-                Failure::TakesNone => Ok(0),
+                Some(error) => Err(error),
+                None => Ok(0),
             };
         }
         let n = self.step.min(buf.len());
@@ -123,7 +116,7 @@ impl Write for Drip {
 }
 
 /// A writer that holds nothing yet; it never fails where `fails_at` is 0.
-pub fn empty_drip(alloc: Global, step: usize, fails_at: usize, failure: Failure) -> Drip
+pub fn empty_drip(alloc: Global, step: usize, fails_at: usize, failure: Option<io::Error>) -> Drip
     ensures { result.taken.items ≡ [] }
 {
     Drip {
@@ -145,7 +138,7 @@ pub enum Kind {
     NotString,
     NotJson,
     Full,
-    Io(ErrorKind),
+    Io(Cause),
 }
 
 /// A call, the size of what it reads or writes, how many bytes the stream moves a call, and the call at which it ends or
@@ -211,15 +204,21 @@ fn fails_at_read<C: Reading>(
     bytes: &[u8],
     (step, fails_at): (usize, usize),
 ) {
-    for error in READ_ERRORS {
-        let row = (call.name(), bytes.len(), step, fails_at);
-        let mut reader = trickle_of(bytes, step, fails_at);
+    let row = (call.name(), bytes.len(), step, fails_at);
+    let mut reader = trickle_of(bytes, step, fails_at);
+    if let Some(error) = failure_at(place_of(row)) {
         reader.failure = error;
-        let kind = call.read(test, &mut reader).err();
-        same(test, &kind, &Some(Kind::Io(error)), &row);
-        same(test, &reader.calls, &fails_at, &row);
-        has_read(test, call, &reader, &row);
     }
+    let wanted = Kind::Io(cause_of(&reader.failure));
+    let kind = call.read(test, &mut reader).err();
+    same(test, &kind, &Some(wanted), &row);
+    same(test, &reader.calls, &fails_at, &row);
+    has_read(test, call, &reader, &row);
+}
+
+/// Another number at the next place, and in the next row.
+fn place_of((_, size, step, fails_at): Row<'_>) -> usize {
+    size.wrapping_add(step).wrapping_add(fails_at)
 }
 
 /// A call that writes.
@@ -227,8 +226,8 @@ pub trait Writing {
     /// The call, in messages.
     fn name(&self) -> &str;
 
-    /// The error of the writer, where that failed.
-    fn write(&self, test: &Test, writer: &mut Drip) -> Option<ErrorKind>;
+    /// Why not all was written, where that is so.
+    fn write(&self, test: &Test, writer: &mut Drip) -> Option<Kind>;
 }
 
 /// The call writes the bytes to writers of every step, and gives up with the writer's own error at each call at which that
@@ -256,7 +255,7 @@ fn count_writes<C: Writing>(
     (step, fails_at): (usize, usize),
 ) -> usize {
     let row = (call.name(), bytes.len(), step, fails_at);
-    let mut writer = empty_drip(test.alloc, step, fails_at, Failure::TakesNone);
+    let mut writer = empty_drip(test.alloc, step, fails_at, None);
     same(test, &call.write(test, &mut writer), &None, &row);
     holds(test, writer.taken.as_slice() == bytes, &row);
     if step == 1 {
@@ -272,13 +271,14 @@ fn fails_at_write<C: Writing>(
     bytes: &[u8],
     (step, fails_at): (usize, usize),
 ) {
-    for (failure, kind) in WRITE_FAILURES {
-        let row = (call.name(), bytes.len(), step, fails_at);
-        let mut writer = empty_drip(test.alloc, step, fails_at, failure);
-        same(test, &call.write(test, &mut writer), &Some(kind), &row);
-        same(test, &writer.calls, &fails_at, &row);
-        let taken = writer.taken.as_slice();
-        let is_as_long = step != 1 || taken.len() == fails_at.saturating_sub(1);
-        holds(test, bytes.starts_with(taken) && is_as_long, &row);
-    }
+    let row = (call.name(), bytes.len(), step, fails_at);
+    let failure = failure_at(place_of(row));
+    let wanted = failure.unwrap_or(io::Error::from(ErrorKind::WriteZero));
+    let mut writer = empty_drip(test.alloc, step, fails_at, failure);
+    let kind = call.write(test, &mut writer);
+    same(test, &kind, &Some(Kind::Io(cause_of(&wanted))), &row);
+    same(test, &writer.calls, &fails_at, &row);
+    let taken = writer.taken.as_slice();
+    let is_as_long = step != 1 || taken.len() == fails_at.saturating_sub(1);
+    holds(test, bytes.starts_with(taken) && is_as_long, &row);
 }

@@ -28,6 +28,11 @@ pub fn long_capitals() -> &'static str {
     text_of(&[b'A'; LONG])
 }
 
+/// `a` as often as no buffer has room for.
+pub fn page_text() -> &'static str {
+    text_of(&[b'a'; 5000])
+}
+
 /// A blank run that is a byte too long for a buffer.
 pub fn long_blank() -> &'static str {
     text_of(&[b' '; LONG])
@@ -64,6 +69,11 @@ pub fn repeated_and(
     let mut all = repeated(alloc, text, times)?;
     all.push_str(end)?;
     Ok(all)
+}
+
+/// A text that stays for as long as the process lives.
+pub fn leaked(text: String) -> &'static str {
+    text_of(text.into_bytes().leak())
 }
 
 /// The longest blank run.

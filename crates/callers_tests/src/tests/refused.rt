@@ -7,9 +7,9 @@ use smol_tokens_core::mode::Mode;
 use smol_tokens_core::run::run;
 use std::alloc::Global;
 use std::test::Fail;
-use test_support::refuse::{Refusable, can_refuse, each_refused};
+use test_support::refuse::{Refusable, can_refuse, each_refused, run_once};
 use test_support::state::fixed_state;
-use test_support::streams::{Drip, Failure, Kind, empty_drip, trickle_of};
+use test_support::streams::{Drip, Kind, empty_drip, trickle_of};
 use test_support::test::{Test, holds, ok_bytes, same};
 use test_support::texts::{long_blank, long_text};
 
@@ -39,8 +39,21 @@ fn each_request_in_turn(rt: HostRuntime) -> Result<(), Fail> {
         check_run(&test, words, long_blank(), blank);
         check_run(&test, words, long_text(), heap);
         check_run(&test, words, long.as_str(), large);
+        for len in 0..400 {
+            check_once(&test, words, long.as_str().get(..len).unwrap_or(""));
+        }
     }
     test.end()
+}
+
+fn check_once(test: &Test, words: Words, input: &str) {
+    let report = report_by(test, words, input.as_bytes());
+    let run = Run {
+        words,
+        input: input.as_bytes(),
+        report: report.as_slice(),
+    };
+    let _ = run_once(test, "run::run", &run);
 }
 
 /// The report on the input is written whole, or nothing is where a request is refused; none but these is made.
@@ -73,7 +86,7 @@ impl Refusable for Run<'_> {
     type Fault = (Kind, Vec<u8>);
 
     fn input(&self, test: &Test) -> (Mode, Drip) {
-        let mut writer = empty_drip(test.alloc, CHUNK, 0, Failure::TakesNone);
+        let mut writer = empty_drip(test.alloc, CHUNK, 0, None);
         writer.taken = ok_bytes(test, Vec::with_capacity(test.alloc, self.report.len()));
         (mode_by(test, self.words), writer)
     }

@@ -1,8 +1,7 @@
-//! `run` in every mode, on short and on long inputs.
+//! Reports of every mode, on short and on long inputs.
 use super::runs::{Words, run_by};
 use smol_str::INLINE_CAP;
 use std::alloc::{AllocError, Global};
-use std::test::Fail;
 use test_support::test::{Test, holds, ok_bytes, ok_string};
 use test_support::texts::{full_text, joined, long_blank, long_capitals, long_text, repeated_and};
 
@@ -85,18 +84,17 @@ fn reports() -> &'static [(Words, &'static [u8], &'static [u8])] {
     &REPORTS
 }
 
-/// The words of a mode, how the report line for one of 70,000 `a` begins, and to one of 9,000, and the
-/// letter made of an `a`.
-type Letters = (Words, &'static str, &'static str, &'static str);
+/// The words of a mode, how the report line for one of 9,000 `a` begins, and the letter made of an `a`.
+type Letters = (Words, &'static str, &'static str);
 
 static LETTERS: [Letters; 7] = [
-    (&["show"], "heap 70000 ", "heap 9000 ", "a"),
-    (&["join"], "heap 70000 ", "heap 9000 ", "a"),
-    (&["lower"], "heap 70000 ", "heap 9000 ", "a"),
-    (&["upper"], "heap 70000 ", "heap 9000 ", "A"),
-    (&["replace", "a", "x"], "heap 70000 ", "heap 9000 ", "x"),
-    (&["replace", "aa", "xx"], "heap 70000 ", "heap 9000 ", "x"),
-    (&["tokens"], "1 ", "1 ", "a"),
+    (&["show"], "heap 9000 ", "a"),
+    (&["join"], "heap 9000 ", "a"),
+    (&["lower"], "heap 9000 ", "a"),
+    (&["upper"], "heap 9000 ", "A"),
+    (&["replace", "a", "x"], "heap 9000 ", "x"),
+    (&["replace", "aa", "xx"], "heap 9000 ", "x"),
+    (&["tokens"], "1 ", "a"),
 ];
 
 pub fn letters() -> &'static [Letters] {
@@ -128,9 +126,9 @@ fn push_reports(test: &Test, all: &mut Vec<Row>) {
 }
 
 fn push_letters(test: &Test, all: &mut Vec<Row>) {
-    let input = ok_string(test, long_line(test.alloc, "", "a", 9000));
-    for &(words, _, front, letter) in letters() {
-        let report = long_line(test.alloc, front, letter, 9000);
+    let input = ok_string(test, long_line(test.alloc, "", "a"));
+    for &(words, front, letter) in letters() {
+        let report = long_line(test.alloc, front, letter);
         push_text(test, all, words, input.as_str(), report);
     }
 }
@@ -185,39 +183,14 @@ fn push_row(test: &Test, all: &mut Vec<Row>, words: Words, input: &[u8], report:
 }
 
 /// The line that says where a text is kept, its size, and the text.
-pub fn answer(alloc: Global, place: &str, text: &str) -> Result<String, AllocError> {
+fn answer(alloc: Global, place: &str, text: &str) -> Result<String, AllocError> {
     format!(in alloc; "{place} {} {text}\n", text.len())
 }
 
-/// A front, and a line of so many letters.
-pub fn long_line(
-    alloc: Global,
-    front: &str,
-    letter: &str,
-    count: usize,
-) -> Result<String, AllocError> {
-    let line = repeated_and(alloc, letter, count, "\n")?;
+/// A front, and a line of 9,000 letters.
+fn long_line(alloc: Global, front: &str, letter: &str) -> Result<String, AllocError> {
+    let line = repeated_and(alloc, letter, 9000, "\n")?;
     joined(alloc, front, line.as_str())
-}
-
-#[test]
-fn every_mode(rt: HostRuntime) -> Result<(), Fail> {
-    let test = Test::begin(rt);
-    for row in &all_rows(&test) {
-        check_report(
-            &test,
-            row.words,
-            row.input.as_slice(),
-            row.report.as_slice(),
-        );
-    }
-    test.end()
-}
-
-fn check_report(test: &Test, words: Words, input: &[u8], wanted: &[u8]) {
-    let report = report_by(test, words, input);
-    let found = report.as_slice();
-    holds(test, found == wanted, &(words, found, wanted));
 }
 
 /// The report in the mode of these words, by std's reader and writer over memory.
@@ -226,28 +199,4 @@ pub fn report_by(test: &Test, words: &[&str], input: &[u8]) -> Vec<u8> {
     let ended = run_by(test, words, &mut reader, &mut out);
     holds(test, ended.is_none(), &(words, ended));
     out
-}
-
-#[test]
-fn long_lines(rt: HostRuntime) -> Result<(), Fail> {
-    let test = Test::begin(rt);
-    let input = ok_string(&test, long_line(test.alloc, "", "a", 70_000));
-    for &(words, front, _, letter) in letters() {
-        let wanted = ok_string(&test, long_line(test.alloc, front, letter, 70_000));
-        let wanted = wanted.as_str().as_bytes();
-        check_report(&test, words, input.as_str().as_bytes(), wanted);
-    }
-    test.end()
-}
-
-#[test]
-fn many_lines(rt: HostRuntime) -> Result<(), Fail> {
-    let test = Test::begin(rt);
-    let line = ok_string(&test, long_line(test.alloc, "", "a", 99));
-    let input = test.repeated(line.as_str(), 2000);
-    let line = ok_string(&test, long_line(test.alloc, "heap 99 ", "a", 99));
-    let wanted = test.repeated(line.as_str(), 2000);
-    let wanted = wanted.as_str().as_bytes();
-    check_report(&test, &["show"], input.as_str().as_bytes(), wanted);
-    test.end()
 }

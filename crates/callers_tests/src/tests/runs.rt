@@ -4,16 +4,11 @@ use smol_tokens_core::fault::RunFault;
 use smol_tokens_core::run::run;
 use std::io::{Read, Write};
 use test_support::state::fixed_state;
-use test_support::streams::Kind;
-use test_support::test::{Test, holds};
+use test_support::streams::{Kind, cause_of};
+use test_support::test::Test;
 
 /// The words of a mode.
 pub type Words = &'static [&'static str];
-
-/// The bytes are equal.
-pub fn same_bytes(test: &Test, found: &[u8], wanted: &[u8], row: &[u8]) {
-    holds(test, found == wanted, &(row, found, wanted));
-}
 
 /// Runs in the mode of these words; `None` where the run ends well.
 pub fn run_by<R: Read, W: Write>(
@@ -39,6 +34,6 @@ pub fn kind_of(fault: &RunFault) -> Kind {
         RunFault::NotUtf8 => Kind::NotUtf8,
         RunFault::OutOfMemory => Kind::OutOfMemory,
         RunFault::Full => Kind::Full,
-        RunFault::Io(error) => Kind::Io(error.kind()),
+        RunFault::Io(error) => Kind::Io(cause_of(error)),
     }
 }

@@ -4,10 +4,9 @@ use super::reports::{all_rows, letters};
 use super::runs::{Words, run_by};
 use smol_str::stream::CHUNK;
 use std::alloc::Global;
-use std::io::ErrorKind;
 use std::test::Fail;
 use test_support::streams::{
-    Drip, Failure, Kind, Reading, STEPS, Trickle, Writing, empty_drip, fails_at_each_read,
+    Drip, Kind, Reading, STEPS, Trickle, Writing, empty_drip, fails_at_each_read,
     fails_at_each_write, trickle_of,
 };
 use test_support::test::{Test, holds, ok_bytes, same};
@@ -46,7 +45,7 @@ impl Reading for Runs {
 
 /// A writer that never fails.
 fn sound_drip(alloc: Global) -> Drip {
-    empty_drip(alloc, usize::MAX, 0, Failure::TakesNone)
+    empty_drip(alloc, usize::MAX, 0, None)
 }
 
 /// A run on an input.
@@ -61,15 +60,9 @@ impl Writing for RunsOn<'_> {
         self.words.first().copied().unwrap_or("no words")
     }
 
-    fn write(&self, test: &Test, writer: &mut Drip) -> Option<ErrorKind> {
+    fn write(&self, test: &Test, writer: &mut Drip) -> Option<Kind> {
         let mut reader = self.input;
-        match run_by(test, self.words, &mut reader, writer) {
-            Some(Kind::Io(error)) => Some(error),
-            ended => {
-                same(test, &ended, &None, &self.words);
-                None
-            }
-        }
+        run_by(test, self.words, &mut reader, writer)
     }
 }
 
@@ -135,23 +128,6 @@ fn not_utf8(rt: HostRuntime) -> Result<(), Fail> {
             }
         }
         check_ended(&test, words, b"\xed\xa0\x80\n", 1, Some(Kind::NotUtf8));
-    }
-    test.end()
-}
-
-// An input longer than every buffer is reported as no UTF-8, and not as out of memory.
-#[test]
-fn long_not_utf8(rt: HostRuntime) -> Result<(), Fail> {
-    let test = Test::begin(rt);
-    for count in [CHUNK, 65_536, 5_000_000] {
-        let input = ending_badly(&test, count);
-        check_ended(
-            &test,
-            &["show"],
-            input.as_slice(),
-            CHUNK,
-            Some(Kind::NotUtf8),
-        );
     }
     test.end()
 }

@@ -2,11 +2,12 @@
 use smol_str::{Place, SmolStr};
 use smol_tokens_core::tally::{AddFault, Tally};
 use std::alloc::Global;
+use std::ptr;
 use std::test::Fail;
 use test_support::refuse::{
     Refusable, can_refuse, count_blocks, each_refused, end_refusals, refuse_all, start_counts,
 };
-use test_support::test::{Test, holds, is_so, ok_string, same, same_count, same_str};
+use test_support::test::{Test, holds, is_so, ok_string, ok_value, same, same_count, same_str};
 use test_support::texts::long_text;
 
 /// Adds a token of this text so many times, and the count is as wanted then.
@@ -150,9 +151,10 @@ fn each_request_in_turn(rt: HostRuntime) -> Result<(), Fail> {
     let test = Test::begin(rt);
     let long = test.repeated("a", 5000);
     for text in ["c", long_text(), long.as_str()] {
-        let mut requests = 0u32;
+        let (mut requests, token) = (0u32, test.value(text));
         for there in 0..40u64 {
-            let asked = each_refused(&test, "Tally::add", &Add { text, there });
+            let token = &token;
+            let asked = each_refused(&test, "Tally::add", &Add { token, there });
             requests = requests.saturating_add(asked.requests);
         }
         let wanted = if can_refuse(test.alloc) { 16 } else { 0 };
@@ -161,20 +163,30 @@ fn each_request_in_turn(rt: HostRuntime) -> Result<(), Fail> {
     test.end()
 }
 
-/// A token of the text, added to a tally of so many others.
+/// A clone of the token, added to a tally of so many others.
 #[derive(Drop)]
 struct Add<'a> {
-    text: &'a str,
+    token: &'a SmolStr,
     there: u64,
 }
 
 impl Add<'_> {
-    /// The token came back, and the tally is as before: it takes the token now.
+    /// The very token came back, and the tally is as before: it takes the token now.
     fn check_refused(&self, test: &Test, mut tally: Tally, back: SmolStr) {
-        same_str(test, back.as_str(), self.text, "back");
+        same_str(test, back.as_str(), self.token.as_str(), "back");
+        let is_kept = !back.is_heap_allocated() || is_shared(&back, self.token);
+        is_so(test, is_kept, "the token's memory");
         same_count(test, tally.len(), self.there as usize, "refused");
         check_add(test, &mut tally, back, TIMES, TIMES);
-        check_last(test, &tally, self.there, self.text)
+        check_last(test, &tally, self.there, self.token.as_str())
+    }
+}
+
+/// The texts are in one place of the memory.
+fn is_shared(left: &SmolStr, right: &SmolStr) -> bool {
+    match (left.as_bytes().first(), right.as_bytes().first()) {
+        (Some(left), Some(right)) => ptr::eq(left, right),
+        _ => false,
     }
 }
 
@@ -190,7 +202,7 @@ impl Refusable for Add<'_> {
         for number in 0..self.there {
             check_add(test, &mut tally, token(test, "", number), number, number);
         }
-        (tally, test.value(self.text))
+        (tally, ok_value(test, self.token.clone()))
     }
 
     fn call(
@@ -207,8 +219,8 @@ impl Refusable for Add<'_> {
     fn check(&self, test: &Test, ended: Result<(Tally, u64), (Tally, AddFault)>) {
         match ended {
             Ok((tally, count)) => {
-                same_times(test, Some(count), Some(TIMES), self.text);
-                check_last(test, &tally, self.there, self.text)
+                same_times(test, Some(count), Some(TIMES), self.token.as_str());
+                check_last(test, &tally, self.there, self.token.as_str())
             }
             Err((tally, fault)) => match fault {
                 AddFault::OutOfMemory(back) => self.check_refused(test, tally, back),

@@ -11,12 +11,14 @@ mod things;
 mod values;
 
 use super::rows::held_exactly;
+use smol_str::INLINE_CAP;
 use std::alloc::Global;
 use std::fmt::Debug;
+use std::test::Fail;
 use test_support::by_std::{Asks, asked_by, is_asked};
-use test_support::refuse::{Asked, Refusable, can_refuse};
+use test_support::refuse::{Asked, Refusable, can_refuse, each_refused, run_once};
 use test_support::test::{Test, holds, ok_string, same};
-use test_support::texts::{full_text, long_text, longest_blank};
+use test_support::texts::{full_text, leaked, long_text, longest_blank};
 use things::Thing;
 
 /// What a call asks for.
@@ -30,39 +32,68 @@ pub enum Wants {
 }
 
 /// A text on which calls are tried.
-#[derive(Drop)]
+#[derive(Clone, Copy)]
 pub struct Shape {
     name: &'static str,
-    text: String,
+    text: &'static str,
 }
 
 /// No text, one that fills a buffer, the longest blank run, and texts that are not resident.
-pub fn shapes(test: &Test) -> Vec<Shape> {
-    let blank = ok_string(test, longest_blank(test.alloc));
-    let mut all = Vec::new(test.alloc);
-    test.push(&mut all, shape_of(test, "no text", ""));
-    test.push(&mut all, shape_of(test, "a full buffer", full_text()));
-    test.push(
-        &mut all,
-        shape_of(test, "the longest blank", blank.as_str()),
-    );
-    test.push(&mut all, shape_of(test, "a byte too many", long_text()));
-    for (name, unit, times) in LONG {
-        let text = test.repeated(unit, times);
-        test.push(&mut all, shape_of(test, name, text.as_str()));
-    }
-    all
+fn shapes(test: &Test) -> [Shape; 7] {
+    [
+        shape_of("no text", ""),
+        shape_of("a full buffer", full_text()),
+        shape_of("the longest blank", leaked(ok_string(test, longest_blank(test.alloc)))),
+        shape_of("a byte too many", long_text()),
+        shape_of("5,000 bytes", leaked(test.repeated("a", 5000))),
+        shape_of("2,500 accents", leaked(test.repeated("é", 2500))),
+        shape_of("70,000 bytes", leaked(test.repeated("a", 70_000))),
+    ]
 }
 
-const LONG: [(&str, &str, usize); 3] = [
-    ("5,000 bytes", "a", 5000),
-    ("2,500 accents", "é", 2500),
-    ("70,000 bytes", "a", 70_000),
-];
-
-pub fn shape_of(test: &Test, name: &'static str, text: &str) -> Shape {
-    let text = test.string(text);
+pub fn shape_of(name: &'static str, text: &'static str) -> Shape {
     Shape { name, text }
+}
+
+/// Each call asks for what it is to ask for on a text of each shape; and once on texts of each length up to 400 bytes, about
+/// the ends of buffers and far above them, where memory is counted.
+pub fn check_calls<C: Row>(rt: HostRuntime, calls: &[C]) -> Result<(), Fail> {
+    let test = Test::begin(rt);
+    for (index, &shape) in shapes(&test).iter().enumerate() {
+        for &call in calls {
+            let on = On { call, shape };
+            let asked = each_refused(&test, call.name(), &on);
+            check_asked(&test, &on, index, asked);
+        }
+    }
+    if can_refuse(test.alloc) {
+        check_lengths(&test, calls, leaked(test.repeated("a", HUGE)));
+        check_lengths(&test, calls, leaked(test.repeated("\"é€🦀", HUGE / 10)));
+    }
+    test.end()
+}
+
+const HUGE: usize = 20_000_000;
+
+fn check_lengths<C: Row>(test: &Test, calls: &[C], text: &'static str) {
+    let far = [4095, 4096, 4097, 65_535, 65_536, 65_537, HUGE];
+    for len in (0..400).chain(far) {
+        if let Some(text) = text.get(..len) {
+            let shape = shape_of("a length", text);
+            for &call in calls {
+                check_once(test, &On { call, shape });
+            }
+        }
+    }
+}
+
+/// The call does not give up, leaves nothing, and asks for what calls of std do where its text is not resident.
+fn check_once<C: Row>(test: &Test, on: &On<C>) {
+    let name = on.call.name();
+    let (asked, text) = (run_once(test, name, on), on.shape.text);
+    if let (Wants::AsStd(asks), Some(asked)) = (on.call.asks(), asked) && text.len() > INLINE_CAP {
+        check_wanted(test, Wants::AsStd(asks), text, (name, text.len()), asked);
+    }
 }
 
 /// The two halves of a text, of which the second may not fit where the first does.
@@ -86,7 +117,7 @@ pub trait Row: Copy + Debug {
     fn asks(self) -> Wants;
 
     /// What it takes, made of the text with ample memory.
-    fn input(self, test: &Test, text: &str) -> Self::Input;
+    fn input(self, test: &Test, text: &'static str) -> Self::Input;
 
     /// The call, and what it makes or leaves.
     fn run(self, alloc: Global, text: &str, input: Self::Input) -> Result<Thing, Thing>;
@@ -94,23 +125,12 @@ pub trait Row: Copy + Debug {
 
 /// A call on a text.
 #[derive(Drop)]
-pub struct On<'a, C> {
+pub struct On<C> {
     pub call: C,
-    pub shape: &'a Shape,
+    pub shape: Shape,
 }
 
-impl<C: Row> On<'_, C> {
-    fn text(&self) -> &str {
-        self.shape.text.as_str()
-    }
-
-    fn ample(&self, test: &Test) -> Result<Thing, Thing> {
-        let input = self.call.input(test, self.text());
-        self.call.run(test.alloc, self.text(), input)
-    }
-}
-
-impl<C: Row> Refusable for On<'_, C> {
+impl<C: Row> Refusable for On<C> {
     type Input = C::Input;
 
     type Made = Thing;
@@ -118,35 +138,27 @@ impl<C: Row> Refusable for On<'_, C> {
     type Fault = Thing;
 
     fn input(&self, test: &Test) -> C::Input {
-        self.call.input(test, self.text())
+        self.call.input(test, self.shape.text)
     }
 
     fn call(&self, alloc: Global, input: C::Input) -> Result<Thing, Thing> {
-        self.call.run(alloc, self.text(), input)
+        self.call.run(alloc, self.shape.text, input)
     }
 
-    /// After a refusal there is what the call took, and otherwise what it makes with ample memory.
+    /// After a refusal there is what the call took.
     fn check(&self, test: &Test, ended: Result<Thing, Thing>) {
-        let is_right = match &ended {
-            Ok(made) => is_same(made, &self.ample(test)),
-            Err(left) => left.stands_after(self.text()),
-        };
-        holds(test, is_right, &(self.call, self.shape.name));
-    }
-}
-
-fn is_same(made: &Thing, ample: &Result<Thing, Thing>) -> bool {
-    match ample {
-        Ok(wanted) => made.text() == wanted.text() && made.place() == wanted.place(),
-        Err(_) => false,
+        if let Err(left) = ended {
+            let is_right = left.stands_after(self.shape.text);
+            holds(test, is_right, &(self.call, self.shape.name));
+        }
     }
 }
 
 /// The call asked for what it is to ask for on a text of this shape, and a value that it makes keeps its text and no more.
-pub fn check_asked<C: Row>(test: &Test, on: &On<'_, C>, index: usize, asked: Asked) {
+fn check_asked<C: Row>(test: &Test, on: &On<C>, index: usize, asked: Asked) {
     let name = on.call.name();
-    check_wanted(test, on.call.asks(), on.text(), (name, index), asked);
-    if let Ok(Thing::Value(value)) = on.ample(test) {
+    check_wanted(test, on.call.asks(), on.shape.text, (name, index), asked);
+    if let Ok(Thing::Value(value)) = on.call(test.alloc, on.input(test)) {
         held_exactly(test, asked.held, &value, name);
     }
 }

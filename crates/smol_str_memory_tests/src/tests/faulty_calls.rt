@@ -10,13 +10,15 @@ use test_support::test::{Test, holds};
 enum Mistake {
     HidesARefusal,
     GivesUp,
+    WantsNoRoom,
     AsksAgain,
     Leaks,
 }
 
-const ALL: [(Mistake, &str); 4] = [
+const ALL: [(Mistake, &str); 5] = [
     (Mistake::HidesARefusal, "hides a refusal"),
     (Mistake::GivesUp, "gives up unrefused"),
+    (Mistake::WantsNoRoom, "gives up unrefused"),
     (Mistake::AsksAgain, "makes a request after a refusal"),
     (Mistake::Leaks, "leaks"),
 ];
@@ -64,7 +66,7 @@ impl Refusable for FaultyCall {
     fn input(&self, _test: &Test) {}
 
     fn call(&self, alloc: Global, _input: ()) -> Result<(), AllocError> {
-        match String::with_capacity(alloc, 1) {
+        match String::with_capacity(alloc, 100) {
             Ok(text) => self.end(text),
             Err(fault) => self.end_refused(alloc, fault),
         }
@@ -74,9 +76,11 @@ impl Refusable for FaultyCall {
 }
 
 impl FaultyCall {
-    fn end(&self, text: String) -> Result<(), AllocError> {
+    fn end(&self, mut text: String) -> Result<(), AllocError> {
+        text.shrink_to(1);
         match self.mistake {
             Mistake::GivesUp => return Err(AllocError),
+            Mistake::WantsNoRoom if text.capacity() > 1 => return Err(AllocError),
             Mistake::Leaks => self.kept.set(Some(text)),
             _ => {}
         }

@@ -7,7 +7,7 @@ use std::fmt::{self, Display, Formatter, Write};
 use std::test::Fail;
 use test_support::refuse::{Refusable, each_refused, made_requests};
 use test_support::test::{Test, holds, in_place, ok, ok_string, same_count, same_flag, same_str};
-use test_support::texts::{full_text, long_blank, long_text, repeated, repeated_and};
+use test_support::texts::{full_text, long_blank, long_text, page_text, repeated_and};
 
 /// Writes `ab` and gives up.
 #[derive(Drop)]
@@ -120,8 +120,10 @@ fn texts_as_a_string(rt: HostRuntime) -> Result<(), Fail> {
     assert_row(&test, "\"ab\"", &format_args!("{value:?}"));
     let value = test.value("a\"b");
     assert_row(&test, "\"a\\\"b\"", &format_args!("{value:?}"));
-    let value = test.value(long_text());
-    assert_row(&test, long_text(), &format_args!("{value}"));
+    let value = test.value(page_text());
+    assert_row(&test, page_text(), &format_args!("{value}"));
+    let quoted = ok_string(&test, format!(in test.alloc; "\"{}\"", page_text()));
+    assert_row(&test, quoted.as_str(), &format_args!("{value:?}"));
     let value = test.value("né");
     assert_row(&test, "   né", &format_args!("{value:>5}"));
     assert_row(&test, "né**", &format_args!("{value:*<4}"));

@@ -1,11 +1,10 @@
 //! JSON strings: texts, and what is none.
-use serde_json::Value;
-use smol_str::json::{JsonFault, from_json, from_value, to_json};
+use serde_json::{Error, Value};
+use smol_str::json::{JsonFault, from_json, to_json};
 use smol_str::{Place, SmolStr};
 use std::test::Fail;
-use test_support::refuse::{end_refusals, refuse_all};
 use test_support::streams::Kind;
-use test_support::test::{Test, has_text, holds, is_so, ok, ok_string, same, same_str};
+use test_support::test::{Test, has_text, holds, ok_string, same, same_str};
 use test_support::texts::{ABOVE_BUFFERS, joined, repeated_and};
 
 /// Why there is no value of the text.
@@ -13,8 +12,23 @@ fn kind_of(test: &Test, json: &str) -> Option<Kind> {
     match from_json(test.alloc, json) {
         Ok(_) => None,
         Err(JsonFault::NotString) => Some(Kind::NotString),
-        Err(JsonFault::Json(_)) => Some(Kind::NotJson),
+        Err(JsonFault::Json(error)) => {
+            check_error(test, &error, json);
+            Some(Kind::NotJson)
+        }
         Err(JsonFault::OutOfMemory) => Some(Kind::OutOfMemory),
+    }
+}
+
+/// The error is serde_json's own, with its line and column.
+fn check_error(test: &Test, error: &Error, json: &str) {
+    match Value::from_str(test.alloc, json) {
+        Ok(_) => test.fail(&"serde_json reads the text"),
+        Err(own) => {
+            let printed = ok_string(test, error.to_string(test.alloc));
+            let wanted = ok_string(test, own.to_string(test.alloc));
+            same_str(test, printed.as_str(), wanted.as_str(), "an error");
+        }
     }
 }
 
@@ -122,6 +136,9 @@ fn check_not_json(test: &Test) {
         "\"\\ud800\"",
         "\"\\udc00\"",
         "\"\\ud800\\u0041\"",
+        "  x",
+        "\n\n[1",
+        "\"ab\"\n x",
     ] {
         check_not_read(test, json, Kind::NotJson);
     }
@@ -131,7 +148,8 @@ fn check_not_read(test: &Test, json: &str, kind: Kind) {
     same(test, &kind_of(test, json), &Some(kind), &json);
 }
 
-// Longer than each buffer: a list, a string without its end, and one with half a surrogate pair at its end.
+// Longer than each buffer: a list, a string without its end, one with half a surrogate pair at its end, and a letter behind
+// blanks, in one line and in many.
 #[test]
 fn long_not_read(rt: HostRuntime) -> Result<(), Fail> {
     let test = Test::begin(rt);
@@ -141,6 +159,10 @@ fn long_not_read(rt: HostRuntime) -> Result<(), Fail> {
         check_parts(&test, "[\"", text, "\"]", Kind::NotString);
         check_parts(&test, "\"", text, "", Kind::NotJson);
         check_parts(&test, "\"", text, "\\ud800\"", Kind::NotJson);
+        for blank in [" ", "\n"] {
+            let blanks = test.repeated(blank, size);
+            check_parts(&test, "\"\"", blanks.as_str(), "x", Kind::NotJson);
+        }
     }
     test.end()
 }
@@ -172,18 +194,4 @@ fn check_there_and_back(test: &Test, value: &SmolStr) {
     let json = ok_string(test, to_json(test.alloc, value));
     let back = value_of(test, json.as_str());
     holds(test, back == *value, value);
-}
-
-// As a value of 24 spaces has no memory of its own, it is made of a JSON value without any.
-#[test]
-fn spaces(rt: HostRuntime) -> Result<(), Fail> {
-    let test = Test::begin(rt);
-    let spaces = "                        ";
-    let tree = Value::String(test.string(spaces));
-    refuse_all(test.alloc);
-    let made = from_value(test.alloc, &tree).ok();
-    is_so(&test, !end_refusals(test.alloc), "refusals");
-    let value = ok(&test, made.ok_or("no value"));
-    has_text(&test, &value, spaces, Place::Inline, "spaces");
-    test.end()
 }

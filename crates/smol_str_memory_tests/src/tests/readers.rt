@@ -6,7 +6,7 @@ use smol_str::borsh::{BorshDeserialize, BorshSerialize, deserialize_limited};
 use smol_str::stream::{CHUNK, ReadFault, fill, read_all, read_up_to};
 use std::alloc::Global;
 use std::test::Fail;
-use test_support::streams::{Kind, Reading, Trickle, fails_at_each_read, trickle_of};
+use test_support::streams::{Kind, Reading, Trickle, cause_of, fails_at_each_read, trickle_of};
 use test_support::test::{Test, holds, same, same_count};
 
 /// A call that reads.
@@ -74,7 +74,7 @@ fn all_read(read: Result<Vec<u8>, ReadFault>) -> Result<Vec<u8>, Kind> {
     match read {
         Ok(all) => Ok(all),
         Err(ReadFault::OutOfMemory) => Err(Kind::OutOfMemory),
-        Err(ReadFault::Io(error)) => Err(Kind::Io(error.kind())),
+        Err(ReadFault::Io(error)) => Err(Kind::Io(cause_of(&error))),
     }
 }
 
@@ -87,7 +87,7 @@ fn filled(alloc: Global, reader: &mut Trickle<'_>, size: usize) -> Result<Vec<u8
             room.truncate(count);
             Ok(room)
         }
-        Err(error) => Err(Kind::Io(error.kind())),
+        Err(error) => Err(Kind::Io(cause_of(&error))),
     }
 }
 

@@ -9,10 +9,12 @@ use test_support::test::{Test, holds};
 /// whole.
 const LEFT: u32 = 32;
 
-/// So many bytes are what a value of the text holds which `SmolStr::new` makes, and no spare room.
+/// So many bytes are what a value on the heap holds which `SmolStr::new` makes of the text, and no spare room; any other
+/// value holds none.
 pub fn held_exactly(test: &Test, held: u32, value: &SmolStr, row: &str) {
     let before = count_held(test.alloc);
-    let exact = test.value(value.as_str());
+    let is_on_heap = value.is_heap_allocated();
+    let exact = test.value(if is_on_heap { value.as_str() } else { "" });
     let wanted = count_held(test.alloc).wrapping_sub(before);
     let left = if exact.is_heap_allocated() { LEFT } else { 0 };
     holds(test, held.abs_diff(wanted) <= left, &(row, held, wanted));

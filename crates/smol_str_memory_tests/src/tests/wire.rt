@@ -3,7 +3,7 @@ use super::rows::{ok_found, same_bytes};
 use smol_str::borsh::{BorshDeserialize, BorshSerialize, from_wire, length_prefix};
 use smol_str::{INLINE_CAP, Place, SmolStr};
 use std::test::Fail;
-use test_support::streams::{Trickle, trickle_of};
+use test_support::streams::trickle_of;
 use test_support::test::{Test, in_place, is_so, ok, ok_bytes, same, same_str, same_value};
 
 /// A text and its wire form: a unit and how many times the text has it; the size's lowest byte, which
@@ -140,40 +140,6 @@ fn assert_again(test: &Test, form: &[u8], value: &SmolStr, place: Place) {
     let (again, _) = ok_found(test, from_wire(test.alloc, form));
     same(test, &again, value, &"again");
     in_place(test, &again, place, "again");
-}
-
-// A pinned value is written as any other, and what is read is where its text belongs.
-#[test]
-fn pinned(rt: HostRuntime) -> Result<(), Fail> {
-    let test = Test::begin(rt);
-    let value = SmolStr::new_static("ab");
-    assert_form(&test, &value, b"\x02\0\0\0ab");
-    assert_again(&test, b"\x02\0\0\0ab", &value, Place::Inline);
-    test.end()
-}
-
-#[test]
-fn one_after_another(rt: HostRuntime) -> Result<(), Fail> {
-    let test = Test::begin(rt);
-    let mut reader = trickle_of(b"\x01\0\0\0a\0\0\0\0", 2, 0);
-    assert_next(&test, &mut reader, "a");
-    assert_next(&test, &mut reader, "");
-    is_so(&test, reader.rest.is_empty(), "the rest");
-    test.end()
-}
-
-fn assert_next(test: &Test, reader: &mut Trickle<'_>, text: &str) {
-    let value = ok(test, SmolStr::deserialize_reader(test.alloc, reader));
-    same_str(test, value.as_str(), text, text);
-}
-
-#[test]
-fn long_body(rt: HostRuntime) -> Result<(), Fail> {
-    let test = Test::begin(rt);
-    let text = test.repeated("a", 5000);
-    let form = letters(&test, 5000, 5000);
-    assert_read(&test, form.as_slice(), text.as_str(), Place::Heap, b"");
-    test.end()
 }
 
 #[test]

@@ -5,7 +5,7 @@ use smol_str::borsh::{
 };
 use smol_str::{INLINE_CAP, SmolStr};
 use std::test::Fail;
-use test_support::streams::{Kind, STEPS, trickle_of};
+use test_support::streams::{Kind, STEPS, cause_of, trickle_of};
 use test_support::test::{Test, same};
 use test_support::texts::ABOVE_BUFFERS;
 
@@ -14,7 +14,7 @@ pub fn kind_of(fault: &DecodeFault) -> Kind {
         DecodeFault::Ended => Kind::Ended,
         DecodeFault::NotUtf8(_) => Kind::NotUtf8,
         DecodeFault::OutOfMemory => Kind::OutOfMemory,
-        DecodeFault::Io(error) => Kind::Io(error.kind()),
+        DecodeFault::Io(error) => Kind::Io(cause_of(error)),
     }
 }
 
@@ -60,15 +60,21 @@ fn borsh_non_utf8_stack(rt: HostRuntime) -> Result<(), Fail> {
     test.end()
 }
 
-// Upstream's bytes are fewer than a value has room for here, so there are longer ones too, whose last is not UTF-8.
+// Upstream's bytes are fewer than a value has room for here, so there are longer ones too: as many as each buffer has room
+// for and one more, of which the first or the last is no character, or the last is half of one.
 #[test]
 fn borsh_non_utf8_heap(rt: HostRuntime) -> Result<(), Fail> {
     let test = Test::begin(rt);
     assert_refused(&test, NOISE, Kind::NotUtf8, 0);
-    for size in [INLINE_CAP as u32 + 1, 64] {
-        let mut bytes = letters(&test, size, size.saturating_sub(1));
-        test.push(&mut bytes, 0xff);
-        assert_refused(&test, bytes.as_slice(), Kind::NotUtf8, 0);
+    for size in [INLINE_CAP as u32 + 1, 256, 257, 5000] {
+        let last = size.saturating_add(3) as usize;
+        for (index, byte) in [(4, 0xff), (last, 0xff), (last, 0xc3)] {
+            let mut bytes = letters(&test, size, size);
+            if let Some(place) = bytes.get_mut(index) {
+                *place = byte;
+            }
+            assert_refused(&test, bytes.as_slice(), Kind::NotUtf8, 0);
+        }
     }
     test.end()
 }

@@ -1,65 +1,14 @@
 //! Wire forms with memory refused, and with memory counted.
-use super::rows::ok_found;
-use super::wire::{letters, of_units};
-use smol_str::borsh::{
-    BorshDeserialize, DecodeFault, LimitedFault, deserialize_limited, from_wire,
-};
-use smol_str::{INLINE_CAP, Place, SmolStr};
+use super::wire::letters;
+use smol_str::borsh::{BorshDeserialize, DecodeFault, LimitedFault, deserialize_limited};
+use smol_str::{INLINE_CAP, SmolStr};
 use std::test::Fail;
 use test_support::refuse::{count_bytes, end_refusals, refuse_all, start_counts};
 use test_support::streams::{Trickle, trickle_of};
-use test_support::test::{Test, has_text, holds, is_so, ok_value, same_place};
-use test_support::texts::full_text;
+use test_support::test::{Test, holds, is_so};
 
 /// The most bytes that may be asked for where ten million came.
 const MOST_BYTES: u32 = 0x200_0000;
-
-/// A unit and how many times the text has it, and its place: texts that need no memory.
-static RESIDENT: [(&str, u32, Place); 4] = [
-    ("a", 23, Place::Inline),
-    ("a", 24, Place::Inline),
-    (" ", 24, Place::Inline),
-    (" ", 40, Place::Static),
-];
-
-// Texts in wire forms that were written when some of them lay on the heap.
-#[test]
-fn resident_texts(rt: HostRuntime) -> Result<(), Fail> {
-    let test = Test::begin(rt);
-    for &(unit, size, place) in &RESIDENT {
-        let form = of_units(&test, &size.to_le_bytes(), unit.as_bytes(), size as usize);
-        assert_found(&test, form.as_slice(), place);
-    }
-    test.end()
-}
-
-/// The form is found with every request refused, and has the text in the place.
-fn assert_found(test: &Test, form: &[u8], place: Place) {
-    refuse_all(test.alloc);
-    let found = from_wire(test.alloc, form);
-    let was_refused = end_refusals(test.alloc);
-    let (value, taken) = ok_found(test, found);
-    holds(test, !was_refused && taken == form.len(), &form);
-    same_place(test, &value, place, &form);
-    let text = Some(value.as_str().as_bytes());
-    holds(test, text == form.get(4..), &form);
-}
-
-#[test]
-fn longest_short_text(rt: HostRuntime) -> Result<(), Fail> {
-    let test = Test::begin(rt);
-    refuse_all(test.alloc);
-    let made = SmolStr::new(test.alloc, full_text());
-    is_so(&test, !end_refusals(test.alloc), "refusals");
-    has_text(
-        &test,
-        &ok_value(&test, made),
-        full_text(),
-        Place::Inline,
-        "39 letters",
-    );
-    test.end()
-}
 
 // Neither the stated size nor the buffer of a piece asks for memory.
 #[test]

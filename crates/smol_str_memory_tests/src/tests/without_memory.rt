@@ -1,7 +1,7 @@
 //! Calls that ask for no memory: one line a call, by its name, with every request refused.
-use smol_str::borsh::{BorshSerialize, length_prefix};
+use smol_str::borsh::length_prefix;
 use smol_str::kernel::{AsciiCase, convert_while_ascii, next_match};
-use smol_str::stream::{fill, write_steps};
+use smol_str::stream::write_steps;
 use smol_str::{INLINE_CAP, Place, SmolStr, SmolStrBuilder, StrExt, ValueAlloc};
 use std::alloc::Global;
 use std::cmp::Ordering;
@@ -52,7 +52,6 @@ fn maker_rows(alloc: Global) -> Option<&'static str> {
         "SmolStr::new_inline": SmolStr::new_inline("ab").len() == 2;
         "SmolStr::new_inline_in_case": SmolStr::new_inline_in_case("ab", AsciiCase::Upper).eq_str("AB");
         "SmolStr::new_static": SmolStr::new_static(long_text()).place() == Place::Static;
-        "SmolStr::clone": SmolStr::new_static(long_text()).clone().is_ok();
         "SmolStr::from": SmolStr::from('🦀').len() == 4;
         "SmolStr::default": SmolStr::default().is_empty();
         "SmolStrBuilder::new": SmolStrBuilder::new(alloc).is_empty();
@@ -134,29 +133,18 @@ fn builder_rows(builder: &SmolStrBuilder, large: &SmolStrBuilder) -> Option<&'st
 #[test]
 fn bytes(rt: HostRuntime) -> Result<(), Fail> {
     let test = Test::begin(rt);
-    let value = test.value(long_text());
     let mut out = ok_bytes(&test, Vec::with_capacity(test.alloc, 100));
     refuse_all(test.alloc);
-    check_free(&test, kernel_rows(full_text(), long_text()));
-    refuse_all(test.alloc);
-    let wrong = stream_rows(&value, &mut out);
+    let wrong = byte_rows(full_text(), long_text(), &mut out);
     check_free(&test, wrong);
     test.end()
 }
 
-fn kernel_rows(full: &str, long: &str) -> Option<&'static str> {
+fn byte_rows(full: &str, long: &str, out: &mut Vec<u8>) -> Option<&'static str> {
     rows! {
         "kernel::next_match": long.is_char_boundary(0) && next_match(long, 0, "aa").is_some();
         "kernel::convert_while_ascii": full.len() <= INLINE_CAP && convert_while_ascii(full, AsciiCase::Upper).1 == INLINE_CAP;
-    }
-}
-
-fn stream_rows(value: &SmolStr, out: &mut Vec<u8>) -> Option<&'static str> {
-    let (mut rest, mut buffer) = (long_text().as_bytes(), [0; 7]);
-    rows! {
         "borsh::length_prefix": length_prefix(5000).is_some();
-        "stream::fill": fill(&mut rest, &mut buffer).is_ok();
         "stream::write_steps": write_steps(out, b"ab").is_ok();
-        "BorshSerialize::serialize": value.serialize(out).is_ok();
     }
 }

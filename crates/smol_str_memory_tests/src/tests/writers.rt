@@ -4,9 +4,8 @@ use super::rows::ok_found;
 use smol_str::SmolStr;
 use smol_str::borsh::{BorshSerialize, EncodeFault, from_wire};
 use smol_str::stream::write_steps;
-use std::io::ErrorKind;
 use std::test::Fail;
-use test_support::streams::{Drip, Writing, fails_at_each_write};
+use test_support::streams::{Drip, Kind, Writing, cause_of, fails_at_each_write};
 use test_support::test::Test;
 
 /// A call that writes a wire form.
@@ -24,7 +23,7 @@ impl Writing for Call<'_> {
         }
     }
 
-    fn write(&self, _test: &Test, writer: &mut Drip) -> Option<ErrorKind> {
+    fn write(&self, _test: &Test, writer: &mut Drip) -> Option<Kind> {
         match self {
             Call::Serialize(value) => serialized(value, writer),
             Call::WriteSteps(form) => steps_written(form, writer),
@@ -32,19 +31,18 @@ impl Writing for Call<'_> {
     }
 }
 
-fn steps_written(form: &[u8], writer: &mut Drip) -> Option<ErrorKind> {
+fn steps_written(form: &[u8], writer: &mut Drip) -> Option<Kind> {
     match write_steps(writer, form) {
         Ok(()) => None,
-        Err(error) => Some(error.kind()),
+        Err(error) => Some(Kind::Io(cause_of(&error))),
     }
 }
 
-/// A form that is too long is told as an error that no writer here has.
-fn serialized(value: &SmolStr, writer: &mut Drip) -> Option<ErrorKind> {
+fn serialized(value: &SmolStr, writer: &mut Drip) -> Option<Kind> {
     match value.serialize(writer) {
         Ok(()) => None,
-        Err(EncodeFault::Io(error)) => Some(error.kind()),
-        Err(EncodeFault::TooLong) => Some(ErrorKind::FileTooLarge),
+        Err(EncodeFault::Io(error)) => Some(Kind::Io(cause_of(&error))),
+        Err(EncodeFault::TooLong) => Some(Kind::TooLong),
     }
 }
 

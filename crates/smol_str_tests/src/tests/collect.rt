@@ -9,7 +9,7 @@ use std::test::Fail;
 use std::vec::IntoIter;
 use test_support::refuse::{can_refuse, end_refusals, refuse_all};
 use test_support::test::{
-    Test, has_text, holds, in_place, is_so, ok, ok_string, ok_value, same, same_count, same_flag,
+    Test, has_text, holds, in_place, ok, ok_string, ok_value, same, same_count, same_flag,
     same_place, same_str, same_value,
 };
 use test_support::texts::{long_blank, repeated_and};
@@ -348,23 +348,4 @@ fn assert_compared(test: &Test, text: &str, are_equal: bool) {
     let inline = test.builder(0, text);
     same_flag(test, heap == inline, are_equal, text);
     same_flag(test, heap != inline, !are_equal, text);
-}
-
-#[test]
-fn builders_cloned(rt: HostRuntime) -> Result<(), Fail> {
-    let test = Test::begin(rt);
-    let heap = test.builder(100, "ab");
-    assert_copied(&test, &heap);
-    same_str(&test, heap.as_str(), "ab", "heap");
-    let empty = test.builder(100, "");
-    is_so(&test, ok(&test, empty.clone()) == empty, "an empty one");
-    test.end()
-}
-
-fn assert_copied(test: &Test, heap: &SmolStrBuilder) {
-    let mut copy = ok(test, heap.clone());
-    is_so(test, copy == *heap, "ab");
-    ok(test, copy.push('c'));
-    is_so(test, copy.inline_buffer().is_none(), "abc");
-    same_str(test, copy.as_str(), "abc", "copy");
 }

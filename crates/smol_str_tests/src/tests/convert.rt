@@ -5,7 +5,7 @@ use std::rc::RcStr;
 use std::test::Fail;
 use test_support::refuse::{can_refuse, end_refusals, refuse_all};
 use test_support::test::{
-    Test, has_text, holds, in_place, is_so, of_shared, ok, same, same_count, same_str,
+    Test, has_text, holds, in_place, is_so, of_shared, ok, ok_value, same, same_count, same_str,
 };
 use test_support::texts::{ABOVE_BUFFERS, long_blank, long_text};
 
@@ -103,7 +103,7 @@ fn assert_made(test: &Test, made: Option<SmolStr>, wanted: (&str, Place), way: &
     has_text(test, &value, text, place, way);
 }
 
-// A text that is not resident is kept as it was handed in, and handed out again.
+// A text that is not resident is kept as it was handed in, and handed out again, also by a clone.
 #[test]
 fn keeps_a_shared_text(rt: HostRuntime) -> Result<(), Fail> {
     let alloc = rt.alloc();
@@ -111,6 +111,7 @@ fn keeps_a_shared_text(rt: HostRuntime) -> Result<(), Fail> {
     let test = Test::new(alloc);
     let value = of_shared(&test, shared.clone());
     in_place(&test, &value, Place::Heap, "the long text");
+    assert_hands_out(&test, ok_value(&test, value.clone()), &shared);
     assert_hands_out(&test, value, &shared);
     test.end()
 }

@@ -16,16 +16,17 @@ use test_support::refuse::{Refusable, can_refuse, each_refused, end_refusals, re
 use test_support::test::{
     Test, has_text, is_so, of_shared, ok, ok_string, ok_value, same_count, same_flag, same_str,
 };
-use test_support::texts::{full_text, long_blank, long_text};
+use test_support::texts::{full_text, long_blank, long_text, page_text};
 
 /// A text of each kind.
-fn texts() -> [(&'static str, Place); 5] {
+fn texts() -> [(&'static str, Place); 6] {
     [
         ("", Place::Inline),
         ("é x", Place::Inline),
         (full_text(), Place::Inline),
         (long_blank(), Place::Static),
         (long_text(), Place::Heap),
+        (page_text(), Place::Heap),
     ]
 }
 

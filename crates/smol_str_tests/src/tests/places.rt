@@ -103,15 +103,6 @@ fn assert_equals_new(test: &Test, value: &SmolStr, text: &str) {
     is_so(test, *value == test.value(text), text);
 }
 
-#[test]
-fn default_value(rt: HostRuntime) -> Result<(), Fail> {
-    let test = Test::begin(rt);
-    let value = SmolStr::default();
-    has_text(&test, &value, "", Place::Inline, "default");
-    assert_equals_new(&test, &value, "");
-    test.end()
-}
-
 /// The text of so many characters, the given ones in turn.
 fn in_turn(test: &Test, characters: &[char], count: usize) -> String {
     let mut text = String::new(test.alloc);

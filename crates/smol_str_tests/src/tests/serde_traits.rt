@@ -7,7 +7,7 @@ use std::collections::BTreeMap;
 use std::test::Fail;
 use test_support::refuse::{Refusable, each_refused, made_requests};
 use test_support::test::{Test, has_text, holds, is_so, ok_string, same_str};
-use test_support::texts::{full_text, long_blank, long_text};
+use test_support::texts::{full_text, long_blank, long_text, page_text};
 
 /// What a settings file has.
 #[derive(Debug, Drop, PartialEq, Serialize, Deserialize)]
@@ -30,6 +30,7 @@ fn values(rt: HostRuntime) -> Result<(), Fail> {
         (full_text(), Place::Inline),
         (long_blank(), Place::Static),
         (long_text(), Place::Heap),
+        (page_text(), Place::Heap),
     ] {
         check_value(&test, text, place);
     }

@@ -1,12 +1,11 @@
 //! Calls that append to a builder.
 use super::things::{Thing, changed};
-use super::{On, Row, Wants, check_asked, halves, shapes};
+use super::{Row, Wants, check_calls, halves};
 use smol_str::{Piece, SmolStrBuilder};
 use std::alloc::Global;
 use std::fmt::Write;
 use std::test::Fail;
 use test_support::by_std::Asks;
-use test_support::refuse::each_refused;
 use test_support::test::Test;
 
 #[derive(Clone, Copy, Debug)]
@@ -39,15 +38,7 @@ static CALLS: [Call; 10] = [
 
 #[test]
 fn each_request(rt: HostRuntime) -> Result<(), Fail> {
-    let test = Test::begin(rt);
-    for (index, shape) in shapes(&test).iter().enumerate() {
-        for &call in &CALLS {
-            let on = On { call, shape };
-            let asked = each_refused(&test, call.name(), &on);
-            check_asked(&test, &on, index, asked);
-        }
-    }
-    test.end()
+    check_calls(rt, &CALLS)
 }
 
 impl Row for Call {
@@ -92,7 +83,7 @@ impl Row for Call {
         })
     }
 
-    fn input(self, test: &Test, text: &str) -> (SmolStrBuilder, String) {
+    fn input(self, test: &Test, text: &'static str) -> (SmolStrBuilder, String) {
         let builder = match self {
             Call::Push | Call::PushStr | Call::WriteStr | Call::WriteFmt => test.builder(0, text),
             Call::PushToFull => test.builder(text.len(), text),

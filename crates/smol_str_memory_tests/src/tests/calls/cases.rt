@@ -1,11 +1,12 @@
 //! Case and replacement.
 use super::things::{Thing, things_of};
-use super::{On, Row, Wants, check_asked, shape_of, shapes};
+use super::{On, Row, Wants, check_calls, shape_of};
 use smol_str::{SmolStr, StrExt};
 use std::alloc::{AllocError, Global};
 use std::test::Fail;
 use test_support::refuse::{each_refused, made_requests};
 use test_support::test::Test;
+use test_support::texts::leaked;
 
 #[derive(Clone, Copy, Debug)]
 enum Call {
@@ -15,6 +16,10 @@ enum Call {
     Upper,
     /// A byte by a byte.
     Replace,
+    ReplaceByItself,
+    ReplaceByBlank,
+    /// A byte by a byte, at most 0 times.
+    ReplaceNone,
     /// A byte by more.
     ReplaceByMore,
     ReplacePieces,
@@ -24,14 +29,19 @@ enum Call {
     Remove,
     ReplaceThree,
     ReplaceOnePiece,
+    /// A pattern whose first byte alone is there.
+    ReplaceMissing,
 }
 
-static CALLS: [Call; 12] = [
+static CALLS: [Call; 16] = [
     Call::AsciiLower,
     Call::AsciiUpper,
     Call::Lower,
     Call::Upper,
     Call::Replace,
+    Call::ReplaceByItself,
+    Call::ReplaceByBlank,
+    Call::ReplaceNone,
     Call::ReplaceByMore,
     Call::ReplacePieces,
     Call::Halve,
@@ -39,29 +49,24 @@ static CALLS: [Call; 12] = [
     Call::Remove,
     Call::ReplaceThree,
     Call::ReplaceOnePiece,
+    Call::ReplaceMissing,
 ];
 
 #[test]
 fn each_request(rt: HostRuntime) -> Result<(), Fail> {
-    let test = Test::begin(rt);
-    for (index, shape) in shapes(&test).iter().enumerate() {
-        for &call in &CALLS {
-            let on = On { call, shape };
-            let asked = each_refused(&test, call.name(), &on);
-            check_asked(&test, &on, index, asked);
-        }
-    }
-    test.end()
+    check_calls(rt, &CALLS)
 }
 
-// A short text with a capital sigma is mapped in memory of its own.
+// A text with a capital sigma is mapped in memory of its own, also a short one.
 #[test]
 fn sigma(rt: HostRuntime) -> Result<(), Fail> {
     let test = Test::begin(rt);
-    let shape = &shape_of(&test, "a capital sigma", "ΑΣ");
-    let call = Call::Lower;
-    let asked = each_refused(&test, call.name(), &On { call, shape });
-    made_requests(&test, asked, &"a capital sigma");
+    for (name, times) in [("a capital sigma", 1), ("2,000 capital sigmas", 2000)] {
+        let shape = shape_of(name, leaked(test.repeated("ΑΣ", times)));
+        let call = Call::Lower;
+        let asked = each_refused(&test, call.name(), &On { call, shape });
+        made_requests(&test, asked, &name);
+    }
     test.end()
 }
 
@@ -74,16 +79,22 @@ impl Row for Call {
             Call::AsciiUpper => "StrExt::to_ascii_uppercase_smolstr",
             Call::Lower => "StrExt::to_lowercase_smolstr",
             Call::Upper => "StrExt::to_uppercase_smolstr",
-            Call::ReplaceThree | Call::ReplaceOnePiece => "StrExt::replacen_smolstr",
+            Call::ReplaceNone | Call::ReplaceThree | Call::ReplaceOnePiece => {
+                "StrExt::replacen_smolstr"
+            }
             _ => "StrExt::replace_smolstr",
         }
     }
 
     fn asks(self) -> Wants {
         let (requests, bytes) = match self {
-            Call::AsciiLower | Call::AsciiUpper | Call::Replace => (
+            Call::AsciiLower | Call::AsciiUpper | Call::Replace | Call::ReplaceByItself => (
                 [0, 0, 1, 2, 2, 2, 2],
                 [0, 0, 320, 80, 5040, 5040, 70_040],
+            ),
+            Call::ReplaceByBlank => (
+                [0, 0, 1, 1, 2, 2, 2],
+                [0, 0, 320, 40, 5040, 5040, 70_040],
             ),
             Call::Lower | Call::Upper => (
                 [0, 0, 1, 2, 2, 8, 2],
@@ -103,7 +114,7 @@ impl Row for Call {
                 [0, 119, 2489, 277, 20_185, 20_185, 323_545],
             ),
             Call::Remove => ([0, 0, 1, 0, 0, 2, 0], [0, 0, 359, 0, 0, 5079, 0]),
-            Call::ReplaceThree | Call::ReplaceOnePiece => (
+            _ => (
                 [0, 0, 1, 2, 2, 2, 2],
                 [0, 0, 359, 119, 5079, 5079, 70_079],
             ),
@@ -111,7 +122,7 @@ impl Row for Call {
         Wants::Exactly(requests, bytes)
     }
 
-    fn input(self, _test: &Test, _text: &str) {}
+    fn input(self, _test: &Test, _text: &'static str) {}
 
     fn run(self, alloc: Global, text: &str, _input: ()) -> Result<Thing, Thing> {
         things_of(self.value(alloc, text))
@@ -126,6 +137,9 @@ impl Call {
             Call::Lower => text.to_lowercase_smolstr(alloc),
             Call::Upper => text.to_uppercase_smolstr(alloc),
             Call::Replace => text.replace_smolstr(alloc, "a", "b"),
+            Call::ReplaceByItself => text.replace_smolstr(alloc, "a", "a"),
+            Call::ReplaceByBlank => text.replace_smolstr(alloc, "a", " "),
+            Call::ReplaceNone => text.replacen_smolstr(alloc, "a", "b", 0),
             Call::ReplaceByMore => text.replace_smolstr(alloc, "a", "éé"),
             Call::ReplacePieces => text.replace_smolstr(alloc, "aa", "bb"),
             Call::Halve => text.replace_smolstr(alloc, "aa", "b"),
@@ -133,6 +147,7 @@ impl Call {
             Call::Remove => text.replace_smolstr(alloc, "a", ""),
             Call::ReplaceThree => text.replacen_smolstr(alloc, "a", "b", 3),
             Call::ReplaceOnePiece => text.replacen_smolstr(alloc, "aa", "bb", 1),
+            Call::ReplaceMissing => text.replace_smolstr(alloc, "ab", "-"),
         }
     }
 }

@@ -1,14 +1,13 @@
 //! Calls that read a wire form of the text, or all bytes of it.
 use super::things::{IntoThing, Thing, things_of};
-use super::{On, Row, Wants, check_asked, shapes};
+use super::{Row, Wants, check_calls};
 use crate::tests::wire::of_units;
 use smol_str::SmolStr;
 use smol_str::borsh::{BorshDeserialize, DecodeFault, deserialize_limited, from_wire, split_wire};
-use smol_str::stream::{read_all, read_up_to};
+use smol_str::stream::{fill, read_all, read_up_to};
 use std::alloc::Global;
 use std::test::Fail;
 use test_support::by_std::Asks;
-use test_support::refuse::each_refused;
 use test_support::test::Test;
 
 #[derive(Clone, Copy, Debug)]
@@ -19,28 +18,23 @@ enum Call {
     DeserializeLimited,
     ReadUpTo,
     ReadAll,
+    /// The text, into the bytes.
+    Fill,
 }
 
-static CALLS: [Call; 6] = [
+static CALLS: [Call; 7] = [
     Call::FromWire,
     Call::SplitWire,
     Call::DeserializeReader,
     Call::DeserializeLimited,
     Call::ReadUpTo,
     Call::ReadAll,
+    Call::Fill,
 ];
 
 #[test]
 fn each_request(rt: HostRuntime) -> Result<(), Fail> {
-    let test = Test::begin(rt);
-    for (index, shape) in shapes(&test).iter().enumerate() {
-        for &call in &CALLS {
-            let on = On { call, shape };
-            let asked = each_refused(&test, call.name(), &on);
-            check_asked(&test, &on, index, asked);
-        }
-    }
-    test.end()
+    check_calls(rt, &CALLS)
 }
 
 impl Row for Call {
@@ -55,6 +49,7 @@ impl Row for Call {
             Call::DeserializeLimited => "borsh::deserialize_limited",
             Call::ReadUpTo => "stream::read_up_to",
             Call::ReadAll => "stream::read_all",
+            Call::Fill => "stream::fill",
         }
     }
 
@@ -66,6 +61,7 @@ impl Row for Call {
                 Asks::Nothing,
                 Asks::Shared,
             ]),
+            Call::Fill => Wants::AsStd([Asks::Nothing; 4]),
             Call::DeserializeReader | Call::DeserializeLimited => Wants::Exactly(
                 [0, 0, 1, 2, 4, 4, 8],
                 [0, 0, 320, 80, 17_328, 17_328, 328_088],
@@ -77,9 +73,9 @@ impl Row for Call {
         }
     }
 
-    fn input(self, test: &Test, text: &str) -> Vec<u8> {
+    fn input(self, test: &Test, text: &'static str) -> Vec<u8> {
         match self {
-            Call::ReadUpTo | Call::ReadAll => of_units(test, b"", text.as_bytes(), 1),
+            Call::ReadUpTo | Call::ReadAll | Call::Fill => of_units(test, b"", text.as_bytes(), 1),
             _ => of_units(
                 test,
                 &u32::try_from(text.len()).unwrap_or(0).to_le_bytes(),
@@ -92,6 +88,7 @@ impl Row for Call {
     fn run(self, alloc: Global, text: &str, bytes: Vec<u8>) -> Result<Thing, Thing> {
         let mut reader = bytes.as_slice();
         match self {
+            Call::Fill => filled(text.as_bytes(), bytes),
             Call::FromWire => found(from_wire(alloc, reader)),
             Call::SplitWire => split(alloc, reader),
             Call::DeserializeReader => things_of(SmolStr::deserialize_reader(alloc, &mut reader)),
@@ -103,6 +100,13 @@ impl Row for Call {
             Call::ReadUpTo => things_of(read_up_to(alloc, &mut reader, text.len())),
             Call::ReadAll => things_of(read_all(alloc, &mut reader)),
         }
+    }
+}
+
+fn filled(mut reader: &[u8], mut bytes: Vec<u8>) -> Result<Thing, Thing> {
+    match fill(&mut reader, &mut bytes) {
+        Ok(_) => Ok(Thing::Bytes(bytes)),
+        Err(_) => Err(Thing::Fault),
     }
 }
 

@@ -1,13 +1,12 @@
 //! JSON calls.
 use super::things::{Thing, things_of};
-use super::{On, Row, Wants, check_asked, shapes};
+use super::{Row, Wants, check_calls};
 use serde_json::Value;
 use smol_str::SmolStr;
 use smol_str::json::{from_json, from_value, to_json, to_value};
 use std::alloc::Global;
 use std::test::Fail;
 use test_support::by_std::Asks;
-use test_support::refuse::each_refused;
 use test_support::test::{Test, ok_string};
 
 #[derive(Clone, Copy, Debug)]
@@ -22,15 +21,7 @@ static CALLS: [Call; 4] = [Call::ToValue, Call::FromValue, Call::ToJson, Call::F
 
 #[test]
 fn each_request(rt: HostRuntime) -> Result<(), Fail> {
-    let test = Test::begin(rt);
-    for (index, shape) in shapes(&test).iter().enumerate() {
-        for &call in &CALLS {
-            let on = On { call, shape };
-            let asked = each_refused(&test, call.name(), &on);
-            check_asked(&test, &on, index, asked);
-        }
-    }
-    test.end()
+    check_calls(rt, &CALLS)
 }
 
 /// A text as a value, as a JSON value and as JSON.
@@ -73,7 +64,7 @@ impl Row for Call {
         }
     }
 
-    fn input(self, test: &Test, text: &str) -> Input {
+    fn input(self, test: &Test, text: &'static str) -> Input {
         let tree = Value::String(test.string(text));
         Input {
             value: test.value(text),

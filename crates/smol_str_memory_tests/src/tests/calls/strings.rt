@@ -1,21 +1,24 @@
 //! Calls that take a `String` of the text, or what is made of one.
 use super::things::{Thing, things_of};
-use super::{On, Row, Wants, check_asked, shapes};
+use super::{Row, Wants, check_calls};
 use smol_str::{SmolStr, Step, build};
 use std::alloc::Global;
 use std::borrow::CowStr;
 use std::slice::from_ref;
 use std::test::Fail;
 use test_support::by_std::Asks;
-use test_support::refuse::each_refused;
-use test_support::test::Test;
+use test_support::test::{Test, ok, ok_string};
 
 #[derive(Clone, Copy, Debug)]
 enum Call {
     FromStringRef,
     FromString,
+    /// Of a `String` that has room for more, as those below.
+    FromRoomy,
     FromOwned,
+    FromOwnedRoomy,
     FromCow,
+    FromCowRoomy,
     FromBoxed,
     FromStrings,
     FromStringRefs,
@@ -23,11 +26,14 @@ enum Call {
     BuildToSize,
 }
 
-static CALLS: [Call; 9] = [
+static CALLS: [Call; 12] = [
     Call::FromStringRef,
     Call::FromString,
+    Call::FromRoomy,
     Call::FromOwned,
+    Call::FromOwnedRoomy,
     Call::FromCow,
+    Call::FromCowRoomy,
     Call::FromBoxed,
     Call::FromStrings,
     Call::FromStringRefs,
@@ -37,15 +43,7 @@ static CALLS: [Call; 9] = [
 
 #[test]
 fn each_request(rt: HostRuntime) -> Result<(), Fail> {
-    let test = Test::begin(rt);
-    for (index, shape) in shapes(&test).iter().enumerate() {
-        for &call in &CALLS {
-            let on = On { call, shape };
-            let asked = each_refused(&test, call.name(), &on);
-            check_asked(&test, &on, index, asked);
-        }
-    }
-    test.end()
+    check_calls(rt, &CALLS)
 }
 
 impl Row for Call {
@@ -54,9 +52,9 @@ impl Row for Call {
     fn name(self) -> &'static str {
         match self {
             Call::FromStringRef => "SmolStr::from_string_ref",
-            Call::FromString => "SmolStr::from_string",
-            Call::FromOwned => "SmolStr::from_owned",
-            Call::FromCow => "SmolStr::from_cow_str",
+            Call::FromString | Call::FromRoomy => "SmolStr::from_string",
+            Call::FromOwned | Call::FromOwnedRoomy => "SmolStr::from_owned",
+            Call::FromCow | Call::FromCowRoomy => "SmolStr::from_cow_str",
             Call::FromBoxed => "SmolStr::from_boxed_str",
             Call::FromStrings => "SmolStr::from_strings",
             Call::FromStringRefs => "SmolStr::from_string_refs",
@@ -66,7 +64,9 @@ impl Row for Call {
 
     fn asks(self) -> Wants {
         Wants::AsStd(match self {
-            Call::FromOwned => [Asks::Nothing, Asks::Nothing, Asks::Nothing, Asks::Kept],
+            Call::FromOwned | Call::FromOwnedRoomy => {
+                [Asks::Nothing, Asks::Nothing, Asks::Nothing, Asks::Kept]
+            }
             Call::FromStrings | Call::FromStringRefs => [
                 Asks::Nothing,
                 Asks::Nothing,
@@ -79,16 +79,21 @@ impl Row for Call {
         })
     }
 
-    fn input(self, test: &Test, text: &str) -> String {
-        test.string(text)
+    fn input(self, test: &Test, text: &'static str) -> String {
+        match self {
+            Call::FromRoomy | Call::FromOwnedRoomy | Call::FromCowRoomy => roomy(test, text),
+            _ => test.string(text),
+        }
     }
 
     fn run(self, alloc: Global, _text: &str, string: String) -> Result<Thing, Thing> {
         match self {
             Call::FromStringRef => things_of(SmolStr::from_string_ref(alloc, &string)),
-            Call::FromString => things_of(SmolStr::from_string(alloc, string)),
-            Call::FromOwned => things_of(SmolStr::from_owned(string)),
-            Call::FromCow => things_of(SmolStr::from_cow_str(alloc, CowStr::Owned(string))),
+            Call::FromString | Call::FromRoomy => things_of(SmolStr::from_string(alloc, string)),
+            Call::FromOwned | Call::FromOwnedRoomy => things_of(SmolStr::from_owned(string)),
+            Call::FromCow | Call::FromCowRoomy => {
+                things_of(SmolStr::from_cow_str(alloc, CowStr::Owned(string)))
+            }
             Call::FromBoxed => things_of(SmolStr::from_boxed_str(alloc, string.into_boxed_str())),
             Call::FromStrings => things_of(SmolStr::from_strings(alloc, [string].into_iter())),
             Call::FromStringRefs => things_of(SmolStr::from_string_refs(alloc, [string].iter())),
@@ -96,6 +101,14 @@ impl Row for Call {
             Call::BuildToSize => built(alloc, string.len(), string),
         }
     }
+}
+
+/// A string of the text that has room for as much again, and 5,000 bytes.
+fn roomy(test: &Test, text: &str) -> String {
+    let room = text.len().saturating_mul(2).saturating_add(5000);
+    let mut string = ok_string(test, String::with_capacity(test.alloc, room));
+    ok(test, string.push_str(text));
+    string
 }
 
 fn built(alloc: Global, capacity: usize, string: String) -> Result<Thing, Thing> {

@@ -1,12 +1,11 @@
 //! Calls on a text.
 use super::things::{Thing, things_of};
-use super::{On, Row, Wants, check_asked, halves, shapes};
+use super::{Row, Wants, check_calls, halves};
 use smol_str::{SmolStr, SmolStrBuilder, ToSmolStr, format_smolstr};
 use std::alloc::Global;
 use std::borrow::CowStr;
 use std::test::Fail;
 use test_support::by_std::Asks;
-use test_support::refuse::each_refused;
 use test_support::test::Test;
 
 #[derive(Clone, Copy, Debug)]
@@ -38,15 +37,7 @@ static CALLS: [Call; 10] = [
 
 #[test]
 fn each_request(rt: HostRuntime) -> Result<(), Fail> {
-    let test = Test::begin(rt);
-    for (index, shape) in shapes(&test).iter().enumerate() {
-        for &call in &CALLS {
-            let on = On { call, shape };
-            let asked = each_refused(&test, call.name(), &on);
-            check_asked(&test, &on, index, asked);
-        }
-    }
-    test.end()
+    check_calls(rt, &CALLS)
 }
 
 impl Row for Call {
@@ -93,7 +84,7 @@ impl Row for Call {
         }
     }
 
-    fn input(self, _test: &Test, _text: &str) {}
+    fn input(self, _test: &Test, _text: &'static str) {}
 
     fn run(self, alloc: Global, text: &str, _input: ()) -> Result<Thing, Thing> {
         match self {

@@ -3,7 +3,7 @@ use serde_json::Value;
 use smol_str::borsh::{DecodeFault, LimitedFault};
 use smol_str::json::JsonFault;
 use smol_str::stream::ReadFault;
-use smol_str::{FormatError, FromUtf8Fault, Place, SmolStr, SmolStrBuilder};
+use smol_str::{FormatError, FromUtf8Fault, SmolStr, SmolStrBuilder};
 use std::alloc::AllocError;
 use std::borrow::CowStr;
 use std::boxed::BoxedStr;
@@ -25,16 +25,7 @@ pub enum Thing {
 }
 
 impl Thing {
-    pub fn place(&self) -> Option<Place> {
-        match self {
-            Thing::Value(value) => Some(value.place()),
-            Thing::Builder(builder) if builder.inline_buffer().is_some() => Some(Place::Inline),
-            Thing::Builder(_) => Some(Place::Heap),
-            _ => None,
-        }
-    }
-
-    pub fn text(&self) -> Option<&str> {
+    fn text(&self) -> Option<&str> {
         match self {
             Thing::Nothing | Thing::Fault => None,
             Thing::Value(value) => Some(value.as_str()),
