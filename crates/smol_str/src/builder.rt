@@ -17,9 +17,9 @@ use std::marker::Model;
 
 /// A text that grows, and is then finished to a [`SmolStr`].
 ///
-/// A builder means its text and its kind. It begins in its own buffer, and takes no memory while its
-/// text fits there; it moves to the heap when the text outgrows the buffer, or at once where a larger
-/// capacity was asked for. What [`finish`](SmolStrBuilder::finish) returns depends on the text alone.
+/// A builder means its text and its kind. It begins in its own buffer and takes no memory while its
+/// text fits there. It moves to the heap when the text outgrows the buffer, or at once where you ask
+/// for a larger capacity. What [`finish`](SmolStrBuilder::finish) returns depends on the text alone.
 ///
 /// ```
 /// let mut builder = SmolStrBuilder::new(alloc);

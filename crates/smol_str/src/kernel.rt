@@ -37,8 +37,8 @@ pub fn convert_while_ascii(text: &str, case: AsciiCase) -> (InlineBuffer, usize)
 /// The byte index of the first match of a pattern at or after `from`, `None` where there is none.
 ///
 /// `from` must be a char boundary, as 0 always is, and `pattern` not empty. Both the index that is
-/// returned and the one behind the match are char boundaries, so the text may be cut at either: into
-/// what `parts` says, of which the pattern stands nowhere before the index, as `first` says. In the
+/// returned and the one behind the match are char boundaries, so you may cut the text at either. The
+/// clause `parts` says what you get, and `first` that the pattern stands nowhere before. In the
 /// clauses `found` and `none`, `a` is the characters before `from`, and `b` those from there on.
 ///
 /// ```

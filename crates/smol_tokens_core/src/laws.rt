@@ -17,7 +17,7 @@ pub fn lines_are_pieces()
 {}
 
 /// The lines of a text are the pieces of its unlimited cut at the newline, without a last piece that
-/// is empty; they hold no newline, and joined or written again they give the text.
+/// is empty. They hold no newline, and joined or written again they give the text.
 ///
 /// The last law needs its premises: a newline in one of the lines would end that line.
 pub fn lines_of_a_text()
@@ -39,8 +39,8 @@ pub fn lines_from_left()
         HasNoNewline (c ∷ []) → lines (c ∷ t) ≡ onto_first c (lines t) }
 {}
 
-/// A tally counts each token once, in order of first sight, and can be taken up again; texts that
-/// were seen once each have as many times as they stand in the list.
+/// A tally counts each token once, in order of first sight, and can be taken up again. A text that was
+/// seen once each time has as many times as it stands in the list.
 pub fn tallies()
     ensures taken_up_again { (pairs more : List (List ℕ × ℕ)) →
         tally (tally pairs ++ more) ≡ tally (pairs ++ more) }

@@ -95,8 +95,8 @@ fn join(alloc: Global, text: &str) -> Result<String, AllocError>
 
 /// Appends the report line of a value.
 ///
-/// One that fits in a value is made as one first, which takes no memory; any other is printed into the report: as a value
-/// it would be one more copy.
+/// One that fits in a value is made as one first, which takes no memory. Any other is printed into the report, since as a
+/// value it would be one more copy.
 fn push_line(alloc: Global, out: &mut String, value: &SmolStr) -> Result<(), AllocError>
     ensures { OnOk result (string_bytes out.new ≡ string_bytes out.old
         ++ encode_utf8_all (report_line value.now.place (size value.now.text) value.now.text)) }

@@ -62,8 +62,8 @@ impl<S: BuildHasher> Model for Tally<S> {
 impl Tally<BuildHasherDefault<FoldHasher>> {
     /// An empty tally, which takes no memory.
     ///
-    /// The seed of its hasher is fixed, so whoever picks the tokens can pick such as take a time that grows with the
-    /// square of their number: for tokens of a stranger give [`Tally::with_hasher`] a `RandomState`.
+    /// The seed of its hasher is fixed, so whoever picks the tokens can make counting them take quadratic time. For
+    /// tokens of a stranger give [`Tally::with_hasher`] a `RandomState`.
     pub fn new(alloc: Global) -> Self
         ensures { result ≡ [] }
     {
@@ -83,10 +83,10 @@ impl<S: BuildHasher> Tally<S> {
 
     /// Counts a token so many `times` more, and returns its count then.
     ///
-    /// A new token goes last, also with 0 `times`. Nothing changes after a refusal, and the token
-    /// comes back in it: it is [`AddFault::Full`] where the count would pass `u64::MAX`, which is
-    /// tested first; and [`AddFault::OutOfMemory`] where there is no room for a new token. A token
-    /// that is there takes no memory.
+    /// A new token goes last, also with 0 `times`. A token that is there takes no memory. Nothing
+    /// changes after a refusal, and the token comes back in it. It is [`AddFault::Full`] where the
+    /// count would pass `u64::MAX`, which is tested first, and [`AddFault::OutOfMemory`] where there
+    /// is no room for a new token.
     #[tactic(auto, using(smol_str::proofs::CallerLemmas::texts))]
     pub fn add(&mut self, token: SmolStr, times: u64) -> Result<u64, AddFault>
         ensures ok { OnOk result (self.new ≡ tally (self.old ++ (token.text, times) ∷ [])) }
