@@ -1,21 +1,30 @@
 -- What std's iterators give as lists of texts: characters from the end of a text, an array by value, a text split at
 -- another.
-use Rattle.std.proofs.Common.{◌≡◌, ℕ, Bool, false, Bor, List, [], ◌∷◌, ◌++◌, length, map, take, reverse, Option, refl, sym, ap, ◌∙◌, subst, arith, append-nil}
+use Rattle.std.proofs.Common.{◌≡◌, ◌<◌, ◌==◌, ℕ, Bool, true, false, Bor, List, [], ◌∷◌, ◌++◌, length, map, take, drop, reverse, flat_map, Option, None, Some, refl, sym, ap, ◌∙◌, subst, arith, append-nil}
 use Rattle.std.specs.Str.{IsUtf8, chars, all_scalars, encode_utf8_all}
+use Rattle.std.specs.Str.Lines.{lines}
+use Rattle.std.specs.Str.Pattern.{FindsChar}
 use Rattle.std.specs.Char.{encode_utf8}
 use denote.Param.Members.{Mut}
-use Rattle.std.specs.Fn.{Called, CalledAt}
-use Rattle.std.specs.List.{filter}
+use Rattle.std.specs.Fn.{Called}
+use Rattle.std.specs.List.{slice_split}
+use Rattle.std.specs.Iterator.{AlwaysYields}
 use Rattle.std.specs.Slice.Iter.{iter_rest, iter_steps, iter_steps_back}
-use Rattle.std.specs.Str.Iter.{chars_rest, chars_steps, chars_steps_back}
-use Rattle.std.specs.Iterator.Adapters.{rev_source, rev_steps, take_source, take_count, take_steps, chain_first, chain_second, chain_first_done, chain_second_done, chain_steps, map_source, map_callee, map_steps, filter_source, filter_callee, filter_steps, copied_source, copied_steps}
+use Rattle.std.specs.Str.Iter.{chars_rest, chars_steps, chars_steps_back, lines_rest, lines_steps, split_text, split_has_more, split_pattern, split_steps}
+use Rattle.std.specs.Iterator.Adapters.{rev_source, rev_steps, take_source, take_count, take_steps, skip_source, skip_count, skip_steps, map_source, map_callee, map_steps, copied_source, copied_steps, flatten_source, flatten_front, flatten_back, flatten_done, flatten_steps}
 use Rattle.std.specs.Array.Iter.{array_steps, array_into_iter_items}
 use Rattle.std.specs.declared.array.IntoIter.{IntoIter}
+use Rattle.std.specs.declared.str.Chars.{Chars}
+use Rattle.std.specs.declared.str.Split.{Split}
+use Rattle.std.specs.declared.slice.Iter.{Iter}
+use Rattle.std.specs.declared.iter.Rev.{Rev}
+use Rattle.std.specs.declared.iter.Copied.{Copied}
 use Rattle.std.proofs.lemmas.Iterator.{YieldsList, YieldsList-from_slice, YieldsList-from_chars, YieldsList-from_take, YieldsList-from_map_by}
-use Rattle.std.proofs.lemmas.Iterator.Adapters.{YieldsList-from_rev_slice}
+use Rattle.std.proofs.lemmas.Iterator.Adapters.{YieldsList-from_vec, YieldsList-from_rev_slice, YieldsList-from_skip, YieldsList-from_skip_while, YieldsList-from_flat_map}
 use Rattle.std.proofs.lemmas.Iterator.Consumers.{YieldsList-from_shown, YieldsList-at, YieldsList-from_chain, YieldsList-from_copied, YieldsList-from_filter}
-use Rattle.std.proofs.lemmas.Iterator.Splits.{YieldsList-from_shown_while}
-use Rattle.std.proofs.lemmas.List.{reverse-append}
+use Rattle.std.proofs.lemmas.Iterator.Search.{YieldsList-from_take_while}
+use Rattle.std.proofs.lemmas.Iterator.Splits.{YieldsList-from_shown_while, YieldsList-from_lines, YieldsList-from_str_split}
+use Rattle.std.proofs.lemmas.List.{reverse-append, length-reverse, nil_from_length}
 use Rattle.std.proofs.lemmas.Str.{chars-nil, encodes-chars, chars_from_encodes, scalars-chars, length-le-encodes}
 use Rattle.smol_str.proofs.TextLemmas.Split.{scalars_parts}
 use Rattle.smol_str.proofs.CutLemmas.Sync.{StandsBetween-bytes}
@@ -27,16 +36,12 @@ YieldsList-from_array {A} {n} {s} xs e =
     let all = YieldsList-from_shown array_steps (λ x. x) array_into_iter_items (λ s t h. h.0) (λ s x t h. h) s in
     subst (λ ys. YieldsList array_steps (λ x. x) s ys) e all
 
-nil : {X : Type 0} (xs : List X) → length xs ≡ 0 → xs ≡ []
-nil [] e = refl
-nil (x ∷ xs) e = absurd (omega arith)
-
 -- the last character of a text comes off its end
 last_off : (bs ds : List ℕ) (c : ℕ) → IsUtf8 bs → bs ≡ ds ++ encode_utf8 c → IsUtf8 ds × (chars bs ≡ chars ds ++ c ∷ [])
 last_off bs ds c u e =
     let one : encode_utf8_all (c ∷ []) ++ [] ≡ encode_utf8 c = append-nil _ ∙ append-nil _ in
     let h = StandsBetween-bytes (chars bs) (c ∷ []) ds [] (omega arith) (encodes-chars bs u ∙ e ∙ ap (λ x. ds ++ x) (sym one)) in
-    let none : h.1 ≡ [] = nil h.1 (omega (arith, ap length h.4, length-le-encodes h.1)) in
+    let none : h.1 ≡ [] = nil_from_length h.1 (omega (arith, ap length h.4, length-le-encodes h.1)) in
     let parts : chars bs ≡ h.0 ++ c ∷ [] = h.2 ∙ ap (λ x. h.0 ++ c ∷ x) none in
     let front = scalars_parts h.0 (c ∷ []) (ap all_scalars (sym parts) ∙ scalars-chars bs u) in
     let utf8 : IsUtf8 ds = (h.0, (front.0, h.3)) in
@@ -48,40 +53,31 @@ pub YieldsList-from_rev_chars : {s : _} (bs : List ℕ) → IsUtf8 bs → chars_
 YieldsList-from_rev_chars {s} bs u e =
     let rest = λ (t : _). chars_rest (rev_source t) in
     let all = YieldsList-from_shown_while (rev_steps chars_steps_back) (λ c. c) (λ t. reverse (chars (rest t))) (λ t. IsUtf8 (rest t))
-    (λ t u h k. ap (λ x. length (reverse (chars x))) (nil (rest t) k.0) ∙ ap (λ x. length (reverse x)) chars-nil)
+    (λ t u h k. ap (λ x. length (reverse (chars x))) (nil_from_length (rest t) k.0) ∙ ap (λ x. length (reverse x)) chars-nil)
     (λ t c u h k.
     let off = last_off (rest t) (rest u) c h k in
     (off.0, ap reverse off.1 ∙ reverse-append (chars (rest u)) (c ∷ []))) s (subst IsUtf8 (sym e) u) in
     subst (λ b. YieldsList (rev_steps chars_steps_back) (λ c. c) s (reverse (chars b))) e all
 
--- ---- std's lemmas on adapters, where each call's clause says of which iterator t it was made
-module _ {S A B : Type 0} {steps : S → Option A → S → Type 0} {v : A → B} {t : S} {ys : List B} where
-  pub gives-take : {s : _} (n : ℕ) → take_source s ≡ t → take_count s ≡ n → YieldsList steps v t ys
-      → YieldsList (take_steps steps) v s (take n ys)
-  gives-take n e c gives = YieldsList-from_take n (YieldsList-at e gives) c
+-- ---- std's lemmas in forms that `grind` finds at a caller's goal: no λ stands in what they show but that by which items
+-- are seen, and a list that may have computed has a name
 
-  pub gives-chain : {T : Type 0} {others : T → Option A → T → Type 0} {u : T} {zs : List B} {s : _} → chain_first s ≡ t
-      → chain_second s ≡ u → chain_first_done s ≡ false → chain_second_done s ≡ false → YieldsList steps v t ys
-      → YieldsList others v u zs → YieldsList (chain_steps steps others) v s (ys ++ zs)
-  gives-chain e f d k gives more = YieldsList-from_chain (YieldsList-at e gives) (YieldsList-at f more) d k
+weaker_runs : {S A B : Type 0} (steps more : S → Option A → S → Type 0) (v : A → B)
+    → ((s : S) (o : Option A) (t : S) → more s o t → steps s o t) → (s : S) (ys : List B)
+    → AlwaysYields steps v s ys → AlwaysYields more v s ys
+weaker_runs steps more v f s [] h = λ x t m. h x t (f s (Some x) t m)
+weaker_runs steps more v f s (y ∷ ys) h = (
+  λ t m. h.0 t (f s None t m),
+  λ x t m. let rest = h.1 x t (f s (Some x) t m) in (rest.0, weaker_runs steps more v f t ys rest.1),
+)
 
-  pub gives-map : {F R C : Type 0} {s : _} (g : Mut F (A × Unit {0}) R) (w : R → C) (h : B → C) (f : F)
-      → map_source s ≡ t → map_callee s ≡ f → YieldsList steps v t ys
-      → ((x : A) (r : R) (q : F) → Called g f (x, tt) r q → (q ≡ f) × (w r ≡ h (v x)))
-      → YieldsList (map_steps steps g) w s (map h ys)
-  gives-map g w h f e c gives k = YieldsList-from_map_by g w h (YieldsList-at e gives) c k
+-- steps of which other steps follow give the same
+pub weaker : {S A B : Type 0} {steps more : S → Option A → S → Type 0} {v : A → B} {s : S} {ys : List B}
+    → ((s : S) (o : Option A) (t : S) → more s o t → steps s o t) → YieldsList steps v s ys → YieldsList more v s ys
+weaker {steps = steps} {more = more} {v = v} {s = s} {ys = ys} f gives =
+    record { runs = weaker_runs steps more v f s ys gives.runs }
 
-  pub gives-filter : {F : Type 0} {s : _} (g : Mut F (Bor A × Unit {0}) Bool) (test : B → Bool) (f : F)
-      → filter_source s ≡ t → filter_callee s ≡ f → YieldsList steps v t ys
-      → ((x : A) (b : Bool) (q : F) → CalledAt g f x b q → (q ≡ f) × (b ≡ test (v x)))
-      → YieldsList (filter_steps steps g) v s (filter test ys)
-  gives-filter g test f e c gives k = YieldsList-from_filter g test (YieldsList-at e gives) c k
-
-module _ {S A : Type 0} {steps : S → Option (Bor A) → S → Type 0} {t : S} {ys : List A} where
-  pub gives-copied : {s : _} → copied_source s ≡ t → YieldsList steps (λ y. y.now) t ys
-      → YieldsList (copied_steps steps) (λ y. y) s ys
-  gives-copied e gives = YieldsList-from_copied (YieldsList-at e gives)
-
+-- sources
 pub gives-slice : {A : Type 0} {s : _} (xs : List A) → iter_rest s ≡ xs → YieldsList iter_steps (λ y. y.now) s xs
 gives-slice xs e = YieldsList-from_slice xs e
 
@@ -95,3 +91,119 @@ gives-chars bs u e = YieldsList-from_chars bs u e
 pub gives-rev_chars : {s t : _} (bs : List ℕ) → IsUtf8 bs → rev_source s ≡ t → chars_rest t ≡ bs
     → YieldsList (rev_steps chars_steps_back) (λ c. c) s (reverse (chars bs))
 gives-rev_chars bs u e f = YieldsList-from_rev_chars bs u (ap chars_rest e ∙ f)
+
+pub gives-lines : {s : _} (all : List (List ℕ)) → all ≡ lines (lines_rest s) → YieldsList lines_steps (λ x. x.now) s all
+gives-lines {s} all e = subst (YieldsList lines_steps (λ x. x.now) s) (sym e) (YieldsList-from_lines (lines_rest s) refl)
+
+-- a text that is split at an ASCII character
+pub gives-split_char : {s : _} {steps : Split ℕ → Option (Bor (List ℕ)) → Split ℕ → Type 0} (test : ℕ → Bool) (c : ℕ)
+    (bs : List ℕ) → ((s : _) (o : _) (t : _) → steps s o t → split_steps FindsChar (λ a b. b ≡ a) s o t) → c < 128
+    → split_text s ≡ bs → split_has_more s ≡ true → split_pattern s ≡ c → ((b : ℕ) → test b ≡ (b == c))
+    → YieldsList steps (λ x. x.now) s (slice_split test bs)
+gives-split_char {s} test c bs f low text more pattern same =
+    weaker f (subst (λ t. YieldsList (split_steps FindsChar (λ a b. b ≡ a)) (λ x. x.now) s (slice_split t bs)) (λ i b. sym (same b) i)
+    (YieldsList-from_str_split c bs low text more pattern))
+
+-- adapters
+module _ {S A : Type 0} {steps : S → Option (Bor A) → S → Type 0} {t : S} {ys : List A} where
+  pub gives-copied : {s : _} → copied_source s ≡ t → YieldsList steps (λ y. y.now) t ys
+      → YieldsList (copied_steps steps) (λ y. y) s ys
+  gives-copied e gives = YieldsList-from_copied (YieldsList-at e gives)
+
+rev_copied-none : {A : Type 0} (s t : _) → rev_steps (copied_steps (iter_steps_back {A = A})) s None t
+    → length (reverse (iter_rest (copied_source (rev_source s)))) ≡ 0
+rev_copied-none s t (None, p, e) = length-reverse _ ∙ p.0
+rev_copied-none s t (Some y, p, e) = absurd (cc)
+
+rev_copied-some : {A : Type 0} (s : _) (x : A) (t : _) → rev_steps (copied_steps iter_steps_back) s (Some x) t
+    → reverse (iter_rest (copied_source (rev_source s))) ≡ x ∷ reverse (iter_rest (copied_source (rev_source t)))
+rev_copied-some s x t (None, p, e) = absurd (cc)
+rev_copied-some s x t (Some y, p, e) =
+    let rest = iter_rest (copied_source (rev_source t)) in
+    let same : y.now ≡ x = cc in
+    ap reverse p ∙ reverse-append rest (y.now ∷ []) ∙ ap (λ z. z ∷ reverse rest) same
+
+pub gives-rev_copied : {A : Type 0} {s : _} {steps : Rev (Copied (Iter A)) → Option A → Rev (Copied (Iter A)) → Type 0}
+    (xs : List A) → ((s : _) (o : _) (t : _) → steps s o t → rev_steps (copied_steps iter_steps_back) s o t)
+    → iter_rest (copied_source (rev_source s)) ≡ xs → YieldsList steps (λ y. y) s (reverse xs)
+gives-rev_copied {s = s} xs f e =
+    let all = YieldsList-from_shown (rev_steps (copied_steps iter_steps_back)) (λ y. y)
+        (λ u. reverse (iter_rest (copied_source (rev_source u)))) rev_copied-none rev_copied-some s in
+    weaker f (subst (λ ys. YieldsList (rev_steps (copied_steps iter_steps_back)) (λ y. y) s (reverse ys)) e all)
+
+-- `map` of items that are values, and of items that are lent
+module _ {S F R A C : Type 0} {s : _} {ys : List A} {f : F} (w : R → C) (h : A → C) where
+  pub gives-map : {steps : S → Option A → S → Type 0} (g : Mut F (A × Unit {0}) R)
+      → YieldsList steps (λ x. x) (map_source s) ys → map_callee s ≡ f
+      → ((x : A) (r : R) (q : F) → Called g f (x, tt) r q → (q ≡ f) × (w r ≡ h x))
+      → YieldsList (map_steps steps g) w s (map h ys)
+  gives-map g gives c k = YieldsList-from_map_by g w h gives c k
+
+  pub gives-map_lent : {steps : S → Option (Bor A) → S → Type 0} (g : Mut F (Bor A × Unit {0}) R)
+      → YieldsList steps (λ x. x.now) (map_source s) ys → map_callee s ≡ f
+      → ((x : Bor A) (r : R) (q : F) → Called g f (x, tt) r q → (q ≡ f) × (w r ≡ h x.now))
+      → YieldsList (map_steps steps g) w s (map h ys)
+  gives-map_lent g gives c k = YieldsList-from_map_by g w h gives c k
+
+-- `flat_map` of items that are lent to their characters
+pub gives-flat_chars : {S F A : Type 0} {s : _} {f : F} {steps : S → Option (Bor A) → S → Type 0}
+    {becomes : Chars → Chars → Type 0} (g : Mut F (Bor A × Unit {0}) Chars) (h : A → List ℕ) (ys : List A)
+    → YieldsList steps (λ x. x.now) (map_source (flatten_source s)) ys → map_callee (flatten_source s) ≡ f
+    → flatten_front s ≡ None → flatten_back s ≡ None → flatten_done s ≡ false → ((u j : Chars) → becomes u j → j ≡ u)
+    → ((x : Bor A) (u : Chars) (q : F) → Called g f (x, tt) u q → (q ≡ f) × (chars (chars_rest u) ≡ h x.now))
+    → ((x : Bor A) (u : Chars) (q : F) → Called g f (x, tt) u q → IsUtf8 (chars_rest u))
+    → YieldsList (flatten_steps (map_steps steps g) becomes chars_steps) (λ c. c) s (flat_map h ys)
+gives-flat_chars {f = f} {becomes = becomes} g h ys gives c front back done same k utf8 =
+    YieldsList-from_flat_map g becomes chars_steps (λ c. c) h f (λ x u q called.
+    let all = YieldsList-from_chars (chars_rest u) (utf8 x u q called) refl in
+    let these = subst (YieldsList chars_steps (λ c. c) u) (k x u q called).1 all in
+    ((k x u q called).0, λ j is. subst (λ t. YieldsList chars_steps (λ c. c) t (h x.now)) (sym (same u j is)) these))
+    gives c front back done
+
+-- `take` and `skip` by a number that is written out, of characters and of what a slice lends
+module _ {s : _} (all : List ℕ) where
+  pub gives-take_chars : IsUtf8 (chars_rest (take_source s)) → all ≡ take (take_count s) (chars (chars_rest (take_source s)))
+      → YieldsList (take_steps chars_steps) (λ c. c) s all
+  gives-take_chars u e =
+      rw e (YieldsList-from_take (take_count s) (YieldsList-from_chars (chars_rest (take_source s)) u refl) refl)
+
+  pub gives-skip_chars : IsUtf8 (chars_rest (skip_source s)) → all ≡ drop (skip_count s) (chars (chars_rest (skip_source s)))
+      → YieldsList (skip_steps chars_steps) (λ c. c) s all
+  gives-skip_chars u e =
+      rw e (YieldsList-from_skip (skip_count s) (YieldsList-from_chars (chars_rest (skip_source s)) u refl) refl)
+
+module _ {A : Type 0} {s : _} (all : List A) where
+  pub gives-take_slice : all ≡ take (take_count s) (iter_rest (take_source s))
+      → YieldsList (take_steps iter_steps) (λ y. y.now) s all
+  gives-take_slice e = rw e (YieldsList-from_take (take_count s) (YieldsList-from_slice (iter_rest (take_source s)) refl) refl)
+
+  pub gives-skip_slice : all ≡ drop (skip_count s) (iter_rest (skip_source s))
+      → YieldsList (skip_steps iter_steps) (λ y. y.now) s all
+  gives-skip_slice e = rw e (YieldsList-from_skip (skip_count s) (YieldsList-from_slice (iter_rest (skip_source s)) refl) refl)
+
+-- each of these, and those of std that serve as they are
+pub ruleset iterators = (
+  gives-slice,
+  gives-rev_slice,
+  gives-chars,
+  gives-rev_chars,
+  gives-lines,
+  gives-split_char,
+  gives-copied,
+  gives-rev_copied,
+  gives-map,
+  gives-map_lent,
+  gives-flat_chars,
+  gives-take_chars,
+  gives-skip_chars,
+  gives-take_slice,
+  gives-skip_slice,
+  YieldsList-from_vec,
+  YieldsList-from_array,
+  YieldsList-from_take,
+  YieldsList-from_skip,
+  YieldsList-from_take_while,
+  YieldsList-from_skip_while,
+  YieldsList-from_chain,
+  YieldsList-from_filter,
+)

@@ -4,8 +4,10 @@ use Rattle.std.specs.Str.{IsUtf8, chars, all_scalars, encode_utf8_all}
 use Rattle.std.specs.Str.Pattern.{FindsText, LacksTextAt, HasTextAt}
 use Rattle.std.specs.Str.Iter.{split_steps, split_text, split_has_more, split_pattern}
 use Rattle.std.specs.List.{flat_map}
+use Rattle.std.specs.declared.str.Split.{Split}
 use Rattle.std.proofs.lemmas.Iterator.{YieldsList}
 use Rattle.std.proofs.lemmas.Iterator.Splits.{YieldsList-from_shown_while}
+use Rattle.smol_str.proofs.IteratorLemmas.{weaker}
 use Rattle.std.proofs.lemmas.List.{length-drop}
 use Rattle.std.proofs.lemmas.Str.{chars-encodes, encodes-append, encodes-chars, scalars-chars}
 use Rattle.smol_str.specs.Text.{size}
@@ -118,13 +120,13 @@ module _ (w nd x rest : List ℕ) (live : Bool) (u : IsUtf8 w) (v : IsUtf8 nd) (
       )
 
 -- a text that is split at another
-pub gives-split : {s : _} (by : Bor (List ℕ)) (bs nd : List ℕ) → IsUtf8 bs → IsUtf8 nd → 0 < length nd → by.now ≡ nd
-    → split_text s ≡ bs → split_has_more s ≡ true → split_pattern s ≡ by
-    → YieldsList (split_steps (λ n. FindsText n.now) (λ n m. m.now ≡ n.now)) (λ x. chars x.now) s
-    (cut (chars bs) (chars nd) (no_limit (chars bs)))
-gives-split {s} by bs nd u v some is text more pattern =
-    let steps = split_steps (λ (n : Bor (List ℕ)). FindsText n.now) (λ n m. m.now ≡ n.now) in
-    let all = YieldsList-from_shown_while steps (λ x. chars x.now)
+pub gives-split : {s : _} {steps : Split (Bor (List ℕ)) → Option (Bor (List ℕ)) → Split (Bor (List ℕ)) → Type 0}
+    (by : Bor (List ℕ)) (bs nd : List ℕ) → ((s : _) (o : _) (t : _) → steps s o t → split_steps (λ n. FindsText n.now) (λ n m. m.now ≡ n.now) s o t)
+    → IsUtf8 bs → IsUtf8 nd → 0 < length nd → by.now ≡ nd → split_text s ≡ bs → split_has_more s ≡ true
+    → split_pattern s ≡ by → YieldsList steps (λ x. chars x.now) s (cut (chars bs) (chars nd) (no_limit (chars bs)))
+gives-split {s} {steps} by bs nd f u v some is text more pattern =
+    let split = split_steps (λ (n : Bor (List ℕ)). FindsText n.now) (λ n m. m.now ≡ n.now) in
+    let all = YieldsList-from_shown_while split (λ x. chars x.now)
     (λ t. pieces nd (split_has_more t) (split_text t))
     (λ t. ((split_pattern t).now ≡ nd) × (split_has_more t ≡ true → IsUtf8 (split_text t)))
     (λ t z h k. ap (λ b. length (pieces nd b (split_text t))) (sym k.0))
@@ -135,4 +137,4 @@ gives-split {s} by bs nd u v some is text more pattern =
     let one = one_piece (split_text t) nd x.now (split_text z) (split_has_more z) utf8 v some o.0 finds o.2 in
     ((k.1.0 ∙ h.0, one.0), ap (λ b. pieces nd b (split_text t)) (sym k.0) ∙ one.1))
     s (ap (λ n. n.now) pattern ∙ is, λ _. subst IsUtf8 (sym text) u) in
-    subst (YieldsList steps (λ x. chars x.now) s) (λ i. pieces nd (more i) (text i)) all
+    weaker f (subst (YieldsList split (λ x. chars x.now) s) (λ i. pieces nd (more i) (text i)) all)

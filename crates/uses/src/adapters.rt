@@ -1,13 +1,14 @@
 //! Texts collected through std's adapters, and by a builder that draws them.
-ghost use Rattle.std.specs.Prelude.{◌≡◌, ◌<◌, ◌==◌, ◌++◌, ◌∷◌, [], codes, length, map, not, reverse, take, IfOk, IsOk, OnOk, OnErr};
-ghost use Rattle.std.specs.List.{filter, slice_split};
+ghost use Rattle.std.specs.Prelude.{◌≡◌, ◌<◌, ◌==◌, ◌++◌, ◌∷◌, [], codes, drop, length, map, not, reverse, take, IfOk, OnOk, OnErr};
+ghost use Rattle.std.specs.List.{filter, prefix_len, slice_split};
 ghost use Rattle.std.specs.Str.{chars};
+ghost use Rattle.std.specs.Str.Lines.{lines};
 ghost use Rattle.std.specs.Iterator.{IsFinite};
 ghost use Rattle.smol_str.specs.Collect.{IsValueOfRun, Outgrown};
 ghost use Rattle.smol_str.specs.Text.{IsShort, IsResident};
 ghost use Rattle.smol_str.specs.Meaning.{IsValueOf};
 ghost use Rattle.smol_str.specs.Draft.{OnHeap, appended};
-ghost use Rattle.smol_str.specs.Joined.{joined, joined_strs, str_text};
+ghost use Rattle.smol_str.specs.Joined.{joined, joined_strs, str_text, string_text};
 ghost use Rattle.smol_str.specs.Case.{upper};
 ghost use Rattle.smol_str.specs.Replace.{replaced_all};
 
@@ -69,15 +70,6 @@ pub fn of_parts(alloc: Global, parts: &[&str]) -> Result<SmolStr, AllocError>
     SmolStr::from_strs(alloc, parts.iter().copied())
 }
 
-/// The characters of a literal; short text is never refused.
-#[tactic(auto, using(smol_str::proofs::CallerLemmas::collecting))]
-pub fn abc(alloc: Global) -> Result<SmolStr, AllocError>
-    ensures ok { IsOk result }
-    ensures value { IfOk result (λ v. IsValueOf (codes "abc") v) }
-{
-    SmolStr::from_chars(alloc, "abc".chars())
-}
-
 /// Two texts with a dash between them.
 #[tactic(auto, using(smol_str::proofs::CallerLemmas::collecting))]
 pub fn with_dash(alloc: Global, first: &str, second: &str) -> Result<SmolStr, AllocError>
@@ -112,6 +104,78 @@ pub fn in_capitals(alloc: Global, text: &str) -> Result<SmolStr, AllocError>
     ensures refused { OnErr result (¬ (IsShort (upper (chars text.now)))) }
 {
     SmolStr::from_chars(alloc, text.chars().map(|c| c.to_ascii_uppercase()))
+}
+
+/// The texts of `String`s, each lent as a `&str`.
+#[tactic(auto, using(smol_str::proofs::CallerLemmas::collecting))]
+pub fn of_strings(alloc: Global, texts: &Vec<String>) -> Result<SmolStr, AllocError>
+    ensures value { IfOk result (λ v. IsValueOf (joined string_text texts.now.items) v) }
+    ensures refused { OnErr result (¬ (IsShort (joined string_text texts.now.items))) }
+{
+    SmolStr::from_strs(alloc, texts.iter().map(|text| text.as_str()))
+}
+
+/// The characters of all words.
+#[tactic(auto, using(smol_str::proofs::CallerLemmas::collecting))]
+pub fn letters_of(alloc: Global, words: &[&str]) -> Result<SmolStr, AllocError>
+    ensures value { IfOk result (λ v. IsValueOf (joined str_text words.now) v) }
+    ensures refused { OnErr result (¬ (IsShort (joined str_text words.now))) }
+{
+    SmolStr::from_chars(alloc, words.iter().flat_map(|word| word.chars()))
+}
+
+/// The texts of a list from the last to the first.
+#[tactic(auto, using(smol_str::proofs::CallerLemmas::collecting))]
+pub fn of_parts_reversed(alloc: Global, parts: &[&str]) -> Result<SmolStr, AllocError>
+    ensures value { IfOk result (λ v. IsValueOf (joined str_text (reverse parts.now)) v) }
+    ensures refused { OnErr result (¬ (IsShort (joined str_text (reverse parts.now)))) }
+{
+    SmolStr::from_strs(alloc, parts.iter().copied().rev())
+}
+
+/// A text without its first character.
+#[tactic(auto, using(smol_str::proofs::CallerLemmas::collecting))]
+pub fn past_sign(alloc: Global, text: &str) -> Result<SmolStr, AllocError>
+    ensures value { IfOk result (λ v. IsValueOf (drop 1 (chars text.now)) v) }
+    ensures refused { OnErr result (¬ (IsShort (drop 1 (chars text.now)))) }
+{
+    SmolStr::from_chars(alloc, text.chars().skip(1))
+}
+
+/// A text up to its first comma.
+#[tactic(auto, using(smol_str::proofs::CallerLemmas::collecting))]
+pub fn up_to_comma(alloc: Global, text: &str) -> Result<SmolStr, AllocError>
+    ensures value { IfOk result (λ v. IsValueOf (take (prefix_len (λ c. not (c == 44)) (chars text.now)) (chars text.now)) v) }
+    ensures refused { OnErr result (¬ (IsShort (take (prefix_len (λ c. not (c == 44)) (chars text.now)) (chars text.now)))) }
+{
+    SmolStr::from_chars(alloc, text.chars().take_while(|c| *c != ','))
+}
+
+/// A text without the spaces in front.
+#[tactic(auto, using(smol_str::proofs::CallerLemmas::collecting))]
+pub fn past_spaces(alloc: Global, text: &str) -> Result<SmolStr, AllocError>
+    ensures value { IfOk result (λ v. IsValueOf (drop (prefix_len (λ c. c == 32) (chars text.now)) (chars text.now)) v) }
+    ensures refused { OnErr result (¬ (IsShort (drop (prefix_len (λ c. c == 32) (chars text.now)) (chars text.now)))) }
+{
+    SmolStr::from_chars(alloc, text.chars().skip_while(|c| *c == ' '))
+}
+
+/// A text without its line ends.
+#[tactic(auto, using(smol_str::proofs::CallerLemmas::collecting))]
+pub fn in_one_line(alloc: Global, text: &str) -> Result<SmolStr, AllocError>
+    ensures value { IfOk result (λ v. IsValueOf (joined chars (lines text.now)) v) }
+    ensures refused { OnErr result (¬ (IsShort (joined chars (lines text.now)))) }
+{
+    SmolStr::from_strs(alloc, text.lines())
+}
+
+/// Two characters.
+#[tactic(auto, using(smol_str::proofs::CallerLemmas::collecting))]
+pub fn of_two_chars(alloc: Global, first: char, second: char) -> Result<SmolStr, AllocError>
+    ensures value { IfOk result (λ v. IsValueOf (first ∷ second ∷ []) v) }
+    ensures refused { OnErr result (¬ (IsShort (first ∷ second ∷ []))) }
+{
+    SmolStr::from_chars(alloc, [first, second].into_iter())
 }
 
 /// A builder, and the texts of values after it.

@@ -1,14 +1,14 @@
 //! Texts collected from iterators whose items the caller knows.
 #![tactic(auto)]
 
-ghost use Rattle.std.specs.Prelude.{◌≡◌, String, IfOk, OnOk, OnErr};
+ghost use Rattle.std.specs.Prelude.{◌≡◌, ◌≤◌, String, length, IfOk, IsOk, OnOk, OnErr};
 ghost use Rattle.std.specs.Str.{chars};
 ghost use Rattle.smol_str.specs.Text.{IsShort};
 ghost use Rattle.smol_str.specs.Meaning.{IsValueOf};
 ghost use Rattle.smol_str.specs.Draft.{OnHeap, appended};
 ghost use Rattle.smol_str.specs.Joined.{joined, string_text};
 
-use smol_str::{SmolStr, SmolStrBuilder};
+use smol_str::{INLINE_CAP, SmolStr, SmolStrBuilder};
 use std::alloc::{AllocError, Global};
 
 /// The characters of a text.
@@ -18,6 +18,16 @@ pub fn copied(alloc: Global, text: &str) -> Result<SmolStr, AllocError>
     ensures refused { OnErr result (¬ (IsShort (chars text.now))) }
 {
     SmolStr::from_chars(alloc, text.chars())
+}
+
+/// The characters of a short text, which is never refused.
+#[tactic(auto, using(smol_str::proofs::CallerLemmas::texts))]
+pub fn copied_short(alloc: Global, text: &str) -> Result<SmolStr, AllocError>
+    requires { length text.now ≤ INLINE_CAP }
+    ensures ok { IsOk result }
+    ensures value { IfOk result (λ v. IsValueOf (chars text.now) v) }
+{
+    copied(alloc, text)
 }
 
 /// The texts of `String`s that are handed over.

@@ -1,0 +1,86 @@
+-- Texts: their bytes and sizes, builders, and one character in place of another.
+use Rattle.smol_str.proofs.Common.{◌≡◌, ◌∷◌, ℕ, ◌+◌, ◌<◌, ◌≤◌, Result, Ok, Err, IfOk, OnErr, subst, List, [], length, take, drop, get_or, encode_utf8_all, refl, sym, ap, ◌∙◌, inl, IsTrue, arith, flat_map, chars, all_scalars, IsUtf8, chars-encodes, chars_from_encodes, encodes-chars, chars-IsAscii, INLINE_CAP, size, IsShort, IsResident, Meaning, IsValueOf, Draft, InBuffer, OnHeap, appended, empty_draft, replaced_all, each_replaced, common_steps, rules}
+use Rattle.std.proofs.lemmas.Str.Ascii.{IsAscii-cons, IsAscii-nil}
+use Rattle.smol_str.proofs.CaseLemmas.Ascii.{size-mapped}
+use Rattle.smol_str.proofs.CutLemmas.Bytes.{each-moves, replaced_all-character}
+use Rattle.smol_str.proofs.TextLemmas.Lists.{flat_map-more, flat_map-parts}
+use Rattle.smol_str.proofs.TextLemmas.Places.{IsShort-chars, IsShort-front, size-chars}
+use Rattle.smol_str.proofs.BuilderLemmas.Draft.{appended-twice, appended-nothing, OnHeap-long}
+
+-- ---- texts
+
+-- the characters of the bytes that `as_str` lends are the text
+pub chars-as_str : (t bs : List ℕ) → IsTrue (all_scalars t) → bs ≡ encode_utf8_all t → chars bs ≡ t
+chars-as_str t bs scalars e = ap chars e ∙ chars-encodes t scalars
+
+-- their number is the text's size
+pub length-as_str : (t bs : List ℕ) → bs ≡ encode_utf8_all t → length bs ≡ size t
+length-as_str t bs e = ap length e
+
+-- a text of so few bytes needs no memory
+pub IsResident-few : (bs : List ℕ) → IsUtf8 bs → length bs ≤ INLINE_CAP → IsResident (chars bs)
+IsResident-few bs u few = inl (IsShort-chars bs u few)
+
+pub ruleset texts = (
+  chars-encodes,
+  chars_from_encodes,
+  encodes-chars,
+  chars-as_str,
+  length-as_str,
+  size-chars,
+  IsResident-few,
+  IsShort-front,
+)
+
+-- ---- builders
+
+pub ruleset builders = (texts, appended-twice, appended-nothing, OnHeap-long)
+
+-- ---- a loop over a list, at its item x, number i: `builder.push_str(..)` with the bytes bs of the piece f x
+
+module _ {X : Type 0} (f : X →
+    List ℕ) (xs : List X) (i : ℕ) (x : X) (bs : List ℕ) (here : i < length xs) (item : x ≡ get_or xs i x)
+    (scalars : IsTrue (all_scalars (f x))) (lent : bs ≡ encode_utf8_all (f x)) where
+  -- the step
+  pub appended-more : (start old new : Draft) → old ≡ appended start (flat_map f (take i xs)) →
+      new ≡ appended old (chars bs) →
+      new ≡ appended start (flat_map f (take (i + 1) xs))
+  appended-more start old new so_far push = grind (arith, common_steps, chars-as_str, flat_map-more, appended-twice)
+
+  -- the refusal, of a builder that was new: the joined text of the whole list is not short
+  pub appended-refused : (old : Draft) → old ≡ appended (empty_draft InBuffer) (flat_map f (take i xs)) →
+      (appended old (chars bs)).kind ≡ OnHeap → ¬ (IsShort (flat_map f xs))
+  appended-refused old so_far heap = λ short.
+      let now = appended-more (empty_draft InBuffer) old (appended old (chars bs)) so_far refl in
+      let long = OnHeap-long (flat_map f (take (i + 1) xs)) (sym (ap (λ b. b.kind) now) ∙ heap) in
+      long (IsShort-front _ (flat_map f (drop (i + 1) xs)) (rw (flat_map-parts f xs (i + 1)) at short))
+
+-- ---- one character of ASCII in place of each of another, as `text.replace_smolstr(alloc, "_", "-")`
+
+module _ (x y : ℕ) (low : x < 128) (small : y < 128) where
+  alone : (c : ℕ) → c < 128 → chars (c ∷ []) ≡ c ∷ []
+  alone c ascii = chars-IsAscii (c ∷ []) (IsAscii-cons c [] ascii IsAscii-nil)
+
+  replaced_each : (t : List ℕ) → replaced_all t (chars (x ∷ [])) (chars (y ∷ [])) ≡ each_replaced x y t
+  replaced_each t = (λ i. replaced_all t (alone x low i) (alone y small i)) ∙ replaced_all-character t x y
+
+-- the clauses `ok` and `refused` as a caller says them
+pub each_replaced-value : {E : Type 0} (r : Result Meaning E) (t : List ℕ) (x y : ℕ)
+    → IfOk r (λ v. IsValueOf (replaced_all t (chars (x ∷ [])) (chars (y ∷ []))) v) → x < 128 → y < 128
+    → IfOk r (λ v. IsValueOf (each_replaced x y t) v)
+each_replaced-value r t x y is low small = subst (λ t. IfOk r (λ v. IsValueOf t v)) (replaced_each x y low small t) is
+
+pub each_replaced-refused : {T E : Type 0} (r : Result T E) (t : List ℕ) (x y : ℕ)
+    → OnErr r (¬ (IsShort (replaced_all t (chars (x ∷ [])) (chars (y ∷ []))))) → x < 128 → y < 128
+    → OnErr r (¬ (IsShort (each_replaced x y t)))
+each_replaced-refused r t x y long low small = subst (λ t. OnErr r (¬ (IsShort t))) (replaced_each x y low small t) long
+
+-- and that no short text is refused, as long as the new one; at a goal of your own by `search (replacing, rules)`
+pub each_replaced-short : {T E : Type 0} (r : Result T E) (bs : List ℕ) (x y : ℕ)
+    → OnErr r (¬ (IsShort (replaced_all (chars bs) (chars (x ∷ [])) (chars (y ∷ []))))) → IsUtf8 bs → x < 128 → y < 128
+    → OnErr r (¬ (IsShort (chars bs)))
+each_replaced-short (Ok v) bs x y long u low small = tt
+each_replaced-short (Err e) bs x y long u low small =
+    search (rules, arith, replaced_each, size-mapped, each-moves, size-chars)
+
+pub ruleset replacing = (each_replaced-value, each_replaced-refused, each_replaced-short)

@@ -1,0 +1,129 @@
+-- Wire forms in bytes.
+use Rattle.smol_str.proofs.Common.{◌≡◌, ◌∷◌, ℕ, ◌+◌, ◌<◌, ◌≤◌, ◌^◌, All, List, [], ◌++◌, append_assoc, length, take, drop, refl, sym, ap, ◌∙◌, subst, inl, inr, IsTrue, arith, flat_map, to_le_bytes, from_le_bytes, from_le_bytes-to_le_bytes_4, w32, chars, all_scalars, IsUtf8, take-append-le, chars-encodes, length-append, All-head, All-tail, size, HasWire, wire, Holds, HasEndedEarly, body, common_steps, rules}
+use Rattle.smol_str.specs.Wire.{prefix_size}
+use Rattle.std.proofs.lemmas.List.{flat_map_more}
+use Rattle.std.proofs.lemmas.List.Elements.{All-push}
+use Rattle.smol_str.proofs.WireLemmas.Wire.{length-wire, prefix_size-wire, wire-apart, Holds-one, Holds-whole, body-Holds, Holds-written, wire-held, length-Holds}
+
+-- ---- wire forms
+
+-- what is held, and what follows it
+pub Holds-parts : (b t : List ℕ) (n : ℕ) → Holds b t n → (b ≡ wire t ++ drop n b) × (n ≡ length (wire t))
+Holds-parts b t n h = (wire-held b t n h, length-Holds b t n h ∙ sym (length-wire t))
+
+-- bytes that are the form of t, and what follows it
+module _ (b t x : List ℕ) (sized : HasWire t) (scalars : IsTrue (all_scalars t)) (is : b ≡ wire t ++ x) where
+  form_is_held : Holds b t (size t + 4)
+  form_is_held = subst (λ s. Holds s t (size t + 4)) (sym is) (Holds-written t x sized scalars)
+
+  pub form_is_whole : ¬ HasEndedEarly b
+  form_is_whole = Holds-whole b t (size t + 4) form_is_held
+
+  pub form-utf8 : IsUtf8 (body b)
+  form-utf8 = (t, (scalars, sym (body-Holds b t (size t + 4) form_is_held)))
+
+  pub form-text : chars (body b) ≡ t
+  form-text = ap chars (body-Holds b t (size t + 4) form_is_held) ∙ chars-encodes t scalars
+
+  -- what `from_wire` finds in them
+  pub form-held : (u : List ℕ) (n : ℕ) → Holds b u n → (u ≡ t) × (n ≡ size t + 4)
+  form-held u n h = Holds-one b u t n (size t + 4) h form_is_held
+
+  -- what `deserialize_reader` consumes of them, and leaves
+  pub form-read : (u r : List ℕ) → HasWire u → b ≡ wire u ++ r → (u ≡ t) × (r ≡ x)
+  form-read u r fits e = wire-apart u t r x fits sized (sym e ∙ is)
+
+-- bytes that with more are the form of t and what follows it: where they have not ended early, the form is all there
+module _ (b more t x : List ℕ) (sized : HasWire t) (scalars : IsTrue (all_scalars t)) (is : b ++ more ≡ wire t ++ x)
+    (whole : ¬ HasEndedEarly b) where
+  four : 4 ≤ length b
+  four = omega (arith, λ (h : length b < 4). whole (inl h))
+
+  states : prefix_size b ≡ size t
+  unfolding prefix_size
+  states = sym (ap (from_le_bytes w32) (take-append-le 4 b more four)) ∙ ap prefix_size is ∙ prefix_size-wire t x sized
+
+  within : size t + 4 ≤ length b
+  within = let says = states in omega (arith, λ (h : length b < 4 + prefix_size b). whole (inr h))
+
+  pub form-cut-held : Holds b t (size t + 4)
+  form-cut-held =
+      let front = sym (take-append-le (size t + 4) b more within) ∙ ap (take (size t + 4)) is in
+      let reads = (Holds-written t x sized scalars).reads in
+      record { scalars = scalars; sized = sized; within = within; reads = front ∙ reads }
+
+  form_is_there : b ≡ wire t ++ drop (size t + 4) b
+  form_is_there = (Holds-parts b t (size t + 4) form-cut-held).0
+
+  pub form-cut-long : length (wire t) ≤ length b
+  form-cut-long = rw (length-wire t) within
+
+  pub form-cut-utf8 : IsUtf8 (body b)
+  form-cut-utf8 = form-utf8 b t (drop (size t + 4) b) sized scalars form_is_there
+
+  pub form-cut-text : chars (body b) ≡ t
+  form-cut-text = form-text b t (drop (size t + 4) b) sized scalars form_is_there
+
+-- ---- wire forms one after another, and how many they are
+
+-- a count before them, as four bytes
+pub count-apart : (m n : ℕ) (x y : List ℕ) → m < 2 ^ 32 → n < 2 ^ 32
+    → to_le_bytes w32 m ++ x ≡ to_le_bytes w32 n ++ y → (m ≡ n) × (x ≡ y)
+count-apart m n x y h k e = search (rules, arith, from_le_bytes-to_le_bytes_4)
+
+first-apart : (s t : List ℕ) (ss ts : List (List ℕ)) (x y : List ℕ) → HasWire s → HasWire t
+    → flat_map wire (s ∷ ss) ++ x ≡ flat_map wire (t ∷ ts) ++ y
+    → (s ≡ t) × (flat_map wire ss ++ x ≡ flat_map wire ts ++ y)
+first-apart s t ss ts x y h k e = search (rules, arith, wire-apart, append_assoc)
+
+-- as many forms: of the same texts
+pub forms-apart : (ss ts : List (List ℕ)) (x y : List ℕ) → All HasWire ss → All HasWire ts → length ss ≡ length ts
+    → flat_map wire ss ++ x ≡ flat_map wire ts ++ y → (ss ≡ ts) × (x ≡ y)
+forms-apart [] [] x y h k l e = (refl, e)
+forms-apart [] (t ∷ ts) x y h k l e = absurd (omega (arith, l))
+forms-apart (s ∷ ss) [] x y h k l e = absurd (omega (arith, l))
+forms-apart (s ∷ ss) (t ∷ ts) x y h k l e =
+    let first = first-apart s t ss ts x y (All-head HasWire s ss h) (All-head HasWire t ts k) e in
+    let others = forms-apart ss ts x y (All-tail HasWire s ss h) (All-tail HasWire t ts k) (omega (arith, l)) first.1 in
+    ((λ i. first.0 i ∷ others.0 i), others.1)
+
+-- more forms: behind the fewer stands the next
+pub forms-next : (ss ts : List (List ℕ)) (x y : List ℕ) → All HasWire ss → All HasWire ts
+    → All (λ t. IsTrue (all_scalars t)) ts → length ss < length ts → flat_map wire ss ++ x ≡ flat_map wire ts ++ y
+    → (t after : List ℕ) × HasWire t × IsTrue (all_scalars t) × (x ≡ wire t ++ after)
+forms-next ss [] x y h k scalars l e = absurd (omega (arith, l))
+forms-next [] (t ∷ ts) x y h k scalars l e = search (rules, arith, All-head, append_assoc)
+forms-next (s ∷ ss) (t ∷ ts) x y h k scalars l e =
+    forms-next ss ts x y (All-tail HasWire s ss h) (All-tail HasWire t ts k)
+    (All-tail (λ t. IsTrue (all_scalars t)) t ts scalars) (omega (arith, l))
+    (first-apart s t ss ts x y (All-head HasWire s ss h) (All-head HasWire t ts k) e).1
+
+-- one form more
+pub forms-more : (ts : List (List ℕ)) (t x : List ℕ)
+    → flat_map wire ts ++ (wire t ++ x) ≡ flat_map wire (ts ++ t ∷ []) ++ x
+forms-more ts t x = grind (arith, common_steps, append_assoc, flat_map_more)
+
+-- a loop that reads a list by `split_wire`, where its number was read first: the bytes are that number, the forms of the
+-- i texts so far, and the rest
+pub record AreRead (bytes : List ℕ) (count : ℕ) (ts : List (List ℕ)) (rest : List ℕ) (i : ℕ) : Type 0 where
+  pub number : length ts ≡ i
+  pub sized : All HasWire ts
+  pub form : bytes ≡ to_le_bytes w32 count ++ (flat_map wire ts ++ rest)
+
+module _ (bytes : List ℕ) (count : ℕ) (ts : List (List ℕ)) (rest : List ℕ) (i : ℕ)
+    (read : AreRead bytes count ts rest i) where
+  -- the step
+  pub one_read : (us : List (List ℕ)) (t after : List ℕ) → rest ≡ wire t ++ after → HasWire t → us ≡ ts ++ t ∷ []
+      → AreRead bytes count us after (i + 1)
+  one_read us t after is fits more = grind (arith, common_steps, forms-more, length-append, All-push)
+
+  -- the end
+  pub all_read : count ≤ i → i ≤ count → bytes ≡ (to_le_bytes w32 (length ts) ++ flat_map wire ts) ++ rest
+  all_read up down = search (rules, arith)
+
+  -- a list that the bytes begin with, or they and more, has one text more
+  pub next_form : count < 2 ^ 32 → i < count → (us : List (List ℕ)) (more x : List ℕ) → length us < 2 ^ 32
+      → All HasWire us → All (λ t. IsTrue (all_scalars t)) us
+      → bytes ++ more ≡ (to_le_bytes w32 (length us) ++ flat_map wire us) ++ x
+      → (t after : List ℕ) × HasWire t × IsTrue (all_scalars t) × (rest ++ more ≡ wire t ++ after)
+  next_form few below us more x can sized scalars e = search (rules, arith, append_assoc, count-apart, forms-next)
