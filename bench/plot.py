@@ -22,10 +22,9 @@ def half(left, title, bars):
     return lines + [bar(left, TOP + STEP * number, name, ratio) for number, (name, ratio) in enumerate(bars)]
 
 
-def picture(rows, ratios):
-    """The bars of the ratios of the rows: pairs of a kind and a name."""
-    halves = [[(name, ratios[name]) for kind, name in rows if (kind == "short") == is_short and name in ratios]
-              for is_short in (True, False)]
+def picture(rows):
+    """The bars of rows: of each its kind, its name and its ratio."""
+    halves = [[(name, ratio) for kind, name, ratio in rows if (kind == "short") == is_short] for is_short in (True, False)]
     height = TOP + STEP * max(map(len, halves)) + 8
     lines = [f'<svg xmlns="http://www.w3.org/2000/svg" width="{WIDTH}" height="{height}" viewBox="0 0 {WIDTH} {height}" '
              'font-family="sans-serif" font-size="10">',

@@ -1,5 +1,6 @@
-/* The heap below the machine: the kit's heap functions are those of the C library under other names, and these stand
-   below them. They count requests, refuse some, and take requests of sizes that no allocation can have as messages.
+/* The heap below the machine. In the machine without proof the kit's heap functions are those of the C library under other
+   names, and these stand below them; before the proved one they are preloaded. They count requests, refuse some, and take
+   requests of sizes that no allocation can have as messages.
 
    BASE        a call under test begins        BASE + 1  it ends        BASE + 2  the values alone are not freed yet
    BASE + 3    the program has ended: standard output gets the bytes that its values had, the blocks that are not freed,
@@ -14,6 +15,22 @@
 #include <stdlib.h>
 #include <string.h>
 #include <unistd.h>
+
+#ifdef PRELOAD
+#define machine_malloc malloc
+#define machine_realloc realloc
+#define machine_free free
+#define malloc_below __libc_malloc
+#define realloc_below __libc_realloc
+#define free_below __libc_free
+extern void *__libc_malloc(size_t);
+extern void *__libc_realloc(void *, size_t);
+extern void __libc_free(void *);
+#else
+#define malloc_below malloc
+#define realloc_below realloc
+#define free_below free
+#endif
 
 enum { HEAD = 16, MOST_CALLS = 1 << 16, SECONDS = 20 };
 static const size_t BASE = (size_t)1 << 62;
@@ -33,19 +50,6 @@ static void begin_program(void) {
     is_inside = 0;
     bytes = blocks = bytes_of_values = 0;
     alarm(SECONDS); /* a program that does not return ends by a signal */
-}
-
-void heap_begin(const uint8_t *from) {
-    memcpy(head, from, HEAD);
-    begin_program();
-}
-
-uint32_t heap_counts(const uint32_t (**of_calls)[2], int64_t ends[2]) {
-    alarm(0);
-    *of_calls = (const uint32_t (*)[2])calls;
-    ends[0] = bytes_of_values;
-    ends[1] = blocks;
-    return count;
 }
 
 static void write_all(const void *from, size_t size) {
@@ -129,11 +133,11 @@ static char *uncounted(char *block) {
 }
 
 void *machine_malloc(size_t size) {
-    return is_message(size) || is_refused(size, 0) ? NULL : counted(malloc(size + BEFORE), size);
+    return is_message(size) || is_refused(size, 0) ? NULL : counted(malloc_below(size + BEFORE), size);
 }
 
 void machine_free(void *old) {
-    if (old) free(uncounted((char *)old - BEFORE));
+    if (old) free_below(uncounted((char *)old - BEFORE));
 }
 
 /* A block that is not made smaller stays as it is, and the call goes on. */
@@ -146,9 +150,16 @@ void *machine_realloc(void *old, size_t size) {
         return NULL;
     }
     uncounted(block);
-    return counted(realloc(block, size + BEFORE), size);
+    return counted(realloc_below(block, size + BEFORE), size);
 }
 
+#ifdef PRELOAD
+/* The loader's own. */
+void *calloc(size_t items, size_t size) {
+    void *block = machine_malloc(items * size);
+    return block ? memset(block, 0, items * size) : NULL;
+}
+#else
 /* A program without proof is run by the tool that builds it, which keeps no program: with the words `copy-to FILE` it
    hands out its own file instead of running. */
 __attribute__((constructor)) static void copy_program(int argc, char **argv) {
@@ -159,3 +170,4 @@ __attribute__((constructor)) static void copy_program(int argc, char **argv) {
         if (write(to, piece, (size_t)n) != n) _exit(3);
     _exit(0);
 }
+#endif

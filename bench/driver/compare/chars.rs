@@ -1,10 +1,10 @@
 //! Each scalar value through the four cases, alone and in the contexts of a final sigma, short and long,
 //! and through prints, JSON and the wire form.
-use crate::machine::{Machine, Refusal};
-use crate::operation::Operation;
+use crate::limits::INLINE_CAP;
+use crate::process::{Process, Refusal};
+use crate::host::{Call, Program};
 use crate::table::named;
-use crate::texts::INLINE_CAP;
-use crate::totals::{Program, Totals, tell};
+use crate::totals::{Totals, tell};
 use crate::unicode;
 
 /// No letter with a case stands from here on, so that fewer contexts are enough.
@@ -29,16 +29,15 @@ fn contexts(character: char) -> Vec<String> {
     all
 }
 
-fn operation(name: &str, form: u8, width: usize, text: &str) -> Operation {
-    let (row, texts) = (named(name), vec![text.as_bytes().to_vec()]);
-    Operation { row, dst: 0, src: 0, form, number: 0, width, digits: 1, texts }
+fn call(name: &str, form: u8, text: &str) -> Call {
+    Call { form, width: 7, digits: 1, ..Call::of(named(name), vec![text.as_bytes().to_vec()]) }
 }
 
 fn program_of(character: char) -> Program {
     let text = character.to_string();
     let escaped = text.encode_utf16().fold("\"".to_string(), |all, unit| format!("{all}\\u{unit:04x}")) + "\"";
     let quoted = serde_json::to_string(&text).unwrap();
-    let mut operations: Vec<Operation> = [
+    let mut steps: Vec<Call> = [
         ("From<char>", 0, text.as_str()),
         ("Display and Debug", 5, ""),
         ("Display and Debug", 9, ""),
@@ -53,23 +52,23 @@ fn program_of(character: char) -> Program {
         ("push", 0, &text),
         ("finish", 0, ""),
     ]
-    .map(|(name, form, text)| operation(name, form, 7, text))
+    .map(|(name, form, text)| call(name, form, text))
     .to_vec();
     let mut names = vec!["to_lowercase_smolstr", "to_uppercase_smolstr"];
     if character < NO_CASE_FROM {
         names.extend(["to_ascii_lowercase_smolstr", "to_ascii_uppercase_smolstr"]);
     }
     for text in contexts(character) {
-        operations.extend(names.iter().map(|name| operation(name, 0, 0, &text)));
+        steps.extend(names.iter().map(|name| call(name, 0, &text)));
     }
-    Program { operations, refusal: Refusal::None }
+    Program { steps, refusal: Refusal::None }
 }
 
 /// Runs each character but those on which the versions of Unicode differ.
-pub fn run(totals: &mut Totals, machine: &mut Machine) {
+pub fn run(totals: &mut Totals, process: &mut Process) {
     for character in ('\0'..=char::MAX).filter(|it| !unicode::differs(*it)) {
         let program = program_of(character);
-        if let Some(found) = totals.run(machine, u64::from(character as u32), &program) {
+        if let Some(found) = totals.run(process, &program) {
             if totals.differing <= 10 {
                 tell(&format!("U+{:04X}", character as u32), &program, &found);
             }

@@ -3,18 +3,23 @@
 //! They are found by asking both sides. A difference is one of versions where this side prints the character escaped, or
 //! leaves it as it is where the machine has another case for it; random texts have none of these characters. Any other
 //! difference is one of the libraries.
-use crate::machine::{Machine, Refusal};
-use crate::operation::Operation;
-use crate::prints::digest;
+use crate::library;
+use crate::process::{Asked, Process, Refusal};
+use crate::host::Call;
 use crate::random::Random;
+use crate::report::Report;
 use crate::table::named;
+use crate::totals::mirror;
 use std::sync::OnceLock;
 
 /// How many characters are asked for at once.
 const BLOCK: usize = 4096;
 
-/// What is asked of a character, in the order of the machine's report.
-const ASPECTS: [&str; 5] = ["lower case", "upper case", "behind a sigma", "before a sigma", "debug text"];
+/// How many texts are reported of a character: in lower case, in upper case, behind and before a sigma, in quotes.
+const ASPECTS: usize = 5;
+
+/// More bytes than these have.
+const ROOM: usize = 1 << 10;
 
 struct Known {
     /// The letters that have another case, the same on both sides.
@@ -45,65 +50,74 @@ pub fn agreed(random: &mut Random) -> char {
 pub fn differs(character: char) -> bool {
     let known = known();
     let may_be_new = matches!(character, '\u{370}'..='\u{d7fb}' | '\u{10000}'..='\u{effff}');
-    let is_unknown = known.is_slow && may_be_new && format!("{character:?}").contains("\\u{");
-    is_unknown || known.differing.binary_search(&character).is_ok()
+    known.is_slow && may_be_new && is_added(character) || known.differing.binary_search(&character).is_ok()
+}
+
+fn is_added(character: char) -> bool {
+    format!("{character:?}").contains("\\u{")
 }
 
 fn has_case(character: &char) -> bool {
     !character.to_lowercase().eq([*character]) || !character.to_uppercase().eq([*character])
 }
 
-fn aspects(character: char) -> [String; 5] {
-    let alone = character.to_string();
-    let beside = |before: &str, behind: &str| format!("{before}{character}{behind}").to_lowercase();
-    [alone.to_lowercase(), alone.to_uppercase(), beside("aΣ", "a"), beside("a", "Σ"), format!("{alone:?}")]
+/// Whether a later version explains why the machine reports other texts: it added the character, or gave it a case.
+fn is_of_versions(character: char, wanted: &[&[u8]], actual: &[&[u8]]) -> bool {
+    let is_unchanged = |at: usize| at < 2 && wanted[at] == character.to_string().as_bytes();
+    is_added(character) || (0..ASPECTS).all(|at| wanted[at] == actual[at] || is_unchanged(at))
 }
 
-/// Whether a later version explains why the machine differs: it added the character, or gave it a case.
-fn is_of_versions(character: char, texts: &[String; 5], differing: &[usize]) -> bool {
-    let is_added = texts[4].contains("\\u{");
-    differing.iter().all(|aspect| is_added || (*aspect < 2 && texts[*aspect] == character.to_string()))
+/// The texts that are reported of a character, and what stands behind them.
+fn texts_of(mut report: &[u8]) -> Option<(Vec<&[u8]>, &[u8])> {
+    let mut texts = vec![];
+    for _ in 0..ASPECTS {
+        let (size, rest) = report.split_first_chunk()?;
+        let (text, rest) = rest.split_at_checked(u64::from_le_bytes(*size) as usize)?;
+        texts.push(text);
+        report = rest;
+    }
+    Some((texts, report))
+}
+
+fn call(name: &str, text: String) -> Call {
+    Call::of(named(name), vec![text.into_bytes()])
 }
 
 /// Asks both sides for each character, or for those alone that have a case here, where the machine is slow. Prints what
 /// differs; returns how many characters differ though no version explains it, `None` where the machine ended.
-pub fn compare(machine: &mut Machine, is_slow: bool) -> Option<usize> {
-    let mut ask = |name: &str, text: String| {
-        let texts = vec![text.into_bytes()];
-        let operation = Operation { row: named(name), dst: 0, src: 0, form: 0, number: 0, width: 0, digits: 0, texts };
+pub fn compare(process: &mut Process, is_slow: bool) -> Option<usize> {
+    let mut ask = |call: &Call| {
         let mut program = vec![];
-        operation.encode(&mut program);
-        Some(machine.run(&program, Refusal::None)?.report)
+        call.encode(&mut program);
+        Some(process.run(&program, Refusal::None)?.report)
     };
-    let version = ask("version of Unicode", String::new())?[8..].to_vec();
+    let version = ask(&call("version of Unicode", String::new()))?[8..].to_vec();
     let asked: Vec<char> = ('\0'..=char::MAX).filter(|it| !is_slow || has_case(it)).collect();
     let mut found = Known { letters: vec![], agreed: vec![], differing: vec![], is_slow };
-    let (mut by_aspect, mut unexplained) = ([0; 5], vec![]);
+    let (mut mirror, mut room, mut unexplained) = (mirror(), vec![0; ROOM], vec![]);
+    let upstream = char::UNICODE_VERSION;
+    let is_same_version = version == [upstream.0, upstream.1, upstream.2];
     for block in asked.chunks(BLOCK) {
-        let report = ask("each character", block.iter().collect())?;
-        let mut numbers = report.chunks(8).map(|bytes| u64::from_le_bytes(bytes.try_into().unwrap_or_default()));
+        let report = ask(&call("each character", block.iter().collect()))?;
+        let mut rest = report.as_slice();
         for character in block {
-            let texts = aspects(*character);
-            let differing: Vec<usize> =
-                (0..ASPECTS.len()).filter(|at| numbers.next() != Some(digest(&texts[*at]))).collect();
-            differing.iter().for_each(|aspect| by_aspect[*aspect] += 1);
-            if differing.is_empty() {
+            library::begin(Asked::default(), &[]);
+            mirror.run(&mut call("each character", character.to_string()).decoded(), &mut Report::new(&mut room));
+            let ((wanted, _), (actual, behind)) = (texts_of(&room)?, texts_of(rest)?);
+            rest = behind;
+            if wanted == actual {
                 found.agreed.push(*character);
-            } else {
-                found.differing.push(*character);
-                if !is_of_versions(*character, &texts, &differing) {
-                    unexplained.push(*character);
-                }
+                continue;
+            }
+            found.differing.push(*character);
+            if is_same_version || !is_of_versions(*character, &wanted, &actual) {
+                unexplained.push(*character);
             }
         }
     }
     found.letters = found.agreed.iter().copied().filter(has_case).collect();
-    let upstream = char::UNICODE_VERSION;
     println!("Unicode {version:?} here, {upstream:?} upstream; asked for {} characters", asked.len());
-    ASPECTS.iter().zip(by_aspect).for_each(|(aspect, count)| println!("characters that differ, {aspect}: {count}"));
-    if version == [upstream.0, upstream.1, upstream.2] {
-        unexplained.clone_from(&found.differing);
-    }
+    println!("characters that differ: {}: {}", found.differing.len(), ranges(&found.differing));
     println!("characters that no version of Unicode explains: {}: {}", unexplained.len(), ranges(&unexplained));
     KNOWN.get_or_init(|| found);
     Some(unexplained.len())

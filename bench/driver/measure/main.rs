@@ -1,67 +1,79 @@
-//! The crate and upstream's in one process, over the same input. `bench/upstream measure` builds and runs it:
+//! The library, upstream's crate and other string types in one process, over the same input. `bench/upstream measure` builds
+//! and runs it:
 //!
-//!     measure names     each row's kind and name
-//!     measure sums      each row once on both sides: the sums must be equal
-//!     measure count     under callgrind, which writes counts at each end of `counted`: for each row, first of
-//!                      ours and then of upstream's, after FEW and after MANY rounds
-//!     measure upstream  the same of upstream's alone
-//!     measure times     each row's name, and the least nanoseconds of an operation, ours and upstream's
+//!     measure rows          each row's kind and name, how many texts it has, and the sides that have it: each is run once,
+//!                           and the sums must be equal
+//!     measure sizes         the bytes of a value of each side
+//!     measure count SIDE    under callgrind, which writes counts at each end of `counted`: for each row after FEW and
+//!                           after MANY rounds
+//!     measure times         each row's name, and the least nanoseconds of a text on each side
 //!
 //! A word after that leaves out the rows whose name does not begin with it, or with one of several.
-#[path = "../fnv.rs"]
-mod fnv;
+mod rivals;
 mod rows;
+mod texts;
 mod upstream;
 
 use rows::Input::{self, *};
-use rows::{LONG, SHORT};
+use rows::KINDS;
 use std::hint::black_box;
 use std::time::Instant;
+use texts::{Text, Turns, cases};
 
 unsafe extern "C" {
     /// The static library's, which takes three slices, each as its pointer and its length.
     #[rustfmt::skip]
     fn bench_ours(
         operation: *const u8, operation_len: usize, texts: *const u8, texts_len: usize, others: *const u8, others_len: usize,
-        size: usize, rounds: usize, pick: usize,
+        rounds: usize, pick: usize,
     ) -> u64;
 }
 
-/// So few that the values of both sides stay in the first cache.
-const CASES: usize = 128;
 const FEW: usize = 8;
-const MANY: usize = 40;
-const SIDES: [&str; 2] = ["ours", "upstream"];
+const MUCH: usize = 40;
+
+/// The sum of an operation's rounds over the texts; `None` where a side has no such operation.
+pub type Side = fn(&str, &str, &str, Turns) -> Option<u64>;
+
+fn ours(operation: &str, texts: &str, others: &str, (rounds, pick): Turns) -> Option<u64> {
+    let [(of, of_len), (at, at_len), (by, by_len)] = [operation, texts, others].map(|it| (it.as_ptr(), it.len()));
+    // SAFETY: the pointers are of slices that live over the call
+    Some(unsafe { bench_ours(of, of_len, at, at_len, by, by_len, rounds, pick) })
+}
+
+fn upstream(operation: &str, texts: &str, others: &str, n: Turns) -> Option<u64> {
+    let cases = cases(texts, others);
+    texts::run(operation, &cases, n).or_else(|| upstream::run(operation, &cases, n))
+}
+
+/// Another type, which has the operations alone that all types have.
+pub fn rival<T: Text>(operation: &str, texts: &str, others: &str, n: Turns) -> Option<u64> {
+    texts::run::<T>(operation, &cases(texts, others), n)
+}
+
+fn sides() -> Vec<(&'static str, Side)> {
+    [&[("ours", ours as Side), ("upstream", upstream)], rivals::RIVALS].concat()
+}
 
 struct Bench {
     operation: &'static str,
-    size: usize,
-    texts: Vec<u8>,
-    others: Vec<u8>,
+    count: usize,
+    texts: String,
+    others: String,
 }
 
 impl Bench {
-    fn new(operation: &'static str, size: usize, input: Input) -> Bench {
+    fn new(operation: &'static str, size: usize, input: Input, count: usize) -> Bench {
         let mut draw = Draw(1);
-        let (mut texts, mut others) = (Vec::new(), Vec::new());
-        for _ in 0..CASES {
-            let text = draw.text(size, input);
-            others.extend(draw.other(&text, input));
-            texts.extend(text);
-        }
-        Bench { operation, size, texts, others }
+        let pool: Vec<String> = (0..count / 4).map(|_| draw.word()).collect();
+        let texts: Vec<String> = (0..count).map(|at| draw.text(size, input, &pool, at)).collect();
+        let others: Vec<String> = texts.iter().map(|text| draw.other(text, input)).collect();
+        Bench { operation, count, texts: texts.join("|"), others: others.join("|") }
     }
 
-    fn run(&self, side: &str, rounds: usize) -> u64 {
+    fn run(&self, side: Side, rounds: usize) -> Option<u64> {
         let (operation, texts, others) = black_box((self.operation, &self.texts[..], &self.others[..]));
-        let pick = black_box(0);
-        if side == "upstream" {
-            return upstream::bench_upstream(operation, texts, others, self.size, rounds, pick);
-        }
-        let [operation, texts, others] = [operation.as_bytes(), texts, others].map(|it| (it.as_ptr(), it.len()));
-        let (size, (of, of_len), (at, at_len), (by, by_len)) = (self.size, operation, texts, others);
-        // sound: the pointers are of slices that live over the call
-        unsafe { bench_ours(of, of_len, at, at_len, by, by_len, size, rounds, pick) }
+        side(operation, texts, others, (rounds, black_box(0)))
     }
 }
 
@@ -74,97 +86,115 @@ impl Draw {
         (self.0 >> 33) as usize % limit
     }
 
-    fn text(&mut self, size: usize, input: Input) -> Vec<u8> {
+    fn letters(&mut self, size: usize, most: usize) -> String {
+        (0..size).map(|_| char::from(b'a' + self.below(most) as u8)).collect()
+    }
+
+    /// An identifier of at most twelve letters.
+    fn word(&mut self) -> String {
+        let size = 1 + self.below(12);
+        self.letters(size, 26)
+    }
+
+    fn text(&mut self, size: usize, input: Input, pool: &[String], at: usize) -> String {
         match input {
-            Spaces => vec![b' '; size],
-            BlankRun => [vec![b'\n'; 32], vec![b' '; size - 32]].concat(),
-            TwoByteCharacters => "é".repeat(size / 2).into_bytes(),
-            Words => (0..size).map(|at| if at % 4 == 3 { b' ' } else { b'a' + self.below(25) as u8 }).collect(),
-            FewLetters => (0..size).map(|_| b'a' + self.below(5) as u8).collect(),
-            BothCases => (0..size).map(|_| b"aZ"[self.below(2)]).collect(),
-            _ => (0..size).map(|_| b'a' + self.below(25) as u8).collect(),
+            Spaces => " ".repeat(size),
+            BlankRun => "\n".repeat(32) + &" ".repeat(size - 32),
+            TwoByteCharacters => "é".repeat(size / 2),
+            Words => (0..size).map(|at| if at % 4 == 3 { ' ' } else { char::from(b'a' + self.below(25) as u8) }).collect(),
+            FewLetters => self.letters(size, 5),
+            BothCases => (0..size).map(|_| if self.below(2) == 0 { 'a' } else { 'Z' }).collect(),
+            Lexemes if self.below(8) == 0 => ["if", "else", "while", "return"][self.below(4)].to_string(),
+            Lexemes => pool[self.below(pool.len())].clone(),
+            Distinct => format!("{at:0size$}"),
+            _ => self.letters(size, 25),
         }
     }
 
-    fn other(&mut self, text: &[u8], input: Input) -> Vec<u8> {
-        let mut other = text.to_vec();
+    fn other(&mut self, text: &str, input: Input) -> String {
+        let mut other = text.as_bytes().to_vec();
         match input {
             Differs => other[self.below(text.len())] += 1,
             DiffersEarly => other[self.below(2)] ^= 1,
             DiffersLate => other[text.len() - 1] = b'a' + self.below(26) as u8,
             _ => {}
         }
-        other
+        String::from_utf8(other).unwrap()
     }
 }
 
 /// callgrind counts what runs in here, and knows it by its name.
 #[unsafe(no_mangle)]
 #[inline(never)]
-extern "C" fn counted(bench: &Bench, side: usize, rounds: usize) -> u64 {
-    black_box(bench.run(SIDES[side], black_box(rounds)))
+extern "C" fn counted(bench: &Bench, side: &Side, rounds: usize) -> u64 {
+    black_box(bench.run(*side, black_box(rounds)).unwrap_or(0))
 }
 
-fn count(bench: &Bench, sides: std::ops::Range<usize>) {
-    for side in sides {
-        // what is bound late is bound now, and the heap comes into a state that lasts
-        for _ in 0..3 {
-            black_box(bench.run(SIDES[side], FEW));
-        }
-        counted(bench, side, FEW);
-        counted(bench, side, MANY);
+fn count(bench: &Bench, side: Side) {
+    // what is bound late is bound now, and the heap comes into a state that lasts
+    for _ in 0..3 {
+        black_box(bench.run(side, FEW));
     }
+    counted(bench, &side, FEW);
+    counted(bench, &side, MUCH);
 }
 
-fn check_sums(name: &str, bench: &Bench) {
-    let sums = SIDES.map(|side| bench.run(side, 3));
-    if sums[0] != sums[1] || sums[0] == 0 {
-        eprintln!("{name}: the sums differ, {} of ours and {} of upstream's", sums[0], sums[1]);
+/// The sides that have a row, which must all return one sum.
+fn sides_of(name: &str, bench: &Bench) -> Vec<&'static str> {
+    let sums: Vec<(&str, u64)> = sides().iter().filter_map(|(side, of)| Some((*side, bench.run(*of, 2)?))).collect();
+    if sums.iter().any(|(_, sum)| *sum != sums[0].1 || *sum == 0) {
+        eprintln!("{name}: the sums differ: {sums:?}");
         std::process::exit(1);
     }
+    sums.into_iter().map(|(side, _)| side).collect()
 }
 
 /// The least nanoseconds of an operation on each side, of 101 runs of a millisecond in turn.
-fn times(bench: &Bench) -> [f64; 2] {
-    let seconds = |side: &str, rounds| {
+fn times(bench: &Bench) -> Vec<f64> {
+    let seconds = |side: Side, rounds| {
         let start = Instant::now();
-        black_box(bench.run(side, rounds));
-        start.elapsed().as_secs_f64()
+        black_box(bench.run(side, rounds)).map(|_| start.elapsed().as_secs_f64())
     };
     let mut rounds = 1;
-    while seconds("upstream", rounds) < 0.001 {
+    while seconds(upstream, rounds).unwrap() < 0.001 {
         rounds *= 2;
     }
-    let mut least = [f64::MAX; 2];
+    let all = sides();
+    let mut least = vec![f64::MAX; all.len()];
     for turn in 0..101 {
-        for side in [turn % 2, 1 - turn % 2] {
-            least[side] = least[side].min(seconds(SIDES[side], rounds));
+        for at in (0..all.len()).map(|at| (at + turn) % all.len()) {
+            least[at] = seconds(all[at].1, rounds).map_or(f64::MAX, |it| it.min(least[at]));
         }
     }
-    least.map(|it| it * 1e9 / (rounds * CASES) as f64)
+    least.iter().filter(|it| **it < f64::MAX).map(|it| it * 1e9 / (rounds * bench.count) as f64).collect()
 }
 
 fn main() {
-    let command = std::env::args().nth(1).expect("names, sums, count, upstream or times");
-    let wanted: Vec<String> = std::env::args().skip(2).collect();
-    let rows = SHORT.iter().map(|row| ("short", row)).chain(LONG.iter().map(|row| ("long", row)));
-    for (kind, (name, operation, sizes, input)) in rows {
-        for size in *sizes {
+    let words: Vec<String> = std::env::args().skip(1).collect();
+    let command = words.first().expect("rows, sizes, count or times").as_str();
+    let counted = (command == "count").then(|| *sides().iter().find(|it| it.0 == words[1]).expect("a side"));
+    let wanted = &words[1 + usize::from(counted.is_some())..];
+    if command == "sizes" {
+        let bench = Bench::new("size", 1, Same, 1);
+        sides().iter().for_each(|(name, side)| println!("{name}\t{}", bench.run(*side, 1).unwrap()));
+        return;
+    }
+    for (kind, count_of_texts, rows) in KINDS {
+        for (name, operation, size, input) in rows.iter().flat_map(|row| row.2.iter().map(|size| (row.0, row.1, *size, row.3))) {
             let name = name.replace("{}", &size.to_string());
             if !wanted.is_empty() && !wanted.iter().any(|word| name.starts_with(word.as_str())) {
                 continue;
             }
-            let bench = Bench::new(operation, *size, *input);
-            match command.as_str() {
-                "names" => println!("{kind}\t{name}"),
-                "sums" => check_sums(&name, &bench),
-                "count" => count(&bench, 0..2),
-                "upstream" => count(&bench, 1..2),
-                "times" => {
-                    let [ours, upstream] = times(&bench);
-                    println!("{name}\t{ours}\t{upstream}");
+            let bench = Bench::new(operation, size, input, *count_of_texts);
+            match (command, counted) {
+                ("rows", _) => println!("{kind}\t{name}\t{count_of_texts}\t{}", sides_of(&name, &bench).join(",")),
+                ("count", _) if *kind == "many" => {}
+                ("count", Some((_, side))) => {
+                    if bench.run(side, 1).is_some() {
+                        count(&bench, side);
+                    }
                 }
-                _ => panic!("no command {command}"),
+                _ => println!("{name}\t{}", times(&bench).iter().map(f64::to_string).collect::<Vec<_>>().join("\t")),
             }
         }
     }

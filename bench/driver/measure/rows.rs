@@ -13,15 +13,46 @@ pub enum Input {
     TwoByteCharacters,
     FewLetters,
     BothCases,
+    /// As a lexer has them: 1 to 12 letters, of which each word stands some times, and one in eight is a keyword.
+    Lexemes,
+    Distinct,
 }
 use Input::*;
 
 /// The names of the rows, with the bytes of a text for `{}`, the operation, those bytes, and what the text is. A name in
 /// brackets is no operation of the crate.
-pub type Row = (&'static str, &'static str, &'static [usize], Input);
+type Row = (&'static str, &'static str, &'static [usize], Input);
+
+/// More texts than stay in the first cache.
+const MANY: usize = 65_536;
+
+/// The rows by kinds, with how many texts each has. Those of 128 texts stay in the first cache on all sides.
+pub const KINDS: &[(&str, usize, &[Row])] =
+    &[("short", 128, SHORT), ("short", 2_000, WORDS), ("short", 1_000, DOCUMENT), ("long", 128, LONG), ("many", MANY, OF_MANY)];
+
+const WORDS: &[Row] = &[
+    ("words into a Vec", "new into a Vec", &[0], Lexemes),
+    ("words cloned", "clone into a Vec", &[0], Lexemes),
+    ("words cloned and sorted", "sort", &[0], Lexemes),
+    ("words counted", "count", &[0], Lexemes),
+    ("words and four keywords", "keywords", &[0], Lexemes),
+];
+
+const DOCUMENT: &[Row] = &[("document of JSON, {} letters", "document", &[10], Same)];
+
+const OF_MANY: &[Row] = &[
+    ("new {}, 65,536 of them", "new", &[20], Distinct),
+    ("new {} into a Vec, 65,536", "new into a Vec", &[20], Distinct),
+    ("clone {} into a Vec, 65,536", "clone into a Vec", &[20], Distinct),
+    ("eq {}, 65,536 of them", "eq", &[20], Distinct),
+    ("cmp {}, 65,536 of them", "cmp", &[20], Distinct),
+    ("hash {} by SipHash, 65,536", "hash-sip", &[20], Distinct),
+    ("look-up in a map, {}, 65,536", "get", &[12], Distinct),
+    ("display {}, 65,536 of them", "display", &[20], Distinct),
+];
 
 /// Rows whose texts stay short on both sides.
-pub const SHORT: &[Row] = &[
+const SHORT: &[Row] = &[
     ("(loop)", "loop", &[20], Same),
     ("(SipHash of a str of {})", "str-sip", &[20], Same),
     ("new {}", "new", &[5, 20, 23], Same),
@@ -39,12 +70,18 @@ pub const SHORT: &[Row] = &[
     ("hash {} by FNV", "hash-fnv", &[5, 20], Same),
     ("hash {} by SipHash", "hash-sip", &[20, 12], Same),
     ("look-up in a map, {}", "get", &[12], Same),
+    ("look-up by default, {}", "get by default", &[12], Same),
     ("from_utf8 {}", "from_utf8", &[10, 23], Same),
     ("from_utf8 {}, past ASCII", "from_utf8", &[22], TwoByteCharacters),
     ("from_string {}", "from_string", &[10], Same),
     ("into_string {}", "into_string", &[20], Same),
     ("from a char", "from_char", &[5], Same),
     ("from_chars {}", "from_chars", &[10], Same),
+    ("new {} into a Vec", "new into a Vec", &[5, 20], Same),
+    ("clone {} into a Vec", "clone into a Vec", &[5, 20], Same),
+    ("from_chars {} into a Vec", "from_chars into a Vec", &[10], Same),
+    ("format_smolstr! {} into a Vec", "format into a Vec", &[5], Same),
+    ("cloned and sorted, {}", "sort", &[20], Same),
     ("from_strs 3 of 3", "from_strs", &[12], Words),
     ("extend_chars {}", "extend_chars", &[10], Same),
     ("push_str 3 times {}", "push_str", &[5], Same),
@@ -55,7 +92,7 @@ pub const SHORT: &[Row] = &[
     ("to_smolstr of a u64", "number", &[5], Same),
     ("to_smolstr of a str {}", "to_smolstr", &[20], Same),
     ("serialize {} into a Vec", "serialize", &[10], Same),
-    ("from_wire of a slice {}", "from_wire", &[10], Same),
+    ("(from_wire of a slice {})", "from_wire", &[10], Same),
     ("deserialize_reader {}", "reader", &[10], Same),
     ("to_json {}", "to_json", &[10], Same),
     ("from_json {}", "from_json", &[10], Same),
@@ -70,7 +107,7 @@ pub const SHORT: &[Row] = &[
 ];
 
 /// Rows of static and heap texts.
-pub const LONG: &[Row] = &[
+const LONG: &[Row] = &[
     ("(String of {})", "string", &[30], Same),
     ("(eq of two str of {})", "str-eq", &[40, 100], Same),
     ("(cmp of two str of {})", "str-cmp", &[100], DiffersLate),
@@ -91,11 +128,11 @@ pub const LONG: &[Row] = &[
     ("into_string {}", "into_string", &[100], Same),
     ("push_str 3 times {}", "push_str", &[20], Same),
     ("finish {} on the heap", "finish", &[100], Same),
-    ("into_value {} on the heap", "into_value", &[100], Same),
+    ("(into_value {} on the heap)", "into_value", &[100], Same),
     ("extend_strs 25 of 3", "extend_strs", &[100], Words),
     ("display {}", "display", &[40], Same),
     ("format_smolstr! {}, number", "format", &[50], Same),
-    ("from_wire of a slice {}", "from_wire", &[100], Same),
+    ("(from_wire of a slice {})", "from_wire", &[100], Same),
     ("deserialize_reader {}", "reader", &[30, 100], Same),
     ("to_json {}", "to_json", &[100], Same),
     ("from_json {}", "from_json", &[100], Same),

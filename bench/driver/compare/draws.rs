@@ -48,10 +48,14 @@ fn length(random: &mut Random) -> usize {
     }
 }
 
+fn lower(random: &mut Random) -> char {
+    (b'a' + random.below(26) as u8) as char
+}
+
 /// A character on which both sides' Unicode agrees.
 pub fn character(random: &mut Random) -> char {
     match random.below(10) {
-        0..=3 => (b'a' + random.below(26) as u8) as char,
+        0..=3 => lower(random),
         4 => (random.below(128) as u8) as char,
         5 | 6 => random.char_of(WITH_CASE),
         7 | 8 => random.char_of(WIDE),
@@ -98,7 +102,7 @@ fn blank(random: &mut Random) -> String {
 fn sized(random: &mut Random, length: usize) -> String {
     let mut text = String::new();
     let drawn: fn(&mut Random) -> char = match random.below(6) {
-        0 => |random| (b'a' + random.below(26) as u8) as char,
+        0 => lower,
         1 => |random| random.char_of(NEAR_LETTERS),
         2 => {
             // ASCII with one wide character, which ends at, before or behind the length
@@ -181,22 +185,9 @@ fn odd_byte(random: &mut Random) -> u8 {
     if random.one_in(3) { random.next() as u8 } else { random.pick(ODD_BYTES) }
 }
 
-/// Draws until no odd byte has made a character on which both sides' Unicode disagrees.
-fn agreed(random: &mut Random, draw: fn(&mut Random) -> Vec<u8>) -> Vec<u8> {
-    loop {
-        let bytes = draw(random);
-        if !String::from_utf8_lossy(&bytes).chars().any(unicode::differs) {
-            return bytes;
-        }
-    }
-}
-
-/// Bytes that are a text, or nearly.
-fn nearly_text(random: &mut Random) -> Vec<u8> {
-    let mut bytes = text(random).into_bytes();
-    if random.one_in(3) {
-        return bytes;
-    }
+/// Bytes with up to three faults, or none where a fault makes a character on which both sides' Unicode disagrees.
+fn spoilt(random: &mut Random, whole: Vec<u8>) -> Vec<u8> {
+    let mut bytes = whole.clone();
     for _ in 0..=random.below(3) {
         let at = random.below(bytes.len() + 1);
         match random.below(4) {
@@ -206,48 +197,35 @@ fn nearly_text(random: &mut Random) -> Vec<u8> {
             _ => drop(bytes.splice(at..at, random.pick(NOT_UTF8).iter().copied())),
         }
     }
-    bytes
+    if String::from_utf8_lossy(&bytes).chars().any(unicode::differs) { whole } else { bytes }
 }
 
-fn wire_of(stated: u32, body: Vec<u8>) -> Vec<u8> {
-    [stated.to_le_bytes().to_vec(), body].concat()
+/// Bytes that are a text, or nearly.
+fn nearly_text(random: &mut Random) -> Vec<u8> {
+    let text = text(random).into_bytes();
+    if random.one_in(3) { text } else { spoilt(random, text) }
 }
 
-/// A wire form, or nearly one.
+/// A wire form, at times of more than a chunk, or nearly one: of another size, cut short, longer, or with odd bytes.
 fn nearly_wire(random: &mut Random) -> Vec<u8> {
-    if random.one_in(12) {
-        return long_wire(random);
-    }
-    let body = if random.one_in(3) { nearly_text(random) } else { text(random).into_bytes() };
-    let mut stated = body.len() as u32;
-    if random.one_in(4) {
-        let near = [stated.wrapping_add(1), stated.wrapping_sub(1), stated | 0x100, stated ^ 0x8000_0000];
-        stated = if random.one_in(2) { random.pick(&near) } else { random.pick(&[0, u32::MAX, 38, 39, 40, 4096]) };
-    }
-    let mut form = wire_of(stated, body);
-    let at = random.below(form.len());
+    let body = match random.below(12) {
+        0 => random.pick(&["a", "é", "€", "🦀", "ab€"]).repeat(random.pick(&[1366, 2048, 3000, 4095, 4096, 4097])).into_bytes(),
+        1..=4 => nearly_text(random),
+        _ => text(random).into_bytes(),
+    };
+    let size = body.len() as u32;
+    let stated = match random.below(8) {
+        0 => random.pick(&[size.wrapping_add(1), size.wrapping_sub(1), size | 0x100, size ^ 0x8000_0000]),
+        1 => random.pick(&[0, u32::MAX, 38, 39, 40, 4095, 4096, 4097]),
+        _ => size,
+    };
+    let form = [&stated.to_le_bytes()[..], &body].concat();
     match random.below(6) {
-        0 => form.truncate(at),
-        1 => form.extend(text(random).bytes().take(10)),
-        2 => form[at] = odd_byte(random),
-        _ => {}
+        0 => form[..random.below(form.len())].to_vec(),
+        1 => [form, text(random).into_bytes()].concat(),
+        2 => spoilt(random, form),
+        _ => form,
     }
-    form
-}
-
-/// A wire form of more than a piece, at times cut short or with one odd byte.
-fn long_wire(random: &mut Random) -> Vec<u8> {
-    let length = random.pick(&[4095usize, 4096, 4097, 8192, 9000]);
-    let unit = random.pick(&["a", "é", "€", "🦀", "ab€"]);
-    let mut body = unit.repeat(length / unit.len() + 1).into_bytes();
-    if random.one_in(2) {
-        body.truncate(length - random.below(3) * random.below(2));
-    }
-    if random.one_in(4) {
-        let at = random.below(body.len());
-        body[at] = odd_byte(random);
-    }
-    wire_of(length as u32, body)
 }
 
 /// By one space each, so that the last is the empty one.
@@ -264,55 +242,44 @@ const BAD_ESCAPES: &str = "\\ud800 \\udc00 \\ud800\\ud800 \\udc00\\ud800 \\ud800
 
 /// A JSON text, or nearly one.
 fn json(random: &mut Random) -> String {
-    let mut json = String::new();
-    push_space(random, &mut json);
-    match random.below(12) {
-        0 => json.push_str(random.word_of(JSON_WORDS)),
-        1 => json.push_str(random.word_of(JSON_LISTS)),
-        2 => push_nested(random, &mut json),
-        _ => push_string(random, &mut json),
-    }
-    push_space(random, &mut json);
+    let mut space = |random: &mut Random| (0..random.below(5) / 3).map(|_| random.char_of(" \n\t\r ")).collect::<String>();
+    let (before, behind) = (space(random), space(random));
+    let json = match random.below(12) {
+        0 => random.word_of(JSON_WORDS).to_string(),
+        1 => random.word_of(JSON_LISTS).to_string(),
+        2 => nested(random),
+        _ => string(random),
+    };
+    let mut json = before + &json + &behind;
     match random.below(16) {
         0 => drop(json.pop()),
-        1 => json.push_str(random.pick(&["x", "\"", "1", ",", "]", "}", "null"])),
+        1 => json.push_str(random.pick(&["x", "\"", "1", ",", "]", "}", "null", "\u{a0}", "\u{feff}", "\u{c}", "\0"])),
         _ => {}
     }
     json
 }
 
-fn push_space(random: &mut Random, json: &mut String) {
-    while random.one_in(4) {
-        json.push(random.char_of(" \n\t\r"));
-    }
-    if random.one_in(60) {
-        json.push(random.char_of("\u{a0}\u{feff}\u{b}\u{c}\0"));
-    }
-}
-
 /// Lists or objects in one another, about as deep as is read.
-fn push_nested(random: &mut Random, json: &mut String) {
+fn nested(random: &mut Random) -> String {
     let depth = random.pick(&[1, 2, 126, 127, 128, 129, 300]);
     let closed = if random.one_in(3) { depth - 1 } else { depth };
     let (open, inside, close) = random.pick(&[("[", "", "]"), ("{\"a\":", "1", "}")]);
-    json.push_str(&(open.repeat(depth) + inside + &close.repeat(closed)));
+    open.repeat(depth) + inside + &close.repeat(closed)
 }
 
-fn push_string(random: &mut Random, json: &mut String) {
+fn string(random: &mut Random) -> String {
     let most = if random.is_long { 70_000 } else { 80 };
-    json.push('"');
-    for _ in 0..length(random).min(most) {
-        match random.below(14) {
-            0 => json.push_str(random.word_of(ESCAPES)),
-            1 if random.one_in(2) => json.push_str(&format!("\\u{:04x}", random.pick(CODES))),
-            1 => json.push_str(&format!("\\u{:04X}", random.pick(CODES))),
-            2 => json.push_str(random.word_of(PAIRS)),
-            3 if random.one_in(12) => json.push_str(random.word_of(BAD_ESCAPES)),
-            4 => json.push(character(random)),
-            _ => json.push((b'a' + random.below(26) as u8) as char),
-        }
-    }
-    json.push('"');
+    let mut part = |random: &mut Random| match random.below(14) {
+        0 => random.word_of(ESCAPES).to_string(),
+        1 if random.one_in(2) => format!("\\u{:04x}", random.pick(CODES)),
+        1 => format!("\\u{:04X}", random.pick(CODES)),
+        2 => random.word_of(PAIRS).to_string(),
+        3 if random.one_in(12) => random.word_of(BAD_ESCAPES).to_string(),
+        4 => character(random).to_string(),
+        _ => lower(random).to_string(),
+    };
+    let count = length(random).min(most);
+    format!("\"{}\"", (0..count).map(|_| part(random)).collect::<String>())
 }
 
 /// A text of which a pattern often stands somewhere.
@@ -368,9 +335,9 @@ pub const SHORT: Texts = |random| vec![short(random).into()];
 pub const PIECE: Texts = |random| vec![if random.one_in(2) { piece(random) } else { text(random) }.into()];
 pub const CHARACTER: Texts = |random| vec![character(random).to_string().into()];
 pub const CASED: Texts = |random| vec![cased(random).into()];
-pub const BYTES: Texts = |random| vec![agreed(random, nearly_text)];
-pub const WIRE: Texts = |random| vec![agreed(random, nearly_wire)];
-/// About a piece or two.
+pub const BYTES: Texts = |random| vec![nearly_text(random)];
+pub const WIRE: Texts = |random| vec![nearly_wire(random)];
+/// About a chunk or two.
 pub const STREAM: Texts = |random| {
     let length = random.pick(&[0, 1, 38, 39, 100, 4095, 4096, 4097, 8191, 8192, 8193]);
     vec![(0..length).map(|at| at as u8 ^ 0x5a).collect()]

@@ -1,0 +1,249 @@
+//! Upstream's crate with the library's calls: what each returns, whether it may ask for memory, and, where a departure is
+//! stated, the library's rule. Texts, places, orders, hashes, prints and errors are those of upstream, serde_json and std.
+mod builder;
+mod forms;
+mod run;
+
+pub use crate::limits::{BLANK_NEWLINES, BLANK_SPACES, INLINE_CAP};
+pub use builder::{Piece, SmolStrBuilder, Step, ValueAlloc, build, finished};
+pub use forms::*;
+pub use run::*;
+
+use crate::departures::COLLECTED_BLANK_RUN;
+use smol_str::SmolStr as Upstream;
+use std::borrow::Cow;
+use std::cmp::Ordering;
+use std::fmt::{Debug, Display, Formatter};
+use std::ops::Deref;
+use std::str::Utf8Error;
+use std::sync::Arc;
+
+#[derive(Clone, Copy, PartialEq)]
+pub enum Place {
+    Inline,
+    Static,
+    Heap,
+}
+
+#[derive(Clone, Copy)]
+pub struct Global;
+
+#[derive(Debug)]
+pub struct AllocError;
+
+#[derive(Debug)]
+pub enum FromUtf8Fault {
+    NotUtf8(Utf8Error),
+    OutOfMemory,
+}
+
+#[derive(Default, PartialEq, Eq, PartialOrd, Ord, Hash)]
+pub struct SmolStr(Upstream);
+
+/// std's owned texts, by the names that they have in the toolchain.
+pub struct BoxedStr(pub Box<str>);
+pub struct RcStr(pub Arc<str>);
+pub enum CowStr<'a> {
+    Borrowed(&'a str),
+    Owned(String),
+}
+
+fn is_short(text: &str) -> bool {
+    text.len() <= INLINE_CAP
+}
+
+fn is_resident(text: &str) -> bool {
+    let newlines = text.bytes().take_while(|byte| *byte == b'\n').count();
+    let are_few = newlines <= BLANK_NEWLINES && text.len() - newlines <= BLANK_SPACES;
+    is_short(text) || are_few && text.bytes().skip(newlines).all(|byte| byte == b' ')
+}
+
+/// Whether a text lies in what it is lent from.
+fn lies_in<T>(text: &str, lender: &T) -> bool {
+    let start = &raw const *lender as usize;
+    (start..start + size_of::<T>()).contains(&(text.as_ptr() as usize))
+}
+
+/// A text's bytes, and zeros up to the end of the buffer.
+fn buffer_of(text: &str) -> [u8; INLINE_CAP] {
+    let mut buffer = [0; INLINE_CAP];
+    buffer[..text.len()].copy_from_slice(text.as_bytes());
+    buffer
+}
+
+/// What a call returns that may ask for memory, where this is so: after a refusal what comes back.
+fn unless_refused<T, E>(asks: bool, made: T, back: E) -> Result<T, E> {
+    may_ask(asks);
+    if is_refused() { Err(back) } else { Ok(made) }
+}
+
+/// A value of a call that asks for memory where the text is not resident.
+fn made_or<E>(text: Upstream, back: E) -> Result<SmolStr, E> {
+    unless_refused(!is_resident(&text), SmolStr(text), back)
+}
+
+/// The same of one that makes the text of parts: collecting, printing, case and replacement.
+fn made_of_parts<E>(text: Upstream, back: E) -> Result<SmolStr, E> {
+    unless_refused(!is_short(&text), SmolStr(text), back)
+}
+
+macro_rules! made_of_texts {
+    ($($name:ident($text:ident: $type:ty) $made:expr;)*) => {
+        $(pub fn $name(_: Global, $text: $type) -> Result<SmolStr, AllocError> {
+            made_or($made, AllocError)
+        })*
+    };
+}
+
+macro_rules! made_of_items {
+    ($($name:ident)*) => {
+        $(pub fn $name<P>(_: Global, items: impl IntoIterator<Item = P>) -> Result<SmolStr, AllocError>
+        where
+            Upstream: FromIterator<P>,
+        {
+            let mut text: Upstream = items.into_iter().collect();
+            if text.is_heap_allocated() && is_resident(&text) {
+                departs(COLLECTED_BLANK_RUN);
+                text = Upstream::new(&text);
+                may_ask(true);
+            }
+            made_of_parts(text, AllocError)
+        })*
+    };
+}
+
+impl SmolStr {
+    pub const INLINE_CAP: usize = Upstream::INLINE_CAP;
+
+    made_of_texts! {
+        new(text: &str) Upstream::new(text);
+        from_str(text: &str) text.parse().unwrap();
+        from_string_ref(text: &String) Upstream::from(text);
+        // SAFETY: these are the bytes of a text
+        from_utf8_unchecked(bytes: &[u8]) unsafe { Upstream::from_utf8_unchecked(bytes) };
+    }
+
+    made_of_items!(from_chars from_strs from_strings from_string_refs from_items);
+
+    pub fn from_utf8(_: Global, bytes: &[u8]) -> Result<SmolStr, FromUtf8Fault> {
+        made_or(Upstream::from_utf8(bytes).map_err(FromUtf8Fault::NotUtf8)?, FromUtf8Fault::OutOfMemory)
+    }
+
+    pub fn from_string(_: Global, text: String) -> Result<SmolStr, String> {
+        made_or(Upstream::from(text.clone()), text)
+    }
+
+    pub fn from_owned(text: String) -> Result<SmolStr, AllocError> {
+        made_or(Upstream::from(text), AllocError)
+    }
+
+    pub fn from_boxed_str(_: Global, text: BoxedStr) -> Result<SmolStr, String> {
+        made_or(Upstream::from(text.0.clone()), text.0.into())
+    }
+
+    pub fn from_cow_str(_: Global, text: CowStr<'_>) -> Result<SmolStr, String> {
+        let text = match text {
+            CowStr::Borrowed(text) => Cow::Borrowed(text),
+            CowStr::Owned(text) => Cow::Owned(text),
+        };
+        made_or(Upstream::from(text.clone()), text.into())
+    }
+
+    pub fn from_rc_str(text: RcStr) -> SmolStr {
+        SmolStr(Upstream::from(text.0))
+    }
+
+    pub fn from_builder(builder: SmolStrBuilder) -> Result<SmolStr, SmolStrBuilder> {
+        builder.finish()
+    }
+
+    pub fn new_inline(text: &str) -> SmolStr {
+        SmolStr(Upstream::new_inline(text))
+    }
+
+    pub fn new_inline_in_case(text: &str, case: AsciiCase) -> SmolStr {
+        SmolStr(Upstream::new_inline(&case.of(text)))
+    }
+
+    pub fn new_static(text: &'static str) -> SmolStr {
+        SmolStr(Upstream::new_static(text))
+    }
+
+    pub fn clone(&self) -> Result<SmolStr, AllocError> {
+        unless_refused(self.is_heap_allocated(), SmolStr(self.0.clone()), AllocError)
+    }
+
+    pub fn into_string(self, _: Global) -> Result<String, SmolStr> {
+        unless_refused(!self.is_empty(), String::from(self.0.clone()), self)
+    }
+
+    pub fn into_rc_str(self, _: Global) -> Result<RcStr, SmolStr> {
+        unless_refused(!self.is_heap_allocated(), RcStr(self.0.clone().into()), self)
+    }
+
+    pub fn place(&self) -> Place {
+        match self.is_heap_allocated() {
+            true => Place::Heap,
+            false if lies_in(self, &self.0) => Place::Inline,
+            false => Place::Static,
+        }
+    }
+
+    pub fn inline_buffer(&self) -> Option<[u8; INLINE_CAP]> {
+        (self.place() == Place::Inline).then(|| buffer_of(self))
+    }
+
+    pub fn eq_str(&self, text: &str) -> bool {
+        self.0 == *text && *text == self.0
+    }
+
+    pub fn eq_string(&self, text: &String) -> bool {
+        self.0 == *text && *text == self.0
+    }
+
+    pub fn cmp_str(&self, text: &str) -> Ordering {
+        self.0.partial_cmp(text).unwrap()
+    }
+
+    pub fn cmp_string(&self, text: &String) -> Ordering {
+        self.0.partial_cmp(text).unwrap()
+    }
+}
+
+impl From<char> for SmolStr {
+    fn from(character: char) -> SmolStr {
+        SmolStr(Upstream::from(character))
+    }
+}
+
+impl From<RcStr> for SmolStr {
+    fn from(text: RcStr) -> SmolStr {
+        SmolStr::from_rc_str(text)
+    }
+}
+
+impl RcStr {
+    pub fn as_str(&self) -> &str {
+        &self.0
+    }
+}
+
+impl Deref for SmolStr {
+    type Target = Upstream;
+
+    fn deref(&self) -> &Upstream {
+        &self.0
+    }
+}
+
+impl Display for SmolStr {
+    fn fmt(&self, f: &mut Formatter) -> std::fmt::Result {
+        Display::fmt(&self.0, f)
+    }
+}
+
+impl Debug for SmolStr {
+    fn fmt(&self, f: &mut Formatter) -> std::fmt::Result {
+        Debug::fmt(&self.0, f)
+    }
+}

@@ -1,0 +1,351 @@
+//! Prints, case and replacement, the wire form by borsh, JSON by serde_json, and reading and writing by single calls.
+//!
+//! Upstream has no single calls: they are made here of what the documents say of them.
+use super::{AllocError, Global, INLINE_CAP, SmolStr, actual_number, departs, expect, is_refused, is_short, may_ask};
+use super::{made_of_parts, made_or, unless_refused};
+use crate::departures::{INTERRUPTED, NO_STRING, SHORT_SIGMA, WIRE_FAULT};
+use crate::forms::{SlowReader, SlowWriter};
+use borsh::{BorshDeserialize as _, BorshSerialize as _};
+use serde_json::Value;
+use smol_str::SmolStr as Upstream;
+use std::fmt::Display;
+use std::io::{self, ErrorKind, Read, Write};
+use std::str::Utf8Error;
+
+/// The most bytes that one read asks for, by docs/DIFFERENCES.md.
+pub const CHUNK: usize = 4096;
+
+/// The bytes of a wire form before its body.
+const PREFIX: usize = 4;
+
+#[derive(Debug)]
+pub struct FormatError;
+
+pub trait ToSmolStr {
+    fn to_smolstr(&self, alloc: Global) -> Result<SmolStr, FormatError>;
+}
+
+impl<T: Display> ToSmolStr for T {
+    fn to_smolstr(&self, _: Global) -> Result<SmolStr, FormatError> {
+        printed(smol_str::ToSmolStr::to_smolstr(self))
+    }
+}
+
+pub fn printed(text: Upstream) -> Result<SmolStr, FormatError> {
+    made_of_parts(text, FormatError)
+}
+
+#[macro_export]
+macro_rules! format_smolstr {
+    ($alloc:expr; $($print:tt)*) => {
+        $crate::library::printed(smol_str::format_smolstr!($($print)*))
+    };
+}
+pub use crate::format_smolstr;
+
+pub enum AsciiCase {
+    Lower,
+    Upper,
+}
+
+impl AsciiCase {
+    pub fn of(&self, text: &str) -> String {
+        match self {
+            AsciiCase::Lower => text.to_ascii_lowercase(),
+            AsciiCase::Upper => text.to_ascii_uppercase(),
+        }
+    }
+}
+
+/// Case and replacement: as std has them, and upstream too. Some may ask for memory where the text is past ASCII.
+macro_rules! str_ext {
+    ($($name:ident($($more:ident: $type:ty),*) $of_std:ident, $asks:literal;)*) => {
+        pub trait StrExt {
+            $(fn $name(&self, alloc: Global $(, $more: $type)*) -> Result<SmolStr, AllocError>;)*
+        }
+
+        impl StrExt for &str {
+            $(fn $name(&self, _: Global $(, $more: $type)*) -> Result<SmolStr, AllocError> {
+                may_ask($asks && !self.is_ascii());
+                changed(self, smol_str::StrExt::$name(*self $(, $more)*), self.$of_std($($more),*))
+            })*
+        }
+    };
+}
+str_ext! {
+    to_ascii_lowercase_smolstr() to_ascii_lowercase, false;
+    to_ascii_uppercase_smolstr() to_ascii_uppercase, false;
+    to_lowercase_smolstr() to_lowercase, true;
+    to_uppercase_smolstr() to_uppercase, true;
+    replace_smolstr(from: &str, to: &str) replace, false;
+    replacen_smolstr(from: &str, to: &str, count: usize) replacen, false;
+}
+
+fn changed(text: &str, made: Upstream, of_std: String) -> Result<SmolStr, AllocError> {
+    let is_sigma = made != of_std && is_short(text) && text.contains('Σ');
+    if is_sigma {
+        departs(SHORT_SIGMA);
+    }
+    expect(is_sigma || made == of_std, "upstream's text is not std's");
+    made_of_parts(Upstream::from(of_std), AllocError)
+}
+
+pub fn convert_while_ascii(text: &str, case: AsciiCase) -> ([u8; INLINE_CAP], usize) {
+    let front: String = text.chars().take_while(char::is_ascii).collect();
+    (super::buffer_of(&case.of(&front)), front.len())
+}
+
+pub fn next_match(text: &str, from: usize, needle: &str) -> Option<usize> {
+    Some(from + text[from..].find(needle)?)
+}
+
+pub fn length_prefix(size: usize) -> Option<[u8; PREFIX]> {
+    Some(u32::try_from(size).ok()?.to_le_bytes())
+}
+
+#[derive(Debug)]
+pub enum EncodeFault {
+    Io(io::Error),
+}
+
+#[derive(Debug)]
+pub enum DecodeFault {
+    Ended,
+    NotUtf8(Utf8Error),
+    OutOfMemory,
+    Io(io::Error),
+}
+
+#[derive(Debug)]
+pub enum LimitedFault {
+    TooLong,
+    Decode(DecodeFault),
+}
+
+#[derive(Debug)]
+pub enum ReadFault {
+    OutOfMemory,
+    Io(io::Error),
+}
+
+impl From<io::Error> for DecodeFault {
+    fn from(error: io::Error) -> DecodeFault {
+        DecodeFault::Io(error)
+    }
+}
+
+impl From<ReadFault> for DecodeFault {
+    fn from(fault: ReadFault) -> DecodeFault {
+        match fault {
+            ReadFault::OutOfMemory => DecodeFault::OutOfMemory,
+            ReadFault::Io(error) => DecodeFault::Io(error),
+        }
+    }
+}
+
+/// Fails by another error in place of `Interrupted`, after which upstream goes on and the library does not.
+struct Uninterrupted<'w, 'a>(&'w mut SlowWriter<'a>, Option<io::Error>);
+
+impl Write for Uninterrupted<'_, '_> {
+    fn write(&mut self, buf: &[u8]) -> io::Result<usize> {
+        self.0.write(buf).map_err(|error| {
+            interrupted(&error);
+            self.1 = Some(error);
+            ErrorKind::BrokenPipe.into()
+        })
+    }
+
+    fn flush(&mut self) -> io::Result<()> {
+        self.0.flush()
+    }
+}
+
+fn interrupted(error: &io::Error) {
+    if error.kind() == ErrorKind::Interrupted {
+        departs(INTERRUPTED);
+    }
+}
+
+pub trait BorshSerialize {
+    fn serialize(&self, writer: &mut SlowWriter) -> Result<(), EncodeFault>;
+}
+
+impl BorshSerialize for SmolStr {
+    fn serialize(&self, writer: &mut SlowWriter) -> Result<(), EncodeFault> {
+        let mut writer = Uninterrupted(writer, None);
+        self.0.serialize(&mut writer).map_err(|error| {
+            departs(WIRE_FAULT);
+            EncodeFault::Io(writer.1.unwrap_or(error.kind().into()))
+        })
+    }
+}
+
+/// What upstream reads, and how many bytes; the fault where it has an error of borsh or std.
+pub fn from_wire(_: Global, bytes: &[u8]) -> Result<(SmolStr, usize), DecodeFault> {
+    let mut rest = bytes;
+    match Upstream::deserialize_reader(&mut rest) {
+        Ok(text) => Ok((made_or(text, DecodeFault::OutOfMemory)?, bytes.len() - rest.len())),
+        Err(_) => {
+            departs(WIRE_FAULT);
+            let stated = bytes.first_chunk().map(|prefix| u32::from_le_bytes(*prefix) as usize);
+            Err(match stated.and_then(|size| bytes[PREFIX..].get(..size)) {
+                None => DecodeFault::Ended,
+                Some(body) => DecodeFault::NotUtf8(str::from_utf8(body).expect_err("upstream reads a body that is UTF-8")),
+            })
+        }
+    }
+}
+
+pub fn split_wire(alloc: Global, bytes: &[u8]) -> Result<(SmolStr, &[u8]), DecodeFault> {
+    from_wire(alloc, bytes).map(|(value, taken)| (value, &bytes[taken..]))
+}
+
+pub trait BorshDeserialize: Sized {
+    fn deserialize_reader(alloc: Global, reader: &mut SlowReader) -> Result<Self, DecodeFault>;
+}
+
+impl BorshDeserialize for SmolStr {
+    fn deserialize_reader(alloc: Global, reader: &mut SlowReader) -> Result<SmolStr, DecodeFault> {
+        deserialize_limited(alloc, reader, usize::MAX).map_err(|fault| match fault {
+            LimitedFault::Decode(fault) => fault,
+            LimitedFault::TooLong => unreachable!("no size is above every limit"),
+        })
+    }
+}
+
+pub fn deserialize_limited(alloc: Global, reader: &mut SlowReader, limit: usize) -> Result<SmolStr, LimitedFault> {
+    let mut prefix = [0; PREFIX];
+    let filled = fill(reader, &mut prefix).map_err(|error| LimitedFault::Decode(error.into()))?;
+    let size = u32::from_le_bytes(prefix) as usize;
+    if filled == PREFIX && size > limit {
+        departs(WIRE_FAULT);
+        return Err(LimitedFault::TooLong);
+    }
+    let body = if filled < PREFIX { vec![] } else { body_of(alloc, reader, size).map_err(LimitedFault::Decode)? };
+    let form = [&prefix[..filled], &body].concat();
+    from_wire(alloc, &form).map(|(value, _)| value).map_err(LimitedFault::Decode)
+}
+
+/// A body of so many bytes, or what comes of it; a short one is read without memory.
+fn body_of(alloc: Global, reader: &mut SlowReader, size: usize) -> Result<Vec<u8>, DecodeFault> {
+    let mut short = vec![0; size.min(INLINE_CAP)];
+    if size > INLINE_CAP {
+        return Ok(read_up_to(alloc, reader, size)?);
+    }
+    let filled = fill(reader, &mut short)?;
+    short.truncate(filled);
+    Ok(short)
+}
+
+pub fn fill(reader: &mut SlowReader, room: &mut [u8]) -> io::Result<usize> {
+    let mut filled = 0;
+    while filled < room.len() {
+        match reader.read(&mut room[filled..]).inspect_err(interrupted)? {
+            0 => break,
+            count => filled += count,
+        }
+    }
+    Ok(filled)
+}
+
+/// Bytes by chunks. A refusal leaves open how far the reader was read.
+pub fn read_up_to(_: Global, reader: &mut SlowReader, limit: usize) -> Result<Vec<u8>, ReadFault> {
+    may_ask(true);
+    if is_refused() {
+        reader.rest = &reader.rest[reader.rest.len().saturating_sub(actual_number(0))..];
+        return Err(ReadFault::OutOfMemory);
+    }
+    let mut all = vec![];
+    while all.len() < limit {
+        let mut room = [0; CHUNK];
+        let room = &mut room[..CHUNK.min(limit - all.len())];
+        let filled = fill(reader, room).map_err(ReadFault::Io)?;
+        all.extend(&room[..filled]);
+        if filled < room.len() {
+            break;
+        }
+    }
+    Ok(all)
+}
+
+pub fn read_all(alloc: Global, reader: &mut SlowReader) -> Result<Vec<u8>, ReadFault> {
+    read_up_to(alloc, reader, usize::MAX)
+}
+
+pub fn write_steps(writer: &mut SlowWriter, bytes: &[u8]) -> io::Result<()> {
+    let mut writer = Uninterrupted(writer, None);
+    writer.write_all(bytes).map_err(|error| writer.1.unwrap_or(error.kind().into()))
+}
+
+pub enum JsonFault {
+    NotString,
+    Json(#[expect(dead_code)] serde_json::Error),
+    OutOfMemory,
+}
+
+fn no_string() -> JsonFault {
+    departs(NO_STRING);
+    JsonFault::NotString
+}
+
+pub fn to_json(alloc: Global, value: &SmolStr) -> Result<String, AllocError> {
+    by_serde::to_string(alloc, value)
+}
+
+pub fn to_value(_: Global, value: &SmolStr) -> Result<Value, AllocError> {
+    unless_refused(true, serde_json::to_value(&value.0).unwrap(), AllocError)
+}
+
+pub fn from_json(_: Global, text: &str) -> Result<SmolStr, JsonFault> {
+    may_ask(true);
+    let typed = serde_json::from_str::<Upstream>(text);
+    match serde_json::from_str(text) {
+        _ if is_refused() => Err(JsonFault::OutOfMemory),
+        Err(error) => {
+            expect(typed.is_err(), "upstream reads what is no JSON");
+            Err(JsonFault::Json(error))
+        }
+        Ok(Value::String(text)) => {
+            expect(typed.as_ref().is_ok_and(|typed| *typed == text), "upstream does not read a JSON string as its text");
+            Ok(SmolStr(typed.unwrap_or_default()))
+        }
+        Ok(_) => {
+            expect(typed.is_err(), "upstream reads what is no JSON string");
+            Err(no_string())
+        }
+    }
+}
+
+pub fn from_value(_: Global, value: &Value) -> Result<SmolStr, JsonFault> {
+    let text = serde_json::from_value(value.clone()).map_err(|_| no_string())?;
+    made_or(text, JsonFault::OutOfMemory)
+}
+
+/// serde's own calls, by any type that has its traits.
+pub mod by_serde {
+    use super::*;
+
+    pub struct Error(bool);
+
+    impl Error {
+        pub fn is_memory(&self) -> bool {
+            self.0
+        }
+    }
+
+    pub fn to_string(_: Global, value: &SmolStr) -> Result<String, AllocError> {
+        unless_refused(true, serde_json::to_string(&value.0).unwrap(), AllocError)
+    }
+
+    fn read(made: serde_json::Result<Upstream>) -> Result<SmolStr, Error> {
+        unless_refused(true, made, Error(true))?.map(SmolStr).map_err(|_| Error(false))
+    }
+
+    pub fn from_str(_: Global, text: &str) -> Result<SmolStr, Error> {
+        read(serde_json::from_str(text))
+    }
+
+    pub fn from_value(_: Global, value: Value) -> Result<SmolStr, Error> {
+        read(serde_json::from_value(value))
+    }
+}
