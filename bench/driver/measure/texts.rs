@@ -5,8 +5,22 @@ use std::hash::{BuildHasherDefault, DefaultHasher, Hash, Hasher};
 use std::hint::black_box;
 use std::ops::Deref;
 
-pub trait Text: Clone + Ord + Hash + Display + Deref<Target = str> + From<String> + for<'a> From<&'a str> {}
-impl<T: Clone + Ord + Hash + Display + Deref<Target = str> + From<String> + for<'a> From<&'a str>> Text for T {}
+pub trait Text: Clone + Ord + Hash + Display + Deref<Target = str> + From<String> {
+    fn made(text: &str) -> Self;
+}
+
+macro_rules! text {
+    ($type:ty, $new:ident) => {
+        impl crate::texts::Text for $type {
+            #[inline(always)]
+            fn made(text: &str) -> Self {
+                <$type>::$new(text)
+            }
+        }
+    };
+}
+pub(crate) use text;
+text!(smol_str::SmolStr, new);
 
 /// Two texts, and the value of each.
 pub struct Case<T> {
@@ -22,7 +36,7 @@ pub type Turns = (usize, usize);
 /// The texts of the input, between bars.
 pub fn cases<T: Text>(texts: &str, others: &str) -> Vec<Case<T>> {
     let case = |(text, other): (&str, &str)| {
-        Case { value: T::from(text), other_value: T::from(other), text: text.to_string(), other: other.to_string() }
+        Case { value: T::made(text), other_value: T::made(other), text: text.to_string(), other: other.to_string() }
     };
     texts.split('|').zip(others.split('|')).map(case).collect()
 }
@@ -118,7 +132,7 @@ pub fn run<T: Text>(operation: &str, all: &[Case<T>], n: Turns) -> Option<u64> {
     Some(match operation {
         "size" => size_of::<T>() as u64,
         "loop" => rounds(all, n, |it, at| seen(&it.text, at)),
-        "new" => rounds(all, n, |it, at| seen(&T::from(it.text.as_str()), at)),
+        "new" => rounds(all, n, |it, at| seen(&T::made(&it.text), at)),
         "as_str" => rounds(all, n, |it, at| seen(&it.value, at)),
         "len" => rounds(all, n, |it, at| told(it.value.len() as u64, at)),
         "clone" => rounds(all, n, |it, at| seen(&it.value.clone(), at)),
@@ -142,7 +156,7 @@ pub fn run<T: Text>(operation: &str, all: &[Case<T>], n: Turns) -> Option<u64> {
             let places = places::<T, std::hash::RandomState>(all);
             rounds(all, n, |it, at| told(places[&it.other_value] as u64, at))
         }
-        "new into a Vec" => batches(all, n, |all, at| last_of(kept(all, |it| T::from(it.text.as_str())), at)),
+        "new into a Vec" => batches(all, n, |all, at| last_of(kept(all, |it| T::made(&it.text)), at)),
         "clone into a Vec" => batches(all, n, |all, at| last_of(kept(all, |it| it.value.clone()), at)),
         "sort" => batches(all, n, |all, at| {
             let mut values = kept(all, |it| it.value.clone());
