@@ -1,11 +1,9 @@
 //! The six modes of `smol_tokens` in natural Rust over upstream's `SmolStr`: `bench/program` builds it, and holds the
-//! program's instructions and time against its. The tokens lie in an `IndexMap`, hashed by std's `RandomState`; the mode
-//! `borrowed` is that of std alone.
+//! program's instructions and time against its. The tokens lie in an `IndexMap`, hashed by std's `RandomState`.
 use indexmap::IndexMap;
 use smol_str::{SmolStr, StrExt};
-use std::collections::HashMap;
 use std::error::Error;
-use std::fmt::{self, Display, Write as _};
+use std::fmt::{self, Write as _};
 use std::hash::RandomState;
 use std::io::{self, Read, Write as _};
 
@@ -21,7 +19,6 @@ fn main() -> Result<(), Box<dyn Error>> {
         ["replace", from, to] => lines_report(&text, |line| line.replace_smolstr(from, to))?,
         ["join"] => join_report(&text)?,
         ["tokens"] => tokens_report(&text)?,
-        ["borrowed"] => borrowed_report(&text)?,
         _ => return Err("usage".into()),
     };
     io::stdout().write_all(report.as_bytes())?;
@@ -50,23 +47,6 @@ fn tokens_report(text: &str) -> Result<String, fmt::Error> {
     for line in text.split_terminator('\n') {
         *counts.entry(SmolStr::new(line)).or_insert(0) += 1;
     }
-    counts_report(counts)
-}
-
-/// The same with std alone: the lines are borrowed from the input, and the list beside the map has their order.
-fn borrowed_report(text: &str) -> Result<String, fmt::Error> {
-    let (mut positions, mut counts): (HashMap<&str, usize>, Vec<(&str, u64)>) = Default::default();
-    for line in text.split_terminator('\n') {
-        let position = *positions.entry(line).or_insert_with(|| {
-            counts.push((line, 0));
-            counts.len() - 1
-        });
-        counts[position].1 += 1;
-    }
-    counts_report(counts)
-}
-
-fn counts_report(counts: impl IntoIterator<Item = (impl Display, u64)>) -> Result<String, fmt::Error> {
     let mut report = String::new();
     for (token, count) in counts {
         writeln!(report, "{count} {token}")?;

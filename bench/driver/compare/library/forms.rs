@@ -5,7 +5,7 @@ use super::{AllocError, Global, INLINE_CAP, SmolStr, actual_number, departs, exp
 use super::{made_of_parts, made_or, unless_refused};
 use crate::departures::{INTERRUPTED, NO_STRING, SHORT_SIGMA, WIRE_FAULT};
 use crate::forms::{SlowReader, SlowWriter};
-use borsh::{BorshDeserialize as _, BorshSerialize as _};
+pub use borsh::{BorshDeserialize, BorshSerialize};
 use serde_json::Value;
 use smol_str::SmolStr as Upstream;
 use std::fmt::Display;
@@ -128,21 +128,6 @@ pub enum ReadFault {
     Io(io::Error),
 }
 
-impl From<io::Error> for DecodeFault {
-    fn from(error: io::Error) -> DecodeFault {
-        DecodeFault::Io(error)
-    }
-}
-
-impl From<ReadFault> for DecodeFault {
-    fn from(fault: ReadFault) -> DecodeFault {
-        match fault {
-            ReadFault::OutOfMemory => DecodeFault::OutOfMemory,
-            ReadFault::Io(error) => DecodeFault::Io(error),
-        }
-    }
-}
-
 /// Fails by another error in place of `Interrupted`, after which upstream goes on and the library does not.
 struct Uninterrupted<'w, 'a>(&'w mut SlowWriter<'a>, Option<io::Error>);
 
@@ -166,16 +151,19 @@ fn interrupted(error: &io::Error) {
     }
 }
 
-pub trait BorshSerialize {
-    fn serialize(&self, writer: &mut SlowWriter) -> Result<(), EncodeFault>;
-}
-
-impl BorshSerialize for SmolStr {
-    fn serialize(&self, writer: &mut SlowWriter) -> Result<(), EncodeFault> {
+impl SmolStr {
+    pub fn serialize(&self, writer: &mut SlowWriter) -> Result<(), EncodeFault> {
         let mut writer = Uninterrupted(writer, None);
         self.0.serialize(&mut writer).map_err(|error| {
             departs(WIRE_FAULT);
             EncodeFault::Io(writer.1.unwrap_or(error.kind().into()))
+        })
+    }
+
+    pub fn deserialize_reader(alloc: Global, reader: &mut SlowReader) -> Result<SmolStr, DecodeFault> {
+        deserialize_limited(alloc, reader, usize::MAX).map_err(|fault| match fault {
+            LimitedFault::Decode(fault) => fault,
+            LimitedFault::TooLong => unreachable!("no size is above every limit"),
         })
     }
 }
@@ -200,41 +188,32 @@ pub fn split_wire(alloc: Global, bytes: &[u8]) -> Result<(SmolStr, &[u8]), Decod
     from_wire(alloc, bytes).map(|(value, taken)| (value, &bytes[taken..]))
 }
 
-pub trait BorshDeserialize: Sized {
-    fn deserialize_reader(alloc: Global, reader: &mut SlowReader) -> Result<Self, DecodeFault>;
-}
-
-impl BorshDeserialize for SmolStr {
-    fn deserialize_reader(alloc: Global, reader: &mut SlowReader) -> Result<SmolStr, DecodeFault> {
-        deserialize_limited(alloc, reader, usize::MAX).map_err(|fault| match fault {
-            LimitedFault::Decode(fault) => fault,
-            LimitedFault::TooLong => unreachable!("no size is above every limit"),
-        })
-    }
-}
-
 pub fn deserialize_limited(alloc: Global, reader: &mut SlowReader, limit: usize) -> Result<SmolStr, LimitedFault> {
-    let mut prefix = [0; PREFIX];
-    let filled = fill(reader, &mut prefix).map_err(|error| LimitedFault::Decode(error.into()))?;
-    let size = u32::from_le_bytes(prefix) as usize;
+    let mut form = vec![0; PREFIX];
+    let filled = fill(reader, &mut form).map_err(|error| LimitedFault::Decode(DecodeFault::Io(error)))?;
+    let size = u32::from_le_bytes(*form.first_chunk().unwrap()) as usize;
     if filled == PREFIX && size > limit {
         departs(WIRE_FAULT);
         return Err(LimitedFault::TooLong);
     }
-    let body = if filled < PREFIX { vec![] } else { body_of(alloc, reader, size).map_err(LimitedFault::Decode)? };
-    let form = [&prefix[..filled], &body].concat();
+    form.truncate(filled);
+    if filled == PREFIX {
+        form.extend(body_of(alloc, reader, size).map_err(LimitedFault::Decode)?);
+    }
     from_wire(alloc, &form).map(|(value, _)| value).map_err(LimitedFault::Decode)
 }
 
 /// A body of so many bytes, or what comes of it; a short one is read without memory.
 fn body_of(alloc: Global, reader: &mut SlowReader, size: usize) -> Result<Vec<u8>, DecodeFault> {
     let mut short = vec![0; size.min(INLINE_CAP)];
-    if size > INLINE_CAP {
-        return Ok(read_up_to(alloc, reader, size)?);
-    }
-    let filled = fill(reader, &mut short)?;
-    short.truncate(filled);
-    Ok(short)
+    let read = match size > INLINE_CAP {
+        true => read_up_to(alloc, reader, size),
+        false => fill(reader, &mut short).map(|filled| short[..filled].to_vec()).map_err(ReadFault::Io),
+    };
+    read.map_err(|fault| match fault {
+        ReadFault::OutOfMemory => DecodeFault::OutOfMemory,
+        ReadFault::Io(error) => DecodeFault::Io(error),
+    })
 }
 
 pub fn fill(reader: &mut SlowReader, room: &mut [u8]) -> io::Result<usize> {
