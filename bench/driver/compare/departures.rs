@@ -1,4 +1,4 @@
-//! What may differ from upstream: nothing but this, each in the words of docs/DIFFERENCES.md.
+//! What may differ from upstream: nothing but this, each in the words of docs/differences.md.
 pub const COLLECTED_BLANK_RUN: &str = "a blank run that is not short and is collected lies on the heap";
 pub const SHORT_SIGMA: &str = "`to_lowercase_smolstr` lowers a short text character by character, so a capital sigma at the \
     end of a word becomes U+03C3";

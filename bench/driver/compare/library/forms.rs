@@ -12,7 +12,7 @@ use std::fmt::Display;
 use std::io::{self, ErrorKind, Read, Write};
 use std::str::Utf8Error;
 
-/// The most bytes that one read asks for, by docs/DIFFERENCES.md.
+/// The most bytes that one read asks for, by docs/differences.md.
 pub const CHUNK: usize = 4096;
 
 /// The bytes of a wire form before its body.
