@@ -279,21 +279,6 @@ pub(crate) fn append_all<P: Piece, I: Iterator<Item = P>>(
 {
     // So no items at all leave it in its buffer.
     prove!(builder.inline_buffer().is_none() || builder.as_str().len() <= INLINE_CAP);
-    append_each(builder, iter)
-}
-
-/// The loop of [`append_all`].
-#[inline(always)]
-fn append_each<P: Piece, I: Iterator<Item = P>>(
-    builder: &mut SmolStrBuilder,
-    iter: I,
-) -> Result<(), AllocError>
-    requires can { I.can_next iter }
-    requires ends { IsFinite (I.remaining iter) }
-    requires begun { builder.old ≡ appended builder.old [] }
-    ensures ok { OnOk result (AppendedAll P.text I.next_gives iter builder.old builder.new) }
-    ensures stopped { OnErr result (StoppedAt P.text I.next_gives iter builder.old builder.new) }
-{
     for piece in iter {
         piece.append_to(builder)?;
     }
