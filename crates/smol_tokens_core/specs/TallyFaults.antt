@@ -1,6 +1,6 @@
 -- When each fault of a tally comes, what it gives back, and what it makes of a run; what stands after a text was to be
 -- counted again.
-use Rattle.std.specs.Prelude.{◌≡◌, ℕ, ◌+◌, ◌<◌, ◌≤◌, ◌^◌, List, [], ◌∷◌, ◌++◌, None, Some}
+use Rattle.std.specs.Prelude.{◌≡◌, ℕ, ◌+◌, ◌<◌, ◌≤◌, ◌^◌, List, [], ◌∷◌, ◌++◌, Option, None, Some, codes}
 use Rattle.std.specs.Map.{lookup}
 use Rattle.smol_str.specs.Meaning.{Meaning}
 use Rattle.smol_tokens_core.specs.declared.tally.AddFault.{AddFault}
@@ -20,6 +20,11 @@ AfterAddFault pairs t times (Full token) = 2 ^ 64 ≤ times_of t pairs + times
 abbrev pub given_back : AddFault → Meaning
 given_back (OutOfMemory token) = token
 given_back (Full token) = token
+
+-- what it prints
+abbrev pub add_said : AddFault → Option (List ℕ)
+add_said (OutOfMemory token) = Some (codes "memory allocation failed")
+add_said (Full token) = Some (codes "the count would exceed 18446744073709551615")
 
 -- the token is let go
 abbrev pub of_add_fault : AddFault → RunFault

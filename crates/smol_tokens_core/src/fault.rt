@@ -1,5 +1,5 @@
 //! Why a run failed, and how that is reported.
-ghost use Rattle.std.specs.Prelude.{◌≡◌};
+ghost use Rattle.std.specs.Prelude.{◌≡◌, Some};
 ghost use Rattle.smol_tokens_core.specs.FaultLine.{fault_line};
 ghost use Rattle.smol_tokens_core.specs.ReadFaults.{of_read_fault};
 ghost use Rattle.smol_tokens_core.specs.TallyFaults.{of_add_fault};
@@ -8,7 +8,9 @@ ghost use Rattle.smol_tokens_core.specs.declared.fault.RunFault.TheVariants.{Out
 use crate::tally::AddFault;
 use smol_str::stream::ReadFault;
 use std::alloc::AllocError;
-use std::io;
+use std::error::Error;
+use std::fmt::{Display, Formatter, Write};
+use std::{fmt, io};
 
 /// Why a run failed; the contract of [`crate::run::run`] says what stands after each.
 #[derive(Debug, Drop)]
@@ -60,6 +62,17 @@ impl From<AddFault> for RunFault {
         }
     }
 }
+
+/// The line of [`fault_line`].
+impl Display for RunFault {
+    ghost output = { λ fault. Some (fault_line fault) };
+
+    fn fmt<W: Write>(&self, f: &mut Formatter<W>) -> fmt::Result {
+        write!(f, "{}", fault_line(self))
+    }
+}
+
+impl Error for RunFault {}
 
 /// The line that reports a fault on standard error, without its newline.
 pub fn fault_line(fault: &RunFault) -> &'static str

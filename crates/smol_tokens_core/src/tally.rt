@@ -5,11 +5,14 @@ ghost use Rattle.std.specs.Str.{chars};
 ghost use Rattle.smol_str.specs.KeyLaws.{stands_for-hash, stands_for-same};
 ghost use Rattle.smol_str.specs.Keys.{stands_for};
 ghost use Rattle.smol_tokens_core.specs.Tally.{is_same, times_of, tally, HasEachOnce};
-ghost use Rattle.smol_tokens_core.specs.TallyFaults.{AfterAddFault, AfterAgain, given_back};
+ghost use Rattle.smol_tokens_core.specs.TallyFaults.{AfterAddFault, AfterAgain, given_back, add_said};
 
 use indexmap::{Equivalent, IndexMap};
 use smol_str::SmolStr;
 use std::alloc::Global;
+use std::error::Error;
+use std::fmt;
+use std::fmt::{Display, Formatter, Write};
 use std::hash::{BuildHasher, BuildHasherDefault, FoldHasher};
 use std::marker::Model;
 
@@ -21,6 +24,20 @@ pub enum AddFault {
     /// The count would pass `u64::MAX`.
     Full(SmolStr),
 }
+
+/// The fault in a sentence; the token is not printed.
+impl Display for AddFault {
+    ghost output = { add_said };
+
+    fn fmt<W: Write>(&self, f: &mut Formatter<W>) -> fmt::Result {
+        match self {
+            AddFault::OutOfMemory(_token) => write!(f, "memory allocation failed"),
+            AddFault::Full(_token) => write!(f, "the count would exceed 18446744073709551615"),
+        }
+    }
+}
+
+impl Error for AddFault {}
 
 /// What became of a text that was to be counted again.
 pub(crate) enum Again {

@@ -5,11 +5,13 @@ ghost use Rattle.smol_tokens_core.specs.Report.{report};
 ghost use Rattle.smol_tokens_core.specs.ReportFaults.{HasALineTooOften};
 ghost use Rattle.smol_tokens_core.specs.declared.mode.Mode.TheVariants.{Join, Tokens};
 
+use smol_str::SmolStr;
 use smol_tokens_core::fault::RunFault;
 use smol_tokens_core::mode::Mode;
 use smol_tokens_core::run::run;
+use smol_tokens_core::tally::Tally;
 use std::alloc::Global;
-use std::hash::BuildHasher;
+use std::hash::{BuildHasher, BuildHasherDefault, FoldHasher};
 
 /// Appends the report on the bytes. Where there is none, `out` is as before, or the bytes are a text and a beginning of
 /// its report was appended.
@@ -36,4 +38,24 @@ pub fn append_report<S: BuildHasher + Drop>(
         × (0 < length rest) × (out.new.items ≡ out.old.items ++ front)))) }
 {
     run(alloc, state, mode, bytes, out)
+}
+
+/// The report on the bytes, and the count of their first line, in a function whose error is any error.
+pub fn with_first_count(
+    alloc: Global,
+    mode: Mode,
+    mut bytes: &[u8],
+) -> anyhow::Result<(Vec<u8>, u64)> {
+    let mut seen = Tally::new(alloc);
+    let first = str::from_utf8(bytes)?.split('\n').next().unwrap_or("");
+    let times = seen.add(SmolStr::new(alloc, first)?, 1)?;
+    let mut out = Vec::new(alloc);
+    append_report(
+        alloc,
+        BuildHasherDefault::<FoldHasher>::new(),
+        mode,
+        &mut bytes,
+        &mut out,
+    )?;
+    Ok((out, times))
 }
