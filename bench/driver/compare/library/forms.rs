@@ -229,7 +229,7 @@ pub fn fill(reader: &mut SlowReader, room: &mut [u8]) -> io::Result<usize> {
 
 /// Bytes by chunks. A refusal leaves open how far the reader was read.
 pub fn read_up_to(_: Global, reader: &mut SlowReader, limit: usize) -> Result<Vec<u8>, ReadFault> {
-    may_ask(true);
+    may_ask(limit > 0 && !reader.rest.is_empty());
     if is_refused() {
         reader.rest = &reader.rest[reader.rest.len().saturating_sub(actual_number(0))..];
         return Err(ReadFault::OutOfMemory);
