@@ -8,7 +8,7 @@ pub use Rattle.smol_str.specs.Cut.{StandsAt, Occurs, IsNextMatch, IsCut, joined_
 pub use Rattle.smol_str.specs.Draft.{Draft, OnHeap, empty_draft, kind_for, appended, Kind, InBuffer, kind_with, draft_of}
 pub use Rattle.smol_str.specs.Joined.{joined, char_text, str_text, string_text, string_ref_text, joined_strs, joined_string_refs}
 pub use Rattle.smol_str.specs.Meaning.{Meaning, IsValueOf}
-pub use Rattle.smol_str.specs.Replace.{replaced, replaced_all, first_match, cut, cut_at, cut_between, spell, no_limit, match_count, each_replaced}
+pub use Rattle.smol_str.specs.Replace.{replaced, replaced_all, first_match, cut, cut_at, cut_between, spell, no_limit, match_count, each_with, each_replaced}
 pub use Rattle.smol_str.specs.Replacing.{IsReplacing}
 pub use Rattle.smol_str.specs.Text.{IsShort, size, is_short, place_of, blank_run, leading_newlines, all_spaces, IsBlankRun, IsResident, is_blank_run}
 pub use Rattle.smol_str.specs.Wire.{HasWire, wire, Holds, prefix_size, HasEndedEarly, body}

@@ -20,7 +20,7 @@ use Rattle.std.specs.declared.slice.Iter.{Iter}
 use Rattle.std.specs.declared.iter.Rev.{Rev}
 use Rattle.std.specs.declared.iter.Copied.{Copied}
 use Rattle.std.proofs.lemmas.Iterator.{YieldsList, YieldsList-from_slice, YieldsList-from_chars, YieldsList-from_take, YieldsList-from_map_by}
-use Rattle.std.proofs.lemmas.Iterator.Adapters.{YieldsList-from_vec, YieldsList-from_rev_slice, YieldsList-from_skip, YieldsList-from_skip_while, YieldsList-from_flat_map}
+use Rattle.std.proofs.lemmas.Iterator.Adapters.{YieldsList-from_repeat_n, YieldsList-from_vec, YieldsList-from_rev_slice, YieldsList-from_skip, YieldsList-from_skip_while, YieldsList-from_flat_map}
 use Rattle.std.proofs.lemmas.Iterator.Consumers.{YieldsList-from_shown, YieldsList-at, YieldsList-from_chain, YieldsList-from_copied, YieldsList-from_filter}
 use Rattle.std.proofs.lemmas.Iterator.Search.{YieldsList-from_take_while}
 use Rattle.std.proofs.lemmas.Iterator.Splits.{YieldsList-from_shown_while, YieldsList-from_lines, YieldsList-from_str_split}
@@ -198,6 +198,7 @@ pub ruleset iterators = (
   gives-skip_chars,
   gives-take_slice,
   gives-skip_slice,
+  YieldsList-from_repeat_n,
   YieldsList-from_vec,
   YieldsList-from_array,
   YieldsList-from_take,

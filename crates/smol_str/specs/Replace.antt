@@ -4,9 +4,10 @@
 --     match_count t p         how many matches p has in t: the pieces of the unlimited cut, less one
 --     replaced t p w n        t with w in place of the first n matches of p
 --     replaced_all t p w      t with w in place of each match
+--     each_with x w t         t with the text w in place of each character x
 --     each_replaced x y t     t with y in place of each x
 use Rattle.std.specs.Prelude.{ℕ, ◌+◌, ◌-◌, zero, suc, List, [], ◌∷◌, length, map, drop, Option, Some, None, unwrap_or, option_map, nat_eq, if◌then◌else◌}
-use Rattle.std.specs.List.{starts_with}
+use Rattle.std.specs.List.{starts_with, flat_map}
 use Rattle.smol_str.specs.Cut.{joined_by}
 
 -- what stands before the first match of p, and what follows that match; p is not empty, as `cut_at` has it
@@ -53,6 +54,10 @@ replaced t p w n = joined_by w (cut t p n)
 -- `t.replace(p, w)`
 abbrev pub replaced_all : List ℕ → List ℕ → List ℕ → List ℕ
 replaced_all t p w = replaced t p w (no_limit t)
+
+-- character by character
+abbrev pub each_with : ℕ → List ℕ → List ℕ → List ℕ
+each_with x w t = flat_map (λ c. if nat_eq c x then w else c ∷ []) t
 
 -- character by character, or byte by byte
 abbrev pub each_replaced : ℕ → ℕ → List ℕ → List ℕ

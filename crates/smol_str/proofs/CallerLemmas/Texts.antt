@@ -1,8 +1,8 @@
 -- Texts: their bytes and sizes, builders, and one character in place of another.
-use Rattle.smol_str.proofs.Common.{◌≡◌, ◌∷◌, ℕ, ◌+◌, ◌<◌, ◌≤◌, Result, Ok, Err, IfOk, OnErr, subst, List, [], length, take, drop, get_or, encode_utf8_all, refl, sym, ap, ◌∙◌, inl, IsTrue, arith, flat_map, chars, all_scalars, IsUtf8, chars-encodes, chars_from_encodes, encodes-chars, chars-IsAscii, INLINE_CAP, size, IsShort, IsResident, Meaning, IsValueOf, Draft, InBuffer, OnHeap, appended, empty_draft, replaced_all, each_replaced, common_steps, rules}
+use Rattle.smol_str.proofs.Common.{◌≡◌, ◌∷◌, ℕ, ◌+◌, ◌<◌, ◌≤◌, Result, Ok, Err, IfOk, OnErr, subst, List, [], length, take, drop, get_or, encode_utf8_all, refl, sym, ap, ◌∙◌, inl, IsTrue, arith, flat_map, chars, all_scalars, IsUtf8, chars-encodes, chars_from_encodes, encodes-chars, encodes_same, chars-IsAscii, INLINE_CAP, size, IsShort, IsResident, place_of, Meaning, IsValueOf, Draft, InBuffer, OnHeap, appended, empty_draft, IsAscii, replaced_all, each_with, each_replaced, common_steps, rules}
 use Rattle.std.proofs.lemmas.Str.Ascii.{IsAscii-cons, IsAscii-nil}
 use Rattle.smol_str.proofs.CaseLemmas.Ascii.{size-mapped}
-use Rattle.smol_str.proofs.CutLemmas.Bytes.{each-moves, replaced_all-character}
+use Rattle.smol_str.proofs.CutLemmas.Bytes.{each-moves, replaced_all-each, replaced_all-character}
 use Rattle.smol_str.proofs.TextLemmas.Lists.{flat_map-more, flat_map-parts}
 use Rattle.smol_str.proofs.TextLemmas.Places.{IsShort-chars, IsShort-front, size-chars}
 use Rattle.smol_str.proofs.BuilderLemmas.Draft.{appended-twice, appended-nothing, OnHeap-long}
@@ -34,7 +34,13 @@ pub ruleset texts = (
 
 -- ---- builders
 
-pub ruleset builders = (texts, appended-twice, appended-nothing, OnHeap-long)
+-- a loop that appends the piece f x of each item x: one step, at number i
+pub appended-step : {X : Type 0} (f : X → List ℕ) (xs : List X) (i : ℕ) (x : X) (start old new : Draft) → i < length xs
+    → x ≡ get_or xs i x → old ≡ appended start (flat_map f (take i xs)) → new ≡ appended old (f x)
+    → new ≡ appended start (flat_map f (take (i + 1) xs))
+appended-step f xs i x start old new here item so_far push = grind (arith, common_steps, flat_map-more, appended-twice)
+
+pub ruleset builders = (texts, appended-twice, appended-nothing, OnHeap-long, appended-step)
 
 -- ---- a loop over a list, at its item x, number i: `builder.push_str(..)` with the bytes bs of the piece f x
 
@@ -55,12 +61,22 @@ module _ {X : Type 0} (f : X →
       let long = OnHeap-long (flat_map f (take (i + 1) xs)) (sym (ap (λ b. b.kind) now) ∙ heap) in
       long (IsShort-front _ (flat_map f (drop (i + 1) xs)) (rw (flat_map-parts f xs (i + 1)) at short))
 
--- ---- one character of ASCII in place of each of another, as `text.replace_smolstr(alloc, "_", "-")`
+-- ---- a text, or one character of ASCII, in place of each character of ASCII, as `text.replace_smolstr(alloc, "_", "-")`
+
+-- a character of ASCII is the text of its byte
+alone : (c : ℕ) → c < 128 → chars (c ∷ []) ≡ c ∷ []
+alone c ascii = chars-IsAscii (c ∷ []) (IsAscii-cons c [] ascii IsAscii-nil)
+
+pub each_with-value : {E : Type 0} (r : Result Meaning E) (t : List ℕ) (x : ℕ) (bs w : List ℕ)
+    → IfOk r (λ v. IsValueOf (replaced_all t (chars (x ∷ [])) (chars bs)) v) → x < 128 → IsAscii bs → bs ≡ w
+    → IfOk r (λ v. IsValueOf (each_with x w t) v)
+each_with-value r t x bs w is low ascii e =
+    let same : replaced_all t (chars (x ∷ [])) (chars bs) ≡ each_with x w t =
+        (λ i. replaced_all t (alone x low i) (chars-IsAscii bs ascii i)) ∙ replaced_all-each t x bs
+        ∙ ap (λ w. each_with x w t) e in
+    subst (λ t. IfOk r (λ v. IsValueOf t v)) same is
 
 module _ (x y : ℕ) (low : x < 128) (small : y < 128) where
-  alone : (c : ℕ) → c < 128 → chars (c ∷ []) ≡ c ∷ []
-  alone c ascii = chars-IsAscii (c ∷ []) (IsAscii-cons c [] ascii IsAscii-nil)
-
   replaced_each : (t : List ℕ) → replaced_all t (chars (x ∷ [])) (chars (y ∷ [])) ≡ each_replaced x y t
   replaced_each t = (λ i. replaced_all t (alone x low i) (alone y small i)) ∙ replaced_all-character t x y
 
@@ -84,3 +100,13 @@ each_replaced-short (Err e) bs x y long u low small =
     search (rules, arith, replaced_each, size-mapped, each-moves, size-chars)
 
 pub ruleset replacing = (each_replaced-value, each_replaced-refused, each_replaced-short)
+
+-- ---- what was printed
+
+-- a value whose text has the bytes of t, where they are those that its contract says
+pub printed-value : {E : Type 0} (r : Result Meaning E) (t bs : List ℕ) → IfOk r (λ v. encode_utf8_all v.text ≡ bs)
+    → IfOk r (λ v. v.place ≡ place_of v.text) → encode_utf8_all t ≡ bs → IfOk r (λ v. IsValueOf t v)
+printed-value (Ok v) t bs text place same =
+    let is = encodes_same v.text t (text ∙ sym same) in
+    record { text = is; place = place ∙ ap place_of is }
+printed-value (Err e) t bs text place same = tt
