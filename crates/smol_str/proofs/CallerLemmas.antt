@@ -11,6 +11,8 @@
 --     form-cut-..                         bytes of which the end may be missing: what has not ended early is whole
 --     Holds-parts                         a form that is held, and what follows it
 --     count-apart, forms-..               lists of texts: their number, and their forms one after another
+--     begun, beginning-of_first, beginning-of_second      what a writer has that failed
+--     one_written, AreTaken, one_taken, items-apart       items of your own, written, read, and told apart
 --     AreRead, one_read, all_read, next_form    a loop that reads such a list
 --     replacing   a ruleset: one character in place of each of another; each_with-value: a text in place of a character
 --     key_of, same_key-other              a map with values as keys, at other texts than the one that changed
@@ -25,7 +27,7 @@ pub mod Wire
 pub mod Maps
 pub use Rattle.smol_str.proofs.CallerLemmas.Texts.{appended-step, each_with-value, printed-value, chars-as_str, length-as_str, IsResident-few, texts, builders, appended-more, appended-refused, each_replaced-value, each_replaced-refused, each_replaced-short, replacing}
 pub use Rattle.smol_str.proofs.CallerLemmas.Collecting.{collected, refused, extend_refused, extended, chars_collected, chars_refused, chars_extended, chars_extend_refused, strs_collected, strs_refused, strs_extended, strs_extend_refused, strings_collected, strings_refused, string_refs_collected, string_refs_refused, string_refs_extended, string_refs_extend_refused, mapped_collected, mapped_refused, mapped_extended, mapped_extend_refused, items_collected, items_refused, split_collected, split_refused, chars_made, chars_grown, strs_made, strs_grown, strings_made, string_refs_made, string_refs_grown, array_chars_long, array_strs_long, split_long, collecting}
-pub use Rattle.smol_str.proofs.CallerLemmas.Wire.{Holds-parts, form_is_whole, form-utf8, form-text, form-held, form-read, form-cut-held, form-cut-long, form-cut-utf8, form-cut-text, count-apart, forms-apart, forms-next, forms-more, AreRead, one_read, all_read, next_form}
+pub use Rattle.smol_str.proofs.CallerLemmas.Wire.{Holds-parts, form_is_whole, form-utf8, form-text, form-held, form-read, form-cut-held, form-cut-long, form-cut-utf8, form-cut-text, count-apart, items-apart, forms-apart, begun, one_written, AreTaken, one_taken, forms-next, forms-more, AreRead, one_read, all_read, next_form}
 pub use Rattle.smol_str.proofs.CallerLemmas.Maps.{key_of, same_key-other, text-set, stands_for-text, lookup-stands_for, lookup-with_entry}
 -- what std's iterators give
 pub use Rattle.smol_str.proofs.IteratorLemmas.{iterators, gives-chars, gives-rev_chars, gives-slice, gives-map_lent}
@@ -39,6 +41,8 @@ pub use Rattle.smol_str.proofs.TextLemmas.Split.{boundary-parts, chars-take, cha
 -- appending twice is appending the joined text, and nothing changes nothing; a new builder leaves its buffer only for a
 -- text that is not short
 pub use Rattle.smol_str.proofs.BuilderLemmas.Draft.{appended-twice, appended-nothing, OnHeap-long}
+-- what was written in two parts, of which one is missing its end; a result that is known to be a fault
+pub use Rattle.smol_str.proofs.WireLemmas.Stream.{beginning-of_first, beginning-of_second, IfErr-is}
 -- whatever the result: for a clause on `Err` that holds anyway
 pub use Rattle.smol_str.proofs.TextLemmas.Places.{OnErr-always}
 -- cuts: the one there is, a first match in front of a cut, a text without a match, and what joins pieces

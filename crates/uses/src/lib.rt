@@ -17,6 +17,7 @@ pub mod known_lists;
 pub mod layout;
 pub mod lexer;
 pub mod lists;
+pub mod log_records;
 pub mod messages;
 pub mod numbers;
 pub mod one_lexing;

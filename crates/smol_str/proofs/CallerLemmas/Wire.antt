@@ -1,6 +1,11 @@
 -- Wire forms in bytes.
-use Rattle.smol_str.proofs.Common.{◌≡◌, ◌∷◌, ℕ, ◌+◌, ◌<◌, ◌≤◌, ◌^◌, All, List, [], ◌++◌, append_assoc, length, take, drop, refl, sym, ap, ◌∙◌, subst, inl, inr, IsTrue, arith, flat_map, to_le_bytes, from_le_bytes, from_le_bytes-to_le_bytes_4, w32, chars, all_scalars, IsUtf8, take-append-le, chars-encodes, length-append, All-head, All-tail, size, HasWire, wire, Holds, HasEndedEarly, body, common_steps, rules}
+use Rattle.smol_str.proofs.Common.{◌≡◌, ◌∷◌, ℕ, ◌+◌, ◌<◌, ◌≤◌, ◌^◌, All, List, [], ◌++◌, append_assoc, map, map-id, Option, get_or, take_more, Consumes, Consumes-trans, length, take, drop, refl, sym, ap, ◌∙◌, subst, inl, inr, IsTrue, arith, flat_map, to_le_bytes, from_le_bytes, from_le_bytes-to_le_bytes_4, w32, chars, all_scalars, IsUtf8, take-append-le, chars-encodes, length-append, All-head, All-tail, size, HasWire, wire, Holds, HasEndedEarly, body, common_steps, rules}
 use Rattle.smol_str.specs.Wire.{prefix_size}
+use Rattle.smol_str.specs.Stream.{AppendsBeginning}
+use Rattle.smol_str.specs.WireFaults.{AfterEncodeFault}
+use Rattle.smol_str.specs.declared.borsh.fault.EncodeFault.{EncodeFault}
+use Rattle.smol_str.specs.declared.borsh.fault.EncodeFault.TheVariants.{TooLong, Io}
+use Rattle.std.proofs.KnownBytes.{Appends-nil, Appends-kept}
 use Rattle.std.proofs.lemmas.List.{flat_map_more}
 use Rattle.std.proofs.lemmas.List.Elements.{All-push}
 use Rattle.smol_str.proofs.WireLemmas.Wire.{length-wire, prefix_size-wire, wire-apart, Holds-one, Holds-whole, body-Holds, Holds-written, wire-held, length-Holds}
@@ -76,16 +81,27 @@ first-apart : (s t : List ℕ) (ss ts : List (List ℕ)) (x y : List ℕ) → Ha
     → (s ≡ t) × (flat_map wire ss ++ x ≡ flat_map wire ts ++ y)
 first-apart s t ss ts x y h k e = search (rules, arith, wire-apart, append_assoc)
 
--- as many forms: of the same texts
+-- as many forms: of the same items, as far as `key` reads them and one form tells them apart
+module _ {X Y : Type 0} (form : X → List ℕ) (P : X → Type 0) (key : X → Y)
+    (apart : (x y : X) (s t : List ℕ) → P x → P y → form x ++ s ≡ form y ++ t → (key x ≡ key y) × (s ≡ t)) where
+  pub items-apart : (xs ys : List X) (s t : List ℕ) → All P xs → All P ys → length xs ≡ length ys
+      → flat_map form xs ++ s ≡ flat_map form ys ++ t → (map key xs ≡ map key ys) × (s ≡ t)
+  items-apart [] [] s t h k l e = (refl, e)
+  items-apart [] (y ∷ ys) s t h k l e = absurd (omega (arith, l))
+  items-apart (x ∷ xs) [] s t h k l e = absurd (omega (arith, l))
+  items-apart (x ∷ xs) (y ∷ ys) s t h k l e =
+      let whole : form x ++ (flat_map form xs ++ s) ≡ form y ++ (flat_map form ys ++ t) =
+          sym (append_assoc (form x) (flat_map form xs) s) ∙ e ∙ append_assoc (form y) (flat_map form ys) t in
+      let first = apart x y _ _ (All-head P x xs h) (All-head P y ys k) whole in
+      let others = items-apart xs ys s t (All-tail P x xs h) (All-tail P y ys k) (omega (arith, l)) first.1 in
+      ((λ i. first.0 i ∷ others.0 i), others.1)
+
+-- of the same texts
 pub forms-apart : (ss ts : List (List ℕ)) (x y : List ℕ) → All HasWire ss → All HasWire ts → length ss ≡ length ts
     → flat_map wire ss ++ x ≡ flat_map wire ts ++ y → (ss ≡ ts) × (x ≡ y)
-forms-apart [] [] x y h k l e = (refl, e)
-forms-apart [] (t ∷ ts) x y h k l e = absurd (omega (arith, l))
-forms-apart (s ∷ ss) [] x y h k l e = absurd (omega (arith, l))
-forms-apart (s ∷ ss) (t ∷ ts) x y h k l e =
-    let first = first-apart s t ss ts x y (All-head HasWire s ss h) (All-head HasWire t ts k) e in
-    let others = forms-apart ss ts x y (All-tail HasWire s ss h) (All-tail HasWire t ts k) (omega (arith, l)) first.1 in
-    ((λ i. first.0 i ∷ others.0 i), others.1)
+forms-apart ss ts x y h k l e =
+    let same = items-apart wire HasWire (λ t. t) (λ s t x y h k e. wire-apart s t x y h k e) ss ts x y h k l e in
+    (sym (map-id ss) ∙ same.0 ∙ map-id ts, same.1)
 
 -- more forms: behind the fewer stands the next
 pub forms-next : (ss ts : List (List ℕ)) (x y : List ℕ) → All HasWire ss → All HasWire ts
@@ -127,3 +143,41 @@ module _ (bytes : List ℕ) (count : ℕ) (ts : List (List ℕ)) (rest : List �
       → bytes ++ more ≡ (to_le_bytes w32 (length us) ++ flat_map wire us) ++ x
       → (t after : List ℕ) × HasWire t × IsTrue (all_scalars t) × (rest ++ more ≡ wire t ++ after)
   next_form few below us more x can sized scalars e = search (rules, arith, append_assoc, count-apart, forms-next)
+
+-- ---- items one after another, in a writer or of a reader, where `form` is what an item is written as
+
+-- whatever the fault of a text that was not written: a beginning of its form was
+pub begun : (held holds : Option (List ℕ)) (t : List ℕ) (fault : EncodeFault)
+    → AfterEncodeFault (wire t) (HasWire t) held holds fault → AppendsBeginning held holds (wire t)
+begun held holds t TooLong h =
+    ([], wire t, refl, omega (arith, length-wire t), Appends-kept held held holds [] (Appends-nil held) h.1)
+begun held holds t (Io e) h = h.1
+
+module _ {X : Type 0} (form : X → List ℕ) (P : X → Type 0) where
+  -- a loop over a list, at its item x, number i: one form more
+  pub one_written : (xs : List X) (i : ℕ) (x : X) (old new : List ℕ) → i < length xs → x ≡ get_or xs i x
+      → All P (take i xs) × (old ≡ flat_map form (take i xs)) → P x → new ≡ old ++ form x
+      → All P (take (i + 1) xs) × (new ≡ flat_map form (take (i + 1) xs))
+  one_written xs i x old new here item so_far fits wrote =
+      let more = take_more xs i x here ∙ ap (λ y. take i xs ++ y ∷ []) (sym item) in
+      (
+        subst (All P) (sym more) (All-push P (take i xs) x so_far.0 fits),
+        wrote ∙ ap (λ bs. bs ++ form x) so_far.1 ∙ flat_map_more form [] (take i xs) x ∙ ap (flat_map form) (sym more),
+      )
+
+  -- a loop that reads items: those so far were read, and no more
+  pub record AreTaken (input left : Option (List ℕ)) (xs : List X) (i : ℕ) : Type 0 where
+    pub count : length xs ≡ i
+    pub fit : All P xs
+    pub taken : Consumes input left (flat_map form xs)
+
+  pub one_taken : (input middle left : Option (List ℕ)) (xs more : List X) (i : ℕ) (x : X)
+      → AreTaken input middle xs i → Consumes middle left (form x) → P x → more ≡ xs ++ x ∷ []
+      → AreTaken input left more (i + 1)
+  one_taken input middle left xs more i x so_far read fits is =
+      rw is (record {
+        count = omega (arith, so_far.count, length-append xs (x ∷ []));
+        fit = All-push P xs x so_far.fit fits;
+        taken = subst (Consumes input left) (flat_map_more form [] xs x)
+            (Consumes-trans input middle left (flat_map form xs) (form x) so_far.taken read);
+      })

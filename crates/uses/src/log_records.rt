@@ -1,0 +1,130 @@
+//! Log records on the wire, and as lines of JSON.
+ghost use Rattle.std.specs.Prelude.{◌≡◌, ◌++◌, length, map, All, codes, IfOk, IfErr, IfSome, OnOk, OnErr};
+ghost use Rattle.std.specs.Io.KnownBytes.{Appends, Consumes};
+ghost use Rattle.std.specs.String.{string_bytes};
+ghost use Rattle.serde_json.specs.Written.{compact_text};
+ghost use Rattle.smol_str.specs.Json.{json_value};
+ghost use Rattle.smol_str.specs.Stream.{AppendsBeginning};
+ghost use Rattle.uses.specs.LogRecords.{HasForm, form, forms, texts, AfterRecordFault, AfterReadFault};
+
+use smol_str::borsh::{BorshSerialize, EncodeFault, LimitedFault, deserialize_limited};
+use smol_str::json::to_json;
+use smol_str::{SmolStr, laws};
+use std::alloc::{AllocError, Global};
+use std::io::{Read, Write};
+
+/// The most bytes of a level that are read.
+pub const LEVEL_LIMIT: usize = 16;
+
+/// What happened, and how grave it is.
+#[derive(Drop)]
+pub struct Record {
+    pub level: SmolStr,
+    pub message: SmolStr,
+}
+
+/// Writes a record.
+pub fn write_record<W: Write>(writer: &mut W, entry: &Record) -> Result<(), EncodeFault>
+    ensures sized { OnOk result (HasForm entry.now) }
+    ensures ok { OnOk result (Appends (W.contents writer.old) (W.contents writer.new) (form entry.now)) }
+    ensures fault { OnErr result (AppendsBeginning (W.contents writer.old) (W.contents writer.new) (form entry.now)) }
+{
+    entry.level.serialize(writer)?;
+    entry.message.serialize(writer)?;
+    Ok(())
+}
+
+/// Reads a record whose message has at most `limit` bytes.
+pub fn read_record<R: Read>(
+    alloc: Global,
+    reader: &mut R,
+    limit: usize,
+) -> Result<Record, LimitedFault>
+    ensures ok { IfOk result (λ r. Consumes (R.remaining reader.old) (R.remaining reader.new) (form r)) }
+    ensures sized { IfOk result HasForm }
+    ensures fault { IfErr result
+        (AfterRecordFault LEVEL_LIMIT limit (R.remaining reader.old) (R.remaining reader.new)) }
+{
+    let level = deserialize_limited(alloc, reader, LEVEL_LIMIT)?;
+    let message = deserialize_limited(alloc, reader, limit)?;
+    Ok(Record { level, message })
+}
+
+/// The bytes of records.
+pub fn write_all(alloc: Global, records: &[Record]) -> Result<Vec<u8>, EncodeFault>
+    ensures sized { OnOk result (All HasForm records.now) }
+    ensures ok { IfOk result (λ bytes. bytes.items ≡ forms records.now) }
+{
+    let mut bytes = Vec::new(alloc);
+    for entry in records {
+        write_record(&mut bytes, entry)?;
+    }
+    Ok(bytes)
+}
+
+/// Reads so many records, and no byte behind them.
+pub fn read_all<R: Read>(
+    alloc: Global,
+    reader: &mut R,
+    count: usize,
+    limit: usize,
+) -> Result<Vec<Record>, LimitedFault>
+    ensures ok { IfOk result (λ records. Consumes (R.remaining reader.old) (R.remaining reader.new) (forms records.items)) }
+    ensures count { IfOk result (λ records. length records.items ≡ count) }
+    ensures sized { IfOk result (λ records. All HasForm records.items) }
+    ensures fault { IfErr result
+        (AfterReadFault count LEVEL_LIMIT limit (R.remaining reader.old) (R.remaining reader.new)) }
+{
+    let mut records = Vec::new(alloc);
+    for i in 0..count {
+        let entry = read_record(alloc, reader, limit)?;
+        records.push(entry)?;
+    }
+    Ok(records)
+}
+
+/// Records that were written are read back, and what is behind them is left.
+pub fn read_back<'a>(
+    alloc: Global,
+    bytes: &'a [u8],
+    records: &[Record],
+    rest: &[u8],
+    limit: usize,
+) -> Option<(Vec<Record>, &'a [u8])>
+    requires sized { All HasForm records.now }
+    requires written { bytes.now ≡ forms records.now ++ rest.now }
+    ensures same { IfSome result (λ read. map texts read.0.items ≡ map texts records.now) }
+    ensures left { IfSome result (λ read. read.1.now ≡ rest.now) }
+{
+    laws::wire_forms();
+    let mut reader = bytes;
+    match read_all(alloc, &mut reader, records.len(), limit) {
+        Ok(read) => Some((read, reader)),
+        Err(_fault) => None,
+    }
+}
+
+/// Records written, with more behind them, and read back.
+pub fn there_and_back(
+    alloc: Global,
+    records: &[Record],
+    rest: &[u8],
+    limit: usize,
+) -> Option<Vec<Record>>
+    ensures { IfSome result (λ read. map texts read.items ≡ map texts records.now) }
+{
+    let mut bytes = write_all(alloc, records).ok()?;
+    bytes.extend_from_slice(rest).ok()?;
+    let (read, _rest) = read_back(alloc, bytes.as_slice(), records, rest, limit)?;
+    Some(read)
+}
+
+/// A record as a line of JSON.
+pub fn json_line(alloc: Global, entry: &Record) -> Result<String, AllocError>
+    ensures { IfOk result (λ line. string_bytes line ≡ codes "{\"level\":" ++ (compact_text (json_value entry.now.level.text)
+        ++ (codes ",\"message\":" ++ (compact_text (json_value entry.now.message.text) ++ codes "}\n")))) }
+{
+    let level = to_json(alloc, &entry.level)?;
+    let message = to_json(alloc, &entry.message)?;
+    format!(in alloc; "{{\"level\":{level},\"message\":{message}}}\n")
+}
