@@ -1,7 +1,6 @@
 -- For settings: what is set by lines, and what a key's last line sets.
-use Rattle.std.proofs.Common.{◌≡◌, ℕ, List, [], ◌∷◌, ◌++◌, map, fold, Bool, true, false, if◌then◌else◌, Option, Some, None, Bor, bytes_eq, refl, sym, ap, ◌∙◌, option_map}
+use Rattle.std.proofs.Common.{◌≡◌, ℕ, List, [], ◌∷◌, ◌++◌, map, fold, Bool, true, false, if◌then◌else◌, Option, Some, None, Bor, bytes_eq, refl, sym, ap, ◌∙◌, arith}
 use Rattle.std.specs.Map.{lookup}
-use Rattle.std.specs.Option.{option_copied}
 use Rattle.std.proofs.lemmas.Grind.{fold-append}
 use Rattle.std.proofs.lemmas.List.{map-append}
 use Rattle.indexmap.specs.IndexMap.{insert_entry}
@@ -10,39 +9,26 @@ use Rattle.smol_str.specs.Meaning.{Meaning}
 use Rattle.smol_str.proofs.CallerLemmas.{lookup-with_entry}
 use Rattle.uses.specs.Settings.{setting, with_setting, settings, value_in, or_else, last_value}
 
--- an insert of values is one of their texts
-pub entries-insert : (es : List (Meaning × Meaning)) (k v : Meaning)
-    → entry_texts (λ (v : Meaning). v.text) (insert_entry same_key es k v)
-    ≡ with_entry (entry_texts (λ (v : Meaning). v.text) es) k.text v.text
-entries-insert [] k v = refl
-entries-insert (e ∷ es) k v = by (same_key k e.0) (entries-insert es k v)
-  where
-    texts : List (Meaning × Meaning) → List (List ℕ × List ℕ)
-    texts es = entry_texts (λ (v : Meaning). v.text) es
+abbrev pub texts : List (Meaning × Meaning) → List (List ℕ × List ℕ)
+texts es = entry_texts (λ (v : Meaning). v.text) es
 
+-- an insert of values is one of their texts
+pub texts-insert : (es : List (Meaning × Meaning)) (k v : Meaning)
+    → texts (insert_entry same_key es k v) ≡ with_entry (texts es) k.text v.text
+texts-insert [] k v = refl
+texts-insert (e ∷ es) k v = by (same_key k e.0) (texts-insert es k v)
+  where
     by : (b : Bool) → texts (insert_entry same_key es k v) ≡ with_entry (texts es) k.text v.text
         → texts (if b then (e.0, v) ∷ es else e ∷ insert_entry same_key es k v)
         ≡ (if b then (e.0.text, v.text) ∷ texts es else (e.0.text, e.1.text) ∷ with_entry (texts es) k.text v.text)
     by true h = refl
     by false h = ap (λ rest. (e.0.text, e.1.text) ∷ rest) h
 
--- what a look-up returns, as a text
-pub text-copied : (r : Option (Bor Meaning))
-    → option_map (λ v. v.now.text) r ≡ option_map (λ (v : Meaning). v.text) (option_copied r)
-text-copied None = refl
-text-copied (Some v) = refl
-
 module _ (key : List ℕ) where
-  either : (b : Bool) (v : List ℕ) (rest : Option (List ℕ))
-      → (if b then Some v else rest) ≡ or_else (if b then Some v else None) rest
-  either true v rest = refl
-  either false v rest = refl
-
   lookup-with : (es : List (List ℕ × List ℕ)) (o : Option (List ℕ × List ℕ))
       → lookup (bytes_eq key) (with_setting es o) ≡ or_else (value_in key o) (lookup (bytes_eq key) es)
   lookup-with es None = refl
-  lookup-with es (Some p) =
-      lookup-with_entry key p.0 p.1 es ∙ either (bytes_eq key p.0) p.1 (lookup (bytes_eq key) es)
+  lookup-with es (Some p) = grind (arith, lookup-with_entry key p.0 p.1 es)
 
   assoc : (a b c : Option (List ℕ)) → or_else a (or_else b c) ≡ or_else (or_else a b) c
   assoc None b c = refl
@@ -57,13 +43,9 @@ module _ (key : List ℕ) where
       ∙ ap (or_else (last_value key lines)) (lookup-with es (setting line))
       ∙ assoc (last_value key lines) (value_in key (setting line)) (lookup (bytes_eq key) es)
 
-  or_none : (o : Option (List ℕ)) → or_else o None ≡ o
-  or_none None = refl
-  or_none (Some v) = refl
-
   -- the value found for a key is that of its last line
   pub lookup-settings : (lines : List (List ℕ)) → lookup (bytes_eq key) (settings lines) ≡ last_value key lines
-  lookup-settings lines = lookup-from lines [] ∙ or_none (last_value key lines)
+  lookup-settings lines = grind (arith, lookup-from lines [])
 
 -- one line more
 pub settings-more : (yielded : List (Bor (List ℕ))) (line : Bor (List ℕ))

@@ -1,6 +1,7 @@
 -- Maps with values as keys, at texts.
-use Rattle.smol_str.proofs.Common.{◌≡◌, ℕ, Option, Some, List, [], ◌∷◌, Bool, true, false, cond, false≢true, refl, sym, ap, ◌∙◌, arith, IsUtf8, bytes_eq, chars, encodes-chars, encodes_same, false_from_ne_true, option_map, if◌then◌else◌, Meaning, rules}
+use Rattle.smol_str.proofs.Common.{◌≡◌, ℕ, Bor, Option, None, Some, List, [], ◌∷◌, Bool, true, false, cond, false≢true, refl, sym, ap, ◌∙◌, arith, IsUtf8, bytes_eq, chars, encodes-chars, encodes_same, false_from_ne_true, option_map, if◌then◌else◌, Meaning, rules}
 use Rattle.std.specs.Map.{lookup}
+use Rattle.std.specs.Option.{option_copied}
 use Rattle.std.proofs.lemmas.Slice.Eq.{bytes_eq-Decides}
 use Rattle.smol_str.specs.declared.value.place.Place.TheVariants.{Inline}
 use Rattle.smol_str.specs.Keys.{same_key, stands_for, with_entry, entry_texts}
@@ -39,6 +40,16 @@ lookup-stands_for g bs (e ∷ es) u =
         ≡ cond b (Some (g e.1)) (lookup (bytes_eq (chars bs)) (entry_texts g es))
     by true h = refl
     by false h = h
+
+-- and so is what such a look-up lends
+pub lookup-lent : {V W : Type 0} (g : V → W) (r : Option (Bor V)) (bs : List ℕ) (es : List (Meaning × V)) → IsUtf8 bs
+    → option_copied r ≡ lookup (stands_for bs) es
+    → option_map (λ v. g v.now) r ≡ lookup (bytes_eq (chars bs)) (entry_texts g es)
+lookup-lent g r bs es u found = copied r ∙ ap (option_map g) found ∙ lookup-stands_for g bs es u
+  where
+    copied : (r : Option (Bor _)) → option_map (λ v. g v.now) r ≡ option_map g (option_copied r)
+    copied None = refl
+    copied (Some v) = refl
 
 -- an entry that is set is found at its text, and leaves what is found at others
 module _ {V : Type 0} (key t : List ℕ) (v : V) where
