@@ -68,12 +68,13 @@ pub fn check_calls<C: Row>(rt: HostRuntime, calls: &[C]) -> Result<(), Fail> {
     }
     if can_refuse(test.alloc) {
         check_lengths(&test, calls, leaked(test.repeated("a", HUGE)));
-        check_lengths(&test, calls, leaked(test.repeated("\"é€🦀", HUGE / 10)));
+        check_lengths(&test, calls, leaked(test.repeated("\0\n\"\\Σ€🦀", HUGE / 13)));
     }
     test.end()
 }
 
-const HUGE: usize = 20_000_000;
+/// A multiple of 13, which the characters of one to four bytes above have.
+const HUGE: usize = 13 * 1_600_000;
 
 fn check_lengths<C: Row>(test: &Test, calls: &[C], text: &'static str) {
     let far = [4095, 4096, 4097, 65_535, 65_536, 65_537, HUGE];

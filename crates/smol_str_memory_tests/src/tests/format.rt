@@ -120,10 +120,11 @@ fn texts_as_a_string(rt: HostRuntime) -> Result<(), Fail> {
     assert_row(&test, "\"ab\"", &format_args!("{value:?}"));
     let value = test.value("a\"b");
     assert_row(&test, "\"a\\\"b\"", &format_args!("{value:?}"));
-    let value = test.value(page_text());
-    assert_row(&test, page_text(), &format_args!("{value}"));
     let quoted = ok_string(&test, format!(in test.alloc; "\"{}\"", page_text()));
-    assert_row(&test, quoted.as_str(), &format_args!("{value:?}"));
+    for value in [test.value(page_text()), SmolStr::new_static(page_text())] {
+        assert_row(&test, page_text(), &format_args!("{value:>50}"));
+        assert_row(&test, quoted.as_str(), &format_args!("{value:?}"));
+    }
     let value = test.value("né");
     assert_row(&test, "   né", &format_args!("{value:>5}"));
     assert_row(&test, "né**", &format_args!("{value:*<4}"));

@@ -114,7 +114,9 @@ fn check_not_strings(test: &Test) {
         "true",
         "false",
         "[\"ab\"]",
+        "[\"ab\", []]",
         "{\"ab\": \"ab\"}",
+        "{\"a\": 1, \"b\": {}}",
     ] {
         check_not_read(test, json, Kind::NotString);
     }

@@ -57,7 +57,7 @@ fn maker_rows(alloc: Global) -> Option<&'static str> {
         "SmolStrBuilder::new": SmolStrBuilder::new(alloc).is_empty();
         "ValueAlloc::builder": alloc.builder().is_empty();
         "StrExt::to_lowercase_smolstr": "aßΔC".to_lowercase_smolstr(alloc).is_ok();
-        "StrExt::to_uppercase_smolstr": "aßΔC".to_uppercase_smolstr(alloc).is_ok();
+        "StrExt::to_uppercase_smolstr": "aßΣC".to_uppercase_smolstr(alloc).is_ok();
     }
 }
 

@@ -5,8 +5,8 @@ use smol_str::SmolStr;
 use smol_str::borsh::{BorshSerialize, EncodeFault, from_wire};
 use smol_str::stream::write_steps;
 use std::test::Fail;
-use test_support::streams::{Drip, Kind, Writing, cause_of, fails_at_each_write};
-use test_support::test::Test;
+use test_support::streams::{Drip, Kind, Writing, cause_of, empty_drip, fails_at_each_write};
+use test_support::test::{Test, same, same_count};
 
 /// A call that writes a wire form.
 #[derive(Drop)]
@@ -55,5 +55,16 @@ fn fails_at_each_call(rt: HostRuntime) -> Result<(), Fail> {
         fails_at_each_write(&test, &Call::Serialize(value), form);
         fails_at_each_write(&test, &Call::WriteSteps(form), form);
     }
+    test.end()
+}
+
+// The size goes out by one call, and then the text by another.
+#[test]
+fn few_calls(rt: HostRuntime) -> Result<(), Fail> {
+    let test = Test::begin(rt);
+    let value = test.value(test.repeated("a", 5_000_000).as_str());
+    let mut writer = empty_drip(test.alloc, usize::MAX, 0, None);
+    same(&test, &serialized(&value, &mut writer), &None, &"serialize");
+    same_count(&test, writer.calls, 2, "calls");
     test.end()
 }

@@ -31,9 +31,13 @@ enum Call {
     ReplaceOnePiece,
     /// A pattern whose first byte alone is there.
     ReplaceMissing,
+    /// The text as the pattern.
+    ReplaceWhole,
+    /// The first match by the text.
+    ReplaceByWhole,
 }
 
-static CALLS: [Call; 16] = [
+static CALLS: [Call; 18] = [
     Call::AsciiLower,
     Call::AsciiUpper,
     Call::Lower,
@@ -50,6 +54,8 @@ static CALLS: [Call; 16] = [
     Call::ReplaceThree,
     Call::ReplaceOnePiece,
     Call::ReplaceMissing,
+    Call::ReplaceWhole,
+    Call::ReplaceByWhole,
 ];
 
 #[test]
@@ -79,9 +85,10 @@ impl Row for Call {
             Call::AsciiUpper => "StrExt::to_ascii_uppercase_smolstr",
             Call::Lower => "StrExt::to_lowercase_smolstr",
             Call::Upper => "StrExt::to_uppercase_smolstr",
-            Call::ReplaceNone | Call::ReplaceThree | Call::ReplaceOnePiece => {
-                "StrExt::replacen_smolstr"
-            }
+            Call::ReplaceNone
+            | Call::ReplaceThree
+            | Call::ReplaceOnePiece
+            | Call::ReplaceByWhole => "StrExt::replacen_smolstr",
             _ => "StrExt::replace_smolstr",
         }
     }
@@ -114,6 +121,11 @@ impl Row for Call {
                 [0, 119, 2489, 277, 20_185, 20_185, 323_545],
             ),
             Call::Remove => ([0, 0, 1, 0, 0, 2, 0], [0, 0, 359, 0, 0, 5079, 0]),
+            Call::ReplaceWhole => ([0; 7], [0; 7]),
+            Call::ReplaceByWhole => (
+                [0, 2, 1, 2, 3, 2, 3],
+                [0, 156, 359, 119, 15_157, 5079, 210_157],
+            ),
             _ => (
                 [0, 0, 1, 2, 2, 2, 2],
                 [0, 0, 359, 119, 5079, 5079, 70_079],
@@ -148,6 +160,8 @@ impl Call {
             Call::ReplaceThree => text.replacen_smolstr(alloc, "a", "b", 3),
             Call::ReplaceOnePiece => text.replacen_smolstr(alloc, "aa", "bb", 1),
             Call::ReplaceMissing => text.replace_smolstr(alloc, "ab", "-"),
+            Call::ReplaceWhole => text.replace_smolstr(alloc, text, "b"),
+            Call::ReplaceByWhole => text.replacen_smolstr(alloc, "a", text, 1),
         }
     }
 }
