@@ -271,7 +271,7 @@ impl SmolStrBuilder {
     }
 
     /// The same value, where the builder is not wanted back: it keeps the memory that the text is in,
-    /// without the room that is left there. That no copy is made is only tested.
+    /// shrunk to fit where the heap does that. That no copy is made is only tested.
     ///
     /// It is refused with [`AllocError`] where the heap has no room for the value's own count.
     ///

@@ -255,9 +255,9 @@ impl SmolStr {
         })
     }
 
-    /// A value of the text of a `String`, whose allocation it reuses, shrunk to fit. On failure the
-    /// `String` is dropped; [`SmolStr::from_string`] gives it back. That no copy is made and no room is
-    /// kept is only tested.
+    /// A value of the text of a `String`, whose allocation it reuses, shrunk to fit where the heap does
+    /// that. On failure the `String` is dropped; [`SmolStr::from_string`] gives it back. That no copy is
+    /// made and no room is kept is only tested.
     ///
     /// ```
     /// let token = SmolStr::from_owned(String::from_str(alloc, "if")?)?;
