@@ -116,7 +116,7 @@ fn show_one(process: &mut Process, mut program: Program, is_shrunk: bool) -> boo
 fn compare(process: &mut Process, words: &[&str]) -> Option<bool> {
     let number = |at: usize| words.get(at)?.parse::<u64>().ok();
     let word = |at: usize| words.get(at).copied().unwrap_or_default();
-    let unexplained = unicode::compare(process, std::env::var("PRELOAD").is_err())?;
+    let unexplained = unicode::compare(process, std::env::var("PRELOAD").is_err() && word(0) != "chars")?;
     library::RUN.take();
     let started = Instant::now();
     let mut totals = Totals::default();

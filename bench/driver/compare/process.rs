@@ -68,7 +68,7 @@ impl Process {
         for _ in 0..u32::from_le_bytes(self.read()?) {
             asked.push(Asked { requests: u32::from_le_bytes(self.read()?), refused: u32::from_le_bytes(self.read()?) });
         }
-        let mut report = vec![0; u32::from_le_bytes(self.read()?) as usize];
+        let mut report = vec![0; u64::from_le_bytes(self.read()?) as usize];
         self.2.read_exact(&mut report).ok()?;
         Some(Answer { report, asked, bytes, blocks })
     }
