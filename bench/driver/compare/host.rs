@@ -1,6 +1,6 @@
 //! A program: its operations, and which requests for memory are refused; and calls of std that are passed the allocator in
 //! the machine.
-use crate::library::{AllocError, BoxedStr, Global, RcStr, SmolStr, SmolStrBuilder, Step};
+use crate::library::{AllocError, Global, RcStr, SmolStr, SmolStrBuilder, Step};
 use crate::operation::Operation;
 use crate::process::Refusal;
 use crate::table::Row;
@@ -62,7 +62,7 @@ impl Call {
             strings: Some(texts.iter().map(|text| text.to_string()).collect()),
             steps: texts.iter().map(step).collect(),
             owned: Some(first.into()),
-            boxed: Some(BoxedStr(first.into())),
+            boxed: Some(first.into()),
             shared: Some(RcStr(first.into())),
             json: serde_json::from_str(first).ok(),
             texts,

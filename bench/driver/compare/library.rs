@@ -15,7 +15,6 @@ use std::borrow::Cow;
 use std::cmp::Ordering;
 use std::fmt::{Debug, Display, Formatter};
 use std::ops::Deref;
-use std::str::Utf8Error;
 use std::sync::Arc;
 
 #[derive(Clone, Copy, PartialEq)]
@@ -31,22 +30,13 @@ pub struct Global;
 #[derive(Debug)]
 pub struct AllocError;
 
-#[derive(Debug)]
-pub enum FromUtf8Fault {
-    NotUtf8(Utf8Error),
-    OutOfMemory,
-}
-
 #[derive(Default, PartialEq, Eq, PartialOrd, Ord, Hash)]
 pub struct SmolStr(Upstream);
 
 /// std's owned texts, by the names that they have in the toolchain.
-pub struct BoxedStr(pub Box<str>);
+pub type BoxedStr = Box<str>;
+pub type CowStr<'a> = Cow<'a, str>;
 pub struct RcStr(pub Arc<str>);
-pub enum CowStr<'a> {
-    Borrowed(&'a str),
-    Owned(String),
-}
 
 fn is_short(text: &str) -> bool {
     text.len() <= INLINE_CAP
@@ -95,6 +85,15 @@ macro_rules! made_of_texts {
     };
 }
 
+/// Calls that give back what they took over.
+macro_rules! given_back {
+    ($($name:ident: $type:ty),*) => {
+        $(pub fn $name(_: Global, text: $type) -> Result<SmolStr, String> {
+            made_or(Upstream::from(text.clone()), text.into())
+        })*
+    };
+}
+
 macro_rules! made_of_items {
     ($($name:ident)*) => {
         $(pub fn $name<P>(_: Global, items: impl IntoIterator<Item = P>) -> Result<SmolStr, AllocError>
@@ -123,30 +122,16 @@ impl SmolStr {
         from_utf8_unchecked(bytes: &[u8]) unsafe { Upstream::from_utf8_unchecked(bytes) };
     }
 
+    given_back!(from_string: String, from_boxed_str: BoxedStr, from_cow_str: CowStr);
+
     made_of_items!(from_chars from_strs from_strings from_string_refs from_items);
 
-    pub fn from_utf8(_: Global, bytes: &[u8]) -> Result<SmolStr, FromUtf8Fault> {
-        made_or(Upstream::from_utf8(bytes).map_err(FromUtf8Fault::NotUtf8)?, FromUtf8Fault::OutOfMemory)
-    }
-
-    pub fn from_string(_: Global, text: String) -> Result<SmolStr, String> {
-        made_or(Upstream::from(text.clone()), text)
+    pub fn from_utf8(_: Global, bytes: &[u8]) -> Result<SmolStr, Fault> {
+        made_or(Upstream::from_utf8(bytes).map_err(Fault::NotUtf8)?, Fault::OutOfMemory)
     }
 
     pub fn from_owned(text: String) -> Result<SmolStr, AllocError> {
         made_or(Upstream::from(text), AllocError)
-    }
-
-    pub fn from_boxed_str(_: Global, text: BoxedStr) -> Result<SmolStr, String> {
-        made_or(Upstream::from(text.0.clone()), text.0.into())
-    }
-
-    pub fn from_cow_str(_: Global, text: CowStr<'_>) -> Result<SmolStr, String> {
-        let text = match text {
-            CowStr::Borrowed(text) => Cow::Borrowed(text),
-            CowStr::Owned(text) => Cow::Owned(text),
-        };
-        made_or(Upstream::from(text.clone()), text.into())
     }
 
     pub fn from_rc_str(text: RcStr) -> SmolStr {

@@ -103,29 +103,23 @@ pub fn length_prefix(size: usize) -> Option<[u8; PREFIX]> {
     Some(u32::try_from(size).ok()?.to_le_bytes())
 }
 
+/// The faults, whose debug texts are the library's.
 #[derive(Debug)]
-pub enum EncodeFault {
-    Io(io::Error),
-}
-
-#[derive(Debug)]
-pub enum DecodeFault {
+pub enum Fault {
     Ended,
+    TooLong,
     NotUtf8(Utf8Error),
     OutOfMemory,
     Io(io::Error),
+    Decode(Box<Fault>),
 }
+pub use Fault as DecodeFault;
+pub use Fault as ReadFault;
 
-#[derive(Debug)]
-pub enum LimitedFault {
-    TooLong,
-    Decode(DecodeFault),
-}
-
-#[derive(Debug)]
-pub enum ReadFault {
-    OutOfMemory,
-    Io(io::Error),
+impl From<io::Error> for Fault {
+    fn from(error: io::Error) -> Fault {
+        Fault::Io(error)
+    }
 }
 
 /// Fails by another error in place of `Interrupted`, after which upstream goes on and the library does not.
@@ -152,68 +146,64 @@ fn interrupted(error: &io::Error) {
 }
 
 impl SmolStr {
-    pub fn serialize(&self, writer: &mut SlowWriter) -> Result<(), EncodeFault> {
+    pub fn serialize(&self, writer: &mut SlowWriter) -> Result<(), Fault> {
         let mut writer = Uninterrupted(writer, None);
         self.0.serialize(&mut writer).map_err(|error| {
             departs(WIRE_FAULT);
-            EncodeFault::Io(writer.1.unwrap_or(error.kind().into()))
+            Fault::Io(writer.1.unwrap_or(error.kind().into()))
         })
     }
 
-    pub fn deserialize_reader(alloc: Global, reader: &mut SlowReader) -> Result<SmolStr, DecodeFault> {
-        deserialize_limited(alloc, reader, usize::MAX).map_err(|fault| match fault {
-            LimitedFault::Decode(fault) => fault,
-            LimitedFault::TooLong => unreachable!("no size is above every limit"),
-        })
+    pub fn deserialize_reader(alloc: Global, reader: &mut SlowReader) -> Result<SmolStr, Fault> {
+        read_value(alloc, reader, usize::MAX)
     }
 }
 
 /// What upstream reads, and how many bytes; the fault where it has an error of borsh or std.
-pub fn from_wire(_: Global, bytes: &[u8]) -> Result<(SmolStr, usize), DecodeFault> {
+pub fn from_wire(_: Global, bytes: &[u8]) -> Result<(SmolStr, usize), Fault> {
     let mut rest = bytes;
     match Upstream::deserialize_reader(&mut rest) {
-        Ok(text) => Ok((made_or(text, DecodeFault::OutOfMemory)?, bytes.len() - rest.len())),
+        Ok(text) => Ok((made_or(text, Fault::OutOfMemory)?, bytes.len() - rest.len())),
         Err(_) => {
             departs(WIRE_FAULT);
             let stated = bytes.first_chunk().map(|prefix| u32::from_le_bytes(*prefix) as usize);
             Err(match stated.and_then(|size| bytes[PREFIX..].get(..size)) {
-                None => DecodeFault::Ended,
-                Some(body) => DecodeFault::NotUtf8(str::from_utf8(body).expect_err("upstream reads a body that is UTF-8")),
+                None => Fault::Ended,
+                Some(body) => Fault::NotUtf8(str::from_utf8(body).expect_err("upstream reads a body that is UTF-8")),
             })
         }
     }
 }
 
-pub fn split_wire(alloc: Global, bytes: &[u8]) -> Result<(SmolStr, &[u8]), DecodeFault> {
+pub fn split_wire(alloc: Global, bytes: &[u8]) -> Result<(SmolStr, &[u8]), Fault> {
     from_wire(alloc, bytes).map(|(value, taken)| (value, &bytes[taken..]))
 }
 
-pub fn deserialize_limited(alloc: Global, reader: &mut SlowReader, limit: usize) -> Result<SmolStr, LimitedFault> {
-    let mut form = vec![0; PREFIX];
-    let filled = fill(reader, &mut form).map_err(|error| LimitedFault::Decode(DecodeFault::Io(error)))?;
-    let size = u32::from_le_bytes(*form.first_chunk().unwrap()) as usize;
-    if filled == PREFIX && size > limit {
-        departs(WIRE_FAULT);
-        return Err(LimitedFault::TooLong);
-    }
-    form.truncate(filled);
-    if filled == PREFIX {
-        form.extend(body_of(alloc, reader, size).map_err(LimitedFault::Decode)?);
-    }
-    from_wire(alloc, &form).map(|(value, _)| value).map_err(LimitedFault::Decode)
+pub fn deserialize_limited(alloc: Global, reader: &mut SlowReader, limit: usize) -> Result<SmolStr, Fault> {
+    read_value(alloc, reader, limit).map_err(|fault| match fault {
+        Fault::TooLong => Fault::TooLong,
+        fault => Fault::Decode(Box::new(fault)),
+    })
 }
 
-/// A body of so many bytes, or what comes of it; a short one is read without memory.
-fn body_of(alloc: Global, reader: &mut SlowReader, size: usize) -> Result<Vec<u8>, DecodeFault> {
-    let mut short = vec![0; size.min(INLINE_CAP)];
-    let read = match size > INLINE_CAP {
-        true => read_up_to(alloc, reader, size),
-        false => fill(reader, &mut short).map(|filled| short[..filled].to_vec()).map_err(ReadFault::Io),
-    };
-    read.map_err(|fault| match fault {
-        ReadFault::OutOfMemory => DecodeFault::OutOfMemory,
-        ReadFault::Io(error) => DecodeFault::Io(error),
-    })
+/// A value of at most so many bytes; a short one is read without memory.
+fn read_value(alloc: Global, reader: &mut SlowReader, limit: usize) -> Result<SmolStr, Fault> {
+    let mut form = vec![0; PREFIX];
+    let filled = fill(reader, &mut form)?;
+    form.truncate(filled);
+    if let Some(prefix) = form.first_chunk() {
+        let size = u32::from_le_bytes(*prefix) as usize;
+        if size > limit {
+            departs(WIRE_FAULT);
+            return Err(Fault::TooLong);
+        }
+        let mut short = vec![0; size.min(INLINE_CAP)];
+        form.extend(match size > INLINE_CAP {
+            true => read_up_to(alloc, reader, size)?,
+            false => fill(reader, &mut short).map(|filled| short[..filled].to_vec())?,
+        });
+    }
+    Ok(from_wire(alloc, &form)?.0)
 }
 
 pub fn fill(reader: &mut SlowReader, room: &mut [u8]) -> io::Result<usize> {
@@ -228,17 +218,17 @@ pub fn fill(reader: &mut SlowReader, room: &mut [u8]) -> io::Result<usize> {
 }
 
 /// Bytes by chunks. A refusal leaves open how far the reader was read.
-pub fn read_up_to(_: Global, reader: &mut SlowReader, limit: usize) -> Result<Vec<u8>, ReadFault> {
+pub fn read_up_to(_: Global, reader: &mut SlowReader, limit: usize) -> Result<Vec<u8>, Fault> {
     may_ask(limit > 0 && !reader.rest.is_empty());
     if is_refused() {
         reader.rest = &reader.rest[reader.rest.len().saturating_sub(actual_number(0))..];
-        return Err(ReadFault::OutOfMemory);
+        return Err(Fault::OutOfMemory);
     }
     let mut all = vec![];
     while all.len() < limit {
         let mut room = [0; CHUNK];
         let room = &mut room[..CHUNK.min(limit - all.len())];
-        let filled = fill(reader, room).map_err(ReadFault::Io)?;
+        let filled = fill(reader, room)?;
         all.extend(&room[..filled]);
         if filled < room.len() {
             break;
@@ -247,7 +237,7 @@ pub fn read_up_to(_: Global, reader: &mut SlowReader, limit: usize) -> Result<Ve
     Ok(all)
 }
 
-pub fn read_all(alloc: Global, reader: &mut SlowReader) -> Result<Vec<u8>, ReadFault> {
+pub fn read_all(alloc: Global, reader: &mut SlowReader) -> Result<Vec<u8>, Fault> {
     read_up_to(alloc, reader, usize::MAX)
 }
 
