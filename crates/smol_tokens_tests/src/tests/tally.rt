@@ -2,7 +2,7 @@
 use smol_str::{Place, SmolStr};
 use smol_tokens_core::tally::{AddFault, Tally};
 use std::alloc::Global;
-use std::ptr;
+use std::rc::RcStr;
 use std::test::Fail;
 use test_support::refuse::{
     Refusable, can_refuse, count_blocks, each_refused, end_refusals, refuse_all, start_counts,
@@ -174,7 +174,7 @@ impl Add<'_> {
     /// The very token came back, and the tally is as before: it takes the token now.
     fn check_refused(&self, test: &Test, mut tally: Tally, back: SmolStr) {
         same_str(test, back.as_str(), self.token.as_str(), "back");
-        let is_kept = !back.is_heap_allocated() || is_shared(&back, self.token);
+        let is_kept = !back.is_heap_allocated() || is_shared(test, &back, self.token);
         is_so(test, is_kept, "the token's memory");
         same_count(test, tally.len(), self.there as usize, "refused");
         check_add(test, &mut tally, back, TIMES, TIMES);
@@ -182,10 +182,12 @@ impl Add<'_> {
     }
 }
 
-/// The texts are in one place of the memory.
-fn is_shared(left: &SmolStr, right: &SmolStr) -> bool {
-    match (left.as_bytes().first(), right.as_bytes().first()) {
-        (Some(left), Some(right)) => ptr::eq(left, right),
+/// The two share one text.
+fn is_shared(test: &Test, left: &SmolStr, right: &SmolStr) -> bool {
+    let left = ok_value(test, left.clone()).into_rc_str(test.alloc);
+    let right = ok_value(test, right.clone()).into_rc_str(test.alloc);
+    match (left, right) {
+        (Ok(left), Ok(right)) => RcStr::ptr_eq(&left, &right),
         _ => false,
     }
 }
