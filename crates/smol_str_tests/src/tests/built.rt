@@ -23,7 +23,7 @@ enum Piece {
 /// Pieces; the text that they make, a text so many times and then an end; and its place.
 type Row = (&'static [Piece], (&'static str, usize, &'static str), Place);
 
-static ROWS: [Row; 18] = [
+static ROWS: [Row; 19] = [
     (&[], ("", 0, ""), Place::Inline),
     (
         &[Piece::Char('a'), Piece::Text("bc")],
@@ -103,6 +103,7 @@ static ROWS: [Row; 18] = [
         Place::Static,
     ),
     (&[Piece::Times(" ", 24)], (" ", 24, ""), Place::Inline),
+    (&[Piece::Char('a'); 1000], ("a", 1000, ""), Place::Heap),
 ];
 
 /// The table, behind a function: one that names it is dear to prove.
