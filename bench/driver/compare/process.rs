@@ -39,7 +39,7 @@ pub struct Asked {
 
 /// What the machine says of a program: its report, what each operation asked for, the bytes that its values have at the
 /// end, and the blocks that are not freed.
-pub struct Answer {
+pub struct Outcome {
     pub report: Vec<u8>,
     pub asked: Vec<Asked>,
     pub bytes: i64,
@@ -59,7 +59,7 @@ impl Process {
     }
 
     /// Runs a program; `None` where the machine ended.
-    pub fn run(&mut self, program: &[u8], refusal: Refusal) -> Option<Answer> {
+    pub fn run(&mut self, program: &[u8], refusal: Refusal) -> Option<Outcome> {
         let frame = [&refusal.head()[..], program].concat();
         self.1.write_all(&[&(frame.len() as u32).to_le_bytes(), &frame[..]].concat()).ok()?;
         self.1.flush().ok()?;
@@ -70,7 +70,7 @@ impl Process {
         }
         let mut report = vec![0; u64::from_le_bytes(self.read()?) as usize];
         self.2.read_exact(&mut report).ok()?;
-        Some(Answer { report, asked, bytes, blocks })
+        Some(Outcome { report, asked, bytes, blocks })
     }
 
     fn read<const N: usize>(&mut self) -> Option<[u8; N]> {

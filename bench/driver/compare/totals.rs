@@ -2,7 +2,7 @@
 use crate::departures;
 use crate::library::{self, Global, Place, RUN, SmolStr, SmolStrBuilder};
 use crate::machine::{Machine, REGISTERS};
-use crate::process::{Answer, Asked, Process, Refusal};
+use crate::process::{Asked, Outcome, Process, Refusal};
 use crate::host::Program;
 use crate::report::Report;
 use crate::table::{BUILDER_READS, READS, ROWS};
@@ -46,10 +46,10 @@ impl Totals {
         program.steps.iter().for_each(|step| step.encode(&mut encoded));
         // where blocks cannot be made smaller, no call asks for other memory in place of that
         let ample = (program.refusal == Refusal::Smaller).then(|| process.run(&encoded, Refusal::None)).flatten();
-        let answer = process.run(&encoded, program.refusal);
+        let outcome = process.run(&encoded, program.refusal);
         self.programs += 1;
-        let found = match answer {
-            Some(answer) => self.compare(program, &answer).or_else(|| asks_again(program, &ample?.asked, &answer.asked)),
+        let found = match outcome {
+            Some(outcome) => self.compare(program, &outcome).or_else(|| asks_again(program, &ample?.asked, &outcome.asked)),
             None => {
                 *process = Process::start();
                 Some(at_end(program, "the machine ended, or took too long".to_string(), &[]))
@@ -59,11 +59,11 @@ impl Totals {
         found
     }
 
-    fn compare(&mut self, program: &Program, answer: &Answer) -> Option<Difference> {
+    fn compare(&mut self, program: &Program, outcome: &Outcome) -> Option<Difference> {
         let (mut mirror, mut room) = (mirror(), vec![0; ROOM]);
-        let mut rest = answer.report.as_slice();
+        let mut rest = outcome.report.as_slice();
         for (at, step) in program.steps.iter().enumerate() {
-            let asked = answer.asked.get(at).copied().unwrap_or_default();
+            let asked = outcome.asked.get(at).copied().unwrap_or_default();
             let counts = self.calls.entry(step.row.name).or_default();
             *counts = [counts[0] + 1, counts[1] + u64::from(asked.refused > 0)];
             self.requests += u64::from(asked.requests);
@@ -79,7 +79,7 @@ impl Totals {
             }
             rest = &rest[len..];
         }
-        left_over(program, answer, rest, most_bytes(&mirror))
+        left_over(program, outcome, rest, most_bytes(&mirror))
     }
 
     /// A line for each operation: `call`, how often, how often refused, its name, and the calls of the library.
@@ -117,8 +117,8 @@ fn asks_again(program: &Program, ample: &[Asked], asked: &[Asked]) -> Option<Dif
 }
 
 /// What is wrong though each operation's report is as it has to be.
-fn left_over(program: &Program, answer: &Answer, rest: &[u8], most_bytes: i64) -> Option<Difference> {
-    let Answer { bytes, blocks, asked, .. } = answer;
+fn left_over(program: &Program, outcome: &Outcome, rest: &[u8], most_bytes: i64) -> Option<Difference> {
+    let Outcome { bytes, blocks, asked, .. } = outcome;
     let why = if !rest.is_empty() || asked.len() != program.steps.len() {
         format!("the machine reports {} bytes more, and {} calls", rest.len(), asked.len())
     } else if *blocks != 0 {
