@@ -94,6 +94,11 @@ pub fn collected(_: Global, it: &mut Operation) -> Option<Result<SmolStr, AllocE
         0 => SmolStr::from_items(Global, it.text(0).chars()),
         1 => SmolStr::from_items(Global, it.texts.iter().copied()),
         2 => SmolStr::from_items(Global, it.strings.take()?),
-        _ => SmolStr::from_items(Global, it.strings.as_ref()?),
+        3 => SmolStr::from_items(Global, it.strings.as_ref()?),
+        4 => SmolStr::from_items(Global, it.text(0).chars().rev()),
+        5 => SmolStr::from_items(Global, it.text(0).split(' ')),
+        _ => SmolStr::from_items(Global, it.text(0).lines()),
     })
 }
+
+pub use crate::library::by_serde::{entry_to_string, name_of_entry};

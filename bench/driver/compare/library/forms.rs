@@ -317,4 +317,14 @@ pub mod by_serde {
     pub fn from_value(_: Global, value: Value) -> Result<SmolStr, Error> {
         read(serde_json::from_value(value))
     }
+
+    /// What a derived type with a value is written as, and the value read back.
+    pub fn entry_to_string(_: Global, value: &SmolStr, times: u64) -> Option<Result<String, AllocError>> {
+        let text = serde_json::json!({ "name": value.0, "times": times }).to_string();
+        Some(unless_refused(true, text, AllocError))
+    }
+
+    pub fn name_of_entry(_: Global, text: &str) -> Result<SmolStr, Error> {
+        read(serde_json::from_str::<Value>(text).and_then(|entry| serde_json::from_value(entry["name"].clone())))
+    }
 }
