@@ -43,7 +43,10 @@ fn shapes(test: &Test) -> [Shape; 7] {
     [
         shape_of("no text", ""),
         shape_of("a full buffer", full_text()),
-        shape_of("the longest blank", leaked(ok_string(test, longest_blank(test.alloc)))),
+        shape_of(
+            "the longest blank",
+            leaked(ok_string(test, longest_blank(test.alloc))),
+        ),
         shape_of("a byte too many", long_text()),
         shape_of("5,000 bytes", leaked(test.repeated("a", 5000))),
         shape_of("2,500 accents", leaked(test.repeated("é", 2500))),
@@ -68,7 +71,11 @@ pub fn check_calls<C: Row>(rt: HostRuntime, calls: &[C]) -> Result<(), Fail> {
     }
     if can_refuse(test.alloc) {
         check_lengths(&test, calls, leaked(test.repeated("a", HUGE)));
-        check_lengths(&test, calls, leaked(test.repeated("\0\n\"\\Σ€🦀", HUGE / 13)));
+        check_lengths(
+            &test,
+            calls,
+            leaked(test.repeated("\0\n\"\\Σ€🦀", HUGE / 13)),
+        );
     }
     test.end()
 }
@@ -92,7 +99,9 @@ fn check_lengths<C: Row>(test: &Test, calls: &[C], text: &'static str) {
 fn check_once<C: Row>(test: &Test, on: &On<C>) {
     let name = on.call.name();
     let (asked, text) = (run_once(test, name, on), on.shape.text);
-    if let (Wants::AsStd(asks), Some(asked)) = (on.call.asks(), asked) && text.len() > INLINE_CAP {
+    if let (Wants::AsStd(asks), Some(asked)) = (on.call.asks(), asked)
+        && text.len() > INLINE_CAP
+    {
         check_wanted(test, Wants::AsStd(asks), text, (name, text.len()), asked);
     }
 }

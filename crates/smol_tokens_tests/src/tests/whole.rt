@@ -43,7 +43,10 @@ fn nothing_is_left(rt: HostRuntime) -> Result<(), Fail> {
     is_so(&test, is_done && reader.is_empty(), "one run");
     let report = b"inline 2 if\ninline 2 \xc3\xa9\n".as_slice();
     is_so(&test, writer.as_slice() == report, "show");
-    let (out, report) = (ok(&test, joined(test.alloc, input)), b"inline 4 if\xc3\xa9\n".as_slice());
+    let (out, report) = (
+        ok(&test, joined(test.alloc, input)),
+        b"inline 4 if\xc3\xa9\n".as_slice(),
+    );
     is_so(&test, out.as_slice() == report, "join");
     test.end()
 }

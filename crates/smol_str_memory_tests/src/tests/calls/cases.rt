@@ -85,10 +85,8 @@ impl Row for Call {
             Call::AsciiUpper => "StrExt::to_ascii_uppercase_smolstr",
             Call::Lower => "StrExt::to_lowercase_smolstr",
             Call::Upper => "StrExt::to_uppercase_smolstr",
-            Call::ReplaceNone
-            | Call::ReplaceThree
-            | Call::ReplaceOnePiece
-            | Call::ReplaceByWhole => "StrExt::replacen_smolstr",
+            Call::ReplaceNone | Call::ReplaceThree | Call::ReplaceOnePiece | Call::ReplaceByWhole =>
+                "StrExt::replacen_smolstr",
             _ => "StrExt::replace_smolstr",
         }
     }
@@ -99,10 +97,7 @@ impl Row for Call {
                 [0, 0, 1, 2, 2, 2, 2],
                 [0, 0, 320, 80, 5040, 5040, 70_040],
             ),
-            Call::ReplaceByBlank => (
-                [0, 0, 1, 1, 2, 2, 2],
-                [0, 0, 320, 40, 5040, 5040, 70_040],
-            ),
+            Call::ReplaceByBlank => ([0, 0, 1, 1, 2, 2, 2], [0, 0, 320, 40, 5040, 5040, 70_040]),
             Call::Lower | Call::Upper => (
                 [0, 0, 1, 2, 2, 8, 2],
                 [0, 0, 320, 80, 5040, 10_073, 70_040],
@@ -126,10 +121,7 @@ impl Row for Call {
                 [0, 2, 1, 2, 3, 2, 3],
                 [0, 156, 359, 119, 15_157, 5079, 210_157],
             ),
-            _ => (
-                [0, 0, 1, 2, 2, 2, 2],
-                [0, 0, 359, 119, 5079, 5079, 70_079],
-            ),
+            _ => ([0, 0, 1, 2, 2, 2, 2], [0, 0, 359, 119, 5079, 5079, 70_079]),
         };
         Wants::Exactly(requests, bytes)
     }

@@ -14,10 +14,18 @@ enum Call {
     ToValue,
     FromValue,
     ToJson,
+    /// Of a pinned value.
+    ToJsonPinned,
     FromJson,
 }
 
-static CALLS: [Call; 4] = [Call::ToValue, Call::FromValue, Call::ToJson, Call::FromJson];
+static CALLS: [Call; 5] = [
+    Call::ToValue,
+    Call::FromValue,
+    Call::ToJson,
+    Call::ToJsonPinned,
+    Call::FromJson,
+];
 
 #[test]
 fn each_request(rt: HostRuntime) -> Result<(), Fail> {
@@ -39,7 +47,7 @@ impl Row for Call {
         match self {
             Call::ToValue => "json::to_value",
             Call::FromValue => "json::from_value",
-            Call::ToJson => "json::to_json",
+            Call::ToJson | Call::ToJsonPinned => "json::to_json",
             Call::FromJson => "json::from_json",
         }
     }
@@ -53,7 +61,7 @@ impl Row for Call {
                 Asks::Nothing,
                 Asks::Shared,
             ]),
-            Call::ToJson => Wants::Exactly(
+            Call::ToJson | Call::ToJsonPinned => Wants::Exactly(
                 [1, 2, 4, 2, 3, 3, 3],
                 [128, 167, 1216, 168, 10_131, 10_131, 140_131],
             ),
@@ -67,7 +75,10 @@ impl Row for Call {
     fn input(self, test: &Test, text: &'static str) -> Input {
         let tree = Value::String(test.string(text));
         Input {
-            value: test.value(text),
+            value: match self {
+                Call::ToJsonPinned => SmolStr::new_static(text),
+                _ => test.value(text),
+            },
             json: ok_string(test, tree.to_string(test.alloc)),
             tree,
         }
@@ -77,7 +88,7 @@ impl Row for Call {
         match self {
             Call::ToValue => things_of(to_value(alloc, &input.value)),
             Call::FromValue => things_of(from_value(alloc, &input.tree)),
-            Call::ToJson => things_of(to_json(alloc, &input.value)),
+            Call::ToJson | Call::ToJsonPinned => things_of(to_json(alloc, &input.value)),
             Call::FromJson => things_of(from_json(alloc, input.json.as_str())),
         }
     }

@@ -1,8 +1,8 @@
 //! Calls on a value.
 use super::things::{Thing, things_of};
 use super::{Row, Wants, check_calls};
-use smol_str::{INLINE_CAP, SmolStr};
 use smol_str::borsh::BorshSerialize;
+use smol_str::{INLINE_CAP, SmolStr};
 use std::alloc::Global;
 use std::test::Fail;
 use test_support::by_std::Asks;
