@@ -2,7 +2,9 @@
 use smol_str::borsh::{DecodeFault, EncodeFault, LimitedFault};
 use smol_str::json::JsonFault;
 use smol_str::stream::ReadFault;
-use smol_str::{FormatError, FromUtf8Fault, Place, SmolStr, SmolStrBuilder, ToSmolStr};
+use smol_str::{
+    FormatError, FromUtf8Fault, Place, SmolStr, SmolStrBuilder, StrExt, ToSmolStr, format_smolstr,
+};
 use std::alloc::{AllocError, Global};
 use std::collections::HashMap;
 use std::convert::AsStr;
@@ -344,4 +346,56 @@ fn printed(alloc: Global, name: &str) -> Result<SmolStr, FormatError> {
     builder.push_str(name)?;
     builder.push('.')?;
     Ok(builder.into_value()?)
+}
+
+// What a language tool writes with upstream's type, but for the allocator and `?`.
+#[test]
+fn of_a_language_tool(rt: HostRuntime) -> Result<(), Fail> {
+    let test = Test::begin(rt);
+    let alloc = test.alloc;
+    let token = test.value("r#Match");
+    let name = ok(&test, raw_name(alloc, &token));
+    same_str(&test, &name, "match", "raw_name");
+    same_str(&test, kind_of(&name), "keyword", "kind_of");
+    same_str(&test, kind_of(&token), "name", "kind_of");
+    let segments = [test.value("std"), test.value("fmt")];
+    let path = ok(&test, path_of(alloc, &segments));
+    same_str(&test, &path, "std::fmt", "path_of");
+    let margin = ok(&test, margin_of(alloc, "    \tif x {"));
+    same_str(&test, &margin, "    \t", "margin_of");
+    let message = ok(&test, unresolved(alloc, &path, &name));
+    same_str(&test, &message, "no `match` in `std::fmt`", "unresolved");
+    test.end()
+}
+
+fn raw_name(alloc: Global, token: &SmolStr) -> Result<SmolStr, AllocError> {
+    token.trim_start_matches("r#").to_lowercase_smolstr(alloc)
+}
+
+fn kind_of(token: &SmolStr) -> &'static str {
+    match &**token {
+        "if" | "match" | "while" => "keyword",
+        _ => "name",
+    }
+}
+
+fn path_of(alloc: Global, segments: &[SmolStr]) -> Result<SmolStr, AllocError> {
+    let mut path = SmolStrBuilder::new(alloc);
+    for (i, segment) in segments.iter().enumerate() {
+        if i > 0 {
+            path.push_str("::")?;
+        }
+        path.push_str(segment)?;
+    }
+    Ok(path.finish()?)
+}
+
+fn margin_of(alloc: Global, line: &str) -> Result<SmolStr, AllocError> {
+    line.chars()
+        .take_while(|c| c.is_whitespace())
+        .collect(alloc)
+}
+
+fn unresolved(alloc: Global, path: &SmolStr, name: &SmolStr) -> Result<SmolStr, FormatError> {
+    format_smolstr!(alloc; "no `{name}` in `{path}`")
 }
