@@ -128,7 +128,7 @@ pub gives-rev_copied : {A : Type 0} {s : _} {steps : Rev (Copied (Iter A)) → O
     → iter_rest (copied_source (rev_source s)) ≡ xs → YieldsList steps (λ y. y) s (reverse xs)
 gives-rev_copied {s = s} xs f e =
     let all = YieldsList-from_shown (rev_steps (copied_steps iter_steps_back)) (λ y. y)
-        (λ u. reverse (iter_rest (copied_source (rev_source u)))) rev_copied-none rev_copied-some s in
+    (λ u. reverse (iter_rest (copied_source (rev_source u)))) rev_copied-none rev_copied-some s in
     weaker f (subst (λ ys. YieldsList (rev_steps (copied_steps iter_steps_back)) (λ y. y) s (reverse ys)) e all)
 
 -- `map` of items that are values, and of items that are lent

@@ -75,8 +75,8 @@ module _ {V : Type 0} (key t : List ℕ) (v : V) where
           found true (bytes_eq key e.0) (bytes_eq key t) e.1 (lookup (bytes_eq key) es) (λ _. same) (λ no. cc)
       by false is h =
           let apart = λ (x : bytes_eq key e.0 ≡ true) (y : bytes_eq key t ≡ true).
-              let both = sym ((bytes_eq-Decides key t).0 y) ∙ (bytes_eq-Decides key e.0).0 x in
-              false≢true (sym is ∙ (bytes_eq-Decides t e.0).1 both) in
+          let both = sym ((bytes_eq-Decides key t).0 y) ∙ (bytes_eq-Decides key e.0).0 x in
+          false≢true (sym is ∙ (bytes_eq-Decides t e.0).1 both) in
           ap (λ rest. cond (bytes_eq key e.0) (Some e.1) rest) h
           ∙ found false (bytes_eq key e.0) (bytes_eq key t) e.1 (lookup (bytes_eq key) es) (λ no. cc)
           (λ _ x. false_from_ne_true _ (apart x))

@@ -72,8 +72,8 @@ pub each_with-value : {E : Type 0} (r : Result Meaning E) (t : List ℕ) (x : �
     → IfOk r (λ v. IsValueOf (each_with x w t) v)
 each_with-value r t x bs w is low ascii e =
     let same : replaced_all t (chars (x ∷ [])) (chars bs) ≡ each_with x w t =
-        (λ i. replaced_all t (alone x low i) (chars-IsAscii bs ascii i)) ∙ replaced_all-each t x bs
-        ∙ ap (λ w. each_with x w t) e in
+    (λ i. replaced_all t (alone x low i) (chars-IsAscii bs ascii i)) ∙ replaced_all-each t x bs
+    ∙ ap (λ w. each_with x w t) e in
     subst (λ t. IfOk r (λ v. IsValueOf t v)) same is
 
 module _ (x y : ℕ) (low : x < 128) (small : y < 128) where

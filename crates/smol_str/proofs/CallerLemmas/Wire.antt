@@ -91,7 +91,7 @@ module _ {X Y : Type 0} (form : X → List ℕ) (P : X → Type 0) (key : X → 
   items-apart (x ∷ xs) [] s t h k l e = absurd (omega (arith, l))
   items-apart (x ∷ xs) (y ∷ ys) s t h k l e =
       let whole : form x ++ (flat_map form xs ++ s) ≡ form y ++ (flat_map form ys ++ t) =
-          sym (append_assoc (form x) (flat_map form xs) s) ∙ e ∙ append_assoc (form y) (flat_map form ys) t in
+      sym (append_assoc (form x) (flat_map form xs) s) ∙ e ∙ append_assoc (form y) (flat_map form ys) t in
       let first = apart x y _ _ (All-head P x xs h) (All-head P y ys k) whole in
       let others = items-apart xs ys s t (All-tail P x xs h) (All-tail P y ys k) (omega (arith, l)) first.1 in
       ((λ i. first.0 i ∷ others.0 i), others.1)
@@ -159,8 +159,7 @@ module _ {X : Type 0} (form : X → List ℕ) (P : X → Type 0) where
       → All P (take i xs) × (old ≡ flat_map form (take i xs)) → P x → new ≡ old ++ form x
       → All P (take (i + 1) xs) × (new ≡ flat_map form (take (i + 1) xs))
   one_written xs i x old new here item so_far fits wrote =
-      let more = take_more xs i x here ∙ ap (λ y. take i xs ++ y ∷ []) (sym item) in
-      (
+      let more = take_more xs i x here ∙ ap (λ y. take i xs ++ y ∷ []) (sym item) in (
         subst (All P) (sym more) (All-push P (take i xs) x so_far.0 fits),
         wrote ∙ ap (λ bs. bs ++ form x) so_far.1 ∙ flat_map_more form [] (take i xs) x ∙ ap (flat_map form) (sym more),
       )

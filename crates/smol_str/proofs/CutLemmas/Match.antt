@@ -192,7 +192,7 @@ module _ (bs nd : List ℕ) (i : ℕ) (u : IsUtf8 bs) (v : IsUtf8 nd) (some : 0 
     is_first j e =
         let front = size-append before match.before in
         let skipped = chars-take (drop i bs) match.before (chars nd ++ match.after) (j - i)
-            (IsUtf8-drop bs i u from_here) match.reads (omega (arith, front, match.index, long)) in
+        (IsUtf8-drop bs i u from_here) match.reads (omega (arith, front, match.index, long)) in
         subst (IsFirstAfter (chars nd)) (sym skipped) match.first
 
     pub parts : (j : ℕ) → j ≡ i + k
@@ -201,9 +201,9 @@ module _ (bs nd : List ℕ) (i : ℕ) (u : IsUtf8 bs) (v : IsUtf8 nd) (some : 0 
         let a = before ++ match.before in
         let p = chars nd in
         let whole : chars bs ≡ a ++ (p ++ match.after) =
-            reads ∙ ap (λ t. before ++ t) match.reads ∙ sym (append_assoc before match.before (p ++ match.after)) in
+        reads ∙ ap (λ t. before ++ t) match.reads ∙ sym (append_assoc before match.before (p ++ match.after)) in
         let behind : chars bs ≡ (a ++ p) ++ match.after = whole ∙ sym (append_assoc a p match.after) in
         let first = chars-take bs a (p ++ match.after) j u whole (match.index ∙ sym e) in
         let last = chars-drop bs (a ++ p) match.after (j + length nd) u behind
-            (omega (arith, size-append a p, size-chars nd v, match.index)) in
+        (omega (arith, size-append a p, size-chars nd v, match.index)) in
         whole ∙ (λ n. sym first n ++ (p ++ sym last n))
