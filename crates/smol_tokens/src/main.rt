@@ -7,7 +7,7 @@
 use smol_tokens_core::fault::{RunFault, fault_line};
 use smol_tokens_core::mode::{Mode, mode_of};
 use smol_tokens_core::run::run;
-use std::hash::{BuildHasherDefault, FoldHasher, RandomState};
+use std::hash::{BuildHasher, BuildHasherDefault, FoldHasher, RandomState};
 use std::process::ExitCode;
 use std::{env, io};
 
@@ -19,6 +19,15 @@ fn words(rt: &HostRuntime) -> Result<Vec<String>, RunFault> {
         Err(e) => return Err(RunFault::Io(e)),
     };
     Ok(args.skip(1).collect(rt.alloc())?)
+}
+
+/// The run from standard input to standard output.
+fn run_on_standard<S: BuildHasher + Drop>(
+    rt: &HostRuntime,
+    state: S,
+    mode: Mode,
+) -> Result<(), RunFault> {
+    run(rt.alloc(), state, mode, &mut rt.stdin(), &mut rt.stdout())
 }
 
 /// Reports a fault in one line, and returns the status of a failed run.
@@ -36,21 +45,14 @@ fn main(rt: HostRuntime) -> ExitCode {
         let _ = rt.eprintln("usage");
         return ExitCode::from(2);
     };
-    let (alloc, mut input, mut output) = (rt.alloc(), rt.stdin(), rt.stdout());
     let ended = if matches!(&mode, Mode::Tokens) {
         // A seed of the system: whoever writes the input cannot pick lines that all have one hash.
         match RandomState::new(&rt) {
-            Ok(state) => run(alloc, state, mode, &mut input, &mut output),
+            Ok(state) => run_on_standard(&rt, state, mode),
             Err(error) => Err(RunFault::Io(error)),
         }
     } else {
-        run(
-            alloc,
-            BuildHasherDefault::<FoldHasher>::new(),
-            mode,
-            &mut input,
-            &mut output,
-        )
+        run_on_standard(&rt, BuildHasherDefault::<FoldHasher>::new(), mode)
     };
     match ended {
         Ok(()) => ExitCode::SUCCESS,
