@@ -40,22 +40,18 @@ pub fn append_report<S: BuildHasher + Drop>(
     run(alloc, state, mode, bytes, out)
 }
 
-/// The report on the bytes, and the count of their first line, in a function whose error is any error.
-pub fn with_first_count(
-    alloc: Global,
-    mode: Mode,
-    mut bytes: &[u8],
-) -> anyhow::Result<(Vec<u8>, u64)> {
-    let mut seen = Tally::new(alloc);
-    let first = str::from_utf8(bytes)?.split('\n').next().unwrap_or("");
-    let times = seen.add(SmolStr::new(alloc, first)?, 1)?;
-    let mut out = Vec::new(alloc);
-    append_report(
-        alloc,
-        BuildHasherDefault::<FoldHasher>::new(),
-        mode,
-        &mut bytes,
-        &mut out,
-    )?;
-    Ok((out, times))
+/// The report on the bytes, in a function whose error is any error.
+pub fn reported(alloc: Global, mode: Mode, mut bytes: &[u8]) -> anyhow::Result<Vec<u8>> {
+    let (state, mut out) = (BuildHasherDefault::<FoldHasher>::new(), Vec::new(alloc));
+    append_report(alloc, state, mode, &mut bytes, &mut out)?;
+    Ok(out)
+}
+
+/// How often each word of the bytes stands, in such a function.
+pub fn counted(alloc: Global, bytes: &[u8]) -> anyhow::Result<Tally> {
+    let mut words = Tally::new(alloc);
+    for word in str::from_utf8(bytes)?.split_whitespace() {
+        words.add(SmolStr::new(alloc, word)?, 1)?;
+    }
+    Ok(words)
 }

@@ -1,5 +1,5 @@
 //! A value there and back: its wire form written, and read again by both calls.
-ghost use Rattle.std.specs.Prelude.{◌≡◌, ◌<◌, ◌+◌, ◌≤◌, ◌++◌, ℕ, List, Some, IfOk, IfErr, IfSome, OnErr};
+ghost use Rattle.std.specs.Prelude.{◌≡◌, ◌<◌, ◌+◌, ◌≤◌, ◌++◌, ℕ, List, length, Some, IfOk, IfErr, IfSome, OnErr};
 ghost use Rattle.std.specs.Io.KnownBytes.{Consumes};
 ghost use Rattle.std.specs.Str.{chars};
 ghost use Rattle.smol_str.specs.Text.{size, IsResident, place_of};
@@ -117,15 +117,14 @@ pub fn read_two(alloc: Global, bytes: &[u8]) -> Result<(SmolStr, SmolStr), Decod
 pub fn read_from_peer<R: Read>(
     alloc: Global,
     reader: &mut R,
-    bytes: &[u8],
     limit: usize,
 ) -> Result<SmolStr, LimitedFault>
-    requires known { R.remaining reader.old ≡ Some bytes.now }
     ensures value { IfOk result (λ v. Consumes (R.remaining reader.old) (R.remaining reader.new) (wire v.text)) }
     ensures place { IfOk result (λ v. v.place ≡ place_of v.text) }
     ensures limited { IfOk result (λ v. size v.text ≤ limit) }
     ensures refused { IfErr result (λ fault.
-        fault ≡ LimitedFault.Decode DecodeFault.OutOfMemory → INLINE_CAP < prefix_size bytes.now) }
+        fault ≡ LimitedFault.Decode DecodeFault.OutOfMemory → IfSome (R.remaining reader.old) (λ bytes.
+        (4 ≤ length bytes) × (INLINE_CAP < prefix_size bytes))) }
 {
     deserialize_limited(alloc, reader, limit)
 }
