@@ -4,7 +4,7 @@ ghost use Rattle.std.specs.List.{filter, prefix_len, slice_split};
 ghost use Rattle.std.specs.Str.{chars};
 ghost use Rattle.std.specs.Str.Lines.{lines};
 ghost use Rattle.std.specs.Iterator.{IsFinite};
-ghost use Rattle.smol_str.specs.Collect.{IsValueOfRun, Outgrown};
+ghost use Rattle.smol_str.specs.Collect.{Collected, Outgrown};
 ghost use Rattle.smol_str.specs.Text.{IsShort, IsResident};
 ghost use Rattle.smol_str.specs.Meaning.{IsValueOf};
 ghost use Rattle.smol_str.specs.Draft.{OnHeap, appended};
@@ -214,8 +214,8 @@ pub fn of_texts<'a, A: ValueAlloc, I: Iterator<Item = &'a str>>(
 ) -> Result<A::Value, AllocError>
     requires can { I.can_next texts }
     requires ends { IsFinite (I.remaining texts) }
-    ensures value { IfOk result (IsValueOfRun I.next_gives texts joined_strs A.meaning) }
-    ensures refused { OnErr result (Outgrown str_text I.next_gives texts) }
+    ensures value { IfOk result (Collected joined_strs I.next_gives texts A.meaning) }
+    ensures refused { OnErr result (Outgrown joined_strs I.next_gives texts) }
 {
     SmolStr::from_strs(alloc, texts)
 }
