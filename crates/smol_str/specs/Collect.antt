@@ -14,18 +14,18 @@ use Rattle.smol_str.specs.Draft.{Draft, OnHeap, appended}
 
 module _ {S A : Type 0} (texts : List A → List ℕ) (steps : S → Option A → S → Type 0) (s : S) where
   -- the iterator gave these items and no more, and v, which means m v, is the value of their text
-  abbrev pub Collected : {V : Type 0} → (V → Meaning) → V → Type 0
+  unfoldable pub Collected : {V : Type 0} → (V → Meaning) → V → Type 0
   Collected m v = WholeRun steps s (λ run. IsValueOf (texts run.items) (m v))
 
   -- the iterator gave items whose text is not short
-  abbrev pub Outgrown : Type 0
+  unfoldable pub Outgrown : Type 0
   Outgrown = SomeRun steps s (λ run. ¬ (IsShort (texts run.items)))
 
   -- the iterator gave these items and no more, and their text was appended
-  abbrev pub AppendedAll : Draft → Draft → Type 0
+  unfoldable pub AppendedAll : Draft → Draft → Type 0
   AppendedAll old new = WholeRun steps s (λ run. new ≡ appended old (texts run.items))
 
   -- the last item that came would have put the builder on the heap; the text of those before it was appended
-  abbrev pub StoppedAt : Draft → Draft → Type 0
+  unfoldable pub StoppedAt : Draft → Draft → Type 0
   StoppedAt old new = SomeRun steps s (λ run. (0 < length run.items)
       × (new ≡ appended old (texts (but_last run.items))) × ((appended old (texts run.items)).kind ≡ OnHeap))

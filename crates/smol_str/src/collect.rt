@@ -8,7 +8,7 @@ ghost use Rattle.std.specs.Iterator.{IsFinite};
 ghost use Rattle.smol_str.specs.Text.{IsResident};
 ghost use Rattle.smol_str.specs.Meaning.{Meaning, IsValueOf};
 ghost use Rattle.smol_str.specs.Draft.{InBuffer, OnHeap, empty_draft, appended};
-ghost use Rattle.smol_str.specs.Joined.{joined, joined_strs, joined_string_refs, char_text, str_text, string_text, string_ref_text};
+ghost use Rattle.smol_str.specs.Joined.{joined, joined_strs, joined_strings, joined_string_refs, char_text, str_text, string_text, string_ref_text};
 ghost use Rattle.smol_str.specs.JoinedLaws.{joined-chars, joined-strs, joined-string_refs};
 ghost use Rattle.smol_str.specs.Collect.{AppendedAll, StoppedAt, Collected, Outgrown};
 
@@ -64,7 +64,7 @@ impl<'a> Piece for &'a str {
 impl Piece for String {
     ghost text = { string_text };
 
-    ghost texts = { joined string_text };
+    ghost texts = { joined_strings };
 
     ghost joins = { λ _. refl };
 
@@ -176,8 +176,8 @@ impl SmolStr {
     ) -> Result<A::Value, AllocError>
         requires can { I.can_next iter }
         requires ends { IsFinite (I.remaining iter) }
-        ensures ok { IfOk result (Collected (joined string_text) I.next_gives iter A.meaning) }
-        ensures refused { OnErr result (Outgrown (joined string_text) I.next_gives iter) }
+        ensures ok { IfOk result (Collected joined_strings I.next_gives iter A.meaning) }
+        ensures refused { OnErr result (Outgrown joined_strings I.next_gives iter) }
     {
         collect(alloc, iter)
     }

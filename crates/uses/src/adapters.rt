@@ -71,7 +71,7 @@ pub fn of_parts(alloc: Global, parts: &[&str]) -> Result<SmolStr, AllocError>
 }
 
 /// Two texts with a dash between them.
-#[tactic(auto, using(smol_str::proofs::CallerLemmas::collecting))]
+#[tactic(auto, using(smol_str::proofs::CallerLemmas::collecting), unfolding(smol_str::specs::Collect::Collected))]
 pub fn with_dash(alloc: Global, first: &str, second: &str) -> Result<SmolStr, AllocError>
     ensures value { IfOk result (λ v. IsValueOf (joined chars (first.now ∷ codes "-" ∷ second.now ∷ [])) v) }
     ensures refused { OnErr result (¬ (IsShort (joined chars (first.now ∷ codes "-" ∷ second.now ∷ [])))) }

@@ -14,7 +14,7 @@ ghost use Rattle.std.specs.Iterator.{IsFinite};
 ghost use Rattle.std.specs.Rc.{rc_str_bytes};
 ghost use Rattle.smol_str.specs.Text.{IsShort, IsResident, place_of};
 ghost use Rattle.smol_str.specs.Meaning.{IsValueOf};
-ghost use Rattle.smol_str.specs.Joined.{joined, joined_strs, joined_string_refs, string_text};
+ghost use Rattle.smol_str.specs.Joined.{joined, joined_strs, joined_strings, joined_string_refs, string_text};
 ghost use Rattle.smol_str.specs.Collect.{Collected, Outgrown, AppendedAll, StoppedAt};
 ghost use Rattle.smol_str.specs.Steps.{step_text};
 ghost use Rattle.smol_str.specs.Case.{lower, upper, lowercased, uppercased, IsAsciiText};
@@ -202,8 +202,8 @@ pub fn of_any_strings<A: ValueAlloc, I: Iterator<Item = String>>(
 ) -> Result<A::Value, AllocError>
     requires can { I.can_next iter }
     requires ends { IsFinite (I.remaining iter) }
-    ensures value { IfOk result (Collected (joined string_text) I.next_gives iter A.meaning) }
-    ensures refused { OnErr result (Outgrown (joined string_text) I.next_gives iter) }
+    ensures value { IfOk result (Collected joined_strings I.next_gives iter A.meaning) }
+    ensures refused { OnErr result (Outgrown joined_strings I.next_gives iter) }
 {
     SmolStr::from_strings(alloc, iter)
 }

@@ -41,11 +41,13 @@ module _ {S A : Type 0} (steps : S → Option A → S → Type 0) (s : S) (f : A
     (now : new ≡ appended old (joined f xs)) where
   -- at the end of the iterator
   pub all-appended : Drains steps s xs → AppendedAll texts steps s old new
+  unfolding AppendedAll
   all-appended d = (run steps s xs true (to_end steps s xs d), refl, refl, now ∙ ap (appended old) (is xs))
 
   -- at an item that would have put the builder on the heap
   pub stopped-at : (x : A) (rest : S) → YieldsThen steps s xs (Some x) rest → (appended new (f x)).kind ≡ OnHeap
       → StoppedAt texts steps s old new
+  unfolding StoppedAt
   stopped-at x rest came heap =
       let all = xs ++ x ∷ [] in
       let front = now ∙ ap (appended old) (is xs ∙ ap texts (sym (but_last-more xs x))) in
@@ -71,28 +73,39 @@ module _ {S A : Type 0} (steps : S → Option A → S → Type 0) (s : S) where
   run-yields : (p : Run steps) → p.from ≡ s → Yields steps s p.items (took p).0
   run-yields p from = subst (λ u. Yields steps u p.items (took p).0) from (took p).1
 
+  -- what std says of collecting
+  pub collected-run : {V E : Type 0} (texts : List A → List ℕ) (m : V → Meaning) (r : Result V E) → IfOk r (Collected texts steps s m)
+      → IfOk r (λ v. (xs : List A) × Drains steps s xs × IsValueOf (texts xs) (m v))
+  unfolding Collected
+  collected-run texts m (Ok v) (p, from, whole, is) = (p.items, run-drains p from whole, is)
+  collected-run texts m (Err e) is = tt
+
   module _ (texts : List A → List ℕ) (new : Draft) where
     -- what std says of an extension
     pub extended-run : {E : Type 0} (r : Result (Unit {0}) E) (old : Draft) → OnOk r (AppendedAll texts steps s old new)
         → OnErr r (StoppedAt texts steps s old new) → (xs : List A) × (new ≡ appended old (texts xs))
         × MatchResult r (λ _. Drains steps s xs) (λ _. (t : S) × Yields steps s xs t)
+    unfolding AppendedAll StoppedAt
     extended-run (Ok u) old (p, from, whole, all) stopped = (p.items, all, run-drains p from whole)
     extended-run (Err e) old all (p, from, (some, front, heap)) =
         (but_last p.items, front, came-before steps s _ p.items (run-yields p from))
 
     -- a new builder that the items put on the heap, or whose value is made
     pub outgrown-stopped : StoppedAt texts steps s (empty_draft InBuffer) new → Outgrown texts steps s
+    unfolding StoppedAt Outgrown
     outgrown-stopped (p, from, (some, front, heap)) = (p, from, OnHeap-long (texts p.items) heap)
 
     pub collected-value : {V E : Type 0} (m : V → Meaning) (r : Result V E)
         → AppendedAll texts steps s (empty_draft InBuffer) new → IfOk r (λ v. IsValueOf new.text (m v))
         → IfOk r (Collected texts steps s m)
+    unfolding AppendedAll Collected
     collected-value m (Ok v) (p, from, whole, all) is =
         (p, from, whole, subst (λ t. IsValueOf t (m v)) (ap (λ b. b.text) all) is)
     collected-value m (Err e) all is = tt
 
     pub outgrown-value : {V E : Type 0} (r : Result V E) → AppendedAll texts steps s (empty_draft InBuffer) new
         → OnErr r (¬ (IsResident new.text)) → OnErr r (Outgrown texts steps s)
+    unfolding AppendedAll Outgrown
     outgrown-value (Ok v) all away = tt
     outgrown-value (Err e) (p, from, whole, all) away =
         (p, from, λ short. away (inl (subst IsShort (sym (ap (λ b. b.text) all)) short)))
@@ -116,12 +129,14 @@ module _ {S A B : Type 0} {steps : S → Option A → S → Type 0} {s : S} {v :
 
   -- so the text of the whole list is not short either
   pub not_short-outgrown : Outgrown texts steps s → YieldsList steps v s all → ¬ (IsShort (whole all))
+  unfolding Outgrown
   not_short-outgrown (p, from, long) gives short =
       long (IsShort-front (texts p.items) _ (subst IsShort (text-front p from gives) short))
 
   -- and a builder that a front puts on the heap is put there by the whole
   pub heap-stopped : (old new : Draft) → StoppedAt texts steps s old new → YieldsList steps v s all
       → (appended old (whole all)).kind ≡ OnHeap
+  unfolding StoppedAt
   heap-stopped old new (p, from, (some, front, heap)) gives =
       subst (λ t. (appended old t).kind ≡ OnHeap) (sym (text-front p from gives)) (appended-heap old (texts p.items) _ heap)
     where

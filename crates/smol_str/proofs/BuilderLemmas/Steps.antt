@@ -1,5 +1,6 @@
 -- For `build`: the steps of a list as items.
-use Rattle.smol_str.proofs.Common.{◌≡◌, ℕ, ◌<◌, List, [], ◌++◌, Option, sym, ◌∙◌, ap, subst, ◌⊎◌, inl, inr, map, take, drop, YieldsList, INLINE_CAP, IsShort, Draft, OnHeap, empty_draft, kind_for, appended, AppendedAll, StoppedAt}
+use Rattle.smol_str.proofs.Common.{◌≡◌, ℕ, ◌<◌, List, [], ◌++◌, Option, sym, ◌∙◌, ap, subst, ◌⊎◌, inl, inr, map, take, drop, YieldsList, INLINE_CAP, IsShort, Draft, OnHeap, empty_draft, kind_for, appended}
+use Rattle.smol_str.specs.Collect.{AppendedAll, StoppedAt}
 use Rattle.smol_str.proofs.BuilderLemmas.Draft.{kind_for-append, why_heap}
 use Rattle.smol_str.proofs.BuilderLemmas.Collect.{heap-stopped, text-whole}
 
@@ -16,5 +17,6 @@ module _ {S A B : Type 0} {steps : S → Option A → S → Type 0} {s : S} {v :
   -- a builder that took all items has their text
   pub text-appended : (old new : Draft) → old ≡ empty_draft (kind_for n []) → AppendedAll texts steps s old new
       → YieldsList steps v s all → new.text ≡ whole all
+  unfolding AppendedAll
   text-appended old new empty (p, from, end, now) gives =
       ap (λ b. b.text) (now ∙ ap (λ b. appended b (texts p.items)) empty) ∙ text-whole texts whole is parts p from gives end

@@ -1,5 +1,5 @@
 -- Collecting and extending from an iterator that gives a list.
-use Rattle.smol_str.proofs.Common.{◌≡◌, ℕ, ◌<◌, ◌≤◌, ◌++◌, String, Global, Bor, true, Option, Result, Ok, Err, IfOk, OnOk, OnErr, subst, List, [], length, take, drop, map, refl, sym, ap, ◌∙◌, arith, chars, IsUtf8, YieldsList, chars-encodes, take-append-drop, INLINE_CAP, size, IsShort, Meaning, IsValueOf, Draft, OnHeap, appended, joined, joined_strs, joined_string_refs, str_text, string_text, AppendedAll, StoppedAt, Collected, Outgrown, replaced_all, cut, no_limit, map-id, items_from_drains}
+use Rattle.smol_str.proofs.Common.{◌≡◌, ℕ, ◌<◌, ◌≤◌, ◌++◌, String, Global, Bor, true, Option, Result, Ok, Err, IfOk, OnOk, OnErr, subst, List, [], length, take, drop, map, refl, sym, ap, ◌∙◌, arith, chars, IsUtf8, YieldsList, chars-encodes, take-append-drop, INLINE_CAP, size, IsShort, Meaning, IsValueOf, Draft, OnHeap, appended, joined, joined_strs, joined_strings, joined_string_refs, str_text, string_text, replaced_all, cut, no_limit, map-id, items_from_drains}
 use Rattle.std.specs.Iterator.{Drains, DrainsIf, ExtendsWithItems}
 use Rattle.std.specs.Array.Iter.{array_steps, array_into_iter_items}
 use Rattle.std.specs.declared.array.IntoIter.{IntoIter}
@@ -7,6 +7,7 @@ use Rattle.std.specs.declared.str.Split.{Split}
 use Rattle.std.specs.Str.Iter.{split_text, split_has_more, split_pattern, split_steps}
 use Rattle.std.specs.Str.Pattern.{FindsText}
 use Rattle.std.proofs.lemmas.List.Folds.{flat_map-map}
+use Rattle.smol_str.specs.Collect.{AppendedAll, StoppedAt, Collected, Outgrown}
 use Rattle.smol_str.specs.JoinedLaws.{joined-strs}
 use Rattle.smol_str.proofs.BuilderLemmas.Collect.{text-whole, not_short-outgrown, heap-stopped}
 use Rattle.smol_str.proofs.IteratorLemmas.{YieldsList-from_array, iterators}
@@ -21,6 +22,7 @@ module _ {S A B : Type 0} {steps : S → Option A → S → Type 0} {s : S} {v :
     -- a value of its text
     collected : {E : Type 0} (m : Meaning → Meaning) (r : Result Meaning E) → IfOk r (Collected texts steps s m)
         → ((y : Meaning) → m y ≡ y) → YieldsList steps v s all → IfOk r (λ y. IsValueOf (whole all) y)
+    unfolding Collected
     collected m (Ok y) (p, from, end, made) same gives =
         subst (IsValueOf (whole all)) (same y)
         (subst (λ t. IsValueOf t (m y)) (text-whole texts whole is parts p from gives end) made)
@@ -35,6 +37,7 @@ module _ {S A B : Type 0} {steps : S → Option A → S → Type 0} {s : S} {v :
     -- a builder with its text at the end
     extended : {T E : Type 0} (r : Result T E) (old new : Draft) → OnOk r (AppendedAll texts steps s old new)
         → YieldsList steps v s all → OnOk r (new ≡ appended old (whole all))
+    unfolding AppendedAll
     extended (Ok x) old new (p, from, end, now) gives =
         now ∙ ap (appended old) (text-whole texts whole is parts p from gives end)
     extended (Err e) old new now gives = tt
@@ -129,18 +132,18 @@ module _ {S E : Type 0} {steps : S → Option (Bor (List ℕ)) → S → Type 0}
 
 -- of `String`s,
 module _ {S E : Type 0} {steps : S → Option (String Global) → S → Type 0} {s : S} {all : List (String Global)} where
-  pub strings_collected : (m : Meaning → Meaning) (r : Result Meaning E) → IfOk r (Collected (joined string_text) steps s m)
-      → ((y : Meaning) → m y ≡ y) → YieldsList steps (λ x. x) s all → IfOk r (λ y. IsValueOf (joined string_text all) y)
-  strings_collected m r is eq gives = collected (joined string_text) (joined string_text) (λ xs. ap (joined string_text) (sym (map-id xs))) (flat_map-parts string_text all) m r is eq gives
+  pub strings_collected : (m : Meaning → Meaning) (r : Result Meaning E) → IfOk r (Collected joined_strings steps s m)
+      → ((y : Meaning) → m y ≡ y) → YieldsList steps (λ x. x) s all → IfOk r (λ y. IsValueOf (joined_strings all) y)
+  strings_collected m r is eq gives = collected joined_strings joined_strings (λ xs. ap joined_strings (sym (map-id xs))) (flat_map-parts string_text all) m r is eq gives
 
-  pub strings_refused : {T : Type 0} (r : Result T E) → OnErr r (Outgrown (joined string_text) steps s)
-      → YieldsList steps (λ x. x) s all → OnErr r (¬ (IsShort (joined string_text all)))
-  strings_refused r out gives = refused (joined string_text) (joined string_text) (λ xs. ap (joined string_text) (sym (map-id xs))) (flat_map-parts string_text all) r out gives
+  pub strings_refused : {T : Type 0} (r : Result T E) → OnErr r (Outgrown joined_strings steps s)
+      → YieldsList steps (λ x. x) s all → OnErr r (¬ (IsShort (joined_strings all)))
+  strings_refused r out gives = refused joined_strings joined_strings (λ xs. ap joined_strings (sym (map-id xs))) (flat_map-parts string_text all) r out gives
 
   pub strings_made : (r : Result Meaning E)
-      → IfOk r (λ y. (xs : List (String Global)) × DrainsIf steps (Unit {0}) s xs × IsValueOf (joined string_text xs) y)
-      → YieldsList steps (λ x. x) s all → IfOk r (λ y. IsValueOf (joined string_text all) y)
-  strings_made r is gives = made (joined string_text) (joined string_text) (λ xs. ap (joined string_text) (sym (map-id xs))) r is gives
+      → IfOk r (λ y. (xs : List (String Global)) × DrainsIf steps (Unit {0}) s xs × IsValueOf (joined_strings xs) y)
+      → YieldsList steps (λ x. x) s all → IfOk r (λ y. IsValueOf (joined_strings all) y)
+  strings_made r is gives = made joined_strings joined_strings (λ xs. ap joined_strings (sym (map-id xs))) r is gives
 
 -- and of borrowed `String`s
 module _ {S E : Type 0} {steps : S → Option (Bor (String Global)) → S → Type 0} {s : S} {all : List (String Global)} where

@@ -1,4 +1,4 @@
-//! The program's report on some bytes, behind what a `Vec` has.
+//! Callers of the program's `run`: the report on some bytes, behind what a `Vec` has.
 ghost use Rattle.std.specs.Prelude.{◌≡◌, ◌<◌, ◌⊎◌, ℕ, List, [], ◌++◌, length, IfOk, OnOk, OnErr, IfErr, encode_utf8_all};
 ghost use Rattle.std.specs.Str.{chars, IsUtf8};
 ghost use Rattle.smol_tokens_core.specs.Report.{report};
