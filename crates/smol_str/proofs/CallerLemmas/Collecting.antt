@@ -198,12 +198,12 @@ of_texts xs = sym (joined-strs xs) ∙ sym (flat_map-map (λ t. t) str_text xs)
 
 module _ {S E : Type 0} {steps : S → Option (Bor (List ℕ)) → S → Type 0} {s : S} where
   module _ {all : List (List ℕ)} (t : List ℕ) (one : joined (λ q. q) all ≡ t) where
-    texts_collected : (m : Meaning → Meaning) (r : Result Meaning E) → IfOk r (Collected joined_strs steps s m)
+    pub texts_collected : (m : Meaning → Meaning) (r : Result Meaning E) → IfOk r (Collected joined_strs steps s m)
         → ((y : Meaning) → m y ≡ y) → YieldsList steps (λ x. chars x.now) s all → IfOk r (λ y. IsValueOf t y)
     texts_collected m r is eq gives = subst (λ t. IfOk r (λ y. IsValueOf t y)) one
         (collected joined_strs (joined (λ q. q)) of_texts (flat_map-parts (λ q. q) all) m r is eq gives)
 
-    texts_refused : {T : Type 0} (r : Result T E) → OnErr r (Outgrown joined_strs steps s)
+    pub texts_refused : {T : Type 0} (r : Result T E) → OnErr r (Outgrown joined_strs steps s)
         → YieldsList steps (λ x. chars x.now) s all → OnErr r (¬ (IsShort t))
     texts_refused r out gives = subst (λ t. OnErr r (¬ (IsShort t))) one
         (refused joined_strs (joined (λ q. q)) of_texts (flat_map-parts (λ q. q) all) r out gives)
