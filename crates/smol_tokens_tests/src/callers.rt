@@ -1,15 +1,17 @@
 //! Callers of the program's `run`: the report on some bytes, behind what a `Vec` has.
-ghost use Rattle.std.specs.Prelude.{◌≡◌, ◌<◌, ◌⊎◌, ℕ, List, [], ◌++◌, length, IfOk, OnOk, OnErr, IfErr, encode_utf8_all};
+ghost use Rattle.std.specs.Prelude.{◌≡◌, ◌<◌, ◌⊎◌, ◌+◌, ◌^◌, ℕ, List, [], ◌++◌, length, None, IfOk, IsOk, OnOk, OnErr, IfErr, encode_utf8_all};
+ghost use Rattle.std.specs.Map.{lookup};
 ghost use Rattle.std.specs.Str.{chars, IsUtf8};
 ghost use Rattle.smol_tokens_core.specs.Report.{report};
 ghost use Rattle.smol_tokens_core.specs.ReportFaults.{HasALineTooOften};
+ghost use Rattle.smol_tokens_core.specs.Tally.{is_same, times_of};
 ghost use Rattle.smol_tokens_core.specs.declared.mode.Mode.TheVariants.{Join, Tokens};
 
 use smol_str::SmolStr;
 use smol_tokens_core::fault::RunFault;
 use smol_tokens_core::mode::Mode;
 use smol_tokens_core::run::run;
-use smol_tokens_core::tally::Tally;
+use smol_tokens_core::tally::{AddFault, Tally};
 use std::alloc::Global;
 use std::hash::{BuildHasher, BuildHasherDefault, FoldHasher};
 
@@ -54,4 +56,13 @@ pub fn counted(alloc: Global, bytes: &[u8]) -> anyhow::Result<Tally> {
         words.add(SmolStr::new(alloc, word)?, 1)?;
     }
     Ok(words)
+}
+
+/// A word once more that is counted already, and not too often: it is never refused.
+pub fn count_again<S: BuildHasher>(words: &mut Tally<S>, word: SmolStr) -> Result<u64, AddFault>
+    requires there { ¬ (lookup (is_same word.text) words.old ≡ None) }
+    requires few { times_of word.text words.old + 1 < 2 ^ 64 }
+    ensures { IsOk result }
+{
+    words.add(word, 1)
 }

@@ -1,8 +1,10 @@
 //! Bytes that are no text, as far as they are.
-ghost use Rattle.std.specs.Prelude.{◌≡◌, ◌+◌, length, drop, IfSome};
+ghost use Rattle.std.specs.Prelude.{◌≡◌, ◌<◌, ◌+◌, length, take, drop, IfSome};
 ghost use Rattle.std.specs.Str.{IsUtf8};
 ghost use Rattle.std.specs.Str.Lossy.{utf8_invalid_len};
+ghost use Rattle.smol_str.specs.Wire.{body};
 
+use smol_str::borsh::{DecodeFault, from_wire};
 use smol_str::{FromUtf8Fault, SmolStr};
 use std::alloc::Global;
 
@@ -19,5 +21,16 @@ pub fn around_invalid(alloc: Global, bytes: &[u8]) -> Option<(&[u8], &[u8])>
             Some((front, &rest[invalid..]))
         }
         Ok(_) | Err(FromUtf8Fault::OutOfMemory) => None,
+    }
+}
+
+/// How many bytes of a body on the wire are text, where not all of them are.
+pub fn valid_in_body(alloc: Global, bytes: &[u8]) -> Option<usize>
+    ensures front { IfSome result (λ n. IsUtf8 (take n (body bytes.now))) }
+    ensures within { IfSome result (λ n. n < length (body bytes.now)) }
+{
+    match from_wire(alloc, bytes) {
+        Err(DecodeFault::NotUtf8(fault)) => Some(fault.valid_up_to()),
+        Ok(_) | Err(_) => None,
     }
 }

@@ -1,8 +1,8 @@
 //! A value there and back through JSON.
-ghost use Rattle.std.specs.Prelude.{◌≡◌, IfOk, IfErr, OnErr};
+ghost use Rattle.std.specs.Prelude.{◌≡◌, [], IfOk, IfErr, OnErr};
 ghost use Rattle.std.specs.Str.{chars};
 ghost use Rattle.serde_json.specs.View.{view};
-ghost use Rattle.smol_str.specs.Json.{json_value, IsJsonText};
+ghost use Rattle.smol_str.specs.Json.{json_value, IsJsonText, IsOther};
 ghost use Rattle.smol_str.specs.Meaning.{IsValueOf};
 ghost use Rattle.smol_str.specs.Text.{IsResident};
 
@@ -50,4 +50,25 @@ pub fn as_json_value(alloc: Global, value: &SmolStr) -> Result<SmolStr, JsonFaul
 {
     let json = to_value(alloc, value)?;
     from_value(alloc, &json)
+}
+
+/// A JSON value that is known to be no string: that is told, whatever the memory.
+pub fn told_as_other(alloc: Global, json: &Value) -> JsonFault
+    requires { IsOther (view json.now) }
+    ensures { result ≡ JsonFault.NotString }
+{
+    match from_value(alloc, json) {
+        Err(JsonFault::NotString) => JsonFault::NotString,
+        Err(JsonFault::OutOfMemory) => unreachable!(),
+        Err(JsonFault::Json(_)) => unreachable!(),
+        Ok(_) => unreachable!(),
+    }
+}
+
+/// No bytes at all are no JSON: that is told, whatever the memory.
+pub fn told_as_none(alloc: Global, json: &str) -> Result<SmolStr, JsonFault>
+    requires { json.now ≡ [] }
+    ensures { IfErr result (λ fault. ¬ (fault ≡ JsonFault.OutOfMemory)) }
+{
+    from_json(alloc, json)
 }

@@ -1,5 +1,6 @@
 //! A value there and back: its wire form written, and read again by both calls.
 ghost use Rattle.std.specs.Prelude.{◌≡◌, ◌<◌, ◌+◌, ◌≤◌, ◌++◌, ℕ, List, length, Some, IfOk, IfErr, IfSome, OnErr};
+ghost use Rattle.std.specs.Io.KnownBytes.{Keeps};
 ghost use Rattle.smol_str.specs.Stream.{Gave};
 ghost use Rattle.std.specs.Str.{chars};
 ghost use Rattle.smol_str.specs.Text.{size, IsResident, place_of};
@@ -12,7 +13,7 @@ use smol_str::borsh::{
 };
 use smol_str::{INLINE_CAP, SmolStr};
 use std::alloc::{AllocError, Global};
-use std::io::Read;
+use std::io::{Read, Write};
 
 /// The wire form of a value.
 pub fn written(alloc: Global, value: &SmolStr) -> Result<Vec<u8>, EncodeFault>
@@ -22,6 +23,19 @@ pub fn written(alloc: Global, value: &SmolStr) -> Result<Vec<u8>, EncodeFault>
     let mut form = Vec::new(alloc);
     value.serialize(&mut form)?;
     Ok(form)
+}
+
+/// A value whose text is too long for a wire form: that is told, whatever the writer does, and nothing is written.
+pub fn told_as_too_long<W: Write>(writer: &mut W, value: &SmolStr) -> EncodeFault
+    requires long { ¬ (HasWire value.now.text) }
+    ensures fault { result ≡ EncodeFault.TooLong }
+    ensures nothing { Keeps (W.contents writer.old) (W.contents writer.new) }
+{
+    match value.serialize(writer) {
+        Err(EncodeFault::TooLong) => EncodeFault::TooLong,
+        Err(EncodeFault::Io(_)) => unreachable!(),
+        Ok(()) => unreachable!(),
+    }
 }
 
 /// The value of bytes that are the wire form of `text`, with `rest` after it: it can only run
