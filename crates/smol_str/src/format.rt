@@ -22,7 +22,7 @@ impl fmt::Display for FormatError {
     ghost output = { λ _. Some format_said };
 
     fn fmt<W: fmt::Write>(&self, f: &mut fmt::Formatter<W>) -> fmt::Result {
-        write!(f, "formatting failed or memory ran out")
+        f.write_str("formatting failed or memory ran out")
     }
 }
 

@@ -58,9 +58,9 @@ impl Display for JsonFault {
 
     fn fmt<W: Write>(&self, f: &mut Formatter<W>) -> fmt::Result {
         match self {
-            JsonFault::NotString => write!(f, "the JSON value is not a string"),
+            JsonFault::NotString => f.write_str("the JSON value is not a string"),
             JsonFault::Json(error) => Display::fmt(error, f),
-            JsonFault::OutOfMemory => write!(f, "memory allocation failed"),
+            JsonFault::OutOfMemory => f.write_str("memory allocation failed"),
         }
     }
 }

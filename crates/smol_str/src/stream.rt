@@ -50,7 +50,7 @@ impl Display for ReadFault {
 
     fn fmt<W: fmt::Write>(&self, f: &mut Formatter<W>) -> fmt::Result {
         match self {
-            ReadFault::OutOfMemory => write!(f, "memory allocation failed"),
+            ReadFault::OutOfMemory => f.write_str("memory allocation failed"),
             ReadFault::Io(error) => Display::fmt(error, f),
         }
     }

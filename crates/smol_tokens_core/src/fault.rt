@@ -68,7 +68,7 @@ impl Display for RunFault {
     ghost output = { λ fault. Some (fault_line fault) };
 
     fn fmt<W: Write>(&self, f: &mut Formatter<W>) -> fmt::Result {
-        write!(f, "{}", fault_line(self))
+        f.write_str(fault_line(self))
     }
 }
 

@@ -31,8 +31,8 @@ impl Display for AddFault {
 
     fn fmt<W: Write>(&self, f: &mut Formatter<W>) -> fmt::Result {
         match self {
-            AddFault::OutOfMemory(_token) => write!(f, "memory allocation failed"),
-            AddFault::Full(_token) => write!(f, "the count would exceed 18446744073709551615"),
+            AddFault::OutOfMemory(_token) => f.write_str("memory allocation failed"),
+            AddFault::Full(_token) => f.write_str("the count would exceed 18446744073709551615"),
         }
     }
 }

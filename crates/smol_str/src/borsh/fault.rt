@@ -139,7 +139,7 @@ impl Display for EncodeFault {
 
     fn fmt<W: Write>(&self, f: &mut Formatter<W>) -> fmt::Result {
         match self {
-            EncodeFault::TooLong => write!(f, "the text has more than 4294967295 bytes"),
+            EncodeFault::TooLong => f.write_str("the text has more than 4294967295 bytes"),
             EncodeFault::Io(error) => Display::fmt(error, f),
         }
     }
@@ -153,9 +153,9 @@ impl Display for DecodeFault {
 
     fn fmt<W: Write>(&self, f: &mut Formatter<W>) -> fmt::Result {
         match self {
-            DecodeFault::Ended => write!(f, "the bytes end before the text does"),
+            DecodeFault::Ended => f.write_str("the bytes end before the text does"),
             DecodeFault::NotUtf8(error) => Display::fmt(error, f),
-            DecodeFault::OutOfMemory => write!(f, "memory allocation failed"),
+            DecodeFault::OutOfMemory => f.write_str("memory allocation failed"),
             DecodeFault::Io(error) => Display::fmt(error, f),
         }
     }
@@ -169,7 +169,7 @@ impl Display for LimitedFault {
 
     fn fmt<W: Write>(&self, f: &mut Formatter<W>) -> fmt::Result {
         match self {
-            LimitedFault::TooLong => write!(f, "the stated length exceeds the limit"),
+            LimitedFault::TooLong => f.write_str("the stated length exceeds the limit"),
             LimitedFault::Decode(fault) => Display::fmt(fault, f),
         }
     }

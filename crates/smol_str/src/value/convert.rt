@@ -59,7 +59,7 @@ impl Display for FromUtf8Fault {
     fn fmt<W: Write>(&self, f: &mut Formatter<W>) -> fmt::Result {
         match self {
             FromUtf8Fault::NotUtf8(error) => Display::fmt(error, f),
-            FromUtf8Fault::OutOfMemory => write!(f, "memory allocation failed"),
+            FromUtf8Fault::OutOfMemory => f.write_str("memory allocation failed"),
         }
     }
 }
