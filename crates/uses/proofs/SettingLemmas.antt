@@ -3,26 +3,8 @@ use Rattle.std.proofs.Common.{◌≡◌, ℕ, List, [], ◌∷◌, ◌++◌, map
 use Rattle.std.specs.Map.{lookup}
 use Rattle.std.proofs.lemmas.Grind.{fold-append}
 use Rattle.std.proofs.lemmas.List.{map-append}
-use Rattle.indexmap.specs.IndexMap.{insert_entry}
-use Rattle.smol_str.specs.Keys.{same_key, with_entry, entry_texts}
-use Rattle.smol_str.specs.Meaning.{Meaning}
 use Rattle.smol_str.proofs.CallerLemmas.{lookup-with_entry}
 use Rattle.uses.specs.Settings.{setting, with_setting, settings, value_in, or_else, last_value}
-
-abbrev pub texts : List (Meaning × Meaning) → List (List ℕ × List ℕ)
-texts es = entry_texts (λ (v : Meaning). v.text) es
-
--- an insert of values is one of their texts
-pub texts-insert : (es : List (Meaning × Meaning)) (k v : Meaning)
-    → texts (insert_entry same_key es k v) ≡ with_entry (texts es) k.text v.text
-texts-insert [] k v = refl
-texts-insert (e ∷ es) k v = by (same_key k e.0) (texts-insert es k v)
-  where
-    by : (b : Bool) → texts (insert_entry same_key es k v) ≡ with_entry (texts es) k.text v.text
-        → texts (if b then (e.0, v) ∷ es else e ∷ insert_entry same_key es k v)
-        ≡ (if b then (e.0.text, v.text) ∷ texts es else (e.0.text, e.1.text) ∷ with_entry (texts es) k.text v.text)
-    by true h = refl
-    by false h = ap (λ rest. (e.0.text, e.1.text) ∷ rest) h
 
 module _ (key : List ℕ) where
   lookup-with : (es : List (List ℕ × List ℕ)) (o : Option (List ℕ × List ℕ))

@@ -51,6 +51,23 @@ lookup-lent g r bs es u found = copied r ∙ ap (option_map g) found ∙ lookup-
     copied None = refl
     copied (Some v) = refl
 
+-- an insert in order, which puts the value at the key that is the same, or last: its entries seen as texts
+module _ {V W : Type 0} (g : V → W) (insert : List (Meaning × V) → Meaning → V → List (Meaning × V))
+    (last : (k : Meaning) (v : V) → insert [] k v ≡ (k, v) ∷ [])
+    (place : (e : Meaning × V) (es : List (Meaning × V)) (k : Meaning) (v : V)
+    → insert (e ∷ es) k v ≡ (if same_key k e.0 then (e.0, v) ∷ es else e ∷ insert es k v)) where
+  pub entry_texts-insert : (es : List (Meaning × V)) (k : Meaning) (v : V)
+      → entry_texts g (insert es k v) ≡ with_entry (entry_texts g es) k.text (g v)
+  entry_texts-insert [] k v = ap (entry_texts g) (last k v)
+  entry_texts-insert (e ∷ es) k v =
+      ap (entry_texts g) (place e es k v) ∙ by (same_key k e.0) (entry_texts-insert es k v)
+    where
+      by : (b : Bool) → entry_texts g (insert es k v) ≡ with_entry (entry_texts g es) k.text (g v)
+          → entry_texts g (if b then (e.0, v) ∷ es else e ∷ insert es k v)
+          ≡ (if b then (e.0.text, g v) ∷ entry_texts g es else (e.0.text, g e.1) ∷ with_entry (entry_texts g es) k.text (g v))
+      by true h = refl
+      by false h = ap (λ rest. (e.0.text, g e.1) ∷ rest) h
+
 -- an entry that is set is found at its text, and leaves what is found at others
 module _ {V : Type 0} (key t : List ℕ) (v : V) where
   -- by the tests: t is this entry's text, and so is the key, and the key is t

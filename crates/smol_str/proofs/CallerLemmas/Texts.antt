@@ -91,15 +91,12 @@ pub each_replaced-refused : {T E : Type 0} (r : Result T E) (t : List ℕ) (x y 
     → OnErr r (¬ (IsShort (each_replaced x y t)))
 each_replaced-refused r t x y long low small = subst (λ t. OnErr r (¬ (IsShort t))) (replaced_each x y low small t) long
 
--- and that no short text is refused, as long as the new one; at a goal of your own by `search (replacing, rules)`
-pub each_replaced-short : {T E : Type 0} (r : Result T E) (bs : List ℕ) (x y : ℕ)
-    → OnErr r (¬ (IsShort (replaced_all (chars bs) (chars (x ∷ [])) (chars (y ∷ []))))) → IsUtf8 bs → x < 128 → y < 128
-    → OnErr r (¬ (IsShort (chars bs)))
-each_replaced-short (Ok v) bs x y long u low small = tt
-each_replaced-short (Err e) bs x y long u low small =
-    search (rules, arith, replaced_each, size-mapped, each-moves, size-chars)
+-- and that no short text is refused, as long as the new one
+pub size-replaced_each : (bs : List ℕ) (x y : ℕ) → IsUtf8 bs → x < 128 → y < 128
+    → size (replaced_all (chars bs) (chars (x ∷ [])) (chars (y ∷ []))) ≡ size (chars bs)
+size-replaced_each bs x y u low small = search (rules, arith, replaced_each, size-mapped, each-moves, size-chars)
 
-pub ruleset replacing = (each_replaced-value, each_replaced-refused, each_replaced-short)
+pub ruleset replacing = (each_replaced-value, each_replaced-refused, size-replaced_each)
 
 -- ---- what was printed
 
