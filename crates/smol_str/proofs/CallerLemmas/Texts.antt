@@ -67,14 +67,10 @@ module _ {X : Type 0} (f : X →
 alone : (c : ℕ) → c < 128 → chars (c ∷ []) ≡ c ∷ []
 alone c ascii = chars-IsAscii (c ∷ []) (IsAscii-cons c [] ascii IsAscii-nil)
 
-pub each_with-value : {E : Type 0} (r : Result Meaning E) (t : List ℕ) (x : ℕ) (bs w : List ℕ)
-    → IfOk r (λ v. IsValueOf (replaced_all t (chars (x ∷ [])) (chars bs)) v) → x < 128 → IsAscii bs → bs ≡ w
-    → IfOk r (λ v. IsValueOf (each_with x w t) v)
-each_with-value r t x bs w is low ascii e =
-    let same : replaced_all t (chars (x ∷ [])) (chars bs) ≡ each_with x w t =
+pub replaced-each_with : (t : List ℕ) (x : ℕ) (bs : List ℕ) → x < 128 → IsAscii bs
+    → replaced_all t (chars (x ∷ [])) (chars bs) ≡ each_with x bs t
+replaced-each_with t x bs low ascii =
     (λ i. replaced_all t (alone x low i) (chars-IsAscii bs ascii i)) ∙ replaced_all-each t x bs
-    ∙ ap (λ w. each_with x w t) e in
-    subst (λ t. IfOk r (λ v. IsValueOf t v)) same is
 
 module _ (x y : ℕ) (low : x < 128) (small : y < 128) where
   replaced_each : (t : List ℕ) → replaced_all t (chars (x ∷ [])) (chars (y ∷ [])) ≡ each_replaced x y t
@@ -96,7 +92,7 @@ pub size-replaced_each : (bs : List ℕ) (x y : ℕ) → IsUtf8 bs → x < 128 �
     → size (replaced_all (chars bs) (chars (x ∷ [])) (chars (y ∷ []))) ≡ size (chars bs)
 size-replaced_each bs x y u low small = search (rules, arith, replaced_each, size-mapped, each-moves, size-chars)
 
-pub ruleset replacing = (each_replaced-value, each_replaced-refused, size-replaced_each)
+pub ruleset replacing = (each_replaced-value, each_replaced-refused, size-replaced_each, replaced-each_with, IsAscii-cons, IsAscii-nil)
 
 -- ---- what was printed
 
