@@ -74,6 +74,7 @@ impl Settings {
     }
 
     /// The value of a key. No value is made of it, so no memory is asked for.
+    #[tactic(auto, using(smol_str::proofs::CallerLemmas::lookups))]
     pub fn get(&self, key: &str) -> Option<&SmolStr>
         ensures { option_map (λ v. v.now.text) result ≡ lookup (bytes_eq (chars key.now)) self.now }
     {

@@ -51,6 +51,14 @@ lookup-lent g r bs es u found = copied r ∙ ap (option_map g) found ∙ lookup-
     copied None = refl
     copied (Some v) = refl
 
+-- of values as what is kept: for `#[tactic(auto, using(..))]`
+pub value-lent : (r : Option (Bor Meaning)) (bs : List ℕ) (es : List (Meaning × Meaning)) → IsUtf8 bs
+    → option_copied r ≡ lookup (stands_for bs) es
+    → option_map (λ v. v.now.text) r ≡ lookup (bytes_eq (chars bs)) (entry_texts (λ (v : Meaning). v.text) es)
+value-lent r bs es u found = lookup-lent (λ (v : Meaning). v.text) r bs es u found
+
+pub ruleset lookups = (value-lent)
+
 -- an insert in order, which puts the value at the key that is the same, or last: its entries seen as texts
 module _ {V W : Type 0} (g : V → W) (insert : List (Meaning × V) → Meaning → V → List (Meaning × V))
     (last : (k : Meaning) (v : V) → insert [] k v ≡ (k, v) ∷ [])
