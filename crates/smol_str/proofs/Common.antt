@@ -2,11 +2,10 @@
 pub use Rattle.std.proofs.Common.{◌≡◌, ℕ, ◌<◌, List, [], ◌∷◌, ◌++◌, Option, refl, sym, ◌∙◌, ap, ◌⊎◌, inl, inr, ◌-◌, ◌≤◌, length, Bool, true, false, ◌&&◌, nat_le, cond, append_assoc, arith, chars, IsUtf8, zero, suc, ◌+◌, ◌^◌, lit<, ⊎_elim, get_or, IsTrue, take, drop, length-append, take-append-drop, w32, All, encode_utf8_all, take_at, drop_at, length-take-le, length-drop, take-add, append-nil, ◌/◌, map, set, replicate, take_all, subst, IsAscii, IsCharBoundary, map-id, ◌*◌, length-take, nat_eq, w64, pow-add, take-take, drop-drop, get_or-drop, get_or-take, MatchOption, Result, Ok, Err, IfOk, slice_get, ◌↔◌, min, Some, None, option_map, unwrap_or, nat_cmp, flat_map, ne_eqb, String, string_bytes, ◌==◌, Global, Bor, IsOk, OnOk, OnErr, bytes_eq, ◌%◌, leb, ltb, w8, bit_and, not, eqb-true, leb-true, leb-false, ltb-true, ltb-false, IfSome, lt-ltb, le-ltb, MatchBool, drop-cons, slice_range, encode_utf8, is_ok, if◌then◌else◌, rules, le_refl}
 pub use Rattle.smol_str.specs.Buffer.{IsPacked, packed, padded, unpacked, HaveOneBuffer}
 pub use Rattle.smol_str.specs.Case.{front, lower, upper, lowercased, uppercased, IsAsciiText, HasSigma, BeginsPastAscii}
-pub use Rattle.smol_str.specs.Collect.{AppendedAll, StoppedAt, Collected, Outgrown, IsValueOfRun, AppendsRun}
 pub use Rattle.smol_str.specs.InCase.{letter, converted, letters, full_case, mapped, IsMappedAlone, IsAsciiFront}
-pub use Rattle.smol_str.specs.Cut.{StandsAt, Occurs, IsNextMatch, IsCut, joined_by, IsFirstAfter, IsCutAt, but_last, IsSpelled, IsCutBetween}
+pub use Rattle.smol_str.specs.Cut.{StandsAt, Occurs, IsNextMatch, IsCut, IsOnlyCut, joined_by, IsFirstAfter, IsCutAt, but_last, IsSpelled, IsCutBetween}
 pub use Rattle.smol_str.specs.Draft.{Draft, OnHeap, empty_draft, kind_for, appended, Kind, InBuffer, kind_with, draft_of}
-pub use Rattle.smol_str.specs.Joined.{joined, char_text, str_text, string_text, string_ref_text, joined_strs, joined_string_refs}
+pub use Rattle.smol_str.specs.Joined.{joined, char_text, str_text, string_text, string_ref_text, joined_strs, joined_strings, joined_string_refs}
 pub use Rattle.smol_str.specs.Meaning.{Meaning, IsValueOf}
 pub use Rattle.smol_str.specs.Replace.{replaced, replaced_all, first_match, cut, cut_at, cut_between, spell, no_limit, match_count, each_with, each_replaced}
 pub use Rattle.smol_str.specs.Replacing.{IsReplacing}

@@ -4,6 +4,7 @@
 --     IsFirstAfter p q         in q followed by p, p stands first at the end
 --     joined_by p pieces       the pieces in a row, with p between each two
 --     IsCut t p n pieces       the pieces of t, cut at p at most n times
+--     IsOnlyCut t p n pieces   these are the pieces, and no others are
 --     IsNextMatch a b p i      in a followed by b, the first p that begins in b has i bytes before it
 --     but_last xs              xs without its last item
 -- The last item of xs, as an option, is std's `last_or None xs`.
@@ -64,3 +65,7 @@ pub record IsCutBetween (t : List ℕ) (n : ℕ) (pieces : List (List ℕ)) : Ty
 abbrev pub IsCut : List ℕ → List ℕ → ℕ → List (List ℕ) → Type 0
 IsCut t [] n pieces = IsCutBetween t n pieces
 IsCut t (c ∷ p) n pieces = IsCutAt t (c ∷ p) n pieces
+
+-- and it can be cut in no other way
+abbrev pub IsOnlyCut : List ℕ → List ℕ → ℕ → List (List ℕ) → Type 0
+IsOnlyCut t p n pieces = IsCut t p n pieces × ((others : List (List ℕ)) → IsCut t p n others → others ≡ pieces)

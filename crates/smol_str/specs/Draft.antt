@@ -4,7 +4,10 @@
 --     appended b u      the builder b, and the text u at its end
 --     kind_for n t      the kind of a builder that was given capacity n and has the text t
 --     draft_of t        a builder that began without capacity and has the text t
-use Rattle.std.specs.Prelude.{ℕ, List, [], ◌++◌, ◌&&◌, nat_le, if◌then◌else◌}
+--     AppendsPrintOf output b c     c is the builder b with what was printed at its end, where the type says what it prints
+use Rattle.std.specs.Prelude.{◌≡◌, ℕ, List, [], ◌++◌, ◌&&◌, Option, IfSome, encode_utf8_all, nat_le, if◌then◌else◌}
+use Rattle.std.specs.Fmt.{AppendsText}
+use Rattle.std.specs.Str.{chars}
 use Rattle.smol_str.specs.declared.buffer.TheConstants.{INLINE_CAP}
 use Rattle.smol_str.specs.Text.{is_short}
 
@@ -38,3 +41,8 @@ kind_for n t = if nat_le n INLINE_CAP && is_short t then InBuffer else OnHeap
 -- begun without capacity, and with this text
 abbrev pub draft_of : List ℕ → Draft
 draft_of t = record { text = t; kind = kind_for 0 t }
+
+-- said in characters, and in bytes
+pub record AppendsPrintOf (output : Option (List ℕ)) (b c : Draft) : Type 0 where
+  pub text : IfSome output (λ bytes. c ≡ appended b (chars bytes))
+  pub bytes : AppendsText (encode_utf8_all b.text) (encode_utf8_all c.text) output

@@ -2,8 +2,9 @@
 --     joined f xs       the texts of the items xs, one after another, where f says the text of an item
 --     char_text c, str_text s, string_text s, string_ref_text s
 --                       the text of a `char`, a `&str`, a `String`, a `&String`
---     joined_strs xs, joined_string_refs xs
---                       the texts of `&str`s and of `&String`s, one after another, read off what they refer to
+--     joined_strs xs, joined_strings xs, joined_string_refs xs
+--                       the texts of `&str`s, of `String`s and of `&String`s, one after another; what is lent is read off
+--                       what it refers to
 use Rattle.std.specs.Prelude.{ℕ, List, [], ◌∷◌, String, map}
 use Rattle.std.specs.List.{flat_map}
 use Rattle.std.specs.Str.{chars}
@@ -34,6 +35,10 @@ string_ref_text s = string_text s.now
 -- the texts of the bytes that the items refer to
 abbrev pub joined_strs : List (Bor (List ℕ)) → List ℕ
 joined_strs xs = joined chars (map (λ s. s.now) xs)
+
+-- the texts of the `String`s
+abbrev pub joined_strings : List (String Global) → List ℕ
+joined_strings xs = joined string_text xs
 
 -- the texts of the `String`s that the items refer to
 abbrev pub joined_string_refs : List (Bor (String Global)) → List ℕ

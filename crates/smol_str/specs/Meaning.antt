@@ -1,5 +1,9 @@
 -- What a value means.
-use Rattle.std.specs.Prelude.{◌≡◌, ℕ, List}
+--     Meaning                  a text, and the place where the value keeps it
+--     IsValueOf t v            the value has the text t, in the place of that text
+--     IsPrintOf output v       the same of what was printed, where the type says what it prints
+use Rattle.std.specs.Prelude.{◌≡◌, ℕ, List, Option, IfSome, encode_utf8_all}
+use Rattle.std.specs.Str.{chars}
 use Rattle.smol_str.specs.declared.value.place.Place.{Place}
 use Rattle.smol_str.specs.Text.{place_of}
 
@@ -12,3 +16,10 @@ pub record Meaning : Type 0 where
 pub record IsValueOf (t : List ℕ) (v : Meaning) : Type 0 where
   pub text : v.text ≡ t
   pub place : v.place ≡ place_of t
+
+-- the value has what was printed as its text, said in characters and in bytes, where the type says what it prints; and it
+-- lies in the place of its text anyway
+pub record IsPrintOf (output : Option (List ℕ)) (v : Meaning) : Type 0 where
+  pub text : IfSome output (λ bytes. IsValueOf (chars bytes) v)
+  pub bytes : IfSome output (λ bytes. encode_utf8_all v.text ≡ bytes)
+  pub place : v.place ≡ place_of v.text

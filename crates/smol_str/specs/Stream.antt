@@ -1,5 +1,6 @@
 -- What is left of a reader's known bytes, and what a writer's have become, after single reads and writes. `Appends`
 -- and `Consumes` of std say it of a whole list.
+--     Gave remaining old new bytes         the reader gave the bytes, where `remaining` says what a reader has left
 --     AppendsBeginning held holds bytes    the writer took a beginning of the bytes, but not all of them
 --     GaveAllBelow input left n            the reader gave all that it had, fewer than n bytes
 --     GaveBelow input left n               it gave fewer than n bytes, and may have more
@@ -9,6 +10,10 @@ use Rattle.std.specs.Prelude.{◌≡◌, ℕ, ◌<◌, ◌≤◌, List, ◌++◌
 use Rattle.std.specs.Io.KnownBytes.{Appends, Consumes, IsAtEnd}
 use Rattle.smol_str.specs.declared.stream.ReadFault.{ReadFault}
 use Rattle.smol_str.specs.declared.stream.ReadFault.TheVariants.{OutOfMemory, Io}
+
+-- the bytes, and no more
+abbrev pub Gave : {R : Type 0} → (R → Option (List ℕ)) → R → R → List ℕ → Type 0
+Gave remaining old new bytes = Consumes (remaining old) (remaining new) bytes
 
 -- a beginning of the bytes was appended, perhaps none, and at least one byte is missing
 abbrev pub AppendsBeginning : Option (List ℕ) → Option (List ℕ) → List ℕ → Type 0

@@ -5,8 +5,9 @@
 //! is claimed of a reader or writer whose bytes are not known.
 ghost use Rattle.std.specs.Prelude.{◌≡◌, ◌<◌, ◌≤◌, ◌^◌, ◌++◌, ℕ, List, length, Option, MatchOption, IfOk, OnOk, IfErr};
 ghost use Rattle.std.specs.Int.{w32, to_le_bytes, from_le_bytes};
-ghost use Rattle.std.specs.Io.KnownBytes.{Appends, Consumes};
+ghost use Rattle.std.specs.Io.KnownBytes.{Appends};
 ghost use Rattle.smol_str.specs.Text.{size, place_of};
+ghost use Rattle.smol_str.specs.Stream.{Gave};
 ghost use Rattle.smol_str.specs.Wire.{HasWire, wire, Holds, HasEndedEarly, body};
 ghost use Rattle.smol_str.specs.declared.borsh.fault.LimitedFault.TheVariants.{Decode};
 ghost use Rattle.smol_str.specs.WireFaults.{AfterEncodeFault, AfterDecodeFault, AfterFromWireFault, AfterLimitedFault};
@@ -74,7 +75,7 @@ pub trait BorshDeserialize: Sized {
     /// ```
     fn deserialize_reader<R: Read>(alloc: Global, reader: &mut R) -> Result<Self, DecodeFault>
         ensures ok { IfOk result (λ v.
-            Consumes (R.remaining reader.old) (R.remaining reader.new) (form_read v)) }
+            Gave R.remaining reader.old reader.new (form_read v)) }
         ensures value { IfOk result (λ v. is_read v) }
         ensures fault { IfErr result
             (after_fault (R.remaining reader.old) (R.remaining reader.new)) };
@@ -149,7 +150,7 @@ pub fn deserialize_limited<R: Read>(
     limit: usize,
 ) -> Result<SmolStr, LimitedFault>
     ensures ok { IfOk result (λ v.
-        Consumes (R.remaining reader.old) (R.remaining reader.new) (wire v.text)) }
+        Gave R.remaining reader.old reader.new (wire v.text)) }
     ensures value { IfOk result (λ v. HasWire v.text × (v.place ≡ place_of v.text)) }
     ensures limited { IfOk result (λ v. size v.text ≤ limit) }
     ensures fault { IfErr result

@@ -8,9 +8,9 @@ ghost use Rattle.std.specs.Iterator.{IsFinite};
 ghost use Rattle.smol_str.specs.Text.{IsResident};
 ghost use Rattle.smol_str.specs.Meaning.{Meaning, IsValueOf};
 ghost use Rattle.smol_str.specs.Draft.{InBuffer, OnHeap, empty_draft, appended};
-ghost use Rattle.smol_str.specs.Joined.{joined, joined_strs, joined_string_refs, char_text, str_text, string_text, string_ref_text};
+ghost use Rattle.smol_str.specs.Joined.{joined, joined_strs, joined_strings, joined_string_refs, char_text, str_text, string_text, string_ref_text};
 ghost use Rattle.smol_str.specs.JoinedLaws.{joined-chars, joined-strs, joined-string_refs};
-ghost use Rattle.smol_str.specs.Collect.{AppendedAll, StoppedAt, Collected, Outgrown, OutgrownAfter, IsValueOfRun, AppendsRun};
+ghost use Rattle.smol_str.specs.Collect.{AppendedAll, StoppedAt, Collected, Outgrown};
 
 pub mod steps;
 mod traits;
@@ -64,7 +64,7 @@ impl<'a> Piece for &'a str {
 impl Piece for String {
     ghost text = { string_text };
 
-    ghost texts = { joined string_text };
+    ghost texts = { joined_strings };
 
     ghost joins = { λ _. refl };
 
@@ -138,9 +138,8 @@ impl SmolStr {
     ) -> Result<A::Value, AllocError>
         requires can { I.can_next iter }
         requires ends { IsFinite (I.remaining iter) }
-        ensures ok { IfOk result (Collected char_text I.next_gives iter A.meaning) }
-        ensures runs { IfOk result (IsValueOfRun I.next_gives iter (λ items. items) A.meaning) }
-        ensures refused { OnErr result (Outgrown char_text I.next_gives iter) }
+        ensures ok { IfOk result (Collected (λ items. items) I.next_gives iter A.meaning) }
+        ensures refused { OnErr result (Outgrown (λ items. items) I.next_gives iter) }
     {
         collect(alloc, iter)
     }
@@ -157,9 +156,8 @@ impl SmolStr {
     ) -> Result<A::Value, AllocError>
         requires can { I.can_next iter }
         requires ends { IsFinite (I.remaining iter) }
-        ensures ok { IfOk result (Collected str_text I.next_gives iter A.meaning) }
-        ensures runs { IfOk result (IsValueOfRun I.next_gives iter joined_strs A.meaning) }
-        ensures refused { OnErr result (Outgrown str_text I.next_gives iter) }
+        ensures ok { IfOk result (Collected joined_strs I.next_gives iter A.meaning) }
+        ensures refused { OnErr result (Outgrown joined_strs I.next_gives iter) }
     {
         collect(alloc, iter)
     }
@@ -178,9 +176,8 @@ impl SmolStr {
     ) -> Result<A::Value, AllocError>
         requires can { I.can_next iter }
         requires ends { IsFinite (I.remaining iter) }
-        ensures ok { IfOk result (Collected string_text I.next_gives iter A.meaning) }
-        ensures runs { IfOk result (IsValueOfRun I.next_gives iter (joined string_text) A.meaning) }
-        ensures refused { OnErr result (Outgrown string_text I.next_gives iter) }
+        ensures ok { IfOk result (Collected joined_strings I.next_gives iter A.meaning) }
+        ensures refused { OnErr result (Outgrown joined_strings I.next_gives iter) }
     {
         collect(alloc, iter)
     }
@@ -198,9 +195,8 @@ impl SmolStr {
     ) -> Result<A::Value, AllocError>
         requires can { I.can_next iter }
         requires ends { IsFinite (I.remaining iter) }
-        ensures ok { IfOk result (Collected string_ref_text I.next_gives iter A.meaning) }
-        ensures runs { IfOk result (IsValueOfRun I.next_gives iter joined_string_refs A.meaning) }
-        ensures refused { OnErr result (Outgrown string_ref_text I.next_gives iter) }
+        ensures ok { IfOk result (Collected joined_string_refs I.next_gives iter A.meaning) }
+        ensures refused { OnErr result (Outgrown joined_string_refs I.next_gives iter) }
     {
         collect(alloc, iter)
     }
@@ -220,10 +216,8 @@ impl SmolStrBuilder {
     pub fn extend_chars<I: Iterator<Item = char>>(&mut self, iter: I) -> Result<(), AllocError>
         requires can { I.can_next iter }
         requires ends { IsFinite (I.remaining iter) }
-        ensures ok { OnOk result (AppendedAll char_text I.next_gives iter self.old self.new) }
-        ensures runs { OnOk result (AppendsRun I.next_gives iter (λ items. items) self.old self.new) }
-        ensures stopped { OnErr result (StoppedAt char_text I.next_gives iter self.old self.new) }
-        ensures refused { OnErr result (OutgrownAfter char_text I.next_gives iter self.old) }
+        ensures ok { OnOk result (AppendedAll (λ items. items) I.next_gives iter self.old self.new) }
+        ensures stopped { OnErr result (StoppedAt (λ items. items) I.next_gives iter self.old self.new) }
     {
         append_all(self, iter)
     }
@@ -241,10 +235,8 @@ impl SmolStrBuilder {
     ) -> Result<(), AllocError>
         requires can { I.can_next iter }
         requires ends { IsFinite (I.remaining iter) }
-        ensures ok { OnOk result (AppendedAll str_text I.next_gives iter self.old self.new) }
-        ensures runs { OnOk result (AppendsRun I.next_gives iter joined_strs self.old self.new) }
-        ensures stopped { OnErr result (StoppedAt str_text I.next_gives iter self.old self.new) }
-        ensures refused { OnErr result (OutgrownAfter str_text I.next_gives iter self.old) }
+        ensures ok { OnOk result (AppendedAll joined_strs I.next_gives iter self.old self.new) }
+        ensures stopped { OnErr result (StoppedAt joined_strs I.next_gives iter self.old self.new) }
     {
         append_all(self, iter)
     }
@@ -256,10 +248,8 @@ impl SmolStrBuilder {
     ) -> Result<(), AllocError>
         requires can { I.can_next iter }
         requires ends { IsFinite (I.remaining iter) }
-        ensures ok { OnOk result (AppendedAll string_ref_text I.next_gives iter self.old self.new) }
-        ensures runs { OnOk result (AppendsRun I.next_gives iter joined_string_refs self.old self.new) }
-        ensures stopped { OnErr result (StoppedAt string_ref_text I.next_gives iter self.old self.new) }
-        ensures refused { OnErr result (OutgrownAfter string_ref_text I.next_gives iter self.old) }
+        ensures ok { OnOk result (AppendedAll joined_string_refs I.next_gives iter self.old self.new) }
+        ensures stopped { OnErr result (StoppedAt joined_string_refs I.next_gives iter self.old self.new) }
     {
         append_all(self, iter)
     }
@@ -272,10 +262,8 @@ pub(crate) fn append_all<P: Piece, I: Iterator<Item = P>>(
 ) -> Result<(), AllocError>
     requires can { I.can_next iter }
     requires ends { IsFinite (I.remaining iter) }
-    ensures ok { OnOk result (AppendedAll P.text I.next_gives iter builder.old builder.new) }
-    ensures runs { OnOk result (AppendsRun I.next_gives iter P.texts builder.old builder.new) }
-    ensures stopped { OnErr result (StoppedAt P.text I.next_gives iter builder.old builder.new) }
-    ensures refused { OnErr result (OutgrownAfter P.text I.next_gives iter builder.old) }
+    ensures ok { OnOk result (AppendedAll P.texts I.next_gives iter builder.old builder.new) }
+    ensures stopped { OnErr result (StoppedAt P.texts I.next_gives iter builder.old builder.new) }
 {
     // So no items at all leave it in its buffer.
     prove!(builder.inline_buffer().is_none() || builder.as_str().len() <= INLINE_CAP);
@@ -292,9 +280,8 @@ fn collect<A: ValueAlloc, P: Piece, I: Iterator<Item = P>>(
 ) -> Result<A::Value, AllocError>
     requires can { I.can_next iter }
     requires ends { IsFinite (I.remaining iter) }
-    ensures ok { IfOk result (Collected P.text I.next_gives iter A.meaning) }
-    ensures runs { IfOk result (IsValueOfRun I.next_gives iter P.texts A.meaning) }
-    ensures refused { OnErr result (Outgrown P.text I.next_gives iter) }
+    ensures ok { IfOk result (Collected P.texts I.next_gives iter A.meaning) }
+    ensures refused { OnErr result (Outgrown P.texts I.next_gives iter) }
 {
     let mut builder = alloc.builder();
     append_all(&mut builder, iter)?;

@@ -1,10 +1,9 @@
 //! Values of what is printed.
-ghost use Rattle.std.specs.Prelude.{◌≡◌, Some, IfSome, IfOk, OnOk, OnErr, encode_utf8_all};
-ghost use Rattle.std.specs.Fmt.{AppendsText};
+ghost use Rattle.std.specs.Prelude.{◌≡◌, Some, IfOk, OnOk, OnErr};
 ghost use Rattle.std.specs.Str.{chars, IsUtf8};
-ghost use Rattle.smol_str.specs.Text.{IsResident, place_of};
-ghost use Rattle.smol_str.specs.Meaning.{IsValueOf};
-ghost use Rattle.smol_str.specs.Draft.{OnHeap, appended};
+ghost use Rattle.smol_str.specs.Text.{IsResident};
+ghost use Rattle.smol_str.specs.Meaning.{IsValueOf, IsPrintOf};
+ghost use Rattle.smol_str.specs.Draft.{OnHeap, appended, AppendsPrintOf};
 ghost use Rattle.smol_str.specs.Said.{format_said};
 
 use crate::buffer::INLINE_CAP;
@@ -77,10 +76,7 @@ impl SmolStrBuilder {
     /// assert_eq!(rt; builder.as_str(), "a-07");
     /// ```
     pub fn write_fmt<D: fmt::Display + Drop>(&mut self, value: D) -> fmt::Result
-        ensures text { OnOk result
-            (IfSome (D.output value) (λ bytes. self.new ≡ appended self.old (chars bytes))) }
-        ensures bytes { OnOk result
-            (AppendsText (encode_utf8_all self.old.text) (encode_utf8_all self.new.text) (D.output value)) }
+        ensures { OnOk result (AppendsPrintOf (D.output value) self.old self.new) }
     {
         prove!(self.as_str().len() <= INLINE_CAP || self.inline_buffer().is_none());
         fmt::Write::write_fmt(self, value)
@@ -99,10 +95,7 @@ pub trait ToSmolStr: fmt::Display {
     /// assert_eq!(rt; number.as_str(), "42");
     /// ```
     fn to_smolstr(&self, alloc: Global) -> Result<SmolStr, FormatError>
-        ensures text { IfOk result (λ v. IfSome (Self.output self.now) (λ bytes. IsValueOf (chars bytes) v)) }
-        ensures bytes { IfOk result
-            (λ v. IfSome (Self.output self.now) (λ bytes. encode_utf8_all v.text ≡ bytes)) }
-        ensures place { IfOk result (λ v. v.place ≡ place_of v.text) };
+        ensures { IfOk result (IsPrintOf (Self.output self.now)) };
 }
 
 impl<T: fmt::Display> ToSmolStr for T {

@@ -7,7 +7,6 @@ ghost use Rattle.std.specs.Prelude.{◌≡◌, ℕ, List, IfOk, IfErr};
 ghost use Rattle.std.specs.String.{string_bytes};
 ghost use Rattle.serde_json.specs.View.{view};
 ghost use Rattle.serde_json.specs.Written.{compact_text};
-ghost use Rattle.smol_str.specs.Text.{place_of};
 ghost use Rattle.smol_str.specs.Meaning.{IsValueOf};
 ghost use Rattle.smol_str.specs.Said.{json_said};
 ghost use Rattle.smol_str.specs.Json.{json_value, IsJsonText, IsJsonOf, AfterValueFault, AfterJsonFault};
@@ -129,7 +128,6 @@ pub fn to_json(alloc: Global, value: &SmolStr) -> Result<String, AllocError>
 #[tactic(auto, using(crate::proofs::JsonLemmas::read_texts))]
 pub fn from_json(alloc: Global, text: &str) -> Result<SmolStr, JsonFault>
     ensures text { IfOk result (λ v. IsJsonText text.now v.text) }
-    ensures place { IfOk result (λ v. v.place ≡ place_of v.text) }
     ensures of_text { (t : List ℕ) → IsJsonText text.now t → IfOk result (λ v. IsValueOf t v) }
     ensures fault { IfErr result (AfterJsonFault text.now) }
 {

@@ -12,7 +12,7 @@ ghost use Rattle.std.specs.Cmp.Lexicographic.{slice_cmp};
 ghost use Rattle.std.specs.Char.{IsAsciiUppercase, IsAsciiLowercase};
 ghost use Rattle.smol_str.specs.Text.{size, IsShort, IsBlankRun, IsResident, place_of};
 ghost use Rattle.smol_str.specs.Buffer.{padded};
-ghost use Rattle.smol_str.specs.Case.{lower, upper, front, IsAsciiText, BeginsPastAscii};
+ghost use Rattle.smol_str.specs.Case.{lower, upper, front, lowercased, uppercased, IsAsciiText, BeginsPastAscii};
 ghost use Rattle.smol_str.specs.Cut.{Occurs, StandsAt, IsFirstAfter, IsNextMatch, IsCut, joined_by};
 ghost use Rattle.smol_str.specs.Replace.{cut, no_limit, match_count, replaced, replaced_all, each_replaced};
 ghost use Rattle.smol_str.specs.Wire.{HasWire, wire, Holds, HasEndedEarly, body};
@@ -69,6 +69,15 @@ pub fn ascii_front()
     ensures longest { (a r : List ℕ) → IsAsciiText a → BeginsPastAscii r → front (a ++ r) ≡ a }
     ensures parts { (t : List ℕ) →
         (r : List ℕ) × (t ≡ front t ++ r) × IsAsciiText (front t) × BeginsPastAscii r }
+{}
+
+/// Full case of a text begins with its ASCII front in that case of ASCII. So of ASCII text, full case
+/// is the case of ASCII.
+pub fn full_case()
+    ensures lower_front { (t : List ℕ) → (r : List ℕ) × (lowercased t ≡ lower (front t) ++ r) }
+    ensures upper_front { (t : List ℕ) → (r : List ℕ) × (uppercased t ≡ upper (front t) ++ r) }
+    ensures lower_ascii { (t : List ℕ) → IsAsciiText t → lowercased t ≡ lower t }
+    ensures upper_ascii { (t : List ℕ) → IsAsciiText t → uppercased t ≡ upper t }
 {}
 
 /// A pattern stands first after `q` exactly where it stands after no shorter text.

@@ -1,10 +1,10 @@
 //! New texts made from a `str`, as values: its matches replaced, or its case changed.
-ghost use Rattle.std.specs.Prelude.{◌≡◌, ℕ, List, ◌++◌, IfOk, OnErr};
+ghost use Rattle.std.specs.Prelude.{◌≡◌, ℕ, List, IfOk, OnErr};
 ghost use Rattle.std.specs.Str.{chars};
-ghost use Rattle.smol_str.specs.Text.{IsShort, place_of};
+ghost use Rattle.smol_str.specs.Text.{IsShort};
 ghost use Rattle.smol_str.specs.Meaning.{IsValueOf};
-ghost use Rattle.smol_str.specs.Case.{lower, upper, front, lowercased, uppercased, IsAsciiText};
-ghost use Rattle.smol_str.specs.Cut.{IsCut, joined_by};
+ghost use Rattle.smol_str.specs.Case.{lower, upper, lowercased, uppercased, IsAsciiText};
+ghost use Rattle.smol_str.specs.Cut.{IsOnlyCut, joined_by};
 ghost use Rattle.smol_str.specs.Replace.{no_limit, replaced, replaced_all};
 
 mod ascii;
@@ -52,12 +52,7 @@ pub trait StrExt {
         ensures ok { IfOk result (λ v.
             IsValueOf (replaced (content self.now) (chars from.now) (chars to.now) count) v) }
         ensures cut { (pieces : List (List ℕ)) ×
-            IsCut (content self.now) (chars from.now) count pieces }
-        ensures one_cut { (xs ys : List (List ℕ)) →
-            IsCut (content self.now) (chars from.now) count xs →
-            IsCut (content self.now) (chars from.now) count ys → xs ≡ ys }
-        ensures text { (pieces : List (List ℕ)) →
-            IsCut (content self.now) (chars from.now) count pieces →
+            IsOnlyCut (content self.now) (chars from.now) count pieces ×
             IfOk result (λ v. v.text ≡ joined_by (chars to.now) pieces) }
         ensures refused { OnErr result
             (¬ (IsShort (replaced (content self.now) (chars from.now) (chars to.now) count))) };
@@ -72,9 +67,7 @@ pub trait StrExt {
         ensures ok { IfOk result (λ v.
             IsValueOf (replaced_all (content self.now) (chars from.now) (chars to.now)) v) }
         ensures cut { (pieces : List (List ℕ)) ×
-            IsCut (content self.now) (chars from.now) (no_limit (content self.now)) pieces }
-        ensures text { (pieces : List (List ℕ)) →
-            IsCut (content self.now) (chars from.now) (no_limit (content self.now)) pieces →
+            IsOnlyCut (content self.now) (chars from.now) (no_limit (content self.now)) pieces ×
             IfOk result (λ v. v.text ≡ joined_by (chars to.now) pieces) }
         ensures refused { OnErr result
             (¬ (IsShort (replaced_all (content self.now) (chars from.now) (chars to.now)))) };
@@ -95,7 +88,8 @@ pub trait StrExt {
         ensures refused { OnErr result (¬ (IsShort (content self.now))) };
 
     /// The text in lower case as Unicode maps it, as `str::to_lowercase`: `Σ` at the end of a word
-    /// becomes `ς`, in short texts too.
+    /// becomes `ς`, in short texts too. The ASCII front of a text is in lower case of ASCII
+    /// ([`laws::full_case`](crate::laws::full_case)).
     ///
     /// No short ASCII text is refused. Any other may be, one with `Σ` even where the result is
     /// short.
@@ -106,11 +100,6 @@ pub trait StrExt {
     /// ```
     fn to_lowercase_smolstr(&self, alloc: Global) -> Result<SmolStr, AllocError>
         ensures ok { IfOk result (λ v. IsValueOf (lowercased (content self.now)) v) }
-        ensures ascii { IsAsciiText (content self.now) →
-            IfOk result (λ v. IsValueOf (lower (content self.now)) v) }
-        ensures front { IfOk result (λ v.
-            (r : List ℕ) × (v.text ≡ lower (front (content self.now)) ++ r)) }
-        ensures place { IfOk result (λ v. v.place ≡ place_of v.text) }
         ensures refused { OnErr result
             (¬ (IsAsciiText (content self.now) × IsShort (content self.now))) };
 
@@ -119,11 +108,6 @@ pub trait StrExt {
     /// No short ASCII text is refused.
     fn to_uppercase_smolstr(&self, alloc: Global) -> Result<SmolStr, AllocError>
         ensures ok { IfOk result (λ v. IsValueOf (uppercased (content self.now)) v) }
-        ensures ascii { IsAsciiText (content self.now) →
-            IfOk result (λ v. IsValueOf (upper (content self.now)) v) }
-        ensures front { IfOk result (λ v.
-            (r : List ℕ) × (v.text ≡ upper (front (content self.now)) ++ r)) }
-        ensures place { IfOk result (λ v. v.place ≡ place_of v.text) }
         ensures refused { OnErr result
             (¬ (IsAsciiText (content self.now) × IsShort (content self.now))) };
 }

@@ -4,8 +4,8 @@
 //! or writer may return for ever. These functions return every error at once. Nothing is claimed of
 //! a reader or writer whose bytes are not known.
 ghost use Rattle.std.specs.Prelude.{◌≡◌, ◌<◌, ◌≤◌, ◌-◌, ◌^◌, length, take, IfOk, OnOk, IfErr, OnErr, IfSome};
-ghost use Rattle.std.specs.Io.KnownBytes.{Appends, Consumes, IsAtEnd};
-ghost use Rattle.smol_str.specs.Stream.{AppendsBeginning, GaveBelow, AfterReadFault};
+ghost use Rattle.std.specs.Io.KnownBytes.{Appends, IsAtEnd};
+ghost use Rattle.smol_str.specs.Stream.{Gave, GaveBelow, AppendsBeginning, AfterReadFault};
 ghost use Rattle.smol_str.specs.Said.{read_said};
 ghost use Rattle.smol_str.specs.declared.stream.ReadFault.TheVariants.{OutOfMemory, Io};
 
@@ -72,7 +72,7 @@ impl Error for ReadFault {}
 pub fn fill<R: Read>(reader: &mut R, buf: &mut [u8]) -> Result<usize, io::Error>
     ensures within { IfOk result (λ n. n ≤ length buf.old) }
     ensures bytes { IfOk result (λ n.
-        Consumes (R.remaining reader.old) (R.remaining reader.new) (take n buf.new)) }
+        Gave R.remaining reader.old reader.new (take n buf.new)) }
     ensures end { IfOk result (λ n. n < length buf.old → IsAtEnd (R.remaining reader.new)) }
     ensures failed { OnErr result
         (GaveBelow (R.remaining reader.old) (R.remaining reader.new) (length buf.old)) }
@@ -103,7 +103,7 @@ pub fn read_up_to<R: Read>(
 ) -> Result<Vec<u8>, ReadFault>
     ensures within { IfOk result (λ all. length all.items ≤ limit) }
     ensures bytes { IfOk result (λ all.
-        Consumes (R.remaining reader.old) (R.remaining reader.new) all.items) }
+        Gave R.remaining reader.old reader.new all.items) }
     ensures end { IfOk result (λ all. length all.items < limit → IsAtEnd (R.remaining reader.new)) }
     ensures fault { IfErr result
         (AfterReadFault limit (R.remaining reader.old) (R.remaining reader.new)) }
@@ -123,8 +123,6 @@ pub fn read_up_to<R: Read>(
 
 /// Reads to the end, in chunks of at most [`CHUNK`] bytes.
 pub fn read_all<R: Read>(alloc: Global, reader: &mut R) -> Result<Vec<u8>, ReadFault>
-    ensures bytes { IfOk result (λ all.
-        Consumes (R.remaining reader.old) (R.remaining reader.new) all.items) }
     ensures end { OnOk result (IsAtEnd (R.remaining reader.new)) }
     ensures whole { IfOk result (λ all.
         IfSome (R.remaining reader.old) (λ input. all.items ≡ input)) }

@@ -9,7 +9,7 @@ use Rattle.std.proofs.lemmas.Result.{err_from_is_err_and}
 use Rattle.smol_str.specs.Stream.{AfterReadFault}
 use Rattle.smol_str.specs.declared.stream.ReadFault.{ReadFault}
 use Rattle.smol_str.specs.declared.stream.ReadFault.TheVariants as reading
-use Rattle.smol_tokens_core.specs.Faults.{AfterFault}
+use Rattle.smol_tokens_core.specs.Faults.{Streams, AfterFault}
 use Rattle.smol_tokens_core.specs.ReadFaults.{of_read_fault}
 use Rattle.smol_tokens_core.specs.Report.{report}
 use Rattle.smol_tokens_core.specs.ReportFaults.{HasALineTooOften, WantsMemory, HasNoReport}
@@ -21,9 +21,13 @@ Keeps-itself : (known : Option (List ℕ)) → Keeps known known
 Keeps-itself None = tt
 Keeps-itself (Some bytes) = refl
 
+-- nothing was written
+abbrev unwritten : Option (List ℕ) → Option (List ℕ) → Option (List ℕ) → Streams
+unwritten input left held = record { input = input; left = left; held = held; holds = held }
+
 -- the input was not read to its end
 pub after-reading : (mode : Mode) (limit : ℕ) (input left held : Option (List ℕ)) (fault : ReadFault)
-    → AfterReadFault limit input left fault → AfterFault mode input left held held (of_read_fault fault)
+    → AfterReadFault limit input left fault → AfterFault mode (unwritten input left held) (of_read_fault fault)
 after-reading mode limit input left held reading.OutOfMemory (bytes, some, within, consumed) =
     (Keeps-itself held, inl (bytes, some, consumed))
 after-reading mode limit input left held (reading.Io e) (bytes, short, consumed) =
@@ -32,7 +36,7 @@ after-reading mode limit input left held (reading.Io e) (bytes, short, consumed)
 -- the whole input came, is a text, and there is no report on it: nothing was written
 pub after-no_report : (mode : Mode) (input left held : Option (List ℕ)) (bytes : List ℕ) (fault : RunFault)
     → IsAtEnd left → IfSome input (λ all. bytes ≡ all) → IsUtf8 bytes → HasNoReport mode (chars bytes) fault
-    → AfterFault mode input left held held fault
+    → AfterFault mode (unwritten input left held) fault
 after-no_report mode input left held bytes NotUtf8 end whole utf8 none = absurd none
 after-no_report mode input left held bytes OutOfMemory end whole utf8 none = (
   Keeps-itself held,
@@ -52,7 +56,7 @@ after-no_report mode input left held bytes (Io e) end whole utf8 none = absurd n
 
 -- the whole input came and is no text: nothing was written
 pub after-not_utf8 : (mode : Mode) (input left held : Option (List ℕ)) (bytes : List ℕ) → IsAtEnd left
-    → IfSome input (λ all. bytes ≡ all) → ¬ (IsUtf8 bytes) → AfterFault mode input left held held NotUtf8
+    → IfSome input (λ all. bytes ≡ all) → ¬ (IsUtf8 bytes) → AfterFault mode (unwritten input left held) NotUtf8
 after-not_utf8 mode input left held bytes end whole none = (
   end,
   IfSome_then input whole (λ all same. subst (λ all. ¬ (IsUtf8 all)) same none),

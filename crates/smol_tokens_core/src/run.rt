@@ -1,6 +1,6 @@
 //! The program, over any reader and writer.
 ghost use Rattle.std.specs.Prelude.{OnOk, IfErr};
-ghost use Rattle.smol_tokens_core.specs.Faults.{WroteReport, AfterFault};
+ghost use Rattle.smol_tokens_core.specs.Faults.{streams, WroteReport, AfterFault};
 
 use crate::fault::RunFault;
 use crate::mode::Mode;
@@ -26,11 +26,9 @@ pub fn run<S: BuildHasher + Drop, R: Read, W: Write>(
     writer: &mut W,
 ) -> Result<(), RunFault>
     ensures ok { OnOk result
-        (WroteReport mode (R.remaining reader.old) (R.remaining reader.new)
-        (W.contents writer.old) (W.contents writer.new)) }
+        (WroteReport mode (streams R.remaining reader.old reader.new W.contents writer.old writer.new)) }
     ensures fault { IfErr result
-        (AfterFault mode (R.remaining reader.old) (R.remaining reader.new)
-        (W.contents writer.old) (W.contents writer.new)) }
+        (AfterFault mode (streams R.remaining reader.old reader.new W.contents writer.old writer.new)) }
 {
     let input = read_all(alloc, reader)?;
     let Ok(text) = str::from_utf8(input.as_slice()) else {

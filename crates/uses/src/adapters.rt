@@ -4,7 +4,7 @@ ghost use Rattle.std.specs.List.{filter, prefix_len, slice_split};
 ghost use Rattle.std.specs.Str.{chars};
 ghost use Rattle.std.specs.Str.Lines.{lines};
 ghost use Rattle.std.specs.Iterator.{IsFinite};
-ghost use Rattle.smol_str.specs.Collect.{IsValueOfRun, Outgrown};
+ghost use Rattle.smol_str.specs.Collect.{Collected, Outgrown};
 ghost use Rattle.smol_str.specs.Text.{IsShort, IsResident};
 ghost use Rattle.smol_str.specs.Meaning.{IsValueOf};
 ghost use Rattle.smol_str.specs.Draft.{OnHeap, appended};
@@ -71,7 +71,7 @@ pub fn of_parts(alloc: Global, parts: &[&str]) -> Result<SmolStr, AllocError>
 }
 
 /// Two texts with a dash between them.
-#[tactic(auto, using(smol_str::proofs::CallerLemmas::collecting))]
+#[tactic(auto, using(smol_str::proofs::CallerLemmas::collecting), unfolding(smol_str::specs::Collect::Collected))]
 pub fn with_dash(alloc: Global, first: &str, second: &str) -> Result<SmolStr, AllocError>
     ensures value { IfOk result (λ v. IsValueOf (joined chars (first.now ∷ codes "-" ∷ second.now ∷ [])) v) }
     ensures refused { OnErr result (¬ (IsShort (joined chars (first.now ∷ codes "-" ∷ second.now ∷ [])))) }
@@ -214,8 +214,8 @@ pub fn of_texts<'a, A: ValueAlloc, I: Iterator<Item = &'a str>>(
 ) -> Result<A::Value, AllocError>
     requires can { I.can_next texts }
     requires ends { IsFinite (I.remaining texts) }
-    ensures value { IfOk result (IsValueOfRun I.next_gives texts joined_strs A.meaning) }
-    ensures refused { OnErr result (Outgrown str_text I.next_gives texts) }
+    ensures value { IfOk result (Collected joined_strs I.next_gives texts A.meaning) }
+    ensures refused { OnErr result (Outgrown joined_strs I.next_gives texts) }
 {
     SmolStr::from_strs(alloc, texts)
 }

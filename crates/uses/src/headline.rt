@@ -14,8 +14,8 @@ ghost use Rattle.std.specs.Iterator.{IsFinite};
 ghost use Rattle.std.specs.Rc.{rc_str_bytes};
 ghost use Rattle.smol_str.specs.Text.{IsShort, IsResident, place_of};
 ghost use Rattle.smol_str.specs.Meaning.{IsValueOf};
-ghost use Rattle.smol_str.specs.Joined.{joined, char_text, str_text, string_text, string_ref_text};
-ghost use Rattle.smol_str.specs.Collect.{Collected, Outgrown, AppendedAll, OutgrownAfter};
+ghost use Rattle.smol_str.specs.Joined.{joined, joined_strs, joined_strings, joined_string_refs, string_text};
+ghost use Rattle.smol_str.specs.Collect.{Collected, Outgrown, AppendedAll, StoppedAt};
 ghost use Rattle.smol_str.specs.Steps.{step_text};
 ghost use Rattle.smol_str.specs.Case.{lower, upper, lowercased, uppercased, IsAsciiText};
 ghost use Rattle.smol_str.specs.InCase.{converted};
@@ -176,8 +176,8 @@ pub fn of_any_chars<A: ValueAlloc, I: Iterator<Item = char>>(
 ) -> Result<A::Value, AllocError>
     requires can { I.can_next iter }
     requires ends { IsFinite (I.remaining iter) }
-    ensures value { IfOk result (Collected char_text I.next_gives iter A.meaning) }
-    ensures refused { OnErr result (Outgrown char_text I.next_gives iter) }
+    ensures value { IfOk result (Collected (λ items. items) I.next_gives iter A.meaning) }
+    ensures refused { OnErr result (Outgrown (λ items. items) I.next_gives iter) }
 {
     SmolStr::from_chars(alloc, iter)
 }
@@ -189,8 +189,8 @@ pub fn of_any_strs<'a, A: ValueAlloc, I: Iterator<Item = &'a str>>(
 ) -> Result<A::Value, AllocError>
     requires can { I.can_next iter }
     requires ends { IsFinite (I.remaining iter) }
-    ensures value { IfOk result (Collected str_text I.next_gives iter A.meaning) }
-    ensures refused { OnErr result (Outgrown str_text I.next_gives iter) }
+    ensures value { IfOk result (Collected joined_strs I.next_gives iter A.meaning) }
+    ensures refused { OnErr result (Outgrown joined_strs I.next_gives iter) }
 {
     SmolStr::from_strs(alloc, iter)
 }
@@ -202,8 +202,8 @@ pub fn of_any_strings<A: ValueAlloc, I: Iterator<Item = String>>(
 ) -> Result<A::Value, AllocError>
     requires can { I.can_next iter }
     requires ends { IsFinite (I.remaining iter) }
-    ensures value { IfOk result (Collected string_text I.next_gives iter A.meaning) }
-    ensures refused { OnErr result (Outgrown string_text I.next_gives iter) }
+    ensures value { IfOk result (Collected joined_strings I.next_gives iter A.meaning) }
+    ensures refused { OnErr result (Outgrown joined_strings I.next_gives iter) }
 {
     SmolStr::from_strings(alloc, iter)
 }
@@ -215,8 +215,8 @@ pub fn of_any_string_refs<'a, A: ValueAlloc, I: Iterator<Item = &'a String>>(
 ) -> Result<A::Value, AllocError>
     requires can { I.can_next iter }
     requires ends { IsFinite (I.remaining iter) }
-    ensures value { IfOk result (Collected string_ref_text I.next_gives iter A.meaning) }
-    ensures refused { OnErr result (Outgrown string_ref_text I.next_gives iter) }
+    ensures value { IfOk result (Collected joined_string_refs I.next_gives iter A.meaning) }
+    ensures refused { OnErr result (Outgrown joined_string_refs I.next_gives iter) }
 {
     SmolStr::from_string_refs(alloc, iter)
 }
@@ -228,8 +228,8 @@ pub fn with_any_chars<I: Iterator<Item = char>>(
 ) -> Result<(), AllocError>
     requires can { I.can_next iter }
     requires ends { IsFinite (I.remaining iter) }
-    ensures value { OnOk result (AppendedAll char_text I.next_gives iter builder.old builder.new) }
-    ensures refused { OnErr result (OutgrownAfter char_text I.next_gives iter builder.old) }
+    ensures value { OnOk result (AppendedAll (λ items. items) I.next_gives iter builder.old builder.new) }
+    ensures refused { OnErr result (StoppedAt (λ items. items) I.next_gives iter builder.old builder.new) }
 {
     builder.extend_chars(iter)
 }
@@ -241,8 +241,8 @@ pub fn with_any_strs<'a, I: Iterator<Item = &'a str>>(
 ) -> Result<(), AllocError>
     requires can { I.can_next iter }
     requires ends { IsFinite (I.remaining iter) }
-    ensures value { OnOk result (AppendedAll str_text I.next_gives iter builder.old builder.new) }
-    ensures refused { OnErr result (OutgrownAfter str_text I.next_gives iter builder.old) }
+    ensures value { OnOk result (AppendedAll joined_strs I.next_gives iter builder.old builder.new) }
+    ensures refused { OnErr result (StoppedAt joined_strs I.next_gives iter builder.old builder.new) }
 {
     builder.extend_strs(iter)
 }
@@ -254,8 +254,8 @@ pub fn with_any_strings<'a, I: Iterator<Item = &'a String>>(
 ) -> Result<(), AllocError>
     requires can { I.can_next iter }
     requires ends { IsFinite (I.remaining iter) }
-    ensures value { OnOk result (AppendedAll string_ref_text I.next_gives iter builder.old builder.new) }
-    ensures refused { OnErr result (OutgrownAfter string_ref_text I.next_gives iter builder.old) }
+    ensures value { OnOk result (AppendedAll joined_string_refs I.next_gives iter builder.old builder.new) }
+    ensures refused { OnErr result (StoppedAt joined_string_refs I.next_gives iter builder.old builder.new) }
 {
     builder.extend_strings(iter)
 }

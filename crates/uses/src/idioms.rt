@@ -10,9 +10,9 @@ ghost use Rattle.std.specs.Str.{chars};
 ghost use Rattle.std.specs.String.{string_bytes};
 ghost use Rattle.serde.specs.Event.{Logs, text};
 ghost use Rattle.serde.specs.Steps.{Gives};
-ghost use Rattle.smol_str.specs.Collect.{Outgrown, OutgrownAfter, StoppedAt};
+ghost use Rattle.smol_str.specs.Collect.{Outgrown, StoppedAt};
 ghost use Rattle.smol_str.specs.Draft.{appended};
-ghost use Rattle.smol_str.specs.Joined.{char_text, joined, string_text};
+ghost use Rattle.smol_str.specs.Joined.{joined, string_text};
 ghost use Rattle.smol_str.specs.Meaning.{Meaning, IsValueOf};
 ghost use Rattle.smol_str.specs.Text.{IsResident, place_of};
 
@@ -111,7 +111,7 @@ pub fn of_characters<U: IntoIterator<Item = char>>(
     ensures value { IfOk result (λ v. (it : U.IntoIter) × (all : List ℕ) × U.into_iter_gives characters it
         × Drains U.IntoIter.next_gives it all × IsValueOf all v) }
     ensures refused { OnErr result ((it : U.IntoIter) × U.into_iter_gives characters it
-        × Outgrown char_text U.IntoIter.next_gives it) }
+        × Outgrown (λ items. items) U.IntoIter.next_gives it) }
 {
     SmolStr::from_iter(alloc, characters)
 }
@@ -124,9 +124,7 @@ pub fn push_characters<U: IntoIterator<Item = char>>(
     requires can { (it : U.IntoIter) → U.into_iter_gives characters it → U.IntoIter.can_next it }
     requires ends { (it : U.IntoIter) → U.into_iter_gives characters it → IsFinite (U.IntoIter.remaining it) }
     ensures stopped { OnErr result ((it : U.IntoIter) × U.into_iter_gives characters it
-        × StoppedAt char_text U.IntoIter.next_gives it builder.old builder.new) }
-    ensures refused { OnErr result ((it : U.IntoIter) × U.into_iter_gives characters it
-        × OutgrownAfter char_text U.IntoIter.next_gives it builder.old) }
+        × StoppedAt (λ items. items) U.IntoIter.next_gives it builder.old builder.new) }
 {
     builder.extend(characters)
 }

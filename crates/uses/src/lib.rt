@@ -23,7 +23,6 @@ pub mod one_lexing;
 pub mod ordered;
 pub mod plain;
 pub mod replacing;
-pub mod reports;
 pub mod runs;
 pub mod settings;
 pub mod slicing;

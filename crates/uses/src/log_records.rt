@@ -1,10 +1,10 @@
 //! Log records on the wire, and as lines of JSON.
 ghost use Rattle.std.specs.Prelude.{◌≡◌, ◌++◌, length, map, All, codes, IfOk, IfErr, IfSome, OnOk, OnErr};
-ghost use Rattle.std.specs.Io.KnownBytes.{Appends, Consumes};
+ghost use Rattle.std.specs.Io.KnownBytes.{Appends};
 ghost use Rattle.std.specs.String.{string_bytes};
 ghost use Rattle.serde_json.specs.Written.{compact_text};
 ghost use Rattle.smol_str.specs.Json.{json_value};
-ghost use Rattle.smol_str.specs.Stream.{AppendsBeginning};
+ghost use Rattle.smol_str.specs.Stream.{Gave, AppendsBeginning};
 ghost use Rattle.uses.specs.LogRecords.{HasForm, form, forms, texts, AfterRecordFault, AfterReadFault};
 
 use smol_str::borsh::{BorshSerialize, EncodeFault, LimitedFault, deserialize_limited};
@@ -40,7 +40,7 @@ pub fn read_record<R: Read>(
     reader: &mut R,
     limit: usize,
 ) -> Result<Record, LimitedFault>
-    ensures ok { IfOk result (λ r. Consumes (R.remaining reader.old) (R.remaining reader.new) (form r)) }
+    ensures ok { IfOk result (λ r. Gave R.remaining reader.old reader.new (form r)) }
     ensures sized { IfOk result HasForm }
     ensures fault { IfErr result
         (AfterRecordFault LEVEL_LIMIT limit (R.remaining reader.old) (R.remaining reader.new)) }
@@ -69,7 +69,7 @@ pub fn read_all<R: Read>(
     count: usize,
     limit: usize,
 ) -> Result<Vec<Record>, LimitedFault>
-    ensures ok { IfOk result (λ records. Consumes (R.remaining reader.old) (R.remaining reader.new) (forms records.items)) }
+    ensures ok { IfOk result (λ records. Gave R.remaining reader.old reader.new (forms records.items)) }
     ensures count { IfOk result (λ records. length records.items ≡ count) }
     ensures sized { IfOk result (λ records. All HasForm records.items) }
     ensures fault { IfErr result

@@ -1,6 +1,7 @@
 //! A value there and back: its wire form written, and read again by both calls.
 ghost use Rattle.std.specs.Prelude.{◌≡◌, ◌<◌, ◌+◌, ◌≤◌, ◌++◌, ℕ, List, length, Some, IfOk, IfErr, IfSome, OnErr};
-ghost use Rattle.std.specs.Io.KnownBytes.{Consumes, Keeps};
+ghost use Rattle.std.specs.Io.KnownBytes.{Keeps};
+ghost use Rattle.smol_str.specs.Stream.{Gave};
 ghost use Rattle.std.specs.Str.{chars};
 ghost use Rattle.smol_str.specs.Text.{size, IsResident, place_of};
 ghost use Rattle.smol_str.specs.Meaning.{IsValueOf};
@@ -103,7 +104,7 @@ pub fn read_short<R: Read>(
 ) -> Result<SmolStr, DecodeFault>
     requires known { R.remaining reader.old ≡ Some bytes.now }
     requires short { prefix_size bytes.now ≤ INLINE_CAP }
-    ensures value { IfOk result (λ v. Consumes (R.remaining reader.old) (R.remaining reader.new) (wire v.text)) }
+    ensures value { IfOk result (λ v. Gave R.remaining reader.old reader.new (wire v.text)) }
     ensures place { IfOk result (λ v. v.place ≡ place_of v.text) }
     ensures refused { IfErr result (λ fault. ¬ (fault ≡ DecodeFault.OutOfMemory)) }
 {
@@ -132,7 +133,7 @@ pub fn read_from_peer<R: Read>(
     reader: &mut R,
     limit: usize,
 ) -> Result<SmolStr, LimitedFault>
-    ensures value { IfOk result (λ v. Consumes (R.remaining reader.old) (R.remaining reader.new) (wire v.text)) }
+    ensures value { IfOk result (λ v. Gave R.remaining reader.old reader.new (wire v.text)) }
     ensures place { IfOk result (λ v. v.place ≡ place_of v.text) }
     ensures limited { IfOk result (λ v. size v.text ≤ limit) }
     ensures refused { IfErr result (λ fault.

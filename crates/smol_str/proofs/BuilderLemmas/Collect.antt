@@ -1,22 +1,21 @@
 -- For collecting, extending and building by steps: items drawn and appended one after another.
-use Rattle.std.proofs.Common.{true, ◌≡◌, ℕ, List, [], ◌∷◌, ◌++◌, length, take, drop, Option, None, Result, Ok, Err, IfOk, OnOk, OnErr, refl, sym, ap, ◌∙◌, subst, arith, rules}
-use Rattle.std.specs.Iterator.{Drains, DrainsIf}
-use Rattle.std.specs.Iterator.Runs.{WholeRun}
-use Rattle.std.proofs.iter.Next.{Yields-more}
-use Rattle.std.proofs.iter.runs.Made.{run}
+use Rattle.std.proofs.Common.{true, false, ◌≡◌, ℕ, ◌<◌, List, [], ◌∷◌, ◌++◌, length, take, drop, map, Option, Some, None, Result, Ok, Err, IfOk, OnOk, OnErr, refl, sym, ap, ◌∙◌, subst, arith, rules, inl, length-append}
+use Rattle.std.specs.Iterator.{Yields, YieldsThen, Drains}
+use Rattle.std.specs.Iterator.Runs.{Run}
+use Rattle.std.specs.Result.{MatchResult}
+use Rattle.std.proofs.iter.runs.Made.{run, took, to_end, to_item}
 use Rattle.std.proofs.lemmas.Grind.{flat_map-append, common_steps}
 use Rattle.std.proofs.lemmas.Iterator.{YieldsList, items_from_drains}
 use Rattle.std.proofs.lemmas.Iterator.Consumers.{YieldsList-so_far}
 use Rattle.std.proofs.lemmas.List.{append-nil}
-use Rattle.std.proofs.lemmas.List.Folds.{flat_map-map}
-use Rattle.smol_str.specs.Text.{IsShort}
-use Rattle.smol_str.specs.Meaning.{Meaning, IsValueOf}
-use Rattle.smol_str.specs.Draft.{Draft, OnHeap, appended}
+use Rattle.smol_str.specs.Text.{IsShort, IsResident}
+use Rattle.smol_str.specs.Cut.{but_last}
+use Rattle.smol_str.specs.Draft.{Draft, InBuffer, OnHeap, empty_draft, appended}
 use Rattle.smol_str.specs.Joined.{joined}
-use Rattle.smol_str.specs.Collect.{AppendedAll, StoppedAt, Collected, Outgrown, OutgrownAfter, IsValueOfRun, AppendsRun}
-use Rattle.smol_str.proofs.TextLemmas.Lists.{flat_map-parts}
+use Rattle.smol_str.specs.Meaning.{Meaning, IsValueOf}
+use Rattle.smol_str.specs.Collect.{AppendedAll, StoppedAt, Collected, Outgrown}
 use Rattle.smol_str.proofs.TextLemmas.Places.{IsShort-front}
-use Rattle.smol_str.proofs.BuilderLemmas.Draft.{appended-twice}
+use Rattle.smol_str.proofs.BuilderLemmas.Draft.{appended-twice, OnHeap-long}
 
 joined-last : {A : Type 0} (f : A → List ℕ) (xs : List A) (x : A) → joined f (xs ++ x ∷ []) ≡ joined f xs ++ f x
 joined-last f xs x = flat_map-append f xs (x ∷ []) ∙ ap (λ t. joined f xs ++ t) (append-nil (f x))
@@ -26,76 +25,120 @@ pub appended-last : {A : Type 0} (f : A → List ℕ) (old now new : Draft) (xs 
     → now ≡ appended old (joined f xs) → new ≡ appended now (f x) → new ≡ appended old (joined f (xs ++ x ∷ []))
 appended-last f old now new xs x h a = search (rules, arith, appended-twice, joined-last)
 
-module _ {S A : Type 0} (f : A → List ℕ) (steps : S → Option A → S → Type 0) (s : S) where
-  -- where a builder stops, items came with which it would be on the heap
-  pub OutgrownAfter-refused : {T E : Type 0} (old new : Draft) (r : Result T E)
-      → OnErr r (StoppedAt f steps s old new) → OnErr r (OutgrownAfter f steps s old)
-  OutgrownAfter-refused old new (Ok v) _ = tt
-  OutgrownAfter-refused old new (Err e) (xs, x, rest, run, is, heap) =
-      let all = xs ++ x ∷ [] in
-      let last = appended-last f old new (appended new (f x)) xs x is refl in
-      let kind = sym (ap (λ b. b.kind) last) ∙ heap in
-      (all, rest, Yields-more steps s xs run.0 x rest run.1 run.2, kind)
+but_last-more : {A : Type 0} (xs : List A) (x : A) → but_last (xs ++ x ∷ []) ≡ xs
+but_last-more [] x = refl
+but_last-more (y ∷ []) x = refl
+but_last-more (y ∷ z ∷ xs) x = ap (λ ys. y ∷ ys) (but_last-more (z ∷ xs) x)
 
 -- a step to the end of an iterator, of an item that is none
 pub gives-None : {S A : Type 0} (steps : S → Option A → S → Type 0) (s rest : S) (item : Option A)
     → item ≡ None → steps s item rest → steps s None rest
 gives-None steps s rest item is step = subst (λ o. steps s o rest) is step
 
--- what holds of the items that an iterator gave to its end, holds of a whole run
-WholeRun-DrainsIf-drained : {S A : Type 0} (steps : S → Option A → S → Type 0) (s : S) (xs : List A) (Q : List A → Type 0)
-    → Drains steps s xs → Q xs → WholeRun steps s (λ run. Q run.items)
-WholeRun-DrainsIf-drained steps s xs Q d h = let end = d.1 in (run steps s xs true (end.0, end.1, λ _. (d.0, end.2)), refl, refl, h)
+-- a loop that appends each item's text f, where `texts` says the text of a list of items
+module _ {S A : Type 0} (steps : S → Option A → S → Type 0) (s : S) (f : A → List ℕ) (texts : List A → List ℕ)
+    (is : (xs : List A) → joined f xs ≡ texts xs) (xs : List A) (old new : Draft)
+    (now : new ≡ appended old (joined f xs)) where
+  -- at the end of the iterator
+  pub all-appended : Drains steps s xs → AppendedAll texts steps s old new
+  unfolding AppendedAll
+  all-appended d = (run steps s xs true (to_end steps s xs d), refl, refl, now ∙ ap (appended old) (is xs))
 
-module _ {S A : Type 0} (steps : S → Option A → S → Type 0) (s : S) (f : A → List ℕ) where
-  module _ (g : List A → List ℕ) (is : (xs : List A) → joined f xs ≡ g xs) where
-    -- the value of the joined text, where g says that text
-    pub runs-collected : {V E : Type 0} (m : V → Meaning) (r : Result V E) → IfOk r (Collected f steps s m)
-        → IfOk r (IsValueOfRun steps s g m)
-    runs-collected m (Ok v) (xs, d, h) =
-        WholeRun-DrainsIf-drained steps s xs (λ ys. IsValueOf (g ys) (m v)) d (subst (λ t. IsValueOf t (m v)) (is xs) h)
-    runs-collected m (Err e) h = tt
+  -- at an item that would have put the builder on the heap
+  pub stopped-at : (x : A) (rest : S) → YieldsThen steps s xs (Some x) rest → (appended new (f x)).kind ≡ OnHeap
+      → StoppedAt texts steps s old new
+  unfolding StoppedAt
+  stopped-at x rest came heap =
+      let all = xs ++ x ∷ [] in
+      let front = now ∙ ap (appended old) (is xs ∙ ap texts (sym (but_last-more xs x))) in
+      let whole = appended-last f old new (appended new (f x)) xs x now refl ∙ ap (appended old) (is all) in
+      let some : 0 < length all = omega (arith, length-append xs (x ∷ [])) in
+      (run steps s all false (to_item steps s rest xs x came), refl, (some, front, sym (ap (λ b. b.kind) whole) ∙ heap))
 
-    -- the builder with the joined text appended
-    pub runs-appended : {T E : Type 0} (r : Result T E) (old new : Draft)
-        → OnOk r (AppendedAll f steps s old new) → OnOk r (AppendsRun steps s g old new)
-    runs-appended (Ok v) old new (xs, d, h) =
-        WholeRun-DrainsIf-drained steps s xs (λ ys. new ≡ appended old (g ys)) d (h ∙ ap (appended old) (is xs))
-    runs-appended (Err e) old new h = tt
+-- the items that came before the last
+came-before : {S A : Type 0} (steps : S → Option A → S → Type 0) (s t : S) (xs : List A) → Yields steps s xs t
+    → (u : S) × Yields steps s (but_last xs) u
+came-before steps s t [] came = (t, came)
+came-before steps s t (x ∷ []) came = (s, refl)
+came-before steps s t (x ∷ y ∷ xs) (u, step, came) =
+    let before = came-before steps u t (y ∷ xs) came in (before.0, (u, step, before.1))
 
-appended-heap : (b : Draft) (t u : List ℕ) → (appended b t).kind ≡ OnHeap → (appended b (t ++ u)).kind ≡ OnHeap
-appended-heap b t u heap = grind (arith, common_steps, appended-twice)
+module _ {S A : Type 0} (steps : S → Option A → S → Type 0) (s : S) where
+  pub run-drains : (p : Run steps) → p.from ≡ s → p.whole ≡ true → Drains steps s p.items
+  run-drains p from whole =
+      let d = took p in
+      let end = d.2 whole in
+      (end.0, (d.0, subst (λ u. Yields steps u p.items d.0) from d.1, end.1))
 
--- an iterator that was drained
-pub DrainsIf-drained : {S A : Type 0} (steps : S → Option A → S → Type 0) (s : S) (xs : List A)
-    → Drains steps s xs → DrainsIf steps (Unit {0}) s xs
-DrainsIf-drained steps s xs d = let end = d.1 in (end.0, end.1, λ _. (d.0, end.2))
+  run-yields : (p : Run steps) → p.from ≡ s → Yields steps s p.items (took p).0
+  run-yields p from = subst (λ u. Yields steps u p.items (took p).0) from (took p).1
 
-module _ {S A : Type 0} {steps : S → Option A → S → Type 0} {s : S} where
-  module _ {B : Type 0} (h : B → List ℕ) (v : A → B) where
-    -- of an iterator that gives a list: all its texts came, one after another
-    pub joined-drained : (xs : List A) (all : List B) → Drains steps s xs → YieldsList steps v s all
-        → joined (λ x. h (v x)) xs ≡ joined h all
-    joined-drained xs all d gives =
-        sym (flat_map-map h v xs) ∙ ap (joined h) (items_from_drains xs (DrainsIf-drained steps s xs d) gives)
+  -- what std says of collecting
+  pub collected-run : {V E : Type 0} (texts : List A → List ℕ) (m : V → Meaning) (r : Result V E) → IfOk r (Collected texts steps s m)
+      → IfOk r (λ v. (xs : List A) × Drains steps s xs × IsValueOf (texts xs) (m v))
+  unfolding Collected
+  collected-run texts m (Ok v) (p, from, whole, is) = (p.items, run-drains p from whole, is)
+  collected-run texts m (Err e) is = tt
 
-    -- what came of it so far is a front of the list, so the texts of the whole list are not short either
-    pub not_short-outgrown : (all : List B) → Outgrown (λ x. h (v x)) steps s → YieldsList steps v s all
-        → ¬ (IsShort (joined h all))
-    not_short-outgrown all (xs, rest, came, long) gives short =
-        let n = length xs in
-        let items = ap (joined h) (YieldsList-so_far gives xs rest came) in
-        let front : joined (λ x. h (v x)) xs ≡ joined h (take n all) = sym (flat_map-map h v xs) ∙ items in
-        long (rw front (IsShort-front (joined h (take n all)) (joined h (drop n all))
-        (rw (flat_map-parts h all n) at short)))
+  module _ (texts : List A → List ℕ) (new : Draft) where
+    -- what std says of an extension
+    pub extended-run : {E : Type 0} (r : Result (Unit {0}) E) (old : Draft) → OnOk r (AppendedAll texts steps s old new)
+        → OnErr r (StoppedAt texts steps s old new) → (xs : List A) × (new ≡ appended old (texts xs))
+        × MatchResult r (λ _. Drains steps s xs) (λ _. (t : S) × Yields steps s xs t)
+    unfolding AppendedAll StoppedAt
+    extended-run (Ok u) old (p, from, whole, all) stopped = (p.items, all, run-drains p from whole)
+    extended-run (Err e) old all (p, from, (some, front, heap)) =
+        (but_last p.items, front, came-before steps s _ p.items (run-yields p from))
 
-    -- a builder that was put on the heap by a front of the list is put there by the whole of it
-    pub heap-outgrown : (old : Draft) (all : List B) → OutgrownAfter (λ x. h (v x)) steps s old
-        → YieldsList steps v s all → (appended old (joined h all)).kind ≡ OnHeap
-    heap-outgrown old all (xs, rest, came, heap) gives =
-        let n = length xs in
-        let items = ap (joined h) (YieldsList-so_far gives xs rest came) in
-        let front : joined (λ x. h (v x)) xs ≡ joined h (take n all) = sym (flat_map-map h v xs) ∙ items in
-        let there = subst (λ t. (appended old t).kind ≡ OnHeap) front heap in
-        let more = appended-heap old (joined h (take n all)) (joined h (drop n all)) there in
-        subst (λ t. (appended old t).kind ≡ OnHeap) (sym (flat_map-parts h all n)) more
+    -- a new builder that the items put on the heap, or whose value is made
+    pub outgrown-stopped : StoppedAt texts steps s (empty_draft InBuffer) new → Outgrown texts steps s
+    unfolding StoppedAt Outgrown
+    outgrown-stopped (p, from, (some, front, heap)) = (p, from, OnHeap-long (texts p.items) heap)
+
+    pub collected-value : {V E : Type 0} (m : V → Meaning) (r : Result V E)
+        → AppendedAll texts steps s (empty_draft InBuffer) new → IfOk r (λ v. IsValueOf new.text (m v))
+        → IfOk r (Collected texts steps s m)
+    unfolding AppendedAll Collected
+    collected-value m (Ok v) (p, from, whole, all) is =
+        (p, from, whole, subst (λ t. IsValueOf t (m v)) (ap (λ b. b.text) all) is)
+    collected-value m (Err e) all is = tt
+
+    pub outgrown-value : {V E : Type 0} (r : Result V E) → AppendedAll texts steps s (empty_draft InBuffer) new
+        → OnErr r (¬ (IsResident new.text)) → OnErr r (Outgrown texts steps s)
+    unfolding AppendedAll Outgrown
+    outgrown-value (Ok v) all away = tt
+    outgrown-value (Err e) (p, from, whole, all) away =
+        (p, from, λ short. away (inl (subst IsShort (sym (ap (λ b. b.text) all)) short)))
+
+-- an iterator that gives a list: `texts` says the text of items, and `whole` that of the list, part by part
+module _ {S A B : Type 0} {steps : S → Option A → S → Type 0} {s : S} {v : A → B} {all : List B} (texts : List A → List ℕ)
+    (whole : List B → List ℕ) (is : (xs : List A) → texts xs ≡ whole (map v xs))
+    (parts : (n : ℕ) → whole all ≡ whole (take n all) ++ whole (drop n all)) where
+  module _ (p : Run steps) (from : p.from ≡ s) (gives : YieldsList steps v s all) where
+    -- at its end all its texts came
+    pub text-whole : p.whole ≡ true → texts p.items ≡ whole all
+    text-whole end =
+        let (u, came) = run-drains steps s p from end in
+        is p.items ∙ ap whole (items_from_drains p.items (came.0, came.1, λ _. (u, came.2)) gives)
+
+    -- before it a front of them
+    pub text-front : whole all ≡ texts p.items ++ whole (drop (length p.items) all)
+    text-front =
+        let came = YieldsList-so_far gives p.items _ (run-yields steps s p from) in
+        parts (length p.items) ∙ ap (λ t. t ++ whole (drop (length p.items) all)) (sym (is p.items ∙ ap whole came))
+
+  -- so the text of the whole list is not short either
+  pub not_short-outgrown : Outgrown texts steps s → YieldsList steps v s all → ¬ (IsShort (whole all))
+  unfolding Outgrown
+  not_short-outgrown (p, from, long) gives short =
+      long (IsShort-front (texts p.items) _ (subst IsShort (text-front p from gives) short))
+
+  -- and a builder that a front puts on the heap is put there by the whole
+  pub heap-stopped : (old new : Draft) → StoppedAt texts steps s old new → YieldsList steps v s all
+      → (appended old (whole all)).kind ≡ OnHeap
+  unfolding StoppedAt
+  heap-stopped old new (p, from, (some, front, heap)) gives =
+      subst (λ t. (appended old t).kind ≡ OnHeap) (sym (text-front p from gives)) (appended-heap old (texts p.items) _ heap)
+    where
+      appended-heap : (b : Draft) (t u : List ℕ) → (appended b t).kind ≡ OnHeap → (appended b (t ++ u)).kind ≡ OnHeap
+      appended-heap b t u h = grind (arith, common_steps, appended-twice)

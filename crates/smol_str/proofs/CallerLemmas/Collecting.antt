@@ -1,5 +1,5 @@
 -- Collecting and extending from an iterator that gives a list.
-use Rattle.smol_str.proofs.Common.{◌≡◌, ℕ, ◌<◌, ◌≤◌, String, Global, Bor, true, Option, Result, Ok, Err, IfOk, IsOk, OnOk, OnErr, subst, List, [], length, map, refl, sym, ap, ◌∙◌, arith, chars, IsUtf8, YieldsList, chars-encodes, INLINE_CAP, size, IsShort, Meaning, IsValueOf, Draft, OnHeap, appended, joined, joined_strs, joined_string_refs, char_text, str_text, string_text, string_ref_text, AppendedAll, Collected, Outgrown, replaced_all, cut, no_limit, map-id, items_from_drains, rules}
+use Rattle.smol_str.proofs.Common.{◌≡◌, ℕ, ◌<◌, ◌≤◌, ◌++◌, String, Global, Bor, true, Option, Result, Ok, Err, IfOk, OnOk, OnErr, subst, List, [], length, take, drop, map, refl, sym, ap, ◌∙◌, arith, chars, IsUtf8, YieldsList, chars-encodes, take-append-drop, INLINE_CAP, size, IsShort, Meaning, IsValueOf, Draft, OnHeap, appended, joined, joined_strs, joined_strings, joined_string_refs, str_text, string_text, replaced_all, cut, no_limit, map-id, items_from_drains}
 use Rattle.std.specs.Iterator.{Drains, DrainsIf, ExtendsWithItems}
 use Rattle.std.specs.Array.Iter.{array_steps, array_into_iter_items}
 use Rattle.std.specs.declared.array.IntoIter.{IntoIter}
@@ -7,162 +7,48 @@ use Rattle.std.specs.declared.str.Split.{Split}
 use Rattle.std.specs.Str.Iter.{split_text, split_has_more, split_pattern, split_steps}
 use Rattle.std.specs.Str.Pattern.{FindsText}
 use Rattle.std.proofs.lemmas.List.Folds.{flat_map-map}
-use Rattle.smol_str.specs.Collect.{OutgrownAfter}
-use Rattle.smol_str.specs.JoinedLaws.{joined-chars}
-use Rattle.smol_str.proofs.BuilderLemmas.Collect.{joined-drained, not_short-outgrown, heap-outgrown, DrainsIf-drained}
+use Rattle.smol_str.specs.Collect.{AppendedAll, StoppedAt, Collected, Outgrown}
+use Rattle.smol_str.specs.JoinedLaws.{joined-strs}
+use Rattle.smol_str.proofs.BuilderLemmas.Collect.{text-whole, not_short-outgrown, heap-stopped}
 use Rattle.smol_str.proofs.IteratorLemmas.{YieldsList-from_array, iterators}
 use Rattle.smol_str.proofs.PieceLemmas.{joined-nothing, gives-split}
+use Rattle.smol_str.proofs.TextLemmas.Lists.{flat_map-parts}
 
--- ---- collecting
-
--- from an iterator that gives a list, as the lemmas `YieldsList-from_..` of std say: a value of its texts, one after
--- another; refused only where these are not short; a builder with these at its end
-module _ {S A B : Type 0} {steps : S → Option A → S → Type 0} {s : S} (h : B → List ℕ) {v : A → B} {all : List B} where
-  pub collected : {E : Type 0} (m : Meaning → Meaning) (r : Result Meaning E)
-      → IfOk r (Collected (λ x. h (v x)) steps s m) → ((y : Meaning) → m y ≡ y) → YieldsList steps v s all
-      → IfOk r (λ y. IsValueOf (joined h all) y)
-  collected m (Ok y) (xs, d, is) same gives = search (rules, arith, joined-drained)
-  collected m (Err e) is same gives = tt
-
-  pub refused : {T E : Type 0} (r : Result T E)
-      → OnErr r (Outgrown (λ x. h (v x)) steps s) → YieldsList steps v s all → OnErr r (¬ (IsShort (joined h all)))
-  refused (Ok x) out gives = tt
-  refused (Err e) out gives = not_short-outgrown h v all out gives
-
-  -- an extension that was refused would have put the builder on the heap
-  pub extend_refused : {T E : Type 0} (r : Result T E) (old : Draft)
-      → OnErr r (OutgrownAfter (λ x. h (v x)) steps s old) → YieldsList steps v s all
-      → OnErr r ((appended old (joined h all)).kind ≡ OnHeap)
-  extend_refused (Ok x) old out gives = tt
-  extend_refused (Err e) old out gives = heap-outgrown h v old all out gives
-
-  pub extended : {T E : Type 0} (r : Result T E) (old new : Draft)
-      → OnOk r (AppendedAll (λ x. h (v x)) steps s old new) → YieldsList steps v s all
-      → OnOk r (new ≡ appended old (joined h all))
-  extended (Ok x) old new (xs, d, is) gives = is ∙ ap (appended old) (joined-drained h v xs all d gives)
-  extended (Err e) old new is gives = tt
-
--- the same of each kind of item; a character is a text by itself
-module _ {S E : Type 0} {steps : S → Option ℕ → S → Type 0} {s : S} {all : List ℕ} where
-  pub chars_collected : (m : Meaning → Meaning) (r : Result Meaning E)
-      → IfOk r (Collected char_text steps s m)
-      → ((y : Meaning) → m y ≡ y) → YieldsList steps (λ c. c) s all → IfOk r (λ y. IsValueOf all y)
-  chars_collected m r is same gives =
-      subst (λ t. IfOk r (λ y. IsValueOf t y)) (joined-chars all) (collected char_text m r is same gives)
-
-  pub chars_refused : {T : Type 0} (r : Result T E)
-      → OnErr r (Outgrown char_text steps s) → YieldsList steps (λ c. c) s all → OnErr r (¬ (IsShort all))
-  chars_refused r out gives = subst (λ t. OnErr r (¬ (IsShort t))) (joined-chars all) (refused char_text r out gives)
-
-  pub chars_extended : {T : Type 0} (r : Result T E) (old new : Draft) → OnOk r (AppendedAll char_text steps s old new)
-      → YieldsList steps (λ c. c) s all → OnOk r (new ≡ appended old all)
-  chars_extended r old new is gives =
-      subst (λ t. OnOk r (new ≡ appended old t)) (joined-chars all) (extended char_text r old new is gives)
-
-  pub chars_extend_refused : {T : Type 0} (r : Result T E) (old : Draft)
-      → OnErr r (OutgrownAfter char_text steps s old) → YieldsList steps (λ c. c) s all
-      → OnErr r ((appended old all).kind ≡ OnHeap)
-  chars_extend_refused r old out gives =
-      subst (λ t. OnErr r ((appended old t).kind ≡ OnHeap)) (joined-chars all) (extend_refused char_text r old out gives)
-
-module _ {S E : Type 0} {steps : S → Option (Bor (List ℕ)) → S → Type 0} {s : S} {all : List (List ℕ)} where
-  pub strs_collected : (m : Meaning → Meaning) (r : Result Meaning E) → IfOk r (Collected str_text steps s m)
-      → ((y : Meaning) → m y ≡ y) → YieldsList steps (λ x. x.now) s all → IfOk r (λ y. IsValueOf (joined chars all) y)
-  strs_collected m r is same gives = collected chars m r is same gives
-
-  pub strs_refused : {T : Type 0} (r : Result T E) → OnErr r (Outgrown str_text steps s)
-      → YieldsList steps (λ x. x.now) s all → OnErr r (¬ (IsShort (joined chars all)))
-  strs_refused r out gives = refused chars r out gives
-
-  pub strs_extended : {T : Type 0} (r : Result T E) (old new : Draft)
-      → OnOk r (AppendedAll str_text steps s old new)
-      → YieldsList steps (λ x. x.now) s all → OnOk r (new ≡ appended old (joined chars all))
-  strs_extended r old new is gives = extended chars r old new is gives
-
-  pub strs_extend_refused : {T : Type 0} (r : Result T E) (old : Draft)
-      → OnErr r (OutgrownAfter str_text steps s old) → YieldsList steps (λ x. x.now) s all
-      → OnErr r ((appended old (joined chars all)).kind ≡ OnHeap)
-  strs_extend_refused r old out gives = extend_refused chars r old out gives
-
-module _ {S E : Type 0} {steps : S → Option (String Global) → S → Type 0} {s : S} {all : List (String Global)} where
-  pub strings_collected : (m : Meaning → Meaning) (r : Result Meaning E) → IfOk r (Collected string_text steps s m)
-      → ((y : Meaning) → m y ≡ y) → YieldsList steps (λ x. x) s all → IfOk r (λ y. IsValueOf (joined string_text all) y)
-  strings_collected m r is same gives = collected string_text m r is same gives
-
-  pub strings_refused : {T : Type 0} (r : Result T E) → OnErr r (Outgrown string_text steps s)
-      → YieldsList steps (λ x. x) s all → OnErr r (¬ (IsShort (joined string_text all)))
-  strings_refused r out gives = refused string_text r out gives
-
-module _ {S E : Type 0} {steps : S → Option (Bor (String Global)) → S → Type 0} {s : S}
-    {all : List (String Global)} where
-  pub string_refs_collected : (m : Meaning → Meaning) (r : Result Meaning E) → IfOk r (Collected string_ref_text steps s m)
-      → ((y : Meaning) → m y ≡ y) → YieldsList steps (λ x. x.now) s all → IfOk r (λ y. IsValueOf (joined string_text all) y)
-  string_refs_collected m r is same gives = collected string_text m r is same gives
-
-  pub string_refs_refused : {T : Type 0} (r : Result T E) → OnErr r (Outgrown string_ref_text steps s)
-      → YieldsList steps (λ x. x.now) s all → OnErr r (¬ (IsShort (joined string_text all)))
-  string_refs_refused r out gives = refused string_text r out gives
-
-  pub string_refs_extended : {T : Type 0} (r : Result T E) (old new : Draft)
-      → OnOk r (AppendedAll string_ref_text steps s old new)
-      → YieldsList steps (λ x. x.now) s all → OnOk r (new ≡ appended old (joined string_text all))
-  string_refs_extended r old new is gives = extended string_text r old new is gives
-
-  pub string_refs_extend_refused : {T : Type 0} (r : Result T E) (old : Draft)
-      → OnErr r (OutgrownAfter string_ref_text steps s old) → YieldsList steps (λ x. x.now) s all
-      → OnErr r ((appended old (joined string_text all)).kind ≡ OnHeap)
-  string_refs_extend_refused r old out gives = extend_refused string_text r old out gives
-
--- the texts of `&str`s that a closure or a copy gives, which are read off each item x of a list as h x
-module _ {S B E : Type 0} {steps : S → Option (Bor (List ℕ)) → S → Type 0} {s : S} (h : B → List ℕ) (xs : List B) where
-  pub mapped_collected : (m : Meaning → Meaning) (r : Result Meaning E) → IfOk r (Collected str_text steps s m)
-      → ((y : Meaning) → m y ≡ y) → YieldsList steps (λ x. chars x.now) s (map h xs) → IfOk r (λ y. IsValueOf (joined h xs) y)
-  mapped_collected m r is same gives =
-      subst (λ t. IfOk r (λ y. IsValueOf t y)) (flat_map-map (λ t. t) h xs) (collected (λ t. t) m r is same gives)
-
-  pub mapped_refused : {T : Type 0} (r : Result T E) → OnErr r (Outgrown str_text steps s)
-      → YieldsList steps (λ x. chars x.now) s (map h xs) → OnErr r (¬ (IsShort (joined h xs)))
-  mapped_refused r out gives =
-      subst (λ t. OnErr r (¬ (IsShort t))) (flat_map-map (λ t. t) h xs) (refused (λ t. t) r out gives)
-
-  pub mapped_extended : {T : Type 0} (r : Result T E) (old new : Draft) → OnOk r (AppendedAll str_text steps s old new)
-      → YieldsList steps (λ x. chars x.now) s (map h xs) → OnOk r (new ≡ appended old (joined h xs))
-  mapped_extended r old new is gives =
-      subst (λ t. OnOk r (new ≡ appended old t)) (flat_map-map (λ t. t) h xs) (extended (λ t. t) r old new is gives)
-
-  pub mapped_extend_refused : {T : Type 0} (r : Result T E) (old : Draft)
-      → OnErr r (OutgrownAfter str_text steps s old) → YieldsList steps (λ x. chars x.now) s (map h xs)
-      → OnErr r ((appended old (joined h xs)).kind ≡ OnHeap)
-  mapped_extend_refused r old out gives =
-      subst (λ t. OnErr r ((appended old t).kind ≡ OnHeap)) (flat_map-map (λ t. t) h xs)
-      (extend_refused (λ t. t) r old out gives)
-
-module _ {S E : Type 0} {steps : S → Option (Bor (List ℕ)) → S → Type 0} {s : S} {all : List (Bor (List ℕ))} where
-  pub items_collected : (m : Meaning → Meaning) (r : Result Meaning E) → IfOk r (Collected str_text steps s m)
-      → ((y : Meaning) → m y ≡ y) → YieldsList steps (λ x. x) s all → IfOk r (λ y. IsValueOf (joined str_text all) y)
-  items_collected m r is same gives = collected str_text m r is same gives
-
-  pub items_refused : {T : Type 0} (r : Result T E) → OnErr r (Outgrown str_text steps s)
-      → YieldsList steps (λ x. x) s all → OnErr r (¬ (IsShort (joined str_text all)))
-  items_refused r out gives = refused str_text r out gives
-
--- the pieces of a text t that is split at p, which are what is left where p is replaced by nothing
-module _ {S E : Type 0} {steps : S → Option (Bor (List ℕ)) → S → Type 0} {s : S} (t p : List ℕ) where
-  pub split_collected : (m : Meaning → Meaning) (r : Result Meaning E) → IfOk r (Collected str_text steps s m)
-      → ((y : Meaning) → m y ≡ y) → YieldsList steps (λ x. chars x.now) s (cut t p (no_limit t))
-      → IfOk r (λ y. IsValueOf (replaced_all t p []) y)
-  split_collected m r is same gives =
-      subst (λ t. IfOk r (λ y. IsValueOf t y)) (joined-nothing (cut t p (no_limit t))) (collected (λ q. q) m r is same gives)
-
-  pub split_refused : {T : Type 0} (r : Result T E) → OnErr r (Outgrown str_text steps s)
-      → YieldsList steps (λ x. chars x.now) s (cut t p (no_limit t)) → OnErr r (¬ (IsShort (replaced_all t p [])))
-  split_refused r out gives =
-      subst (λ t. OnErr r (¬ (IsShort t))) (joined-nothing (cut t p (no_limit t))) (refused (λ q. q) r out gives)
-
--- the same by std's traits, `iter.collect(alloc)` and `builder.extend(iter)`, where `texts` says the text of the items that
--- came, and `whole` that of the list
+-- From an iterator that gives a list, as the lemmas `YieldsList-from_..` of std say, where `texts` says the text of the
+-- items that came, and `whole` that of the list.
 module _ {S A B : Type 0} {steps : S → Option A → S → Type 0} {s : S} {v : A → B} {all : List B} (texts : List A → List ℕ)
     (whole : List B → List ℕ) (is : (xs : List A) → texts xs ≡ whole (map v xs)) where
+  module _ (parts : (n : ℕ) → whole all ≡ whole (take n all) ++ whole (drop n all)) where
+    -- a value of its text
+    collected : {E : Type 0} (m : Meaning → Meaning) (r : Result Meaning E) → IfOk r (Collected texts steps s m)
+        → ((y : Meaning) → m y ≡ y) → YieldsList steps v s all → IfOk r (λ y. IsValueOf (whole all) y)
+    unfolding Collected
+    collected m (Ok y) (p, from, end, made) same gives =
+        subst (IsValueOf (whole all)) (same y)
+        (subst (λ t. IsValueOf t (m y)) (text-whole texts whole is parts p from gives end) made)
+    collected m (Err e) made same gives = tt
+
+    -- refused only where its text is not short
+    refused : {T E : Type 0} (r : Result T E) → OnErr r (Outgrown texts steps s) → YieldsList steps v s all
+        → OnErr r (¬ (IsShort (whole all)))
+    refused (Ok x) out gives = tt
+    refused (Err e) out gives = not_short-outgrown texts whole is parts out gives
+
+    -- a builder with its text at the end
+    extended : {T E : Type 0} (r : Result T E) (old new : Draft) → OnOk r (AppendedAll texts steps s old new)
+        → YieldsList steps v s all → OnOk r (new ≡ appended old (whole all))
+    unfolding AppendedAll
+    extended (Ok x) old new (p, from, end, now) gives =
+        now ∙ ap (appended old) (text-whole texts whole is parts p from gives end)
+    extended (Err e) old new now gives = tt
+
+    -- refused only where that builder would be on the heap
+    extend_refused : {T E : Type 0} (r : Result T E) (old new : Draft) → OnErr r (StoppedAt texts steps s old new)
+        → YieldsList steps v s all → OnErr r ((appended old (whole all)).kind ≡ OnHeap)
+    extend_refused (Ok x) old new stopped gives = tt
+    extend_refused (Err e) old new stopped gives = heap-stopped texts whole is parts old new stopped gives
+
+  -- the same by std's traits, `iter.collect(alloc)` and `builder.extend(iter)`
   drained : (xs : List A) → DrainsIf steps (Unit {0}) s xs → YieldsList steps v s all → texts xs ≡ whole all
   drained xs d gives = is xs ∙ ap whole (items_from_drains xs d gives)
 
@@ -176,22 +62,64 @@ module _ {S A B : Type 0} {steps : S → Option A → S → Type 0} {s : S} {v :
       → ExtendsWithItems (λ i t. t ≡ i) steps (λ b xs c. c ≡ appended b (texts xs)) s old new r
       → YieldsList steps v s all → OnOk r (new ≡ appended old (whole all))
   grown (Ok u) old new (t, xs, b, h, d) gives =
-      let end = DrainsIf-drained steps s xs (subst (λ u. Drains steps u xs) b d) in
-      h ∙ ap (appended old) (drained xs end gives)
+      let end = (subst (λ u. Drains steps u xs) b d).1 in
+      h ∙ ap (appended old) (drained xs (end.0, end.1, λ _. ((subst (λ u. Drains steps u xs) b d).0, end.2)) gives)
   grown (Err e) old new h gives = tt
 
+-- the same of each kind of item: of characters,
+same : (xs : List ℕ) → xs ≡ map (λ c. c) xs
+same xs = sym (map-id xs)
+
+parts : (all : List ℕ) (n : ℕ) → all ≡ take n all ++ drop n all
+parts all n = sym (take-append-drop n all)
+
 module _ {S E : Type 0} {steps : S → Option ℕ → S → Type 0} {s : S} {all : List ℕ} where
+  pub chars_collected : (m : Meaning → Meaning) (r : Result Meaning E) → IfOk r (Collected (λ xs. xs) steps s m)
+      → ((y : Meaning) → m y ≡ y) → YieldsList steps (λ c. c) s all → IfOk r (λ y. IsValueOf all y)
+  chars_collected m r is eq gives = collected (λ xs. xs) (λ xs. xs) same (parts all) m r is eq gives
+
+  pub chars_refused : {T : Type 0} (r : Result T E) → OnErr r (Outgrown (λ xs. xs) steps s)
+      → YieldsList steps (λ c. c) s all → OnErr r (¬ (IsShort all))
+  chars_refused r out gives = refused (λ xs. xs) (λ xs. xs) same (parts all) r out gives
+
+  pub chars_extended : {T : Type 0} (r : Result T E) (old new : Draft) → OnOk r (AppendedAll (λ xs. xs) steps s old new)
+      → YieldsList steps (λ c. c) s all → OnOk r (new ≡ appended old all)
+  chars_extended r old new is gives = extended (λ xs. xs) (λ xs. xs) same (parts all) r old new is gives
+
+  pub chars_extend_refused : {T : Type 0} (r : Result T E) (old new : Draft)
+      → OnErr r (StoppedAt (λ xs. xs) steps s old new) → YieldsList steps (λ c. c) s all
+      → OnErr r ((appended old all).kind ≡ OnHeap)
+  chars_extend_refused r old new out gives = extend_refused (λ xs. xs) (λ xs. xs) same (parts all) r old new out gives
+
   pub chars_made : (r : Result Meaning E)
       → IfOk r (λ y. (xs : List ℕ) × DrainsIf steps (Unit {0}) s xs × IsValueOf xs y)
       → YieldsList steps (λ c. c) s all → IfOk r (λ y. IsValueOf all y)
-  chars_made r is gives = made (λ xs. xs) (λ xs. xs) (λ xs. sym (map-id xs)) r is gives
+  chars_made r is gives = made (λ xs. xs) (λ xs. xs) same r is gives
 
   pub chars_grown : (r : Result (Unit {0}) E) (old new : Draft)
       → ExtendsWithItems (λ i t. t ≡ i) steps (λ b xs c. c ≡ appended b xs) s old new r
       → YieldsList steps (λ c. c) s all → OnOk r (new ≡ appended old all)
-  chars_grown r old new is gives = grown (λ xs. xs) (λ xs. xs) (λ xs. sym (map-id xs)) r old new is gives
+  chars_grown r old new is gives = grown (λ xs. xs) (λ xs. xs) same r old new is gives
 
+-- of `&str`s, read off their bytes,
 module _ {S E : Type 0} {steps : S → Option (Bor (List ℕ)) → S → Type 0} {s : S} {all : List (List ℕ)} where
+  pub strs_collected : (m : Meaning → Meaning) (r : Result Meaning E) → IfOk r (Collected joined_strs steps s m)
+      → ((y : Meaning) → m y ≡ y) → YieldsList steps (λ x. x.now) s all → IfOk r (λ y. IsValueOf (joined chars all) y)
+  strs_collected m r is eq gives = collected joined_strs (joined chars) (λ xs. refl) (flat_map-parts chars all) m r is eq gives
+
+  pub strs_refused : {T : Type 0} (r : Result T E) → OnErr r (Outgrown joined_strs steps s)
+      → YieldsList steps (λ x. x.now) s all → OnErr r (¬ (IsShort (joined chars all)))
+  strs_refused r out gives = refused joined_strs (joined chars) (λ xs. refl) (flat_map-parts chars all) r out gives
+
+  pub strs_extended : {T : Type 0} (r : Result T E) (old new : Draft) → OnOk r (AppendedAll joined_strs steps s old new)
+      → YieldsList steps (λ x. x.now) s all → OnOk r (new ≡ appended old (joined chars all))
+  strs_extended r old new is gives = extended joined_strs (joined chars) (λ xs. refl) (flat_map-parts chars all) r old new is gives
+
+  pub strs_extend_refused : {T : Type 0} (r : Result T E) (old new : Draft) → OnErr r (StoppedAt joined_strs steps s old new)
+      → YieldsList steps (λ x. x.now) s all → OnErr r ((appended old (joined chars all)).kind ≡ OnHeap)
+  strs_extend_refused r old new out gives =
+      extend_refused joined_strs (joined chars) (λ xs. refl) (flat_map-parts chars all) r old new out gives
+
   pub strs_made : (r : Result Meaning E)
       → IfOk r (λ y. (xs : List (Bor (List ℕ))) × DrainsIf steps (Unit {0}) s xs × IsValueOf (joined_strs xs) y)
       → YieldsList steps (λ x. x.now) s all → IfOk r (λ y. IsValueOf (joined chars all) y)
@@ -202,15 +130,40 @@ module _ {S E : Type 0} {steps : S → Option (Bor (List ℕ)) → S → Type 0}
       → YieldsList steps (λ x. x.now) s all → OnOk r (new ≡ appended old (joined chars all))
   strs_grown r old new is gives = grown joined_strs (joined chars) (λ xs. refl) r old new is gives
 
+-- of `String`s,
 module _ {S E : Type 0} {steps : S → Option (String Global) → S → Type 0} {s : S} {all : List (String Global)} where
-  pub strings_made : (r : Result Meaning E)
-      → IfOk r (λ y. (xs : List (String Global)) × DrainsIf steps (Unit {0}) s xs × IsValueOf (joined string_text xs) y)
-      → YieldsList steps (λ x. x) s all → IfOk r (λ y. IsValueOf (joined string_text all) y)
-  strings_made r is gives =
-      made (joined string_text) (joined string_text) (λ xs. ap (joined string_text) (sym (map-id xs))) r is gives
+  pub strings_collected : (m : Meaning → Meaning) (r : Result Meaning E) → IfOk r (Collected joined_strings steps s m)
+      → ((y : Meaning) → m y ≡ y) → YieldsList steps (λ x. x) s all → IfOk r (λ y. IsValueOf (joined_strings all) y)
+  strings_collected m r is eq gives = collected joined_strings joined_strings (λ xs. ap joined_strings (sym (map-id xs))) (flat_map-parts string_text all) m r is eq gives
 
-module _ {S E : Type 0} {steps : S → Option (Bor (String Global)) → S → Type 0} {s : S}
-    {all : List (String Global)} where
+  pub strings_refused : {T : Type 0} (r : Result T E) → OnErr r (Outgrown joined_strings steps s)
+      → YieldsList steps (λ x. x) s all → OnErr r (¬ (IsShort (joined_strings all)))
+  strings_refused r out gives = refused joined_strings joined_strings (λ xs. ap joined_strings (sym (map-id xs))) (flat_map-parts string_text all) r out gives
+
+  pub strings_made : (r : Result Meaning E)
+      → IfOk r (λ y. (xs : List (String Global)) × DrainsIf steps (Unit {0}) s xs × IsValueOf (joined_strings xs) y)
+      → YieldsList steps (λ x. x) s all → IfOk r (λ y. IsValueOf (joined_strings all) y)
+  strings_made r is gives = made joined_strings joined_strings (λ xs. ap joined_strings (sym (map-id xs))) r is gives
+
+-- and of borrowed `String`s
+module _ {S E : Type 0} {steps : S → Option (Bor (String Global)) → S → Type 0} {s : S} {all : List (String Global)} where
+  pub string_refs_collected : (m : Meaning → Meaning) (r : Result Meaning E) → IfOk r (Collected joined_string_refs steps s m)
+      → ((y : Meaning) → m y ≡ y) → YieldsList steps (λ x. x.now) s all → IfOk r (λ y. IsValueOf (joined string_text all) y)
+  string_refs_collected m r is eq gives = collected joined_string_refs (joined string_text) (λ xs. refl) (flat_map-parts string_text all) m r is eq gives
+
+  pub string_refs_refused : {T : Type 0} (r : Result T E) → OnErr r (Outgrown joined_string_refs steps s)
+      → YieldsList steps (λ x. x.now) s all → OnErr r (¬ (IsShort (joined string_text all)))
+  string_refs_refused r out gives = refused joined_string_refs (joined string_text) (λ xs. refl) (flat_map-parts string_text all) r out gives
+
+  pub string_refs_extended : {T : Type 0} (r : Result T E) (old new : Draft) → OnOk r (AppendedAll joined_string_refs steps s old new)
+      → YieldsList steps (λ x. x.now) s all → OnOk r (new ≡ appended old (joined string_text all))
+  string_refs_extended r old new is gives = extended joined_string_refs (joined string_text) (λ xs. refl) (flat_map-parts string_text all) r old new is gives
+
+  pub string_refs_extend_refused : {T : Type 0} (r : Result T E) (old new : Draft) → OnErr r (StoppedAt joined_string_refs steps s old new)
+      → YieldsList steps (λ x. x.now) s all → OnErr r ((appended old (joined string_text all)).kind ≡ OnHeap)
+  string_refs_extend_refused r old new out gives =
+      extend_refused joined_string_refs (joined string_text) (λ xs. refl) (flat_map-parts string_text all) r old new out gives
+
   pub string_refs_made : (r : Result Meaning E)
       → IfOk r (λ y. (xs : List (Bor (String Global))) × DrainsIf steps (Unit {0}) s xs × IsValueOf (joined_string_refs xs) y)
       → YieldsList steps (λ x. x.now) s all → IfOk r (λ y. IsValueOf (joined string_text all) y)
@@ -221,16 +174,85 @@ module _ {S E : Type 0} {steps : S → Option (Bor (String Global)) → S → Ty
       → YieldsList steps (λ x. x.now) s all → OnOk r (new ≡ appended old (joined string_text all))
   string_refs_grown r old new is gives = grown joined_string_refs (joined string_text) (λ xs. refl) r old new is gives
 
+-- the `&str`s themselves, whose texts a closure or a copy gives,
+lent : (xs : List (Bor (List ℕ))) → joined_strs xs ≡ joined str_text (map (λ x. x) xs)
+lent xs = sym (joined-strs xs) ∙ ap (joined str_text) (sym (map-id xs))
+
+module _ {S E : Type 0} {steps : S → Option (Bor (List ℕ)) → S → Type 0} {s : S} {all : List (Bor (List ℕ))} where
+  pub items_collected : (m : Meaning → Meaning) (r : Result Meaning E) → IfOk r (Collected joined_strs steps s m)
+      → ((y : Meaning) → m y ≡ y) → YieldsList steps (λ x. x) s all → IfOk r (λ y. IsValueOf (joined str_text all) y)
+  items_collected m r is eq gives = collected joined_strs (joined str_text) lent (flat_map-parts str_text all) m r is eq gives
+
+  pub items_refused : {T : Type 0} (r : Result T E) → OnErr r (Outgrown joined_strs steps s)
+      → YieldsList steps (λ x. x) s all → OnErr r (¬ (IsShort (joined str_text all)))
+  items_refused r out gives = refused joined_strs (joined str_text) lent (flat_map-parts str_text all) r out gives
+
+  pub items_extended : {T : Type 0} (r : Result T E) (old new : Draft) → OnOk r (AppendedAll joined_strs steps s old new)
+      → YieldsList steps (λ x. x) s all → OnOk r (new ≡ appended old (joined str_text all))
+  items_extended r old new is gives =
+      extended joined_strs (joined str_text) lent (flat_map-parts str_text all) r old new is gives
+
+-- or whose texts are those of a list,
+of_texts : (xs : List (Bor (List ℕ))) → joined_strs xs ≡ joined (λ t. t) (map (λ x. chars x.now) xs)
+of_texts xs = sym (joined-strs xs) ∙ sym (flat_map-map (λ t. t) str_text xs)
+
+module _ {S E : Type 0} {steps : S → Option (Bor (List ℕ)) → S → Type 0} {s : S} where
+  module _ {all : List (List ℕ)} (t : List ℕ) (one : joined (λ q. q) all ≡ t) where
+    pub texts_collected : (m : Meaning → Meaning) (r : Result Meaning E) → IfOk r (Collected joined_strs steps s m)
+        → ((y : Meaning) → m y ≡ y) → YieldsList steps (λ x. chars x.now) s all → IfOk r (λ y. IsValueOf t y)
+    texts_collected m r is eq gives = subst (λ t. IfOk r (λ y. IsValueOf t y)) one
+        (collected joined_strs (joined (λ q. q)) of_texts (flat_map-parts (λ q. q) all) m r is eq gives)
+
+    pub texts_refused : {T : Type 0} (r : Result T E) → OnErr r (Outgrown joined_strs steps s)
+        → YieldsList steps (λ x. chars x.now) s all → OnErr r (¬ (IsShort t))
+    texts_refused r out gives = subst (λ t. OnErr r (¬ (IsShort t))) one
+        (refused joined_strs (joined (λ q. q)) of_texts (flat_map-parts (λ q. q) all) r out gives)
+
+  -- read off each item x of it as h x,
+  module _ {B : Type 0} (h : B → List ℕ) (xs : List B) where
+    pub mapped_collected : (m : Meaning → Meaning) (r : Result Meaning E) → IfOk r (Collected joined_strs steps s m)
+        → ((y : Meaning) → m y ≡ y) → YieldsList steps (λ x. chars x.now) s (map h xs)
+        → IfOk r (λ y. IsValueOf (joined h xs) y)
+    mapped_collected m r is eq gives = texts_collected (joined h xs) (flat_map-map (λ t. t) h xs) m r is eq gives
+
+    pub mapped_refused : {T : Type 0} (r : Result T E) → OnErr r (Outgrown joined_strs steps s)
+        → YieldsList steps (λ x. chars x.now) s (map h xs) → OnErr r (¬ (IsShort (joined h xs)))
+    mapped_refused r out gives = texts_refused (joined h xs) (flat_map-map (λ t. t) h xs) r out gives
+
+    pub mapped_extended : {T : Type 0} (r : Result T E) (old new : Draft) → OnOk r (AppendedAll joined_strs steps s old new)
+        → YieldsList steps (λ x. chars x.now) s (map h xs) → OnOk r (new ≡ appended old (joined h xs))
+    mapped_extended r old new is gives = subst (λ t. OnOk r (new ≡ appended old t)) (flat_map-map (λ t. t) h xs)
+        (extended joined_strs (joined (λ q. q)) of_texts (flat_map-parts (λ q. q) (map h xs)) r old new is gives)
+
+    pub mapped_extend_refused : {T : Type 0} (r : Result T E) (old new : Draft)
+        → OnErr r (StoppedAt joined_strs steps s old new) → YieldsList steps (λ x. chars x.now) s (map h xs)
+        → OnErr r ((appended old (joined h xs)).kind ≡ OnHeap)
+    mapped_extend_refused r old new out gives = subst (λ t. OnErr r ((appended old t).kind ≡ OnHeap))
+        (flat_map-map (λ t. t) h xs)
+        (extend_refused joined_strs (joined (λ q. q)) of_texts (flat_map-parts (λ q. q) (map h xs)) r old new out gives)
+
+  -- or the pieces of a text t that is split at p, which are what is left where p is replaced by nothing
+  module _ (t p : List ℕ) where
+    pub split_collected : (m : Meaning → Meaning) (r : Result Meaning E) → IfOk r (Collected joined_strs steps s m)
+        → ((y : Meaning) → m y ≡ y) → YieldsList steps (λ x. chars x.now) s (cut t p (no_limit t))
+        → IfOk r (λ y. IsValueOf (replaced_all t p []) y)
+    split_collected m r is eq gives =
+        texts_collected (replaced_all t p []) (joined-nothing (cut t p (no_limit t))) m r is eq gives
+
+    pub split_refused : {T : Type 0} (r : Result T E) → OnErr r (Outgrown joined_strs steps s)
+        → YieldsList steps (λ x. chars x.now) s (cut t p (no_limit t)) → OnErr r (¬ (IsShort (replaced_all t p [])))
+    split_refused r out gives = texts_refused (replaced_all t p []) (joined-nothing (cut t p (no_limit t))) r out gives
+
 -- of an array, whose list may have computed in the goal: its items' text is not short
 module _ {n : ℕ} where
-  pub array_chars_long : (s : IntoIter ℕ n) → Outgrown char_text array_steps s
+  pub array_chars_long : (s : IntoIter ℕ n) → Outgrown (λ xs. xs) array_steps s
       → (array_into_iter_items s ≡ array_into_iter_items s) × (INLINE_CAP < size (array_into_iter_items s))
   array_chars_long s out =
       let r : Result ℕ ℕ = Err 0 in
       let long = chars_refused r out (YieldsList-from_array (array_into_iter_items s) refl) in
       (refl, omega (arith, long))
 
-  pub array_strs_long : (s : IntoIter (Bor (List ℕ)) n) → Outgrown str_text array_steps s
+  pub array_strs_long : (s : IntoIter (Bor (List ℕ)) n) → Outgrown joined_strs array_steps s
       → (array_into_iter_items s ≡ array_into_iter_items s) × (INLINE_CAP < size (joined str_text (array_into_iter_items s)))
   array_strs_long s out =
       let r : Result ℕ ℕ = Err 0 in
@@ -240,7 +262,7 @@ module _ {n : ℕ} where
 -- and the same of a text that is split at another
 pub split_long : (s : Split (Bor (List ℕ))) → IsUtf8 (split_text s) → IsUtf8 (split_pattern s).now
     → 0 < length (split_pattern s).now → split_has_more s ≡ true
-    → Outgrown str_text (split_steps (λ n. FindsText n.now) (λ n m. m.now ≡ n.now)) s
+    → Outgrown joined_strs (split_steps (λ n. FindsText n.now) (λ n m. m.now ≡ n.now)) s
     → (split_text s ≡ split_text s)
     × (INLINE_CAP < size (replaced_all (chars (split_text s)) (chars (split_pattern s).now) []))
 split_long s u v some more out =
@@ -274,6 +296,7 @@ pub ruleset collecting = (
   mapped_extend_refused,
   items_collected,
   items_refused,
+  items_extended,
   split_collected,
   split_refused,
   array_chars_long,

@@ -1,5 +1,5 @@
 -- For `str_ext::case` and `str_ext::full`: the ASCII front of a text and the rest of it, in a case.
-use Rattle.smol_str.proofs.Common.{◌≡◌, ℕ, List, [], ◌++◌, length, take, drop, sym, ap, ◌∙◌, arith, length-append, IsUtf8, IsAscii, IsCharBoundary, chars, encode_utf8_all, take_at, IsUtf8-from_ascii, chars-IsAscii, encodes-IsAscii, IsAscii-from_all, AsciiCase, Lower, Upper, size, IsShort, padded, front, converted, Draft, OnHeap, draft_of, appended, common_steps, rules, suc, ◌<◌, ◌∷◌, Bool, false, Option, None, Some, Result, IfOk, flat_map, refl, subst, append-nil, ne_eqb, to_ascii_lowercase, to_ascii_uppercase, chars-encodes, encodes_same, IsAscii-cons, IsAscii-nil, INLINE_CAP, Meaning, IsValueOf, Occurs, lower, upper, lowercased, uppercased, IsAsciiText, HasSigma, letter, letters, full_case, mapped, IsMappedAlone, IfOk-weaker, length-map, map-append, IsUtf8-string_bytes, nat_tests}
+use Rattle.smol_str.proofs.Common.{◌≡◌, ℕ, List, [], ◌++◌, length, take, drop, sym, ap, ◌∙◌, arith, length-append, IsUtf8, IsAscii, IsCharBoundary, chars, encode_utf8_all, take_at, IsUtf8-from_ascii, chars-IsAscii, encodes-IsAscii, IsAscii-from_all, AsciiCase, Lower, Upper, size, IsShort, padded, front, converted, Draft, OnHeap, draft_of, appended, common_steps, rules, suc, ◌<◌, ◌∷◌, Bool, false, Option, None, Some, flat_map, refl, append-nil, ne_eqb, to_ascii_lowercase, to_ascii_uppercase, chars-encodes, encodes_same, IsAscii-cons, IsAscii-nil, INLINE_CAP, Occurs, lower, upper, lowercased, uppercased, IsAsciiText, HasSigma, letter, letters, full_case, mapped, IsMappedAlone, length-map, map-append, IsUtf8-string_bytes, nat_tests}
 use Rattle.smol_str.proofs.CaseLemmas.Ascii.{front-parts, size-converted, front-append, IsAscii-converted, IsAscii-chars, ascii-converted}
 use Rattle.smol_str.proofs.BuilderLemmas.Push.{draft_of-heap, appended-heap, draft_of-appended, appended-thrice, appended-first_heap, appended-second_heap}
 use Rattle.smol_str.proofs.TextLemmas.Split.{boundary-parts, chars-drop}
@@ -194,16 +194,6 @@ module _ (case : AsciiCase) (t r : List ℕ) (e : front t ++ r ≡ t) (alone : I
 
   pub short-refused : (appended d (mapped case r)).kind ≡ OnHeap → ¬ (IsAsciiText t × IsShort t)
   short-refused heap = search (rules, full-long, draft_of-heap, appended-full_case)
-
--- what a caller sees
-module _ {E : Type 0} (r : Result Meaning E) (case : AsciiCase) (t : List ℕ) where
-  pub ok-ascii : IfOk r (λ v. IsValueOf (full_case case t) v) → IsAsciiText t
-      → IfOk r (λ v. IsValueOf (converted case t) v)
-  ok-ascii h ascii = subst (λ (x : List ℕ). IfOk r (λ v. IsValueOf x v)) (full-ascii case t ascii) h
-
-  pub ok-front : IfOk r (λ v. IsValueOf (full_case case t) v)
-      → IfOk r (λ v. (m : List ℕ) × (v.text ≡ converted case (front t) ++ m))
-  ok-front h = IfOk-weaker r _ _ (λ v g. let k = full-front case t in (k.0, g.text ∙ k.1)) h
 
 pub ruleset whole_texts = (chars-of, IsUtf8-string_bytes, lower_is, upper_is)
 

@@ -1,11 +1,12 @@
 -- For `str_ext::replace`: replacing match by match.
-use Rattle.smol_str.proofs.Common.{◌≡◌, ℕ, ◌+◌, ◌-◌, ◌<◌, ◌≤◌, List, [], ◌∷◌, ◌++◌, length, take, drop, None, Some, refl, sym, ap, ◌∙◌, subst, arith, append_assoc, append-nil, length-append, Option, MatchOption, Result, IfOk, IsUtf8, IsCharBoundary, chars, encode_utf8_all, len_utf8, slice_get, encode, length-encode, length-le-encodes, chars-nil, size, IsShort, Occurs, IsNextMatch, IsCut, joined_by, Meaning, IsValueOf, replaced, replaced_all, IsReplacing, Draft, OnHeap, draft_of, appended, nil_from_length, IfOk-weaker, nat_tests, common_steps, rules}
+use Rattle.smol_str.proofs.Common.{◌≡◌, ℕ, ◌+◌, ◌-◌, ◌<◌, ◌≤◌, List, [], ◌∷◌, ◌++◌, length, take, drop, None, Some, refl, sym, ap, ◌∙◌, subst, arith, append_assoc, append-nil, length-append, Option, MatchOption, Result, IfOk, IsUtf8, IsCharBoundary, chars, encode_utf8_all, len_utf8, slice_get, encode, length-encode, length-le-encodes, chars-nil, size, IsShort, Occurs, IsNextMatch, IsOnlyCut, joined_by, cut, Meaning, IsValueOf, replaced, replaced_all, IsReplacing, Draft, OnHeap, draft_of, appended, nil_from_length, IfOk-weaker, nat_tests, common_steps, rules}
 use Rattle.smol_str.proofs.TextLemmas.Places.{size-append, size-chars, IsShort-front, OnErr-always}
 use Rattle.memchr.specs.Find.{FindsNeedle}
 use Rattle.smol_str.proofs.BuilderLemmas.Draft.{appended-twice}
 use Rattle.smol_str.proofs.BuilderLemmas.Push.{appended-draft_of, draft_of-heap, appended-heap}
 use Rattle.smol_str.proofs.CutLemmas.Match.{IsNextMatch-found, Occurs-none, not_found}
-use Rattle.smol_str.proofs.CutLemmas.Replace.{replaced-none, replaced-matched, replaced-unmatched, replaced-between, replaced-end, replaced-enough, replaced-cut, match_count-limit}
+use Rattle.smol_str.proofs.CutLemmas.Replace.{replaced-none, replaced-matched, replaced-unmatched, replaced-between, replaced-end, replaced-enough, match_count-limit}
+use Rattle.smol_str.proofs.CutLemmas.Cut.{IsCut-cut, IsCut-unique}
 use Rattle.smol_str.proofs.TextLemmas.Split.{boundary-parts, chars-drop, chars-middle}
 
 pub replacing-boundary : (bs p w : List ℕ) (n m : ℕ) (b : Draft) (i : ℕ) → IsReplacing (chars bs) p w n m b i
@@ -184,13 +185,14 @@ pub replaced-unlimited : (bs p w : List ℕ) → IsUtf8 bs → (n : ℕ) → len
     → replaced (chars bs) p w n ≡ replaced_all (chars bs) p w
 replaced-unlimited bs p w u n l = grind (arith, common_steps, replaced-enough, match_count-limit, length-le-encodes, size-chars)
 
--- the text of a replacement, by any cut
-pub joined-text : {E : Type 0} (r : Result Meaning E) (t p w : List ℕ) (n : ℕ) (pieces : List (List ℕ))
-    → IsCut t p n pieces
-    → IfOk r (λ v. IsValueOf (replaced t p w n) v) → IfOk r (λ v. v.text ≡ joined_by w pieces)
-joined-text r t p w n pieces h e = IfOk-weaker r _ _ (λ v g. g.text ∙ replaced-cut t p w n pieces h) e
+-- the text of a replacement, by the only cut that there is
+pub only_cut : {E : Type 0} (r : Result Meaning E) (t p w : List ℕ) (n : ℕ) → IfOk r (λ v. IsValueOf (replaced t p w n) v)
+    → (pieces : List (List ℕ)) × IsOnlyCut t p n pieces × IfOk r (λ v. v.text ≡ joined_by w pieces)
+only_cut r t p w n is =
+    let own = IsCut-cut t p n in
+    (cut t p n, (own, λ others h. IsCut-unique t p n others (cut t p n) h own), IfOk-weaker r _ _ (λ v g. g.text) is)
 
-pub ruleset replacements = (replaced-unlimited, joined-text)
+pub ruleset replacements = (replaced-unlimited, only_cut)
 
 pub ruleset first_steps = (chars-empty, replacing-nothing, not_found, nat_tests)
 

@@ -12,7 +12,6 @@ impl PartialEq for SmolStrBuilder {
     ghost laws = { on_per (λ x. x.text) (partial_equiv_from_equiv nat_list_eq_equiv) };
 
     fn eq(&self, other: &SmolStrBuilder) -> bool
-        ensures decided { result ≡ pointwise nat_eq self.now.text other.now.text }
         ensures texts { IsTrue result ↔ (self.now.text ≡ other.now.text) }
     {
         self.as_str() == other.as_str()

@@ -3,7 +3,7 @@ ghost use Rattle.std.specs.Prelude.{◌≡◌, List, IfOk, OnErr};
 ghost use Rattle.std.specs.Iterator.{Drains, ExtendsWithItems, IsFinite};
 ghost use Rattle.smol_str.specs.Meaning.{IsValueOf};
 ghost use Rattle.smol_str.specs.Draft.{appended};
-ghost use Rattle.smol_str.specs.Collect.{StoppedAt, Outgrown, OutgrownAfter};
+ghost use Rattle.smol_str.specs.Collect.{StoppedAt, Outgrown};
 
 use super::{Piece, append_all, collect};
 use crate::builder::SmolStrBuilder;
@@ -26,7 +26,7 @@ impl<P: Piece> FromIterator<P> for SmolStr {
         ensures ran { IfOk result (λ v. (it : U.IntoIter) × (items : List P) × U.into_iter_gives iter it
             × Drains U.IntoIter.next_gives it items × IsValueOf (P.texts items) v) }
         ensures refused { OnErr result ((it : U.IntoIter) × U.into_iter_gives iter it
-            × Outgrown P.text U.IntoIter.next_gives it) }
+            × Outgrown P.texts U.IntoIter.next_gives it) }
     {
         collect(alloc, iter.into_iter())
     }
@@ -45,9 +45,7 @@ impl<P: Piece> Extend<P> for SmolStrBuilder {
         ensures ran { ExtendsWithItems U.into_iter_gives U.IntoIter.next_gives
             (λ old items new. new ≡ appended old (P.texts items)) iter self.old self.new result }
         ensures stopped { OnErr result ((it : U.IntoIter) × U.into_iter_gives iter it
-            × StoppedAt P.text U.IntoIter.next_gives it self.old self.new) }
-        ensures refused { OnErr result ((it : U.IntoIter) × U.into_iter_gives iter it
-            × OutgrownAfter P.text U.IntoIter.next_gives it self.old) }
+            × StoppedAt P.texts U.IntoIter.next_gives it self.old self.new) }
     {
         append_all(self, iter.into_iter())
     }

@@ -72,7 +72,6 @@ impl PartialEq for SmolStr {
 
     #[inline(always)]
     fn eq(&self, other: &SmolStr) -> bool
-        ensures decided { result ≡ pointwise nat_eq self.now.text other.now.text }
         ensures texts { IsTrue result ↔ (self.now.text ≡ other.now.text) }
         ensures inline_buffers { self.now.place ≡ Place.Inline → other.now.place ≡ Place.Inline →
             IsTrue result ↔ HaveOneBuffer self.now.text other.now.text }

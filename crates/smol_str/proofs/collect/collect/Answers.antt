@@ -1,11 +1,19 @@
-use Rattle.std.proofs.Common.{IfOk, rules}
-use Rattle.smol_str.specs.Collect.{Collected}
-use Rattle.smol_str.proofs.BuilderLemmas.Collect.{runs-collected}
+use Rattle.smol_str.proofs.BuilderLemmas.Collect.{outgrown-stopped, collected-value, outgrown-value}
+use Rattle.smol_str.proofs.TextLemmas.Places.{OnErr-always}
 use Rattle.smol_str.proofs.collect.collect.Goals as goal
 
-pub returns-clause-runs : goal.returns-clause-runs
-returns-clause-runs g c =
-    let steps = g.I.Iterator.next_gives in
-    let meaning = g.A.ValueAlloc.meaning in
-    let collected : IfOk c.value_of.result (Collected g.P.Piece.text steps c.args.iter meaning) = search rules in
-    runs-collected steps c.args.iter g.P.Piece.text g.P.Piece.texts g.met.P.Piece.joins meaning c.value_of.result collected
+pub returns-in_err-append_all-clause-refused : goal.returns-in_err-append_all-clause-refused
+returns-in_err-append_all-clause-refused g c =
+    let stopped = rw c.builder-builder.ensures at c.in_err-append_all.ensures.stopped in
+    OnErr-always c.from_residual.result _ (outgrown-stopped g.I.Iterator.next_gives c.args.iter g.P.Piece.texts _ stopped)
+
+pub returns-clause-ok : goal.returns-clause-ok
+returns-clause-ok g c =
+    let all = rw c.builder-builder.ensures at c.in_ok-append_all.ensures.ok in
+    collected-value g.I.Iterator.next_gives c.args.iter g.P.Piece.texts _ g.A.ValueAlloc.meaning c.value_of.result
+    all c.value_of.ensures.ok
+
+pub returns-clause-refused : goal.returns-clause-refused
+returns-clause-refused g c =
+    let all = rw c.builder-builder.ensures at c.in_ok-append_all.ensures.ok in
+    outgrown-value g.I.Iterator.next_gives c.args.iter g.P.Piece.texts _ c.value_of.result all c.value_of.ensures.refused
