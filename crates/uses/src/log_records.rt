@@ -83,6 +83,16 @@ pub fn read_all<R: Read>(
     Ok(records)
 }
 
+/// No records: reading none cannot fail.
+pub fn read_none<R: Read>(alloc: Global, reader: &mut R, limit: usize) -> Vec<Record>
+    ensures { length result.items ≡ 0 }
+{
+    match read_all(alloc, reader, 0, limit) {
+        Ok(records) => records,
+        Err(_fault) => unreachable!(),
+    }
+}
+
 /// Records that were written are read back, and what is behind them is left.
 pub fn read_back<'a>(
     alloc: Global,
