@@ -1,4 +1,4 @@
-//! Callers of the program's `run`: the report on some bytes, behind what a `Vec` has.
+//! Callers of the program's core: the report on some bytes, behind what a `Vec` has, and words counted.
 ghost use Rattle.std.specs.Prelude.{◌≡◌, ◌<◌, ◌⊎◌, ◌+◌, ◌^◌, ℕ, List, [], ◌++◌, length, None, IfOk, IsOk, OnOk, OnErr, IfErr, encode_utf8_all};
 ghost use Rattle.std.specs.Map.{lookup};
 ghost use Rattle.std.specs.Str.{chars, IsUtf8};
