@@ -1,7 +1,7 @@
 //! The library and upstream's crate on the same programs: every report is compared byte for byte.
 //!
-//! compare random SEED FROM TO [refuse]     random programs by number, with memory refused or not
-//! compare random SEED FROM TO mixed        each second one with memory refused
+//! compare random SEED PROGRAMS [refuse]    so many random programs, with memory refused or not
+//! compare random SEED PROGRAMS mixed       each second one with memory refused
 //! compare chars                            each scalar value in cases, contexts, prints, JSON and wire forms
 //! compare show SEED NUMBER [refuse]        one program, an operation a line, and where it differs
 //! compare shrink SEED NUMBER [refuse]      the same, made short
@@ -14,6 +14,8 @@ mod departures;
 mod draws;
 mod forms;
 mod host;
+// a call a line
+#[rustfmt::skip]
 mod library;
 mod limits;
 mod machine;
@@ -32,8 +34,7 @@ use host::Program;
 use process::{Process, Refusal};
 use random::Random;
 use std::process::ExitCode;
-use std::time::Instant;
-use totals::{Totals, shown, tell};
+use totals::{Totals, shown};
 
 /// The operations of a program, and of one with long texts.
 const OPERATIONS: usize = 60;
@@ -42,16 +43,13 @@ const LONG_OPERATIONS: usize = 16;
 /// One program in so many has long texts.
 const LONG: usize = 40;
 
-/// The most programs that are told of.
-const TOLD: u64 = 10;
-
-fn program_of(seed: u64, number: u64, word: &str) -> Program {
+fn program_of(seed: u64, number: u64, how: &str) -> Program {
     let mut random = Random::of(seed, number);
     random.is_long = random.one_in(LONG);
     let count = if random.is_long { LONG_OPERATIONS } else { OPERATIONS };
     let steps = (0..count).map(|_| table::draw(&mut random)).collect();
     let refusal = match random.below(5) {
-        _ if word != "refuse" && (word != "mixed" || number % 2 == 0) => Refusal::None,
+        _ if how != "refuse" && (how != "mixed" || number % 2 == 0) => Refusal::None,
         0 => Refusal::One(1 + random.below(40) as u64),
         1 => Refusal::From(1 + random.below(40) as u64),
         2 => Refusal::Chance(2, random.next()),
@@ -62,16 +60,11 @@ fn program_of(seed: u64, number: u64, word: &str) -> Program {
 }
 
 /// Runs programs by number; those of a mixed run only up to the first that differs.
-fn run_random(totals: &mut Totals, process: &mut Process, seed: u64, numbers: std::ops::Range<u64>, word: &str) {
-    for number in numbers {
-        let program = program_of(seed, number, word);
-        if let Some(found) = totals.run(process, &program) {
-            if totals.differing <= TOLD {
-                tell(&format!("program {number} of seed {seed}"), &program, &found);
-            }
-            if word == "mixed" {
-                break;
-            }
+fn run_random(totals: &mut Totals, process: &mut Process, seed: u64, programs: u64, how: &str) {
+    for number in 0..programs {
+        totals.run_and_tell(process, &program_of(seed, number, how), &format!("program {number} of seed {seed}"));
+        if how == "mixed" && totals.differing > 0 {
+            break;
         }
     }
 }
@@ -106,27 +99,22 @@ fn show_one(process: &mut Process, mut program: Program, is_shrunk: bool) -> boo
         println!("{:>3}  {}", at + 1, shown(&step.to_string()));
     }
     let found = differs(&program);
-    match &found {
-        Some(found) => tell("this program", &program, found),
-        None => println!("this program does not differ"),
-    }
+    println!("{}", found.as_ref().map_or("this program does not differ".into(), |found| format!("DIFFERS: {found}")));
     found.is_some()
 }
 
 fn compare(process: &mut Process, words: &[&str]) -> Option<bool> {
     let number = |at: usize| words.get(at)?.parse::<u64>().ok();
-    let word = |at: usize| words.get(at).copied().unwrap_or_default();
-    let unexplained = unicode::compare(process, std::env::var("PRELOAD").is_err() && word(0) != "chars")?;
+    let (what, how) = (words.first()?, words.get(3).copied().unwrap_or_default());
+    let unexplained = unicode::compare(process, std::env::var("PRELOAD").is_err() && *what != "chars")?;
     library::RUN.take();
-    let started = Instant::now();
     let mut totals = Totals::default();
-    match word(0) {
-        "random" => run_random(&mut totals, process, number(1)?, number(2)?..number(3)?, word(4)),
+    match *what {
+        "random" => run_random(&mut totals, process, number(1)?, number(2)?, how),
         "chars" => chars::run(&mut totals, process),
-        how => return Some(show_one(process, program_of(number(1)?, number(2)?, word(3)), how == "shrink")),
+        _ => return Some(show_one(process, program_of(number(1)?, number(2)?, how), *what == "shrink")),
     }
     totals.print();
-    println!("{:.1} s; programs that differ: {}", started.elapsed().as_secs_f64(), totals.differing);
     Some(totals.differing > 0 || unexplained > 0)
 }
 

@@ -1,6 +1,6 @@
 //! The machine: a program that MACHINE names, with the heap of heap.c below it.
 use std::io::{BufReader, Read, Write};
-use std::process::{Child, ChildStdin, ChildStdout, Command, Stdio};
+use std::process::{ChildStdin, ChildStdout, Command, Stdio};
 
 /// Which requests for memory are refused, counted over the calls of a whole program from 1.
 #[derive(Clone, Copy, Debug, PartialEq)]
@@ -17,16 +17,16 @@ pub enum Refusal {
 }
 
 impl Refusal {
-    /// The head of a program, as heap.c reads it: a byte that says which, seven of a number, and eight of a seed.
-    fn head(self) -> Vec<u8> {
-        let (which, n, seed) = match self {
+    /// As heap.c reads it.
+    fn number(self) -> u64 {
+        let (how, n, seed) = match self {
             Refusal::None => (0, 0, 0),
             Refusal::One(n) => (1, n, 0),
             Refusal::From(n) => (2, n, 0),
             Refusal::Chance(n, seed) => (3, n, seed),
             Refusal::Smaller => (4, 0, 0),
         };
-        [(n << 8 | which).to_le_bytes(), seed.to_le_bytes()].concat()
+        how << 56 | n << 48 | seed >> 16
     }
 }
 
@@ -46,43 +46,34 @@ pub struct Outcome {
     pub blocks: i64,
 }
 
-pub struct Process(Child, ChildStdin, BufReader<ChildStdout>);
+pub struct Process(ChildStdin, BufReader<ChildStdout>);
 
 impl Process {
     pub fn start() -> Process {
         let mut command = Command::new(std::env::var("MACHINE").expect("MACHINE names the machine"));
         command.envs(std::env::var("PRELOAD").map(|library| ("LD_PRELOAD", library)));
         command.stdin(Stdio::piped()).stdout(Stdio::piped()).stderr(Stdio::null());
-        let mut child = command.spawn().expect("the machine starts");
-        let (input, output) = (child.stdin.take().unwrap(), BufReader::new(child.stdout.take().unwrap()));
-        Process(child, input, output)
+        let child = command.spawn().expect("the machine starts");
+        Process(child.stdin.unwrap(), BufReader::new(child.stdout.unwrap()))
     }
 
     /// Runs a program; `None` where the machine ended.
     pub fn run(&mut self, program: &[u8], refusal: Refusal) -> Option<Outcome> {
-        let frame = [&refusal.head()[..], program].concat();
-        self.1.write_all(&[&(frame.len() as u32).to_le_bytes(), &frame[..]].concat()).ok()?;
-        self.1.flush().ok()?;
+        let frame = [&refusal.number().to_le_bytes()[..], program].concat();
+        self.0.write_all(&[&(frame.len() as u32).to_le_bytes()[..], &frame].concat()).ok()?;
         let (bytes, blocks) = (i64::from_le_bytes(self.read()?), i64::from_le_bytes(self.read()?));
         let mut asked = vec![];
         for _ in 0..u32::from_le_bytes(self.read()?) {
             asked.push(Asked { requests: u32::from_le_bytes(self.read()?), refused: u32::from_le_bytes(self.read()?) });
         }
         let mut report = vec![0; u64::from_le_bytes(self.read()?) as usize];
-        self.2.read_exact(&mut report).ok()?;
+        self.1.read_exact(&mut report).ok()?;
         Some(Outcome { report, asked, bytes, blocks })
     }
 
     fn read<const N: usize>(&mut self) -> Option<[u8; N]> {
         let mut bytes = [0; N];
-        self.2.read_exact(&mut bytes).ok()?;
+        self.1.read_exact(&mut bytes).ok()?;
         Some(bytes)
-    }
-}
-
-impl Drop for Process {
-    fn drop(&mut self) {
-        let _ = self.0.kill();
-        let _ = self.0.wait();
     }
 }

@@ -1,7 +1,7 @@
 //! The operations: the module of the machine that runs each, what it is given, and the calls of the library that it makes.
 use crate::draws::{self, Texts};
-use crate::machine::REGISTERS;
 use crate::host::Call;
+use crate::machine::REGISTERS;
 use crate::random::Random;
 
 /// What draws the number of an operation, of the length of its first text.
@@ -23,24 +23,20 @@ const LIMIT: Number = |random, len| match random.below(2) {
 /// A place in the text.
 const PLACE: Number = |random, len| random.below(len + 1) as u64;
 
-#[derive(Debug)]
 pub struct Row {
     pub group: u8,
     pub name: &'static str,
     /// How often it is drawn, beside the others.
-    pub weight: usize,
-    /// So many forms it has.
-    pub forms: usize,
-    pub texts: Texts,
-    pub number: Number,
+    weight: usize,
+    forms: usize,
+    texts: Texts,
+    number: Number,
     /// The calls by the names that .ci/interface.py has for them.
     pub calls: &'static str,
 }
 
-#[rustfmt::skip]
-const fn row(
-    group: u8, name: &'static str, weight: usize, forms: usize, texts: Texts, number: Number, calls: &'static str,
-) -> Row {
+type Name = &'static str;
+const fn row(group: u8, name: Name, weight: usize, forms: usize, texts: Texts, number: Number, calls: Name) -> Row {
     Row { group, name, weight, forms, texts, number, calls }
 }
 
@@ -135,10 +131,6 @@ pub static ROWS: &[Row] = &[
     row(b't', "each character", 0, 1, draws::NONE, ANY, ""),
     row(b't', "version of Unicode", 0, 1, draws::NONE, ANY, ""),
 ];
-
-pub fn named(name: &str) -> &'static Row {
-    ROWS.iter().find(|row| row.name == name).expect("an operation of the table")
-}
 
 const CAPACITIES: &[u64] =
     &[0, 1, 38, 39, 40, 41, 45, 64, 80, 100, 5000, 1 << 50, u64::MAX >> 1, (u64::MAX >> 1) + 1, u64::MAX];

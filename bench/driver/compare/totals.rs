@@ -1,9 +1,9 @@
 //! Runs programs on both sides, and counts what they do.
 use crate::departures;
+use crate::host::Program;
 use crate::library::{self, Global, Place, RUN, SmolStr, SmolStrBuilder};
 use crate::machine::{Machine, REGISTERS};
 use crate::process::{Asked, Outcome, Process, Refusal};
-use crate::host::Program;
 use crate::report::Report;
 use crate::table::{BUILDER_READS, READS, ROWS};
 use std::collections::BTreeMap;
@@ -15,14 +15,8 @@ const ROOM: usize = 1 << 23;
 const BESIDE_TEXT: usize = 48;
 const LIST: usize = 512;
 
-/// Where a program differs.
-pub struct Difference {
-    pub at: usize,
-    pub why: String,
-    pub wanted: Vec<u8>,
-    pub actual: Vec<u8>,
-    pub asked: Asked,
-}
+/// The most programs that are told of.
+const TOLD: u64 = 10;
 
 #[derive(Default)]
 pub struct Totals {
@@ -40,32 +34,37 @@ pub fn mirror() -> Machine {
 }
 
 impl Totals {
-    /// Runs a program on both sides and compares the reports, up to the first difference.
-    pub fn run(&mut self, process: &mut Process, program: &Program) -> Option<Difference> {
-        let mut encoded = vec![];
-        program.steps.iter().for_each(|step| step.encode(&mut encoded));
+    /// Runs a program on both sides and compares the reports; says the first difference.
+    pub fn run(&mut self, process: &mut Process, program: &Program) -> Option<String> {
+        let encoded: Vec<u8> = program.steps.iter().flat_map(|step| step.encoded()).collect();
         // where blocks cannot be made smaller, no call asks for other memory in place of that
         let ample = (program.refusal == Refusal::Smaller).then(|| process.run(&encoded, Refusal::None)).flatten();
-        let outcome = process.run(&encoded, program.refusal);
         self.programs += 1;
-        let found = match outcome {
+        let found = match process.run(&encoded, program.refusal) {
             Some(outcome) => self.compare(program, &outcome).or_else(|| asks_again(program, &ample?.asked, &outcome.asked)),
             None => {
                 *process = Process::start();
-                Some(at_end(program, "the machine ended, or took too long".to_string(), &[]))
+                Some(at_end(program, "the machine ended, or took too long", &[]))
             }
         };
         self.differing += u64::from(found.is_some());
         found
     }
 
-    fn compare(&mut self, program: &Program, outcome: &Outcome) -> Option<Difference> {
+    /// The same, and prints it of the first that differ.
+    pub fn run_and_tell(&mut self, process: &mut Process, program: &Program, name: &str) {
+        if let Some(found) = self.run(process, program) && self.differing <= TOLD {
+            println!("DIFFERS: {name}, {found}");
+        }
+    }
+
+    fn compare(&mut self, program: &Program, outcome: &Outcome) -> Option<String> {
         let (mut mirror, mut room) = (mirror(), vec![0; ROOM]);
         let mut rest = outcome.report.as_slice();
         for (at, step) in program.steps.iter().enumerate() {
             let asked = outcome.asked.get(at).copied().unwrap_or_default();
-            let counts = self.calls.entry(step.row.name).or_default();
-            *counts = [counts[0] + 1, counts[1] + u64::from(asked.refused > 0)];
+            let [times, refused] = self.calls.entry(step.row.name).or_default();
+            (*times, *refused) = (*times + 1, *refused + u64::from(asked.refused > 0));
             self.requests += u64::from(asked.requests);
             library::begin(asked, rest);
             let mut wanted = Report::new(&mut room);
@@ -74,8 +73,7 @@ impl Totals {
             let wanted = &room[..len];
             let fault = if rest.starts_with(wanted) { library::fault() } else { Some("the reports differ") };
             if let Some(why) = fault {
-                let actual = rest[..rest.len().min(len + 64)].to_vec();
-                return Some(Difference { at, why: why.to_string(), wanted: wanted.to_vec(), actual, asked });
+                return Some(difference(program, at, &format!("{why}; {asked:?}"), wanted, &rest[..rest.len().min(len + 64)]));
             }
             rest = &rest[len..];
         }
@@ -95,6 +93,7 @@ impl Totals {
             println!("departure {times:>9}  {departure}");
         }
         println!("{} programs, {calls} calls, {} requests for memory", self.programs, self.requests);
+        println!("programs that differ: {}", self.differing);
     }
 }
 
@@ -104,20 +103,14 @@ fn most_bytes(mirror: &Machine) -> i64 {
     (on_heap.map(|value| value.len() + BESIDE_TEXT).sum::<usize>() + LIST) as i64
 }
 
-fn at_end(program: &Program, why: String, actual: &[u8]) -> Difference {
-    let (at, actual) = (program.steps.len().saturating_sub(1), actual[..actual.len().min(64)].to_vec());
-    Difference { at, why, wanted: vec![], actual, asked: Asked::default() }
-}
-
 /// The first call whose requests are others than with ample memory.
-fn asks_again(program: &Program, ample: &[Asked], asked: &[Asked]) -> Option<Difference> {
+fn asks_again(program: &Program, ample: &[Asked], asked: &[Asked]) -> Option<String> {
     let at = ample.iter().zip(asked).position(|(ample, asked)| ample != asked)?;
-    let why = format!("the call asks {} times where it asks {} times with ample memory", asked[at].requests, ample[at].requests);
-    Some(Difference { at, asked: asked[at], ..at_end(program, why, &[]) })
+    Some(difference(program, at, &format!("{:?}, and with ample memory {:?}", asked[at], ample[at]), &[], &[]))
 }
 
 /// What is wrong though each operation's report is as it has to be.
-fn left_over(program: &Program, outcome: &Outcome, rest: &[u8], most_bytes: i64) -> Option<Difference> {
+fn left_over(program: &Program, outcome: &Outcome, rest: &[u8], most_bytes: i64) -> Option<String> {
     let Outcome { bytes, blocks, asked, .. } = outcome;
     let why = if !rest.is_empty() || asked.len() != program.steps.len() {
         format!("the machine reports {} bytes more, and {} calls", rest.len(), asked.len())
@@ -128,19 +121,18 @@ fn left_over(program: &Program, outcome: &Outcome, rest: &[u8], most_bytes: i64)
     } else {
         return None;
     };
-    Some(at_end(program, why, rest))
+    Some(at_end(program, &why, rest))
 }
 
-/// Prints where a program differs.
-pub fn tell(name: &str, program: &Program, found: &Difference) {
-    let step = &program.steps[found.at];
-    println!("DIFFERS: {name}, operation {} of {}, {}: {}", found.at + 1, program.steps.len(), step.row.name, found.why);
-    println!("  {}", shown(&step.to_string()));
-    println!("  requests for memory {}, refused {}", found.asked.requests, found.asked.refused);
-    println!("  wanted {}", shown(&String::from_utf8_lossy(&found.wanted).escape_debug().to_string()));
-    println!("  actual {}", shown(&String::from_utf8_lossy(&found.actual).escape_debug().to_string()));
-    let same = found.wanted.iter().zip(&found.actual).take_while(|(wanted, actual)| wanted == actual).count();
-    println!("  the first {same} bytes of {} are the same", found.wanted.len());
+fn at_end(program: &Program, why: &str, actual: &[u8]) -> String {
+    difference(program, program.steps.len() - 1, why, &[], actual)
+}
+
+/// Where and how a program differs.
+fn difference(program: &Program, at: usize, why: &str, wanted: &[u8], actual: &[u8]) -> String {
+    let (step, steps) = (&program.steps[at], program.steps.len());
+    let [wanted, actual] = [wanted, actual].map(|it| shown(&String::from_utf8_lossy(it).escape_debug().to_string()));
+    format!("operation {} of {steps}: {why}\n  {}\n  wanted {wanted}\n  actual {actual}", at + 1, shown(&step.to_string()))
 }
 
 /// The first part of a long text.

@@ -3,12 +3,11 @@
 //! They are found by asking both sides. A difference is one of versions where this side prints the character escaped, or
 //! leaves it as it is where the machine has another case for it; random texts have none of these characters. Any other
 //! difference is one of the libraries.
+use crate::host::Call;
 use crate::library;
 use crate::process::{Asked, Process, Refusal};
-use crate::host::Call;
 use crate::random::Random;
 use crate::report::Report;
-use crate::table::named;
 use crate::totals::mirror;
 use std::sync::OnceLock;
 
@@ -21,11 +20,11 @@ const ASPECTS: usize = 5;
 /// More bytes than these have.
 const ROOM: usize = 1 << 10;
 
+#[derive(Default)]
 struct Known {
-    /// The letters that have another case, the same on both sides.
-    letters: Vec<char>,
-    /// Every character that was asked for and is the same on both sides.
+    /// Every character that was asked for and is the same on both sides, and those of them that have a case.
     agreed: Vec<char>,
+    letters: Vec<char>,
     differing: Vec<char>,
     is_slow: bool,
 }
@@ -48,9 +47,8 @@ pub fn agreed(random: &mut Random) -> char {
 
 /// Whether both sides disagree on a character; where not all were asked for, whether this side does not know it.
 pub fn differs(character: char) -> bool {
-    let known = known();
     let may_be_new = matches!(character, '\u{370}'..='\u{d7fb}' | '\u{10000}'..='\u{effff}');
-    known.is_slow && may_be_new && is_added(character) || known.differing.binary_search(&character).is_ok()
+    known().is_slow && may_be_new && is_added(character) || known().differing.binary_search(&character).is_ok()
 }
 
 fn is_added(character: char) -> bool {
@@ -67,59 +65,43 @@ fn is_of_versions(character: char, wanted: &[&[u8]], actual: &[&[u8]]) -> bool {
     is_added(character) || (0..ASPECTS).all(|at| wanted[at] == actual[at] || is_unchanged(at))
 }
 
-/// The texts that are reported of a character, and what stands behind them.
-fn texts_of(mut report: &[u8]) -> Option<(Vec<&[u8]>, &[u8])> {
-    let mut texts = vec![];
-    for _ in 0..ASPECTS {
-        let (size, rest) = report.split_first_chunk()?;
-        let (text, rest) = rest.split_at_checked(u64::from_le_bytes(*size) as usize)?;
-        texts.push(text);
-        report = rest;
-    }
-    Some((texts, report))
-}
-
-fn call(name: &str, text: String) -> Call {
-    Call::of(named(name), vec![text.into_bytes()])
+/// The texts that are reported of a character, out of the front of a report.
+fn texts_of<'a>(report: &mut &'a [u8]) -> Option<Vec<&'a [u8]>> {
+    let mut text = || {
+        let size = u64::from_le_bytes(*report.split_off(..8)?.first_chunk()?);
+        report.split_off(..size as usize)
+    };
+    (0..ASPECTS).map(|_| text()).collect()
 }
 
 /// Asks both sides for each character, or for those alone that have a case here, where the machine is slow. Prints what
 /// differs; returns how many characters differ though no version explains it, `None` where the machine ended.
 pub fn compare(process: &mut Process, is_slow: bool) -> Option<usize> {
-    let mut ask = |call: &Call| {
-        let mut program = vec![];
-        call.encode(&mut program);
-        Some(process.run(&program, Refusal::None)?.report)
-    };
-    let version = ask(&call("version of Unicode", String::new()))?[8..].to_vec();
-    let asked: Vec<char> = ('\0'..=char::MAX).filter(|it| !is_slow || has_case(it)).collect();
-    let mut found = Known { letters: vec![], agreed: vec![], differing: vec![], is_slow };
-    let (mut mirror, mut room, mut unexplained) = (mirror(), vec![0; ROOM], vec![]);
-    let upstream = char::UNICODE_VERSION;
+    let mut ask = |name, text: &str| Some(process.run(&Call::of(name, 0, text).encoded(), Refusal::None)?.report);
+    let (version, upstream) = (ask("version of Unicode", "")?[8..].to_vec(), char::UNICODE_VERSION);
     let is_same_version = version == [upstream.0, upstream.1, upstream.2];
+    let asked: Vec<char> = ('\0'..=char::MAX).filter(|it| !is_slow || has_case(it)).collect();
+    let (mut mirror, mut room, mut found, mut unexplained) = (mirror(), vec![0; ROOM], Known::default(), vec![]);
     for block in asked.chunks(BLOCK) {
-        let report = ask(&call("each character", block.iter().collect()))?;
+        let report = ask("each character", &block.iter().collect::<String>())?;
         let mut rest = report.as_slice();
         for character in block {
             library::begin(Asked::default(), &[]);
-            mirror.run(&mut call("each character", character.to_string()).decoded(), &mut Report::new(&mut room));
-            let ((wanted, _), (actual, behind)) = (texts_of(&room)?, texts_of(rest)?);
-            rest = behind;
-            if wanted == actual {
-                found.agreed.push(*character);
-                continue;
-            }
-            found.differing.push(*character);
-            if is_same_version || !is_of_versions(*character, &wanted, &actual) {
+            let call = Call::of("each character", 0, &character.to_string());
+            mirror.run(&mut call.decoded(), &mut Report::new(&mut room));
+            let (wanted, actual) = (texts_of(&mut &room[..])?, texts_of(&mut rest)?);
+            let alike = if wanted == actual { &mut found.agreed } else { &mut found.differing };
+            alike.push(*character);
+            if wanted != actual && (is_same_version || !is_of_versions(*character, &wanted, &actual)) {
                 unexplained.push(*character);
             }
         }
     }
-    found.letters = found.agreed.iter().copied().filter(has_case).collect();
     println!("Unicode {version:?} here, {upstream:?} upstream; asked for {} characters", asked.len());
     println!("characters that differ: {}: {}", found.differing.len(), ranges(&found.differing));
     println!("characters that no version of Unicode explains: {}: {}", unexplained.len(), ranges(&unexplained));
-    KNOWN.get_or_init(|| found);
+    let letters = found.agreed.iter().copied().filter(has_case).collect();
+    KNOWN.get_or_init(|| Known { letters, is_slow, ..found });
     Some(unexplained.len())
 }
 

@@ -1,14 +1,12 @@
 //! Prints, case and replacement, the wire form by borsh, JSON by serde_json, and reading and writing by single calls.
 //!
 //! Upstream has no single calls: they are made here of what the documents say of them.
-use super::{AllocError, Global, INLINE_CAP, SmolStr, actual_number, departs, expect, is_refused, is_short, may_ask};
-use super::{made_of_parts, made_or, unless_refused};
+use super::*;
 use crate::departures::{INTERRUPTED, NO_STRING, SHORT_SIGMA, WIRE_FAULT};
 use crate::forms::{SlowReader, SlowWriter};
 pub use borsh::{BorshDeserialize, BorshSerialize};
 use serde_json::Value;
-use smol_str::SmolStr as Upstream;
-use std::fmt::Display;
+use smol_str::StrExt as _;
 use std::io::{self, ErrorKind, Read, Write};
 use std::str::Utf8Error;
 
@@ -21,32 +19,20 @@ const PREFIX: usize = 4;
 #[derive(Debug)]
 pub struct FormatError;
 
-pub trait ToSmolStr {
-    fn to_smolstr(&self, alloc: Global) -> Result<SmolStr, FormatError>;
+pub trait ToSmolStr: Display {
+    fn to_smolstr(&self, _: Global) -> Made<FormatError> { printed(smol_str::ToSmolStr::to_smolstr(self)) }
 }
 
-impl<T: Display> ToSmolStr for T {
-    fn to_smolstr(&self, _: Global) -> Result<SmolStr, FormatError> {
-        printed(smol_str::ToSmolStr::to_smolstr(self))
-    }
-}
+impl<T: Display> ToSmolStr for T {}
 
-pub fn printed(text: Upstream) -> Result<SmolStr, FormatError> {
-    made_of_parts(text, FormatError)
-}
+pub fn printed(text: Upstream) -> Made<FormatError> { made_of_parts(text, FormatError) }
 
-#[macro_export]
 macro_rules! format_smolstr {
-    ($alloc:expr; $($print:tt)*) => {
-        $crate::library::printed(smol_str::format_smolstr!($($print)*))
-    };
+    ($alloc:expr; $($print:tt)*) => { $crate::library::printed(smol_str::format_smolstr!($($print)*)) };
 }
-pub use crate::format_smolstr;
+pub(crate) use format_smolstr;
 
-pub enum AsciiCase {
-    Lower,
-    Upper,
-}
+pub enum AsciiCase { Lower, Upper }
 
 impl AsciiCase {
     pub fn of(&self, text: &str) -> String {
@@ -60,14 +46,11 @@ impl AsciiCase {
 /// Case and replacement: as std has them, and upstream too. Some may ask for memory where the text is past ASCII.
 macro_rules! str_ext {
     ($($name:ident($($more:ident: $type:ty),*) $of_std:ident, $asks:literal;)*) => {
-        pub trait StrExt {
-            $(fn $name(&self, alloc: Global $(, $more: $type)*) -> Result<SmolStr, AllocError>;)*
-        }
-
-        impl StrExt for &str {
-            $(fn $name(&self, _: Global $(, $more: $type)*) -> Result<SmolStr, AllocError> {
-                may_ask($asks && !self.is_ascii());
-                changed(self, smol_str::StrExt::$name(*self $(, $more)*), self.$of_std($($more),*))
+        pub trait StrExt: AsRef<str> {
+            $(fn $name(&self, _: Global $(, $more: $type)*) -> Made {
+                let text = self.as_ref();
+                may_ask($asks && !text.is_ascii());
+                changed(text, text.$name($($more),*), text.$of_std($($more),*))
             })*
         }
     };
@@ -80,8 +63,9 @@ str_ext! {
     replace_smolstr(from: &str, to: &str) replace, false;
     replacen_smolstr(from: &str, to: &str, count: usize) replacen, false;
 }
+impl StrExt for &str {}
 
-fn changed(text: &str, made: Upstream, of_std: String) -> Result<SmolStr, AllocError> {
+fn changed(text: &str, made: Upstream, of_std: String) -> Made {
     let is_sigma = made != of_std && is_short(text) && text.contains('Σ');
     if is_sigma {
         departs(SHORT_SIGMA);
@@ -92,16 +76,12 @@ fn changed(text: &str, made: Upstream, of_std: String) -> Result<SmolStr, AllocE
 
 pub fn convert_while_ascii(text: &str, case: AsciiCase) -> ([u8; INLINE_CAP], usize) {
     let front: String = text.chars().take_while(char::is_ascii).collect();
-    (super::buffer_of(&case.of(&front)), front.len())
+    (buffer_of(&case.of(&front)), front.len())
 }
 
-pub fn next_match(text: &str, from: usize, needle: &str) -> Option<usize> {
-    Some(from + text[from..].find(needle)?)
-}
+pub fn next_match(text: &str, from: usize, needle: &str) -> Option<usize> { Some(from + text[from..].find(needle)?) }
 
-pub fn length_prefix(size: usize) -> Option<[u8; PREFIX]> {
-    Some(u32::try_from(size).ok()?.to_le_bytes())
-}
+pub fn length_prefix(size: usize) -> Option<[u8; PREFIX]> { Some(u32::try_from(size).ok()?.to_le_bytes()) }
 
 /// The faults, whose debug texts are the library's.
 #[derive(Debug)]
@@ -113,14 +93,9 @@ pub enum Fault {
     Io(io::Error),
     Decode(Box<Fault>),
 }
-pub use Fault as DecodeFault;
-pub use Fault as ReadFault;
+pub use self::{Fault as DecodeFault, Fault as ReadFault};
 
-impl From<io::Error> for Fault {
-    fn from(error: io::Error) -> Fault {
-        Fault::Io(error)
-    }
-}
+impl From<io::Error> for Fault { fn from(error: io::Error) -> Fault { Fault::Io(error) } }
 
 /// Fails by another error in place of `Interrupted`, after which upstream goes on and the library does not.
 struct Uninterrupted<'w, 'a>(&'w mut SlowWriter<'a>, Option<io::Error>);
@@ -133,10 +108,7 @@ impl Write for Uninterrupted<'_, '_> {
             ErrorKind::BrokenPipe.into()
         })
     }
-
-    fn flush(&mut self) -> io::Result<()> {
-        self.0.flush()
-    }
+    fn flush(&mut self) -> io::Result<()> { self.0.flush() }
 }
 
 fn interrupted(error: &io::Error) {
@@ -145,18 +117,19 @@ fn interrupted(error: &io::Error) {
     }
 }
 
+/// What writing comes to, by the error of the writer itself.
+fn written(writer: &mut SlowWriter, write: impl FnOnce(&mut Uninterrupted) -> io::Result<()>) -> io::Result<()> {
+    let mut writer = Uninterrupted(writer, None);
+    write(&mut writer).map_err(|error| writer.1.unwrap_or(error.kind().into()))
+}
+
+pub fn write_steps(writer: &mut SlowWriter, bytes: &[u8]) -> io::Result<()> { written(writer, |to| to.write_all(bytes)) }
+
 impl SmolStr {
     pub fn serialize(&self, writer: &mut SlowWriter) -> Result<(), Fault> {
-        let mut writer = Uninterrupted(writer, None);
-        self.0.serialize(&mut writer).map_err(|error| {
-            departs(WIRE_FAULT);
-            Fault::Io(writer.1.unwrap_or(error.kind().into()))
-        })
+        written(writer, |to| self.0.serialize(to)).inspect_err(|_| departs(WIRE_FAULT)).map_err(Fault::Io)
     }
-
-    pub fn deserialize_reader(alloc: Global, reader: &mut SlowReader) -> Result<SmolStr, Fault> {
-        read_value(alloc, reader, usize::MAX)
-    }
+    pub fn deserialize_reader(alloc: Global, reader: &mut SlowReader) -> Made<Fault> { read_value(alloc, reader, usize::MAX) }
 }
 
 /// What upstream reads, and how many bytes; the fault where it has an error of borsh or std.
@@ -179,7 +152,7 @@ pub fn split_wire(alloc: Global, bytes: &[u8]) -> Result<(SmolStr, &[u8]), Fault
     from_wire(alloc, bytes).map(|(value, taken)| (value, &bytes[taken..]))
 }
 
-pub fn deserialize_limited(alloc: Global, reader: &mut SlowReader, limit: usize) -> Result<SmolStr, Fault> {
+pub fn deserialize_limited(alloc: Global, reader: &mut SlowReader, limit: usize) -> Made<Fault> {
     read_value(alloc, reader, limit).map_err(|fault| match fault {
         Fault::TooLong => Fault::TooLong,
         fault => Fault::Decode(Box::new(fault)),
@@ -187,23 +160,25 @@ pub fn deserialize_limited(alloc: Global, reader: &mut SlowReader, limit: usize)
 }
 
 /// A value of at most so many bytes; a short one is read without memory.
-fn read_value(alloc: Global, reader: &mut SlowReader, limit: usize) -> Result<SmolStr, Fault> {
-    let mut form = vec![0; PREFIX];
-    let filled = fill(reader, &mut form)?;
-    form.truncate(filled);
+fn read_value(alloc: Global, reader: &mut SlowReader, limit: usize) -> Made<Fault> {
+    let mut form = filled(reader, PREFIX)?;
     if let Some(prefix) = form.first_chunk() {
         let size = u32::from_le_bytes(*prefix) as usize;
         if size > limit {
             departs(WIRE_FAULT);
             return Err(Fault::TooLong);
         }
-        let mut short = vec![0; size.min(INLINE_CAP)];
-        form.extend(match size > INLINE_CAP {
-            true => read_up_to(alloc, reader, size)?,
-            false => fill(reader, &mut short).map(|filled| short[..filled].to_vec())?,
-        });
+        form.extend(if size > INLINE_CAP { read_up_to(alloc, reader, size)? } else { filled(reader, size)? });
     }
     Ok(from_wire(alloc, &form)?.0)
+}
+
+/// So many bytes, or as many as there are.
+fn filled(reader: &mut SlowReader, size: usize) -> io::Result<Vec<u8>> {
+    let mut room = vec![0; size];
+    let filled = fill(reader, &mut room)?;
+    room.truncate(filled);
+    Ok(room)
 }
 
 pub fn fill(reader: &mut SlowReader, room: &mut [u8]) -> io::Result<usize> {
@@ -226,25 +201,17 @@ pub fn read_up_to(_: Global, reader: &mut SlowReader, limit: usize) -> Result<Ve
     }
     let mut all = vec![];
     while all.len() < limit {
-        let mut room = [0; CHUNK];
-        let room = &mut room[..CHUNK.min(limit - all.len())];
-        let filled = fill(reader, room)?;
-        all.extend(&room[..filled]);
-        if filled < room.len() {
+        let wanted = CHUNK.min(limit - all.len());
+        let chunk = filled(reader, wanted)?;
+        all.extend_from_slice(&chunk);
+        if chunk.len() < wanted {
             break;
         }
     }
     Ok(all)
 }
 
-pub fn read_all(alloc: Global, reader: &mut SlowReader) -> Result<Vec<u8>, Fault> {
-    read_up_to(alloc, reader, usize::MAX)
-}
-
-pub fn write_steps(writer: &mut SlowWriter, bytes: &[u8]) -> io::Result<()> {
-    let mut writer = Uninterrupted(writer, None);
-    writer.write_all(bytes).map_err(|error| writer.1.unwrap_or(error.kind().into()))
-}
+pub fn read_all(alloc: Global, reader: &mut SlowReader) -> Result<Vec<u8>, Fault> { read_up_to(alloc, reader, usize::MAX) }
 
 pub enum JsonFault {
     NotString,
@@ -257,37 +224,30 @@ fn no_string() -> JsonFault {
     JsonFault::NotString
 }
 
-pub fn to_json(alloc: Global, value: &SmolStr) -> Result<String, AllocError> {
-    by_serde::to_string(alloc, value)
-}
+pub use by_serde::to_string as to_json;
 
 pub fn to_value(_: Global, value: &SmolStr) -> Result<Value, AllocError> {
     unless_refused(true, serde_json::to_value(&value.0).unwrap(), AllocError)
 }
 
-pub fn from_json(_: Global, text: &str) -> Result<SmolStr, JsonFault> {
+pub fn from_json(_: Global, text: &str) -> Made<JsonFault> {
     may_ask(true);
     let typed = serde_json::from_str::<Upstream>(text);
-    match serde_json::from_str(text) {
+    let read = serde_json::from_str::<Value>(text);
+    let is_same = match &read {
+        Ok(Value::String(text)) => typed.as_ref().is_ok_and(|typed| typed == text),
+        _ => typed.is_err(),
+    };
+    expect(is_same, "upstream does not read a JSON string, and nothing else, as its text");
+    match read {
         _ if is_refused() => Err(JsonFault::OutOfMemory),
-        Err(error) => {
-            expect(typed.is_err(), "upstream reads what is no JSON");
-            Err(JsonFault::Json(error))
-        }
-        Ok(Value::String(text)) => {
-            expect(typed.as_ref().is_ok_and(|typed| *typed == text), "upstream does not read a JSON string as its text");
-            Ok(SmolStr(typed.unwrap_or_default()))
-        }
-        Ok(_) => {
-            expect(typed.is_err(), "upstream reads what is no JSON string");
-            Err(no_string())
-        }
+        Err(error) => Err(JsonFault::Json(error)),
+        Ok(_) => typed.map(SmolStr).map_err(|_| no_string()),
     }
 }
 
-pub fn from_value(_: Global, value: &Value) -> Result<SmolStr, JsonFault> {
-    let text = serde_json::from_value(value.clone()).map_err(|_| no_string())?;
-    made_or(text, JsonFault::OutOfMemory)
+pub fn from_value(_: Global, value: &Value) -> Made<JsonFault> {
+    made_or(serde_json::from_value(value.clone()).map_err(|_| no_string())?, JsonFault::OutOfMemory)
 }
 
 /// serde's own calls, by any type that has its traits.
@@ -296,27 +256,19 @@ pub mod by_serde {
 
     pub struct Error(bool);
 
-    impl Error {
-        pub fn is_memory(&self) -> bool {
-            self.0
-        }
-    }
+    impl Error { pub fn is_memory(&self) -> bool { self.0 } }
 
     pub fn to_string(_: Global, value: &SmolStr) -> Result<String, AllocError> {
         unless_refused(true, serde_json::to_string(&value.0).unwrap(), AllocError)
     }
 
-    fn read(made: serde_json::Result<Upstream>) -> Result<SmolStr, Error> {
+    fn read(made: serde_json::Result<Upstream>) -> Made<Error> {
         unless_refused(true, made, Error(true))?.map(SmolStr).map_err(|_| Error(false))
     }
 
-    pub fn from_str(_: Global, text: &str) -> Result<SmolStr, Error> {
-        read(serde_json::from_str(text))
-    }
+    pub fn from_str(_: Global, text: &str) -> Made<Error> { read(serde_json::from_str(text)) }
 
-    pub fn from_value(_: Global, value: Value) -> Result<SmolStr, Error> {
-        read(serde_json::from_value(value))
-    }
+    pub fn from_value(_: Global, value: Value) -> Made<Error> { read(serde_json::from_value(value)) }
 
     /// What a derived type with a value is written as, and the value read back.
     pub fn entry_to_string(_: Global, value: &SmolStr, times: u64) -> Option<Result<String, AllocError>> {
@@ -324,7 +276,7 @@ pub mod by_serde {
         Some(unless_refused(true, text, AllocError))
     }
 
-    pub fn name_of_entry(_: Global, text: &str) -> Result<SmolStr, Error> {
+    pub fn name_of_entry(_: Global, text: &str) -> Made<Error> {
         read(serde_json::from_str::<Value>(text).and_then(|entry| serde_json::from_value(entry["name"].clone())))
     }
 }
