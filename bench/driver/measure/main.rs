@@ -30,7 +30,7 @@ unsafe extern "C" {
 }
 
 const FEW: usize = 8;
-const MUCH: usize = 40;
+const MANY: usize = 40;
 
 /// The sum of an operation's rounds over the texts; `None` where a side has no such operation.
 pub type Side = fn(&str, &str, &str, Turns) -> Option<u64>;
@@ -56,6 +56,8 @@ fn sides() -> Vec<(&'static str, Side)> {
 }
 
 struct Bench {
+    kind: &'static str,
+    name: String,
     operation: &'static str,
     count: usize,
     texts: String,
@@ -63,12 +65,12 @@ struct Bench {
 }
 
 impl Bench {
-    fn new(operation: &'static str, size: usize, input: Input, count: usize) -> Bench {
+    fn new(kind: &'static str, name: String, operation: &'static str, size: usize, input: Input, count: usize) -> Bench {
         let mut draw = Draw(1);
         let pool: Vec<String> = (0..count / 4).map(|_| draw.word()).collect();
         let texts: Vec<String> = (0..count).map(|at| draw.text(size, input, &pool, at)).collect();
         let others: Vec<String> = texts.iter().map(|text| draw.other(text, input)).collect();
-        Bench { operation, count, texts: texts.join("|"), others: others.join("|") }
+        Bench { kind, name, operation, count, texts: texts.join("|"), others: others.join("|") }
     }
 
     fn run(&self, side: Side, rounds: usize) -> Option<u64> {
@@ -136,21 +138,21 @@ fn count(bench: &Bench, side: Side) {
         black_box(bench.run(side, FEW));
     }
     counted(bench, &side, FEW);
-    counted(bench, &side, MUCH);
+    counted(bench, &side, MANY);
 }
 
 /// The sides that have a row, which must all return one sum.
-fn sides_of(name: &str, bench: &Bench) -> Vec<&'static str> {
+fn sides_of(bench: &Bench) -> String {
     let sums: Vec<(&str, u64)> = sides().iter().filter_map(|(side, of)| Some((*side, bench.run(*of, 2)?))).collect();
     if sums.iter().any(|(_, sum)| *sum != sums[0].1 || *sum == 0) {
-        eprintln!("{name}: the sums differ: {sums:?}");
+        eprintln!("{}: the sums differ: {sums:?}", bench.name);
         std::process::exit(1);
     }
-    sums.into_iter().map(|(side, _)| side).collect()
+    sums.iter().map(|(side, _)| *side).collect::<Vec<_>>().join(",")
 }
 
 /// The least nanoseconds of an operation on each side, of 101 runs of a millisecond in turn.
-fn times(bench: &Bench) -> Vec<f64> {
+fn times(bench: &Bench) -> String {
     let seconds = |side: Side, rounds| {
         let start = Instant::now();
         black_box(bench.run(side, rounds)).map(|_| start.elapsed().as_secs_f64())
@@ -166,36 +168,35 @@ fn times(bench: &Bench) -> Vec<f64> {
             least[at] = seconds(all[at].1, rounds).map_or(f64::MAX, |it| it.min(least[at]));
         }
     }
-    least.iter().filter(|it| **it < f64::MAX).map(|it| it * 1e9 / (rounds * bench.count) as f64).collect()
+    let texts = (rounds * bench.count) as f64;
+    least.iter().filter(|it| **it < f64::MAX).map(|it| format!("\t{}", it * 1e9 / texts)).collect()
+}
+
+/// The rows whose names begin with one of some words, where there are any.
+fn benches(words: &[String]) -> impl Iterator<Item = Bench> {
+    let rows = KINDS.iter().flat_map(|(kind, count, rows)| rows.iter().map(move |row| (*kind, *count, row)));
+    rows.flat_map(move |(kind, count, (name, operation, short, long, input))| {
+        let sizes = if kind == "short" { short } else { long };
+        let named = sizes.iter().map(|size| (*size, name.replace("{}", &size.to_string())));
+        let wanted = named.filter(|(_, name)| words.is_empty() || words.iter().any(|word| name.starts_with(word.as_str())));
+        wanted.map(move |(size, name)| Bench::new(kind, name, operation, size, *input, count)).collect::<Vec<_>>()
+    })
 }
 
 fn main() {
     let words: Vec<String> = std::env::args().skip(1).collect();
-    let command = words.first().expect("rows, sizes, count or times").as_str();
-    let counted = (command == "count").then(|| *sides().iter().find(|it| it.0 == words[1]).expect("a side"));
-    let wanted = &words[1 + usize::from(counted.is_some())..];
-    if command == "sizes" {
-        let bench = Bench::new("size", 1, Same, 1);
-        sides().iter().for_each(|(name, side)| println!("{name}\t{}", bench.run(*side, 1).unwrap()));
-        return;
-    }
-    for (kind, count_of_texts, rows) in KINDS {
-        for (name, operation, size, input) in rows.iter().flat_map(|row| row.2.iter().map(|size| (row.0, row.1, *size, row.3))) {
-            let name = name.replace("{}", &size.to_string());
-            if !wanted.is_empty() && !wanted.iter().any(|word| name.starts_with(word.as_str())) {
-                continue;
-            }
-            let bench = Bench::new(operation, size, input, *count_of_texts);
-            match (command, counted) {
-                ("rows", _) => println!("{kind}\t{name}\t{count_of_texts}\t{}", sides_of(&name, &bench).join(",")),
-                ("count", _) if *kind == "many" => {}
-                ("count", Some((_, side))) => {
-                    if bench.run(side, 1).is_some() {
-                        count(&bench, side);
-                    }
-                }
-                _ => println!("{name}\t{}", times(&bench).iter().map(f64::to_string).collect::<Vec<_>>().join("\t")),
-            }
+    let (command, words) = words.split_first().expect("rows, sizes, count or times");
+    match command.as_str() {
+        "rows" => benches(words).for_each(|it| println!("{}\t{}\t{}\t{}", it.kind, it.name, it.count, sides_of(&it))),
+        "times" => benches(words).for_each(|it| println!("{}{}", it.name, times(&it))),
+        "sizes" => {
+            let bench = Bench::new("", String::new(), "size", 1, Same, 1);
+            sides().iter().for_each(|(name, side)| println!("{name}\t{}", bench.run(*side, 1).unwrap()));
+        }
+        _ => {
+            let (_, side) = *sides().iter().find(|side| side.0 == words[0]).expect("a side");
+            let rows = benches(&words[1..]).filter(|it| it.kind != "many" && it.run(side, 1).is_some());
+            rows.for_each(|it| count(&it, side));
         }
     }
 }
