@@ -107,7 +107,7 @@ fn compare(process: &mut Process, words: &[&str]) -> Option<bool> {
     let number = |at: usize| words.get(at)?.parse::<u64>().ok();
     let (what, how) = (words.first()?, words.get(3).copied().unwrap_or_default());
     let unexplained = unicode::compare(process, std::env::var("PRELOAD").is_err() && *what != "chars")?;
-    library::RUN.take();
+    library::DEPARTURES.take();
     let mut totals = Totals::default();
     match *what {
         "random" => run_random(&mut totals, process, number(1)?, number(2)?, how),

@@ -1,7 +1,7 @@
 //! Runs programs on both sides, and counts what they do.
 use crate::departures;
 use crate::host::Program;
-use crate::library::{self, Global, Place, RUN, SmolStr, SmolStrBuilder};
+use crate::library::{self, DEPARTURES, Global, Place, SmolStr, SmolStrBuilder};
 use crate::machine::{Machine, REGISTERS};
 use crate::process::{Asked, Outcome, Process, Refusal};
 use crate::report::Report;
@@ -89,7 +89,7 @@ impl Totals {
         let calls: u64 = self.calls.values().map(|counts| counts[0]).sum();
         println!("call {calls:>9} {:>8}  {:30}  {READS} {BUILDER_READS}", 0, "what is reported is read");
         for departure in departures::ALL {
-            let times = RUN.with_borrow(|run| run.departures.get(departure).copied().unwrap_or(0));
+            let times = DEPARTURES.with_borrow(|met| met.get(departure).copied().unwrap_or(0));
             println!("departure {times:>9}  {departure}");
         }
         println!("{} programs, {calls} calls, {} requests for memory", self.programs, self.requests);

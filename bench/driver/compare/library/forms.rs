@@ -97,37 +97,30 @@ pub use self::{Fault as DecodeFault, Fault as ReadFault};
 
 impl From<io::Error> for Fault { fn from(error: io::Error) -> Fault { Fault::Io(error) } }
 
-/// Fails by another error in place of `Interrupted`, after which upstream goes on and the library does not.
-struct Uninterrupted<'w, 'a>(&'w mut SlowWriter<'a>, Option<io::Error>);
-
-impl Write for Uninterrupted<'_, '_> {
-    fn write(&mut self, buf: &[u8]) -> io::Result<usize> {
-        self.0.write(buf).map_err(|error| {
-            interrupted(&error);
-            self.1 = Some(error);
-            ErrorKind::BrokenPipe.into()
-        })
-    }
-    fn flush(&mut self) -> io::Result<()> { self.0.flush() }
-}
-
+/// Upstream goes on after `Interrupted`, and the library does not.
 fn interrupted(error: &io::Error) {
     if error.kind() == ErrorKind::Interrupted {
         departs(INTERRUPTED);
     }
 }
 
-/// What writing comes to, by the error of the writer itself.
-fn written(writer: &mut SlowWriter, write: impl FnOnce(&mut Uninterrupted) -> io::Result<()>) -> io::Result<()> {
-    let mut writer = Uninterrupted(writer, None);
-    write(&mut writer).map_err(|error| writer.1.unwrap_or(error.kind().into()))
+pub fn write_steps(writer: &mut SlowWriter, mut bytes: &[u8]) -> io::Result<()> {
+    while !bytes.is_empty() {
+        match writer.write(bytes).inspect_err(interrupted)? {
+            0 => return Err(ErrorKind::WriteZero.into()),
+            count => bytes = &bytes[count..],
+        }
+    }
+    Ok(())
 }
-
-pub fn write_steps(writer: &mut SlowWriter, bytes: &[u8]) -> io::Result<()> { written(writer, |to| to.write_all(bytes)) }
 
 impl SmolStr {
     pub fn serialize(&self, writer: &mut SlowWriter) -> Result<(), Fault> {
-        written(writer, |to| self.0.serialize(to)).inspect_err(|_| departs(WIRE_FAULT)).map_err(Fault::Io)
+        let mut form = vec![];
+        self.0.serialize(&mut form)?;
+        let (prefix, body) = form.split_at(PREFIX);
+        let written = write_steps(writer, prefix).and_then(|()| write_steps(writer, body));
+        Ok(written.inspect_err(|_| departs(WIRE_FAULT))?)
     }
     pub fn deserialize_reader(alloc: Global, reader: &mut SlowReader) -> Made<Fault> { read_value(alloc, reader, usize::MAX) }
 }

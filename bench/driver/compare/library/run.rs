@@ -5,27 +5,24 @@ use std::cell::RefCell;
 use std::collections::BTreeMap;
 
 #[derive(Default)]
-pub struct Run {
-    pub asked: Asked,
+struct Run {
+    asked: Asked,
     /// The front of the machine's report, where a refusal leaves open what the call has done.
-    pub actual: Vec<u8>,
+    actual: Vec<u8>,
     may_ask: bool,
     /// What a call did that the documents rule out, beside its report.
     fault: Option<&'static str>,
-    /// How often each departure was met.
-    pub departures: BTreeMap<&'static str, u64>,
 }
 
 thread_local! {
-    pub static RUN: RefCell<Run> = RefCell::default();
+    static RUN: RefCell<Run> = RefCell::default();
+    /// How often each departure was met.
+    pub static DEPARTURES: RefCell<BTreeMap<&'static str, u64>> = RefCell::default();
 }
 
 /// Begins an operation.
 pub fn begin(asked: Asked, actual: &[u8]) {
-    RUN.with_borrow_mut(|run| {
-        let departures = std::mem::take(&mut run.departures);
-        *run = Run { asked, actual: actual[..actual.len().min(32)].to_vec(), departures, ..Run::default() };
-    });
+    RUN.set(Run { asked, actual: actual[..actual.len().min(32)].to_vec(), ..Run::default() });
     if asked.refused > 0 {
         departs(REFUSAL);
     }
@@ -55,7 +52,7 @@ pub fn may_ask(is_so: bool) {
 }
 
 pub fn departs(departure: &'static str) {
-    RUN.with_borrow_mut(|run| *run.departures.entry(departure).or_default() += 1);
+    DEPARTURES.with_borrow_mut(|met| *met.entry(departure).or_default() += 1);
 }
 
 pub fn expect(is_so: bool, fault: &'static str) {
