@@ -40,7 +40,7 @@ enum { MOST_CALLS = 1 << 10, SECONDS = 20 };
 static int is_inside;
 static uint64_t how, n, seed, seen;
 static int64_t bytes, blocks, bytes_of_values;
-static uint32_t calls[MOST_CALLS][2], count;
+static int64_t calls[MOST_CALLS][2], count;
 
 static void begin_program(uint64_t refused) {
     how = refused >> 56;
@@ -67,8 +67,8 @@ static int is_message(size_t size) {
         alarm(0);
         write_out(&bytes_of_values, 8);
         write_out(&blocks, 8);
-        write_out(&count, 4);
-        write_out(calls, 8 * (size_t)count);
+        write_out(&count, 8);
+        write_out(calls, 16 * (size_t)count);
     }
     return 1;
 }

@@ -33,7 +33,6 @@ const NOT_UTF8: &[&[u8]] = &[
 /// The ends of what a byte of UTF-8 may be at each place.
 const ODD_BYTES: &[u8] = b"\0\x7f\x80\x8f\x90\x9f\xa0\xbf\xc0\xc1\xc2\xdf\xe0\xe1\xec\xed\xee\xef\xf0\xf1\xf3\xf4\xf5\xff";
 
-/// A length in bytes.
 fn length(random: &mut Random) -> usize {
     match random.below(8) {
         _ if random.is_long && random.one_in(6) => random.pick(LONG_EDGES),
@@ -87,25 +86,27 @@ fn blank(random: &mut Random) -> String {
     text
 }
 
-/// So many characters of some.
 fn drawn(random: &mut Random, count: usize, from: &str) -> String {
     (0..count).map(|_| random.char_of(from)).collect()
 }
 
 /// A text of about so many bytes.
 fn sized(random: &mut Random, length: usize) -> String {
-    let (mut text, rest) = match random.below(6) {
-        0 => (String::new(), LETTERS),
-        1 => (String::new(), NEAR_LETTERS),
-        // ASCII with one wide character, which ends at, before or behind the length
-        2 => ("a".repeat(random.below(length + 1)) + &drawn(random, 1, WIDE), "ABYZ"),
-        3 => (String::new(), WITH_CASE),
-        4 => {
-            let count = 1 + random.below(4);
-            let unit = drawn(random, count, "abé€");
-            (unit.repeat(length / unit.len() + 1), "a")
+    let (count, mut text) = (1 + random.below(4), String::new());
+    let rest = match random.below(6) {
+        0 => LETTERS,
+        1 => NEAR_LETTERS,
+        2 => WITH_CASE,
+        3 => {
+            // ASCII with one wide character, which ends at, before or behind the length
+            text = "a".repeat(random.below(length + 1)) + &drawn(random, 1, WIDE);
+            "ABYZ"
         }
-        _ => (String::new(), ""),
+        4 => {
+            text = drawn(random, count, "abé€").repeat(length / count);
+            "a"
+        }
+        _ => "",
     };
     while text.len() < length {
         text.push(if rest.is_empty() { character(random) } else { random.char_of(rest) });
@@ -129,20 +130,17 @@ fn text(random: &mut Random) -> String {
     }
 }
 
-/// A text of at most `INLINE_CAP` bytes.
 fn short(random: &mut Random) -> String {
     let mut text = text(random);
     text.truncate(text.floor_char_boundary(INLINE_CAP));
     text
 }
 
-/// A text of a few characters.
 fn piece(random: &mut Random) -> String {
     let length = random.below(12);
     sized(random, length)
 }
 
-/// The pieces of a text.
 fn pieces(random: &mut Random) -> Vec<Vec<u8>> {
     let whole = text(random);
     let most = if whole.len() > 1000 { whole.len() / 4 } else { 2 + random.below(20) };

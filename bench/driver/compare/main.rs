@@ -36,18 +36,10 @@ use random::Random;
 use std::process::ExitCode;
 use totals::{Totals, shown};
 
-/// The operations of a program, and of one with long texts.
-const OPERATIONS: usize = 60;
-const LONG_OPERATIONS: usize = 16;
-
-/// One program in so many has long texts.
-const LONG: usize = 40;
-
 fn program_of(seed: u64, number: u64, how: &str) -> Program {
     let mut random = Random::of(seed, number);
-    random.is_long = random.one_in(LONG);
-    let count = if random.is_long { LONG_OPERATIONS } else { OPERATIONS };
-    let steps = (0..count).map(|_| table::draw(&mut random)).collect();
+    random.is_long = random.one_in(40);
+    let steps = (0..if random.is_long { 16 } else { 60 }).map(|_| table::draw(&mut random)).collect();
     let refusal = match random.below(5) {
         _ if how != "refuse" && (how != "mixed" || number % 2 == 0) => Refusal::None,
         0 => Refusal::One(1 + random.below(40) as u64),

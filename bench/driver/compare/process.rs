@@ -6,9 +6,7 @@ use std::process::{ChildStdin, ChildStdout, Command, Stdio};
 #[derive(Clone, Copy, Debug, PartialEq)]
 pub enum Refusal {
     None,
-    /// The nth alone.
     One(u64),
-    /// The nth and each later one.
     From(u64),
     /// Each with a chance of one in so many, by a seed.
     Chance(u64, u64),
@@ -33,8 +31,8 @@ impl Refusal {
 /// What one call asked for.
 #[derive(Clone, Copy, Debug, Default, PartialEq)]
 pub struct Asked {
-    pub requests: u32,
-    pub refused: u32,
+    pub requests: i64,
+    pub refused: i64,
 }
 
 /// What the machine says of a program: its report, what each operation asked for, the bytes that its values have at the
@@ -59,21 +57,18 @@ impl Process {
 
     /// Runs a program; `None` where the machine ended.
     pub fn run(&mut self, program: &[u8], refusal: Refusal) -> Option<Outcome> {
-        let frame = [&refusal.number().to_le_bytes()[..], program].concat();
-        self.0.write_all(&[&(frame.len() as u32).to_le_bytes()[..], &frame].concat()).ok()?;
-        let (bytes, blocks) = (i64::from_le_bytes(self.read()?), i64::from_le_bytes(self.read()?));
-        let mut asked = vec![];
-        for _ in 0..u32::from_le_bytes(self.read()?) {
-            asked.push(Asked { requests: u32::from_le_bytes(self.read()?), refused: u32::from_le_bytes(self.read()?) });
-        }
-        let mut report = vec![0; u64::from_le_bytes(self.read()?) as usize];
+        let numbers = [program.len() as u64 + 8, refusal.number()].map(u64::to_le_bytes).concat();
+        self.0.write_all(&[&numbers, program].concat()).ok()?;
+        let (bytes, blocks, calls) = (self.number()?, self.number()?, self.number()?);
+        let asked = (0..calls).map(|_| Some(Asked { requests: self.number()?, refused: self.number()? })).collect::<Option<_>>()?;
+        let mut report = vec![0; self.number()? as usize];
         self.1.read_exact(&mut report).ok()?;
         Some(Outcome { report, asked, bytes, blocks })
     }
 
-    fn read<const N: usize>(&mut self) -> Option<[u8; N]> {
-        let mut bytes = [0; N];
+    fn number(&mut self) -> Option<i64> {
+        let mut bytes = [0; 8];
         self.1.read_exact(&mut bytes).ok()?;
-        Some(bytes)
+        Some(i64::from_le_bytes(bytes))
     }
 }

@@ -20,7 +20,6 @@ const LIMIT: Number = |random, len| match random.below(2) {
     0 => (len as u64).saturating_sub(random.pick(&[0, 3, 4, 5])),
     _ => random.pick(LIMITS),
 };
-/// A place in the text.
 const PLACE: Number = |random, len| random.below(len + 1) as u64;
 
 pub struct Row {
@@ -141,7 +140,6 @@ const WIDTHS: &[usize] = &[0, 1, 2, 5, 36, 37, 38, 39, 40, 41, 64, 90, 254, 256,
 const STEPS: &[usize] = &[1, 2, 3, 5, 39, 40, 4095, 4096, 4097, 5000];
 const ROOMS: &[usize] = &[0, 0, 1, 2, 7, 8, 16, 64, 700, 5000];
 
-/// A random operation.
 pub fn draw(random: &mut Random) -> Call {
     let mut left = random.below(ROWS.iter().map(|row| row.weight).sum());
     let row = ROWS.iter().find(|row| left < row.weight || { left -= row.weight; false }).expect("a row");

@@ -8,15 +8,13 @@ use crate::report::Report;
 use crate::table::{BUILDER_READS, READS, ROWS};
 use std::collections::BTreeMap;
 
-/// The most bytes of a report.
+/// The most bytes of a report, and the most programs that are told of.
 const ROOM: usize = 1 << 23;
+const TOLD: u64 = 10;
 
 /// The bytes of a block of a value beside its text, and of the list of values.
 const BESIDE_TEXT: usize = 48;
 const LIST: usize = 512;
-
-/// The most programs that are told of.
-const TOLD: u64 = 10;
 
 #[derive(Default)]
 pub struct Totals {
@@ -24,7 +22,7 @@ pub struct Totals {
     pub differing: u64,
     /// How often each operation was run, and how often it was refused memory.
     calls: BTreeMap<&'static str, [u64; 2]>,
-    requests: u64,
+    requests: i64,
 }
 
 /// The machine over upstream's crate.
@@ -65,7 +63,7 @@ impl Totals {
             let asked = outcome.asked.get(at).copied().unwrap_or_default();
             let [times, refused] = self.calls.entry(step.row.name).or_default();
             (*times, *refused) = (*times + 1, *refused + u64::from(asked.refused > 0));
-            self.requests += u64::from(asked.requests);
+            self.requests += asked.requests;
             library::begin(asked, rest);
             let mut wanted = Report::new(&mut room);
             mirror.run(&mut step.decoded(), &mut wanted);
@@ -137,8 +135,7 @@ fn difference(program: &Program, at: usize, why: &str, wanted: &[u8], actual: &[
 
 /// The first part of a long text.
 pub fn shown(text: &str) -> String {
-    const MOST: usize = 600;
-    match text.char_indices().nth(MOST) {
+    match text.char_indices().nth(600) {
         Some((end, _)) => format!("{} .. ({} bytes)", &text[..end], text.len()),
         None => text.to_string(),
     }

@@ -11,14 +11,8 @@ use crate::report::Report;
 use crate::totals::mirror;
 use std::sync::OnceLock;
 
-/// How many characters are asked for at once.
-const BLOCK: usize = 4096;
-
 /// How many texts are reported of a character: in lower case, in upper case, behind and before a sigma, in quotes.
 const ASPECTS: usize = 5;
-
-/// More bytes than these have.
-const ROOM: usize = 1 << 10;
 
 #[derive(Default)]
 struct Known {
@@ -81,8 +75,8 @@ pub fn compare(process: &mut Process, is_slow: bool) -> Option<usize> {
     let (version, upstream) = (ask("version of Unicode", "")?[8..].to_vec(), char::UNICODE_VERSION);
     let is_same_version = version == [upstream.0, upstream.1, upstream.2];
     let asked: Vec<char> = ('\0'..=char::MAX).filter(|it| !is_slow || has_case(it)).collect();
-    let (mut mirror, mut room, mut found, mut unexplained) = (mirror(), vec![0; ROOM], Known::default(), vec![]);
-    for block in asked.chunks(BLOCK) {
+    let (mut mirror, mut room, mut found, mut unexplained) = (mirror(), vec![0; 1 << 10], Known::default(), vec![]);
+    for block in asked.chunks(4096) {
         let report = ask("each character", &block.iter().collect::<String>())?;
         let mut rest = report.as_slice();
         for character in block {

@@ -1,21 +1,12 @@
 //! What is measured.
 
-/// What a text is made of, and how the other text of its case differs.
+/// What a text is made of, and how the other text of its case differs. Lexemes are as a lexer has them: 1 to 12 letters, of
+/// which each word stands some times, and one in eight is a keyword.
+#[rustfmt::skip]
 #[derive(Clone, Copy)]
 pub enum Input {
-    Same,
-    Differs,
-    DiffersEarly,
-    DiffersLate,
-    Words,
-    Spaces,
-    BlankRun,
-    TwoByteCharacters,
-    FewLetters,
-    BothCases,
-    /// As a lexer has them: 1 to 12 letters, of which each word stands some times, and one in eight is a keyword.
-    Lexemes,
-    Distinct,
+    Same, Differs, DiffersEarly, DiffersLate,
+    Words, Spaces, BlankRun, TwoByteCharacters, FewLetters, BothCases, Lexemes, Distinct,
 }
 use Input::*;
 

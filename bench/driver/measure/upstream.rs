@@ -39,10 +39,8 @@ fn form_of(value: &SmolStr) -> Vec<u8> {
 #[inline(always)]
 fn reader(form: &[u8], pick: usize) -> u64 {
     let mut rest = form;
-    match SmolStr::deserialize_reader(&mut rest) {
-        Ok(value) => seen(&value, pick).wrapping_add((form.len() - rest.len()) as u64),
-        Err(_) => 0,
-    }
+    let value = SmolStr::deserialize_reader(&mut rest).unwrap();
+    seen(&value, pick).wrapping_add((form.len() - rest.len()) as u64)
 }
 
 pub fn run(operation: &str, all: &[Case<SmolStr>], n: Turns) -> Option<u64> {
@@ -88,7 +86,7 @@ pub fn run(operation: &str, all: &[Case<SmolStr>], n: Turns) -> Option<u64> {
         "number" => rounds(all, n, |it, at| seen(&number_of(&it.text, at).to_smolstr(), at)),
         "to_smolstr" => rounds(all, n, |it, at| seen(&it.text.as_str().to_smolstr(), at)),
         "from_chars into a Vec" => {
-            batches(all, n, |all, at| last_of(kept(all, |it| it.text.chars().collect::<SmolStr>()), at))
+            batches(all, n, |all, at| last_of::<SmolStr>(kept(all, |it| it.text.chars().collect()), at))
         }
         "format into a Vec" => {
             let format = |it: &Case<SmolStr>| format_smolstr!("{}-{}", it.text, number_of(&it.text, 0));
