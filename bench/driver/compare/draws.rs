@@ -9,9 +9,12 @@ const EDGES: &[usize] =
     &[0, 1, 7, 8, 9, 15, 16, 17, 22, 23, 24, 31, 32, 33, 37, 38, 39, 40, 41, 47, 48, 63, 64, 65, 77, 78, 79, 80];
 const LONG_EDGES: &[usize] = &[959, 960, 961, 1023, 1024, 1025, 4095, 4096, 4097, 8192, 65535, 65536, 65537, 70_000];
 
+/// What a text is of: letters and their neighbours, what is quoted, letters that are shorter in the other case.
+const ALPHABETS: &[&str] = &[
+    LETTERS, LETTERS, WITH_CASE, WITH_CASE, WIDE, "abAZz@[`{\u{7f}0", "\u{212a}ẞ\u{2126}ﬃ", "aaZ Σ", "abé€", "aab",
+    "\"\\/\n\r\t\u{8}\u{c}\0\u{1f}\u{7f}\u{2028}\u{ad}\u{300}aé",
+];
 const LETTERS: &str = "abcdefghijklmnopqrstuvwxyz";
-const NEAR_LETTERS: &str = "abAZz@[`{\u{7f}0";
-const QUOTED: &str = "\"\\/\n\r\t\u{8}\u{c}\0\u{1f}\u{7f}\u{2028}\u{ad}\u{300}aé";
 
 /// Characters whose case is more than one ASCII letter for another.
 const WITH_CASE: &str = "ΣσςİıßẞŉǰΐΰևﬀﬁﬂﬃﬄﬅﬆﬓǄǅǆǇǈǉKÅΩᾳᾼᾀᾈῳῼẖẗẘéÉÿŸµſᲐაᎠꭰᏰᏸȺⱥȾⱦ𐐀𐐨𞤀𞤢ＡａⒶⓐⅧⅷ\
@@ -46,28 +49,19 @@ fn length(random: &mut Random) -> usize {
 
 /// A character on which both sides' Unicode agrees.
 fn character(random: &mut Random) -> char {
-    match random.below(10) {
-        0..=3 => random.char_of(LETTERS),
-        4 => (random.below(128) as u8) as char,
-        5 | 6 => random.char_of(WITH_CASE),
-        7 | 8 => random.char_of(WIDE),
-        _ => unicode::agreed(random),
+    let alphabet = random.pick(ALPHABETS);
+    match random.below(5) {
+        0 => (random.below(128) as u8) as char,
+        1 => unicode::agreed(random),
+        _ => random.char_of(alphabet),
     }
 }
 
 /// A text whose letters mostly have another case: any letter that both sides map alike.
 fn cased(random: &mut Random) -> String {
-    let count = match random.below(3) {
-        0 => return text(random),
-        1 => random.below(14),
-        _ => random.below(60),
-    };
-    let mut letter = || match random.below(5) {
-        0 => random.char_of("aZ Σ"),
-        1 => random.char_of(WITH_CASE),
-        _ => unicode::letter(random),
-    };
-    (0..count).map(|_| letter()).collect()
+    let (count, is_any) = (random.below(50), random.one_in(3));
+    let mut letter = || if random.one_in(3) { random.char_of(WITH_CASE) } else { unicode::letter(random) };
+    if is_any { text(random) } else { (0..count).map(|_| letter()).collect() }
 }
 
 /// Newlines and then spaces, at times with another character among them.
@@ -86,30 +80,21 @@ fn blank(random: &mut Random) -> String {
     text
 }
 
-fn drawn(random: &mut Random, count: usize, from: &str) -> String {
-    (0..count).map(|_| random.char_of(from)).collect()
+fn drawn(random: &mut Random, count: usize, alphabet: &str) -> String {
+    (0..count).map(|_| random.char_of(alphabet)).collect()
 }
 
 /// A text of about so many bytes.
 fn sized(random: &mut Random, length: usize) -> String {
-    let (count, mut text) = (1 + random.below(4), String::new());
-    let rest = match random.below(6) {
-        0 => LETTERS,
-        1 => NEAR_LETTERS,
-        2 => WITH_CASE,
-        3 => {
-            // ASCII with one wide character, which ends at, before or behind the length
-            text = "a".repeat(random.below(length + 1)) + &drawn(random, 1, WIDE);
-            "ABYZ"
-        }
-        4 => {
-            text = drawn(random, count, "abé€").repeat(length / count);
-            "a"
-        }
-        _ => "",
+    let (count, alphabet, is_any) = (1 + random.below(4), random.pick(ALPHABETS), random.one_in(6));
+    let mut text = match random.below(5) {
+        0 => drawn(random, count, alphabet).repeat(length / count),
+        // ASCII with one wide character, which ends at, before or behind the length
+        1 => "a".repeat(random.below(length + 1)) + &drawn(random, 1, WIDE) + &"Z".repeat(length),
+        _ => String::new(),
     };
     while text.len() < length {
-        text.push(if rest.is_empty() { character(random) } else { random.char_of(rest) });
+        text.push(if is_any { character(random) } else { random.char_of(alphabet) });
     }
     if random.one_in(2) {
         text.truncate(text.floor_char_boundary(length));
@@ -119,13 +104,10 @@ fn sized(random: &mut Random, length: usize) -> String {
 
 fn text(random: &mut Random) -> String {
     let length = length(random);
-    match random.below(40) {
-        0..=6 => blank(random),
-        7..=9 => drawn(random, length, QUOTED),
+    match random.below(20) {
+        0..=3 => blank(random),
         // one of few texts that begin in the same way, so that orders are decided late and by wide characters
-        10..=13 => "a".repeat(random.pick(&[0, 0, 15, 39])) + &drawn(random, 1, ORDERED) + random.pick(&["", "a"]),
-        // characters that are shorter in the other case
-        14 => random.pick(&["\u{212a}", "ẞ", "\u{2126}", "ﬃ"]).repeat(random.below(30)),
+        4 | 5 => "a".repeat(random.pick(&[0, 0, 15, 39])) + &drawn(random, 1, ORDERED) + random.pick(&["", "a"]),
         _ => sized(random, length),
     }
 }
@@ -203,9 +185,9 @@ const JSON_WORDS: &str = "null true false nul tru 0 -0 - 01 1.5 1. .5 1e5 1e 1E+
     18446744073709551615 18446744073709551616 -9223372036854775808 -9223372036854775809 123456789012345678901234567890 0.1e1 \
     -1 +1 NaN Infinity 'a' \" \"\\ ";
 const JSON_LISTS: &str = r#"["a"] {"a":"b"} [ ] ["a",] {"a"} {} [] {"a":1,"a":2} [1,2,[3]] {"a":} ["\ud800"] [1e999]"#;
+const SPACES: &[&str] = &["", "", " ", "\n", "\t\r"];
 const BEHIND_JSON: &[&str] = &["x", "\"", "1", ",", "]", "}", "null", "\u{a0}", "\u{feff}", "\u{c}", "\0"];
-const ESCAPES: &str = r#"\" \\ \/ \b \f \n \r \t"#;
-const CODES: &str = "0000 001f 0022 0041 005C 007F 0080 00e9 07fF 0800 2028 fFfD";
+const ESCAPES: &str = r#"\" \\ \/ \b \f \n \r \t \u0000 \u001f \u0022 \u0041 \u005C \u007F \u0080 \u00e9 \u07fF \u0800 \u2028 \ufFfD"#;
 const PAIRS: &str =
     r"\ud800\udc00 \ud800\udd80 \ud800\udfff \ud83e\udc00 \ud83e\udd80 \ud83e\udfff \udbff\udc00 \udbff\udfff";
 const BAD_ESCAPES: &str = "\\ud800 \\udc00 \\ud800\\ud800 \\udc00\\ud800 \\ud800a \\ud800\\n \\ud800\\u0041 \
@@ -213,18 +195,14 @@ const BAD_ESCAPES: &str = "\\ud800 \\udc00 \\ud800\\ud800 \\udc00\\ud800 \\ud800
 
 /// A JSON text, or nearly one.
 fn json(random: &mut Random) -> String {
-    let mut space = || {
-        let count = random.below(5) / 3;
-        drawn(random, count, " \n\t\r ")
-    };
-    let (before, behind) = (space(), space());
+    let (before, behind) = (random.pick(SPACES).to_string(), random.pick(SPACES));
     let json = match random.below(12) {
         0 => random.word_of(JSON_WORDS).to_string(),
         1 => random.word_of(JSON_LISTS).to_string(),
         2 => nested(random),
         _ => string(random),
     };
-    let mut json = before + &json + &behind;
+    let mut json = before + &json + behind;
     match random.below(16) {
         0 => drop(json.pop()),
         1 => json.push_str(random.pick(BEHIND_JSON)),
@@ -244,8 +222,7 @@ fn nested(random: &mut Random) -> String {
 fn string(random: &mut Random) -> String {
     let count = length(random).min(if random.is_long { 70_000 } else { 80 });
     let mut part = || match random.below(14) {
-        0 => random.word_of(ESCAPES).to_string(),
-        1 => "\\u".to_string() + random.word_of(CODES),
+        0 | 1 => random.word_of(ESCAPES).to_string(),
         2 => random.word_of(PAIRS).to_string(),
         3 if random.one_in(12) => random.word_of(BAD_ESCAPES).to_string(),
         4 => character(random).to_string(),

@@ -42,7 +42,7 @@ impl Totals {
             Some(outcome) => self.compare(program, &outcome).or_else(|| asks_again(program, &ample?.asked, &outcome.asked)),
             None => {
                 *process = Process::start();
-                Some(at_end(program, "the machine ended, or took too long", &[]))
+                Some("the machine ended, or took too long".to_string())
             }
         };
         self.differing += u64::from(found.is_some());
@@ -75,7 +75,7 @@ impl Totals {
             }
             rest = &rest[len..];
         }
-        left_over(program, outcome, rest, most_bytes(&mirror))
+        left_over(program, outcome, rest.len(), most_bytes(&mirror))
     }
 
     /// A line for each operation: `call`, how often, how often refused, its name, and the calls of the library.
@@ -108,22 +108,14 @@ fn asks_again(program: &Program, ample: &[Asked], asked: &[Asked]) -> Option<Str
 }
 
 /// What is wrong though each operation's report is as it has to be.
-fn left_over(program: &Program, outcome: &Outcome, rest: &[u8], most_bytes: i64) -> Option<String> {
+fn left_over(program: &Program, outcome: &Outcome, rest: usize, most_bytes: i64) -> Option<String> {
     let Outcome { bytes, blocks, asked, .. } = outcome;
-    let why = if !rest.is_empty() || asked.len() != program.steps.len() {
-        format!("the machine reports {} bytes more, and {} calls", rest.len(), asked.len())
-    } else if *blocks != 0 {
-        format!("{blocks} blocks of memory are not freed")
-    } else if *bytes > most_bytes && program.refusal == Refusal::None {
-        format!("the values have {bytes} bytes on the heap, and need at most {most_bytes}")
-    } else {
-        return None;
-    };
-    Some(at_end(program, &why, rest))
-}
-
-fn at_end(program: &Program, why: &str, actual: &[u8]) -> String {
-    difference(program, program.steps.len() - 1, why, &[], actual)
+    let has_too_much = *bytes > most_bytes && program.refusal == Refusal::None;
+    let is_wrong = rest > 0 || asked.len() != program.steps.len() || *blocks != 0 || has_too_much;
+    is_wrong.then(|| {
+        let calls = asked.len();
+        format!("{calls} calls, {rest} more bytes reported, {blocks} blocks not freed, values of {bytes} bytes: at most {most_bytes}")
+    })
 }
 
 /// Where and how a program differs.

@@ -1,14 +1,7 @@
-//! The library, upstream's crate and other string types in one process, over the same input. `bench/upstream measure` builds
-//! and runs it:
-//!
-//!     measure rows          each row's kind and name, how many texts it has, and the sides that have it: each is run once,
-//!                           and the sums must be equal
-//!     measure sizes         the bytes of a value of each side
-//!     measure count SIDE    under callgrind, which writes counts at each end of `counted`: for each row after FEW and
-//!                           after MANY rounds
-//!     measure times         each row's name, and the least nanoseconds of a text on each side
-//!
-//! A word after that leaves out the rows whose name does not begin with it, or with one of several.
+//! The library, upstream's crate and other string types in one process, over the same input, for `bench/upstream measure`.
+//! Of each row `rows` says its kind, its name, how many texts it has and the sides that have it; `times` the least
+//! nanoseconds of a text on each side; `sizes` says the bytes of a value of each side. `count SIDE` runs under callgrind,
+//! which writes counts at each end of `counted`. Words after that leave out the rows whose name begins with none of them.
 mod rivals;
 mod rows;
 mod texts;
@@ -28,9 +21,6 @@ unsafe extern "C" {
         rounds: usize, pick: usize,
     ) -> u64;
 }
-
-const FEW: usize = 8;
-const MANY: usize = 40;
 
 /// The sum of an operation's rounds over the texts; `None` where a side has no such operation.
 pub type Side = fn(&str, &str, &str, Turns) -> Option<u64>;
@@ -56,8 +46,6 @@ fn sides() -> Vec<(&'static str, Side)> {
 }
 
 struct Bench {
-    kind: &'static str,
-    name: String,
     operation: &'static str,
     count: usize,
     texts: String,
@@ -65,12 +53,12 @@ struct Bench {
 }
 
 impl Bench {
-    fn new(kind: &'static str, name: String, operation: &'static str, size: usize, input: Input, count: usize) -> Bench {
+    fn new(operation: &'static str, size: usize, input: Input, count: usize) -> Bench {
         let mut draw = Draw(1);
         let pool: Vec<String> = (0..count / 4).map(|_| draw.word()).collect();
         let texts: Vec<String> = (0..count).map(|at| draw.text(size, input, &pool, at)).collect();
         let others: Vec<String> = texts.iter().map(|text| draw.other(text, input)).collect();
-        Bench { kind, name, operation, count, texts: texts.join("|"), others: others.join("|") }
+        Bench { operation, count, texts: texts.join("|"), others: others.join("|") }
     }
 
     fn run(&self, side: Side, rounds: usize) -> Option<u64> {
@@ -92,7 +80,6 @@ impl Draw {
         (0..size).map(|_| char::from(b'a' + self.below(most) as u8)).collect()
     }
 
-    /// An identifier of at most twelve letters.
     fn word(&mut self) -> String {
         let size = 1 + self.below(12);
         self.letters(size, 26)
@@ -133,19 +120,18 @@ extern "C" fn counted(bench: &Bench, side: &Side, rounds: usize) -> u64 {
 }
 
 fn count(bench: &Bench, side: Side) {
+    const FEW: usize = 8;
     // what is bound late is bound now, and the heap comes into a state that lasts
-    for _ in 0..3 {
-        black_box(bench.run(side, FEW));
-    }
+    (0..3).for_each(|_| drop(black_box(bench.run(side, FEW))));
     counted(bench, &side, FEW);
-    counted(bench, &side, MANY);
+    counted(bench, &side, FEW + 32);
 }
 
 /// The sides that have a row, which must all return one sum.
-fn sides_of(bench: &Bench) -> String {
+fn sides_of(name: &str, bench: &Bench) -> String {
     let sums: Vec<(&str, u64)> = sides().iter().filter_map(|(side, of)| Some((*side, bench.run(*of, 2)?))).collect();
     if sums.iter().any(|(_, sum)| *sum != sums[0].1 || *sum == 0) {
-        eprintln!("{}: the sums differ: {sums:?}", bench.name);
+        eprintln!("{name}: the sums differ: {sums:?}");
         std::process::exit(1);
     }
     sums.iter().map(|(side, _)| *side).collect::<Vec<_>>().join(",")
@@ -172,31 +158,32 @@ fn times(bench: &Bench) -> String {
     least.iter().filter(|it| **it < f64::MAX).map(|it| format!("\t{}", it * 1e9 / texts)).collect()
 }
 
-/// The rows whose names begin with one of some words, where there are any.
-fn benches(words: &[String]) -> impl Iterator<Item = Bench> {
-    let rows = KINDS.iter().flat_map(|(kind, count, rows)| rows.iter().map(move |row| (*kind, *count, row)));
-    rows.flat_map(move |(kind, count, (name, operation, short, long, input))| {
-        let sizes = if kind == "short" { short } else { long };
-        let named = sizes.iter().map(|size| (*size, name.replace("{}", &size.to_string())));
-        let wanted = named.filter(|(_, name)| words.is_empty() || words.iter().any(|word| name.starts_with(word.as_str())));
-        wanted.map(move |(size, name)| Bench::new(kind, name, operation, size, *input, count)).collect::<Vec<_>>()
-    })
+fn for_each_row(words: &[String], run: impl Fn(&str, &str, &Bench)) {
+    for (kind, count, rows) in KINDS {
+        for (name, operation, short, long, input) in *rows {
+            for size in if *kind == "short" { *short } else { *long } {
+                let name = name.replace("{}", &size.to_string());
+                if words.is_empty() || words.iter().any(|word| name.starts_with(word.as_str())) {
+                    run(kind, &name, &Bench::new(operation, *size, *input, *count));
+                }
+            }
+        }
+    }
 }
 
 fn main() {
     let words: Vec<String> = std::env::args().skip(1).collect();
     let (command, words) = words.split_first().expect("rows, sizes, count or times");
     match command.as_str() {
-        "rows" => benches(words).for_each(|it| println!("{}\t{}\t{}\t{}", it.kind, it.name, it.count, sides_of(&it))),
-        "times" => benches(words).for_each(|it| println!("{}{}", it.name, times(&it))),
-        "sizes" => {
-            let bench = Bench::new("", String::new(), "size", 1, Same, 1);
-            sides().iter().for_each(|(name, side)| println!("{name}\t{}", bench.run(*side, 1).unwrap()));
-        }
+        "rows" => for_each_row(words, |kind, name, it| println!("{kind}\t{name}\t{}\t{}", it.count, sides_of(name, it))),
+        "times" => for_each_row(words, |_, name, it| println!("{name}{}", times(it))),
+        "sizes" => sides().iter().for_each(|(name, side)| {
+            println!("{name}\t{}", Bench::new("size", 1, Same, 1).run(*side, 1).unwrap());
+        }),
         _ => {
             let (_, side) = *sides().iter().find(|side| side.0 == words[0]).expect("a side");
-            let rows = benches(&words[1..]).filter(|it| it.kind != "many" && it.run(side, 1).is_some());
-            rows.for_each(|it| count(&it, side));
+            let is_counted = |kind, it: &Bench| kind != "many" && it.run(side, 1).is_some();
+            for_each_row(&words[1..], |kind, _, it| if is_counted(kind, it) { count(it, side) });
         }
     }
 }
