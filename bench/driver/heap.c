@@ -6,22 +6,16 @@
 #include <stdint.h>
 #include <stdlib.h>
 #include <string.h>
+#include <sys/sendfile.h>
 #include <unistd.h>
 
 #ifdef PRELOAD
-#define machine_malloc malloc
-#define machine_realloc realloc
-#define machine_free free
-#define malloc_below __libc_malloc
-#define realloc_below __libc_realloc
-#define free_below __libc_free
-extern void *__libc_malloc(size_t);
-extern void *__libc_realloc(void *, size_t);
-extern void __libc_free(void *);
+#define MACHINE(name) name
+#define BELOW(name) __libc_##name
+extern void *BELOW(malloc)(size_t), *BELOW(realloc)(void *, size_t), BELOW(free)(void *);
 #else
-#define malloc_below malloc
-#define realloc_below realloc
-#define free_below free
+#define MACHINE(name) machine_##name
+#define BELOW(name) name
 #endif
 
 static const size_t BASE = (size_t)1 << 62, HUGE_REQUEST = (size_t)1 << 40;
@@ -45,7 +39,7 @@ static int64_t calls[MOST_CALLS][2], count;
 static void begin_program(uint64_t refused) {
     how = refused >> 56;
     n = refused >> 48 & 255;
-    seed = refused << 16 | 1;
+    seed = refused;
     seen = count = 0;
     bytes = blocks = bytes_of_values = 0;
     memset(calls, 0, sizeof calls);
@@ -74,10 +68,8 @@ static int is_message(size_t size) {
 }
 
 static int is_by_chance(void) {
-    seed ^= seed << 13;
-    seed ^= seed >> 7;
-    seed ^= seed << 17;
-    return (seed >> 20) % n == 0;
+    seed = seed * 6364136223846793005u + 1442695040888963407u;
+    return (seed >> 33) % n == 0;
 }
 
 /* Whether a request is refused. One that no memory holds always is. */
@@ -115,21 +107,21 @@ static char *uncounted(void *old, size_t *size) {
     return block;
 }
 
-void *machine_malloc(size_t size) {
-    return is_message(size) || is_refused(size, 0) ? NULL : counted(malloc_below(size + BEFORE), size);
+void *MACHINE(malloc)(size_t size) {
+    return is_message(size) || is_refused(size, 0) ? NULL : counted(BELOW(malloc)(size + BEFORE), size);
 }
 
-void machine_free(void *old) {
+void MACHINE(free)(void *old) {
     size_t had;
-    if (old) free_below(uncounted(old, &had));
+    if (old) BELOW(free)(uncounted(old, &had));
 }
 
 /* A block that is not made smaller stays as it is, and the call goes on. */
-void *machine_realloc(void *old, size_t size) {
-    if (old == NULL) return machine_malloc(size);
+void *MACHINE(realloc)(void *old, size_t size) {
+    if (old == NULL) return MACHINE(malloc)(size);
     size_t had;
     char *block = uncounted(old, &had);
-    if (!is_refused(size, size < had)) return counted(realloc_below(block, size + BEFORE), size);
+    if (!is_refused(size, size < had)) return counted(BELOW(realloc)(block, size + BEFORE), size);
     counted(block, had);
     return NULL;
 }
@@ -137,7 +129,7 @@ void *machine_realloc(void *old, size_t size) {
 #ifdef PRELOAD
 /* The loader's own. */
 void *calloc(size_t items, size_t size) {
-    void *block = machine_malloc(items * size);
+    void *block = MACHINE(malloc)(items * size);
     return block ? memset(block, 0, items * size) : NULL;
 }
 #else
@@ -146,9 +138,7 @@ void *calloc(size_t items, size_t size) {
 __attribute__((constructor)) static void copy_program(int argc, char **argv) {
     if (argc != 3 || strcmp(argv[1], "copy-to") != 0) return;
     int from = open(argv[0], O_RDONLY), to = open(argv[2], O_WRONLY | O_CREAT | O_TRUNC, 0755);
-    static uint8_t piece[1 << 16];
-    for (ssize_t n; (n = read(from, piece, sizeof piece)) > 0;)
-        if (write(to, piece, (size_t)n) != n) _exit(3);
+    while (sendfile(to, from, NULL, 1 << 30) > 0) continue;
     _exit(0);
 }
 #endif

@@ -4,7 +4,6 @@ use crate::host::{Call, Program};
 use crate::limits::INLINE_CAP;
 use crate::process::{Process, Refusal};
 use crate::totals::Totals;
-use crate::unicode;
 
 /// No letter with a case stands from here on, so that fewer contexts are enough.
 const NO_CASE_FROM: char = '\u{20000}';
@@ -43,8 +42,8 @@ fn program_of(character: char) -> Program {
 }
 
 /// Runs each character but those on which the versions of Unicode differ.
-pub fn run(totals: &mut Totals, process: &mut Process) {
-    for character in ('\0'..=char::MAX).filter(|it| !unicode::differs(*it)) {
+pub fn run(totals: &mut Totals, process: &mut Process, differing: &[char]) {
+    for character in ('\0'..=char::MAX).filter(|it| !differing.contains(it)) {
         totals.run_and_tell(process, &program_of(character), &format!("U+{:04X}", character as u32));
     }
 }

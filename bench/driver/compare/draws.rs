@@ -15,17 +15,13 @@ const ALPHABETS: &[&str] = &[
     "\"\\/\n\r\t\u{8}\u{c}\0\u{1f}\u{7f}\u{2028}\u{ad}\u{300}aé",
 ];
 const LETTERS: &str = "abcdefghijklmnopqrstuvwxyz";
-
 /// Characters whose case is more than one ASCII letter for another.
 const WITH_CASE: &str = "ΣσςİıßẞŉǰΐΰևﬀﬁﬂﬃﬄﬅﬆﬓǄǅǆǇǈǉKÅΩᾳᾼᾀᾈῳῼẖẗẘéÉÿŸµſᲐაᎠꭰᏰᏸȺⱥȾⱦ𐐀𐐨𞤀𞤢ＡａⒶⓐⅧⅷ\
     \u{307}\u{345}\u{301}'’.:·\u{ad}ΔδАаёЁ\u{212a}\u{2126}";
-
 /// The ends of the ranges of two, three and four bytes, and characters between them.
 const WIDE: &str = "éß\u{80}\u{7ff}€\u{800}\u{fffd}\u{ffff}\u{d7ff}\u{e000}🦀\u{10000}\u{10ffff}中";
-
 /// Characters that stand in another order by their code units of 16 bits.
 const ORDERED: &str = "é中\u{e000}\u{ffff}\u{10000}🦀";
-
 #[rustfmt::skip]
 const NOT_UTF8: &[&[u8]] = &[
     b"\xed\xa0\x80", b"\xed\xbf\xbf", b"\xf4\x90\x80\x80", b"\xe0\x9f\xbf", b"\xf0\x8f\xbf\xbf", b"\xc0\x80", b"\xc1\xbf",
@@ -52,7 +48,7 @@ fn character(random: &mut Random) -> char {
     let alphabet = random.pick(ALPHABETS);
     match random.below(5) {
         0 => (random.below(128) as u8) as char,
-        1 => unicode::agreed(random),
+        1 => unicode::known(random),
         _ => random.char_of(alphabet),
     }
 }
@@ -112,12 +108,6 @@ fn text(random: &mut Random) -> String {
     }
 }
 
-fn short(random: &mut Random) -> String {
-    let mut text = text(random);
-    text.truncate(text.floor_char_boundary(INLINE_CAP));
-    text
-}
-
 fn piece(random: &mut Random) -> String {
     let length = random.below(12);
     sized(random, length)
@@ -149,7 +139,7 @@ fn spoilt(random: &mut Random, whole: Vec<u8>) -> Vec<u8> {
             _ => drop(bytes.splice(at..at, random.pick(NOT_UTF8).iter().copied())),
         }
     }
-    if String::from_utf8_lossy(&bytes).chars().any(unicode::differs) { whole } else { bytes }
+    if String::from_utf8_lossy(&bytes).chars().any(unicode::may_be_new) { whole } else { bytes }
 }
 
 /// Bytes that are a text, or nearly.
@@ -278,7 +268,10 @@ pub type Texts = fn(&mut Random) -> Vec<Vec<u8>>;
 
 pub const NONE: Texts = |_| vec![];
 pub const TEXT: Texts = |random| vec![text(random).into()];
-pub const SHORT: Texts = |random| vec![short(random).into()];
+pub const SHORT: Texts = |random| {
+    let text = text(random);
+    vec![text[..text.floor_char_boundary(INLINE_CAP)].into()]
+};
 pub const PIECE: Texts = |random| vec![if random.one_in(2) { piece(random) } else { text(random) }.into()];
 pub const CHARACTER: Texts = |random| vec![character(random).to_string().into()];
 pub const CASED: Texts = |random| vec![cased(random).into()];

@@ -1,5 +1,5 @@
 //! A program: its operations, and which requests for memory are refused; and how an operation is written for the machine.
-use crate::library::{RcStr, Step};
+use crate::library::Step;
 use crate::operation::Operation;
 use crate::process::Refusal;
 use crate::table::{ROWS, Row};
@@ -61,7 +61,7 @@ impl Call {
             steps: texts.iter().map(step).collect(),
             owned: Some(first.into()),
             boxed: Some(first.into()),
-            shared: Some(RcStr(first.into())),
+            shared: Some(first.into()),
             json: serde_json::from_str(first).ok(),
             texts,
         }
@@ -72,10 +72,7 @@ impl Display for Call {
     fn fmt(&self, f: &mut Formatter) -> std::fmt::Result {
         let Call { row, dst, src, form, number, width, digits, texts } = self;
         write!(f, "{} dst {dst} src {src} form {form} number {number} width {width} digits {digits}", row.name)?;
-        texts.iter().try_for_each(|text| match str::from_utf8(text) {
-            Ok(text) => write!(f, " {text:?}"),
-            Err(_) => write!(f, " {text:x?}"),
-        })
+        texts.iter().try_for_each(|text| write!(f, " \"{}\"", text.escape_ascii()))
     }
 }
 

@@ -2,20 +2,69 @@
 //! stated, the library's rule. Texts, places, orders, hashes, prints and errors are those of upstream, serde_json and std.
 mod builder;
 mod forms;
-mod run;
 
 pub use crate::limits::{BLANK_NEWLINES, BLANK_SPACES, INLINE_CAP};
 pub use builder::*;
 pub use forms::*;
-pub use run::*;
 
-use crate::departures::COLLECTED_BLANK_RUN;
+use crate::departures::{COLLECTED_BLANK_RUN, REFUSAL};
+use crate::process::Asked;
 use smol_str::SmolStr as Upstream;
 use std::borrow::Cow;
+use std::cell::RefCell;
 use std::cmp::Ordering;
+use std::collections::BTreeMap;
 use std::fmt::{self, Debug, Display, Formatter, Write};
 use std::ops::Deref;
 use std::sync::Arc;
+
+/// What is known of the operation that runs.
+#[derive(Default)]
+struct Run {
+    asked: Asked,
+    /// The front of the machine's report, where a refusal leaves open what the call has done.
+    actual: Vec<u8>,
+    may_ask: bool,
+    /// What a call did that the documents rule out, beside its report.
+    fault: Option<&'static str>,
+}
+
+thread_local! {
+    static RUN: RefCell<Run> = RefCell::default();
+    /// How often each departure was met.
+    pub static DEPARTURES: RefCell<BTreeMap<&'static str, u64>> = RefCell::default();
+}
+
+/// Begins an operation.
+pub fn begin(asked: Asked, actual: &[u8]) {
+    RUN.set(Run { asked, actual: actual[..actual.len().min(32)].to_vec(), ..Run::default() });
+    if asked.refused > 0 { departs(REFUSAL) }
+}
+
+/// What the operation did that is ruled out.
+pub fn fault() -> Option<&'static str> {
+    RUN.with_borrow(|run| match run.fault {
+        None if run.asked.requests > 0 && !run.may_ask => Some("the call asks for memory where it may not"),
+        fault => fault,
+    })
+}
+
+/// The number that stands at a place of the machine's report.
+pub fn actual_number(at: usize) -> usize {
+    let number = |bytes: &[u8]| u64::from_le_bytes(bytes.try_into().unwrap()) as usize;
+    RUN.with_borrow(|run| run.actual.get(at..at + 8).map_or(0, number))
+}
+
+pub fn is_refused() -> bool { RUN.with_borrow(|run| run.asked.refused > 0) }
+
+/// A call that may ask for memory, where this is so.
+pub fn may_ask(is_so: bool) { RUN.with_borrow_mut(|run| run.may_ask |= is_so) }
+
+pub fn departs(departure: &'static str) { DEPARTURES.with_borrow_mut(|met| *met.entry(departure).or_default() += 1) }
+
+pub fn expect(is_so: bool, fault: &'static str) {
+    if !is_so { RUN.with_borrow_mut(|run| run.fault = Some(fault)) }
+}
 
 #[derive(Clone, Copy, PartialEq)]
 pub enum Place { Inline, Static, Heap }
@@ -29,13 +78,12 @@ pub struct AllocError;
 #[derive(Default, PartialEq, Eq, PartialOrd, Ord, Hash)]
 pub struct SmolStr(Upstream);
 
-/// What a call returns that makes a value.
 type Made<E = AllocError> = Result<SmolStr, E>;
 
 /// std's owned texts, by the names that they have in the toolchain.
 pub type BoxedStr = Box<str>;
 pub type CowStr<'a> = Cow<'a, str>;
-pub struct RcStr(pub Arc<str>);
+pub type RcStr = Arc<str>;
 
 fn is_short(text: &str) -> bool { text.len() <= INLINE_CAP }
 
@@ -108,7 +156,7 @@ impl SmolStr {
         collected(items.collect())
     }
 
-    pub fn from_rc_str(text: RcStr) -> SmolStr { SmolStr(Upstream::from(text.0)) }
+    pub fn from_rc_str(text: RcStr) -> SmolStr { SmolStr(Upstream::from(text)) }
     pub fn new_inline(text: &str) -> SmolStr { SmolStr(Upstream::new_inline(text)) }
     pub fn new_inline_in_case(text: &str, case: AsciiCase) -> SmolStr { SmolStr(Upstream::new_inline(&case.of(text))) }
     pub fn new_static(text: &'static str) -> SmolStr { SmolStr(Upstream::new_static(text)) }
@@ -118,7 +166,7 @@ impl SmolStr {
         unless_refused(!self.is_empty(), String::from(self.0.clone()), self)
     }
     pub fn into_rc_str(self, _: Global) -> Result<RcStr, SmolStr> {
-        unless_refused(!self.is_heap_allocated(), RcStr(self.0.clone().into()), self)
+        unless_refused(!self.is_heap_allocated(), self.0.clone().into(), self)
     }
 
     pub fn place(&self) -> Place {
@@ -140,7 +188,6 @@ impl SmolStr {
 
 impl From<char> for SmolStr { fn from(character: char) -> SmolStr { SmolStr(Upstream::from(character)) } }
 impl From<RcStr> for SmolStr { fn from(text: RcStr) -> SmolStr { SmolStr::from_rc_str(text) } }
-impl RcStr { pub fn as_str(&self) -> &str { &self.0 } }
 impl Deref for SmolStr { type Target = Upstream; fn deref(&self) -> &Upstream { &self.0 } }
 impl Display for SmolStr { fn fmt(&self, f: &mut Formatter) -> fmt::Result { Display::fmt(&self.0, f) } }
 impl Debug for SmolStr { fn fmt(&self, f: &mut Formatter) -> fmt::Result { Debug::fmt(&self.0, f) } }

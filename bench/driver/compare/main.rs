@@ -1,13 +1,10 @@
-//! The library and upstream's crate on the same programs: every report is compared byte for byte.
+//! The library and upstream's crate on the same programs: every report is compared byte for byte. The modules of
+//! bench/operations run on both sides: there over the library, here over `library`, upstream's crate with the library's calls.
 //!
-//! compare random SEED PROGRAMS [refuse]    so many random programs, with memory refused or not
-//! compare random SEED PROGRAMS mixed       each second one with memory refused
-//! compare chars                            each scalar value in cases, contexts, prints, JSON and wire forms
-//! compare show SEED NUMBER [refuse]        one program, an operation a line, and where it differs
-//! compare shrink SEED NUMBER [refuse]      the same, made short
-//!
-//! The modules of bench/operations run on both sides: there over the library, here over `library`, upstream's crate with
-//! the library's calls.
+//! compare random SEED PROGRAMS [HOW]    so many random programs; memory is refused with HOW `refuse`, in each second
+//!                                       program with `mixed`
+//! compare show SEED NUMBER [HOW]        one of them, an operation a line, and where it differs; with `shrink` made short
+//! compare chars                         each scalar value in cases, contexts, prints, JSON and wire forms
 mod builders;
 mod chars;
 mod departures;
@@ -98,26 +95,21 @@ fn show_one(process: &mut Process, mut program: Program, is_shrunk: bool) -> boo
 fn compare(process: &mut Process, words: &[&str]) -> Option<bool> {
     let number = |at: usize| words.get(at)?.parse::<u64>().ok();
     let (what, how) = (words.first()?, words.get(3).copied().unwrap_or_default());
-    let unexplained = unicode::compare(process, std::env::var("PRELOAD").is_err() && *what != "chars")?;
+    let [differing, unexplained] = unicode::compare(process, std::env::var("PRELOAD").is_err() && *what != "chars")?;
     library::DEPARTURES.take();
     let mut totals = Totals::default();
     match *what {
         "random" => run_random(&mut totals, process, number(1)?, number(2)?, how),
-        "chars" => chars::run(&mut totals, process),
+        "chars" => chars::run(&mut totals, process, &differing),
         _ => return Some(show_one(process, program_of(number(1)?, number(2)?, how), *what == "shrink")),
     }
     totals.print();
-    Some(totals.differing > 0 || unexplained > 0)
+    Some(totals.differing > 0 || !unexplained.is_empty())
 }
 
 fn main() -> ExitCode {
     let words: Vec<String> = std::env::args().skip(1).collect();
     let words: Vec<&str> = words.iter().map(String::as_str).collect();
-    match compare(&mut Process::start(), &words) {
-        Some(differs) => ExitCode::from(u8::from(differs)),
-        None => {
-            println!("DIFFERS: the words are wrong, or the machine ended while it was asked for characters");
-            ExitCode::from(2)
-        }
-    }
+    let differs = compare(&mut Process::start(), &words);
+    ExitCode::from(u8::from(differs.expect("the words are right, and the machine lives while it is asked for characters")))
 }

@@ -36,13 +36,11 @@ impl Random {
     }
 
     pub fn char_of(&mut self, from: &str) -> char {
-        let at = self.below(from.chars().count());
-        from.chars().nth(at).unwrap()
+        from.chars().nth(self.below(from.chars().count())).unwrap()
     }
 
     /// One of the words between single spaces.
     pub fn word_of<'a>(&mut self, from: &'a str) -> &'a str {
-        let at = self.below(from.split(' ').count());
-        from.split(' ').nth(at).unwrap()
+        from.split(' ').nth(self.below(from.split(' ').count())).unwrap()
     }
 }

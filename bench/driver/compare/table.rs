@@ -30,7 +30,7 @@ pub struct Row {
     forms: usize,
     texts: Texts,
     number: Number,
-    /// The calls by the names that .ci/interface.py has for them.
+    /// By the names that .ci/interface.py has for them.
     pub calls: &'static str,
 }
 

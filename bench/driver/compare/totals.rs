@@ -22,7 +22,6 @@ pub struct Totals {
     pub differing: u64,
     /// How often each operation was run, and how often it was refused memory.
     calls: BTreeMap<&'static str, [u64; 2]>,
-    requests: i64,
 }
 
 /// The machine over upstream's crate.
@@ -63,7 +62,6 @@ impl Totals {
             let asked = outcome.asked.get(at).copied().unwrap_or_default();
             let [times, refused] = self.calls.entry(step.row.name).or_default();
             (*times, *refused) = (*times + 1, *refused + u64::from(asked.refused > 0));
-            self.requests += asked.requests;
             library::begin(asked, rest);
             let mut wanted = Report::new(&mut room);
             mirror.run(&mut step.decoded(), &mut wanted);
@@ -90,8 +88,7 @@ impl Totals {
             let times = DEPARTURES.with_borrow(|met| met.get(departure).copied().unwrap_or(0));
             println!("departure {times:>9}  {departure}");
         }
-        println!("{} programs, {calls} calls, {} requests for memory", self.programs, self.requests);
-        println!("programs that differ: {}", self.differing);
+        println!("{} programs, {calls} calls; programs that differ: {}", self.programs, self.differing);
     }
 }
 
@@ -121,7 +118,7 @@ fn left_over(program: &Program, outcome: &Outcome, rest: usize, most_bytes: i64)
 /// Where and how a program differs.
 fn difference(program: &Program, at: usize, why: &str, wanted: &[u8], actual: &[u8]) -> String {
     let (step, steps) = (&program.steps[at], program.steps.len());
-    let [wanted, actual] = [wanted, actual].map(|it| shown(&String::from_utf8_lossy(it).escape_debug().to_string()));
+    let [wanted, actual] = [wanted, actual].map(|bytes| shown(&bytes.escape_ascii().to_string()));
     format!("operation {} of {steps}: {why}\n  {}\n  wanted {wanted}\n  actual {actual}", at + 1, shown(&step.to_string()))
 }
 

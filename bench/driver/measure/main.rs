@@ -4,6 +4,8 @@
 //! which writes counts at each end of `counted`. Words after that leave out the rows whose name begins with none of them.
 mod rivals;
 mod rows;
+// a helper a line
+#[rustfmt::skip]
 mod texts;
 mod upstream;
 

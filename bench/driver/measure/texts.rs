@@ -9,7 +9,6 @@ pub trait Text: Clone + Ord + Hash + Display + Deref<Target = str> + From<String
 
 impl<T: Clone + Ord + Hash + Display + Deref<Target = str> + From<String> + for<'a> From<&'a str>> Text for T {}
 
-/// Two texts, and the value of each.
 pub struct Case<T> {
     pub text: String,
     pub other: String,
@@ -28,36 +27,17 @@ pub fn cases<T: Text>(texts: &str, others: &str) -> Vec<Case<T>> {
     texts.split('|').zip(others.split('|')).map(case).collect()
 }
 
-/// The length and one byte of a text.
-#[inline(always)]
-pub fn seen(text: &str, pick: usize) -> u64 {
-    seen_bytes(text.as_bytes(), pick)
-}
-
-#[inline(always)]
-pub fn seen_bytes(bytes: &[u8], pick: usize) -> u64 {
-    u64::from(bytes.get(pick).copied().unwrap_or(0)).wrapping_add(bytes.len() as u64)
-}
-
-#[inline(always)]
-pub fn told(answer: u64, pick: usize) -> u64 {
-    answer.wrapping_add(pick as u64)
-}
-
-#[inline(always)]
-pub fn number(order: std::cmp::Ordering) -> u64 {
-    (order as i8 + 2) as u64
-}
+#[inline(always)] pub fn seen(text: &str, pick: usize) -> u64 { seen_bytes(text.as_bytes(), pick) }
+#[inline(always)] pub fn seen_bytes(bytes: &[u8], pick: usize) -> u64 { byte_at(bytes, pick).wrapping_add(bytes.len() as u64) }
+#[inline(always)] pub fn byte_at(bytes: &[u8], pick: usize) -> u64 { u64::from(bytes.get(pick).copied().unwrap_or(0)) }
+#[inline(always)] pub fn told(answer: u64, pick: usize) -> u64 { answer.wrapping_add(pick as u64) }
+#[inline(always)] pub fn number(order: std::cmp::Ordering) -> u64 { (order as i8 + 2) as u64 }
+#[inline(always)] fn keywords(it: &str) -> u64 { u64::from(it == "if" || it == "else" || it == "while" || it == "return") }
 
 #[inline(always)]
 pub fn hashed<H: Hasher>(value: &(impl Hash + ?Sized), mut hasher: H, pick: usize) -> u64 {
     value.hash(&mut hasher);
     told(hasher.finish(), pick)
-}
-
-#[inline(always)]
-fn keywords(value: &str) -> u64 {
-    u64::from(value == "if" || value == "else" || value == "while" || value == "return")
 }
 
 /// So many rounds over all cases. Which byte is looked at changes from round to round, and the compiler knows
@@ -73,7 +53,6 @@ pub fn rounds<C>(cases: &[C], (count, pick): Turns, mut operation: impl FnMut(&C
     sum
 }
 
-/// So many rounds of an operation on all cases at once.
 #[inline(never)]
 pub fn batches<C>(cases: &[C], (count, pick): Turns, mut operation: impl FnMut(&[C], usize) -> u64) -> u64 {
     (0..count).fold(0, |sum, turn| sum.wrapping_add(operation(black_box(cases), pick ^ (turn & 1))))
@@ -148,7 +127,7 @@ pub fn run<T: Text>(operation: &str, all: &[Case<T>], n: Turns) -> Option<u64> {
     })
 }
 
-/// FNV-1a, by bytes.
+/// FNV-1a.
 struct Fnv(u64);
 
 impl Hasher for Fnv {
@@ -157,9 +136,6 @@ impl Hasher for Fnv {
         let next = |hash: u64, byte: &u8| (hash ^ u64::from(*byte)).wrapping_mul(1_099_511_628_211);
         self.0 = bytes.iter().fold(self.0, next);
     }
-
     #[inline]
-    fn finish(&self) -> u64 {
-        self.0
-    }
+    fn finish(&self) -> u64 { self.0 }
 }

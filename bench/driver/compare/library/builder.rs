@@ -18,7 +18,6 @@ pub enum Step { Push(char), PushStr(String) }
 pub trait Piece: Display + Sized {
     fn append_to(self, builder: &mut SmolStrBuilder) -> Result<(), AllocError> { builder.push_str(&self.to_string()) }
 }
-
 impl<T: Display> Piece for T {}
 
 impl Display for Step {
@@ -34,9 +33,7 @@ impl SmolStrBuilder {
     pub fn new(_: Global) -> SmolStrBuilder { SmolStrBuilder::default() }
     pub fn with_capacity(_: Global, capacity: usize) -> Result<SmolStrBuilder, AllocError> {
         may_ask(capacity > INLINE_CAP);
-        if capacity > ABSURD {
-            departs(CAPACITY);
-        }
+        if capacity > ABSURD { departs(CAPACITY) }
         if capacity > ABSURD || is_refused() { Err(AllocError) } else { Ok(SmolStrBuilder(Upstream::with_capacity(capacity))) }
     }
     pub fn clone(&self) -> Result<SmolStrBuilder, AllocError> {
@@ -83,9 +80,9 @@ impl SmolStrBuilder {
 
     /// A print by one call is one piece; where the pieces of another end is not known.
     pub fn write_fmt(&mut self, value: impl Display) -> fmt::Result {
-        let mut calls = Calls::default();
-        write!(calls, "{value}")?;
-        self.append(&[calls.0], calls.1 == 1, |text| write!(text, "{value}").unwrap()).map_err(|_| fmt::Error)
+        let mut pieces = Pieces(vec![]);
+        write!(pieces, "{value}")?;
+        self.append(&pieces.0, pieces.0.len() == 1, |text| write!(text, "{value}").unwrap()).map_err(|_| fmt::Error)
     }
     pub fn write_str(&mut self, text: &str) -> fmt::Result { self.push_str(text).map_err(|_| fmt::Error) }
     pub fn write_char(&mut self, character: char) -> fmt::Result { self.push(character).map_err(|_| fmt::Error) }
@@ -103,15 +100,11 @@ pub fn try_take(builder: &mut SmolStrBuilder) -> Result<SmolStrBuilder, AllocErr
 
 impl Deref for SmolStrBuilder { type Target = Upstream; fn deref(&self) -> &Upstream { &self.0 } }
 
-/// What is printed, and by how many calls.
-#[derive(Default)]
-struct Calls(String, usize);
+/// What is printed, by calls.
+struct Pieces(Vec<String>);
 
-impl Write for Calls {
-    fn write_str(&mut self, text: &str) -> fmt::Result {
-        self.1 += 1;
-        self.0.write_str(text)
-    }
+impl Write for Pieces {
+    fn write_str(&mut self, text: &str) -> fmt::Result { Ok(self.0.push(text.to_string())) }
 }
 
 pub fn finished(builder: SmolStrBuilder) -> Made<FormatError> { builder.finish().map_err(|_| FormatError) }
@@ -128,5 +121,4 @@ pub trait ValueAlloc: Sized {
     fn builder(self) -> SmolStrBuilder { SmolStrBuilder::default() }
     fn value_of(builder: SmolStrBuilder) -> Made { builder.into_value() }
 }
-
 impl ValueAlloc for Global {}

@@ -22,7 +22,6 @@ pub struct FormatError;
 pub trait ToSmolStr: Display {
     fn to_smolstr(&self, _: Global) -> Made<FormatError> { printed(smol_str::ToSmolStr::to_smolstr(self)) }
 }
-
 impl<T: Display> ToSmolStr for T {}
 
 pub fn printed(text: Upstream) -> Made<FormatError> { made_of_parts(text, FormatError) }
@@ -67,9 +66,7 @@ impl StrExt for &str {}
 
 fn changed(text: &str, made: Upstream, of_std: String) -> Made {
     let is_sigma = made != of_std && is_short(text) && text.contains('Σ');
-    if is_sigma {
-        departs(SHORT_SIGMA);
-    }
+    if is_sigma { departs(SHORT_SIGMA) }
     expect(is_sigma || made == of_std, "upstream's text is not std's");
     made_of_parts(Upstream::from(of_std), AllocError)
 }
@@ -80,28 +77,18 @@ pub fn convert_while_ascii(text: &str, case: AsciiCase) -> ([u8; INLINE_CAP], us
 }
 
 pub fn next_match(text: &str, from: usize, needle: &str) -> Option<usize> { Some(from + text[from..].find(needle)?) }
-
 pub fn length_prefix(size: usize) -> Option<[u8; PREFIX]> { Some(u32::try_from(size).ok()?.to_le_bytes()) }
 
 /// The faults, whose debug texts are the library's.
 #[derive(Debug)]
-pub enum Fault {
-    Ended,
-    TooLong,
-    NotUtf8(Utf8Error),
-    OutOfMemory,
-    Io(io::Error),
-    Decode(Box<Fault>),
-}
+pub enum Fault { Ended, TooLong, NotUtf8(Utf8Error), OutOfMemory, Io(io::Error), Decode(Box<Fault>) }
 pub use self::{Fault as DecodeFault, Fault as ReadFault};
 
 impl From<io::Error> for Fault { fn from(error: io::Error) -> Fault { Fault::Io(error) } }
 
 /// Upstream goes on after `Interrupted`, and the library does not.
 fn interrupted(error: &io::Error) {
-    if error.kind() == ErrorKind::Interrupted {
-        departs(INTERRUPTED);
-    }
+    if error.kind() == ErrorKind::Interrupted { departs(INTERRUPTED) }
 }
 
 pub fn write_steps(writer: &mut SlowWriter, mut bytes: &[u8]) -> io::Result<()> {
@@ -206,11 +193,7 @@ pub fn read_up_to(_: Global, reader: &mut SlowReader, limit: usize) -> Result<Ve
 
 pub fn read_all(alloc: Global, reader: &mut SlowReader) -> Result<Vec<u8>, Fault> { read_up_to(alloc, reader, usize::MAX) }
 
-pub enum JsonFault {
-    NotString,
-    Json(#[expect(dead_code)] serde_json::Error),
-    OutOfMemory,
-}
+pub enum JsonFault { NotString, Json(#[expect(dead_code)] serde_json::Error), OutOfMemory }
 
 fn no_string() -> JsonFault {
     departs(NO_STRING);
@@ -218,7 +201,6 @@ fn no_string() -> JsonFault {
 }
 
 pub use by_serde::to_string as to_json;
-
 pub fn to_value(_: Global, value: &SmolStr) -> Result<Value, AllocError> {
     unless_refused(true, serde_json::to_value(&value.0).unwrap(), AllocError)
 }
@@ -248,7 +230,6 @@ pub mod by_serde {
     use super::*;
 
     pub struct Error(bool);
-
     impl Error { pub fn is_memory(&self) -> bool { self.0 } }
 
     pub fn to_string(_: Global, value: &SmolStr) -> Result<String, AllocError> {
@@ -260,7 +241,6 @@ pub mod by_serde {
     }
 
     pub fn from_str(_: Global, text: &str) -> Made<Error> { read(serde_json::from_str(text)) }
-
     pub fn from_value(_: Global, value: Value) -> Made<Error> { read(serde_json::from_value(value)) }
 
     /// What a derived type with a value is written as, and the value read back.
