@@ -2,7 +2,6 @@
    names, and these stand below them; before the proved one they are preloaded. They count requests, refuse some, and take
    requests of sizes from BASE on, which no allocation can have, as messages: those of the enumeration below. */
 #include <fcntl.h>
-#include <stddef.h>
 #include <stdint.h>
 #include <stdlib.h>
 #include <string.h>

@@ -139,7 +139,7 @@ fn spoilt(random: &mut Random, whole: Vec<u8>) -> Vec<u8> {
             _ => drop(bytes.splice(at..at, random.pick(NOT_UTF8).iter().copied())),
         }
     }
-    if String::from_utf8_lossy(&bytes).chars().any(unicode::may_be_new) { whole } else { bytes }
+    if String::from_utf8_lossy(&bytes).chars().any(unicode::may_differ) { whole } else { bytes }
 }
 
 /// Bytes that are a text, or nearly.
@@ -203,10 +203,9 @@ fn json(random: &mut Random) -> String {
 
 /// Lists or objects in one another, about as deep as is read.
 fn nested(random: &mut Random) -> String {
-    let depth = random.pick(&[1, 2, 126, 127, 128, 129, 300]);
-    let closed = if random.one_in(3) { depth - 1 } else { depth };
+    let (depth, missing) = (random.pick(&[1, 2, 126, 127, 128, 129, 300]), random.pick(&[0, 0, 1]));
     let (open, inside, close) = random.pick(&[("[", "", "]"), ("{\"a\":", "1", "}")]);
-    open.repeat(depth) + inside + &close.repeat(closed)
+    open.repeat(depth) + inside + &close.repeat(depth - missing)
 }
 
 fn string(random: &mut Random) -> String {

@@ -56,10 +56,8 @@ pub fn actual_number(at: usize) -> usize {
 }
 
 pub fn is_refused() -> bool { RUN.with_borrow(|run| run.asked.refused > 0) }
-
 /// A call that may ask for memory, where this is so.
 pub fn may_ask(is_so: bool) { RUN.with_borrow_mut(|run| run.may_ask |= is_so) }
-
 pub fn departs(departure: &'static str) { DEPARTURES.with_borrow_mut(|met| *met.entry(departure).or_default() += 1) }
 
 pub fn expect(is_so: bool, fault: &'static str) {
@@ -170,11 +168,7 @@ impl SmolStr {
     }
 
     pub fn place(&self) -> Place {
-        match self.is_heap_allocated() {
-            true => Place::Heap,
-            false if lies_in(self, &self.0) => Place::Inline,
-            false => Place::Static,
-        }
+        if self.is_heap_allocated() { Place::Heap } else if lies_in(self, &self.0) { Place::Inline } else { Place::Static }
     }
     pub fn inline_buffer(&self) -> Option<[u8; INLINE_CAP]> {
         (self.place() == Place::Inline).then(|| buffer_of(self))

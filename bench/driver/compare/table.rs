@@ -41,9 +41,8 @@ const fn row(group: u8, name: Name, weight: usize, forms: usize, texts: Texts, n
 
 /// What each operation that reports a value or a builder reads of it.
 pub const READS: &str = "SmolStr::as_str SmolStr::len SmolStr::is_empty SmolStr::is_ascii SmolStr::is_heap_allocated \
-    SmolStr::place SmolStr::inline_buffer";
-pub const BUILDER_READS: &str =
-    "SmolStrBuilder::as_str SmolStrBuilder::len SmolStrBuilder::is_empty SmolStrBuilder::inline_buffer";
+    SmolStr::place SmolStr::inline_buffer SmolStrBuilder::as_str SmolStrBuilder::len SmolStrBuilder::is_empty \
+    SmolStrBuilder::inline_buffer";
 
 #[rustfmt::skip]
 pub static ROWS: &[Row] = &[

@@ -5,16 +5,12 @@ use crate::library::{self, DEPARTURES, Global, Place, SmolStr, SmolStrBuilder};
 use crate::machine::{Machine, REGISTERS};
 use crate::process::{Asked, Outcome, Process, Refusal};
 use crate::report::Report;
-use crate::table::{BUILDER_READS, READS, ROWS};
+use crate::table::{READS, ROWS};
 use std::collections::BTreeMap;
 
 /// The most bytes of a report, and the most programs that are told of.
 const ROOM: usize = 1 << 23;
 const TOLD: u64 = 10;
-
-/// The bytes of a block of a value beside its text, and of the list of values.
-const BESIDE_TEXT: usize = 48;
-const LIST: usize = 512;
 
 #[derive(Default)]
 pub struct Totals {
@@ -83,7 +79,7 @@ impl Totals {
             println!("call {times:>9} {refused:>8}  {:30}  {}", row.name, row.calls);
         }
         let calls: u64 = self.calls.values().map(|counts| counts[0]).sum();
-        println!("call {calls:>9} {:>8}  {:30}  {READS} {BUILDER_READS}", 0, "what is reported is read");
+        println!("call {calls:>9} {:>8}  {:30}  {READS}", 0, "what is reported is read");
         for departure in departures::ALL {
             let times = DEPARTURES.with_borrow(|met| met.get(departure).copied().unwrap_or(0));
             println!("departure {times:>9}  {departure}");
@@ -92,10 +88,10 @@ impl Totals {
     }
 }
 
-/// The most bytes that the registers of values have.
+/// The most bytes that the registers of values have: in all and for each value some beside the texts.
 fn most_bytes(mirror: &Machine) -> i64 {
     let on_heap = mirror.values.iter().filter(|value| value.place() == Place::Heap);
-    (on_heap.map(|value| value.len() + BESIDE_TEXT).sum::<usize>() + LIST) as i64
+    on_heap.map(|value| value.len() as i64 + 48).sum::<i64>() + 512
 }
 
 /// The first call whose requests are others than with ample memory.

@@ -1,7 +1,7 @@
 //! The characters on which both sides' Unicode disagrees: those that a later version added or gave a case.
 //!
-//! Random texts have none that this side prints escaped. A difference is one of versions where it prints the character so,
-//! or leaves it as it is where the machine has another case for it. Any other difference is one of the libraries.
+//! Random texts have none of these: a later version may have added what this side prints escaped, and may have given a case
+//! to what is lower or upper case and has no other here. Any other difference is one of the libraries.
 use crate::host::Call;
 use crate::library;
 use crate::process::{Asked, Process, Refusal};
@@ -21,12 +21,12 @@ pub fn letter(random: &mut Random) -> char {
 
 pub fn known(random: &mut Random) -> char {
     let most = random.pick(&[0x100, 0x800, 0x3000, char::MAX as usize]);
-    char::from_u32(random.below(most) as u32).filter(|character| !may_be_new(*character)).unwrap_or('a')
+    char::from_u32(random.below(most) as u32).filter(|character| !may_differ(*character)).unwrap_or('a')
 }
 
-/// Whether a character may be one that a later version added.
-pub fn may_be_new(character: char) -> bool {
-    matches!(character, '\u{370}'..='\u{d7fb}' | '\u{10000}'..='\u{effff}') && is_escaped(character)
+pub fn may_differ(character: char) -> bool {
+    let may_be_new = matches!(character, '\u{370}'..='\u{d7fb}' | '\u{10000}'..='\u{effff}') && is_escaped(character);
+    may_be_new || (character.is_lowercase() || character.is_uppercase()) && !has_case(&character)
 }
 
 fn is_escaped(character: char) -> bool {
@@ -81,9 +81,7 @@ pub fn compare(process: &mut Process, is_slow: bool) -> Option<[Vec<char>; 2]> {
     Some([differing, unexplained])
 }
 
-/// Characters as ranges of their numbers.
 fn ranges(characters: &[char]) -> String {
-    let follows = |one: &char, next: &char| *one as u32 + 1 == *next as u32;
-    let shown = |run: &[char]| format!("{:04X}..={:04X}", run[0] as u32, run[run.len() - 1] as u32);
-    characters.chunk_by(follows).map(shown).collect::<Vec<_>>().join(" ")
+    let runs = characters.chunk_by(|one, next| *one as u32 + 1 == *next as u32);
+    runs.map(|run| format!("{:04X}..={:04X} ", run[0] as u32, run[run.len() - 1] as u32)).collect()
 }

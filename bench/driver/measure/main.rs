@@ -184,7 +184,7 @@ fn main() {
         }),
         _ => {
             let (_, side) = *sides().iter().find(|side| side.0 == words[0]).expect("a side");
-            let is_counted = |kind, it: &Bench| kind != "many" && it.run(side, 1).is_some();
+            let is_counted = |kind: &str, it: &Bench| kind != "many" && it.run(side, 1).is_some();
             for_each_row(&words[1..], |kind, _, it| if is_counted(kind, it) { count(it, side) });
         }
     }

@@ -6,7 +6,6 @@ use std::hint::black_box;
 use std::ops::Deref;
 
 pub trait Text: Clone + Ord + Hash + Display + Deref<Target = str> + From<String> + for<'a> From<&'a str> {}
-
 impl<T: Clone + Ord + Hash + Display + Deref<Target = str> + From<String> + for<'a> From<&'a str>> Text for T {}
 
 pub struct Case<T> {

@@ -35,10 +35,7 @@ pub enum AsciiCase { Lower, Upper }
 
 impl AsciiCase {
     pub fn of(&self, text: &str) -> String {
-        match self {
-            AsciiCase::Lower => text.to_ascii_lowercase(),
-            AsciiCase::Upper => text.to_ascii_uppercase(),
-        }
+        if let AsciiCase::Lower = self { text.to_ascii_lowercase() } else { text.to_ascii_uppercase() }
     }
 }
 
@@ -133,10 +130,8 @@ pub fn split_wire(alloc: Global, bytes: &[u8]) -> Result<(SmolStr, &[u8]), Fault
 }
 
 pub fn deserialize_limited(alloc: Global, reader: &mut SlowReader, limit: usize) -> Made<Fault> {
-    read_value(alloc, reader, limit).map_err(|fault| match fault {
-        Fault::TooLong => Fault::TooLong,
-        fault => Fault::Decode(Box::new(fault)),
-    })
+    let made = read_value(alloc, reader, limit);
+    made.map_err(|fault| if let Fault::TooLong = fault { fault } else { Fault::Decode(Box::new(fault)) })
 }
 
 /// A value of at most so many bytes; a short one is read without memory.
