@@ -126,7 +126,6 @@ void *MACHINE(realloc)(void *old, size_t size) {
 }
 
 #ifdef PRELOAD
-/* The loader's own. */
 void *calloc(size_t items, size_t size) {
     void *block = MACHINE(malloc)(items * size);
     return block ? memset(block, 0, items * size) : NULL;

@@ -1,5 +1,4 @@
-//! Each scalar value through the four cases, alone and in the contexts of a final sigma, short and long,
-//! and through prints, JSON and the wire form.
+//! Each scalar value through prints, JSON, the wire form, and, in the contexts of a final sigma too, the four cases.
 use crate::host::{Call, Program};
 use crate::limits::INLINE_CAP;
 use crate::process::{Process, Refusal};

@@ -80,7 +80,6 @@ fn drawn(random: &mut Random, count: usize, alphabet: &str) -> String {
     (0..count).map(|_| random.char_of(alphabet)).collect()
 }
 
-/// A text of about so many bytes.
 fn sized(random: &mut Random, length: usize) -> String {
     let (count, alphabet, is_any) = (1 + random.below(4), random.pick(ALPHABETS), random.one_in(6));
     let mut text = match random.below(5) {
@@ -142,7 +141,6 @@ fn spoilt(random: &mut Random, whole: Vec<u8>) -> Vec<u8> {
     if String::from_utf8_lossy(&bytes).chars().any(unicode::may_differ) { whole } else { bytes }
 }
 
-/// Bytes that are a text, or nearly.
 fn nearly_text(random: &mut Random) -> Vec<u8> {
     let text = text(random).into_bytes();
     if random.one_in(3) { text } else { spoilt(random, text) }
@@ -177,13 +175,12 @@ const JSON_WORDS: &str = "null true false nul tru 0 -0 - 01 1.5 1. .5 1e5 1e 1E+
 const JSON_LISTS: &str = r#"["a"] {"a":"b"} [ ] ["a",] {"a"} {} [] {"a":1,"a":2} [1,2,[3]] {"a":} ["\ud800"] [1e999]"#;
 const SPACES: &[&str] = &["", "", " ", "\n", "\t\r"];
 const BEHIND_JSON: &[&str] = &["x", "\"", "1", ",", "]", "}", "null", "\u{a0}", "\u{feff}", "\u{c}", "\0"];
-const ESCAPES: &str = r#"\" \\ \/ \b \f \n \r \t \u0000 \u001f \u0022 \u0041 \u005C \u007F \u0080 \u00e9 \u07fF \u0800 \u2028 \ufFfD"#;
+const ESCAPES: &str = r#"\" \\ \/ \b \f \n \r \t \u0000 \u001f \u0022 \u005C \u007F \u0080 \u00e9 \u07fF \u0800 \u2028 \ufFfD"#;
 const PAIRS: &str =
     r"\ud800\udc00 \ud800\udd80 \ud800\udfff \ud83e\udc00 \ud83e\udd80 \ud83e\udfff \udbff\udc00 \udbff\udfff";
 const BAD_ESCAPES: &str = "\\ud800 \\udc00 \\ud800\\ud800 \\udc00\\ud800 \\ud800a \\ud800\\n \\ud800\\u0041 \
     \\x41 \\u12 \\u12g4 \\U0041 \\ \" \n \u{1f} \0 \\a \\' \\u \\ud800\\ \\ud800\\u \\uD83E\\uDD80 \\ud83e\\uDD80";
 
-/// A JSON text, or nearly one.
 fn json(random: &mut Random) -> String {
     let (before, behind) = (random.pick(SPACES).to_string(), random.pick(SPACES));
     let json = match random.below(12) {

@@ -1,5 +1,5 @@
 //! The library and upstream's crate on the same programs: every report is compared byte for byte. The modules of
-//! bench/operations run on both sides: there over the library, here over `library`, upstream's crate with the library's calls.
+//! bench/operations run on both sides: there over the library, here over `library`, upstream's crate with its calls.
 //!
 //! compare random SEED PROGRAMS [HOW]    so many random programs; memory is refused with HOW `refuse`, in each second
 //!                                       program with `mixed`

@@ -2,7 +2,7 @@
 use std::io::{BufReader, Read, Write};
 use std::process::{ChildStdin, ChildStdout, Command, Stdio};
 
-/// Which requests for memory are refused, counted over the calls of a whole program from 1.
+/// Which requests for memory are refused, counted over the calls of a whole program from 1; a number as heap.c reads it.
 #[derive(Clone, Copy, Debug, PartialEq)]
 pub enum Refusal {
     None,
@@ -15,7 +15,6 @@ pub enum Refusal {
 }
 
 impl Refusal {
-    /// As heap.c reads it.
     fn number(self) -> u64 {
         let (how, n, seed) = match self {
             Refusal::None => (0, 0, 0),
@@ -60,7 +59,8 @@ impl Process {
         let numbers = [program.len() as u64 + 8, refusal.number()].map(u64::to_le_bytes).concat();
         self.0.write_all(&[&numbers, program].concat()).ok()?;
         let (bytes, blocks, calls) = (self.number()?, self.number()?, self.number()?);
-        let asked = (0..calls).map(|_| Some(Asked { requests: self.number()?, refused: self.number()? })).collect::<Option<_>>()?;
+        let mut asked = || Some(Asked { requests: self.number()?, refused: self.number()? });
+        let asked = (0..calls).map(|_| asked()).collect::<Option<_>>()?;
         let mut report = vec![0; self.number()? as usize];
         self.1.read_exact(&mut report).ok()?;
         Some(Outcome { report, asked, bytes, blocks })

@@ -11,9 +11,7 @@ impl Random {
     pub fn of(seed: u64, number: u64) -> Random {
         let mixed = seed.wrapping_mul(0x9e37_79b9_7f4a_7c15) ^ number.wrapping_mul(0xbf58_476d_1ce4_e5b9);
         let state = (mixed ^ (mixed >> 31)).wrapping_mul(0x94d0_49bb_1331_11eb) | 1;
-        let mut random = Random { state, is_long: false };
-        random.next();
-        random
+        Random { state, is_long: false }
     }
 
     pub fn next(&mut self) -> u64 {

@@ -65,7 +65,8 @@ impl Totals {
             let wanted = &room[..len];
             let fault = if rest.starts_with(wanted) { library::fault() } else { Some("the reports differ") };
             if let Some(why) = fault {
-                return Some(difference(program, at, &format!("{why}; {asked:?}"), wanted, &rest[..rest.len().min(len + 64)]));
+                let actual = &rest[..rest.len().min(len + 64)];
+                return Some(difference(program, at, &format!("{why}; {asked:?}"), wanted, actual));
             }
             rest = &rest[len..];
         }
@@ -107,11 +108,10 @@ fn left_over(program: &Program, outcome: &Outcome, rest: usize, most_bytes: i64)
     let is_wrong = rest > 0 || asked.len() != program.steps.len() || *blocks != 0 || has_too_much;
     is_wrong.then(|| {
         let calls = asked.len();
-        format!("{calls} calls, {rest} more bytes reported, {blocks} blocks not freed, values of {bytes} bytes: at most {most_bytes}")
+        format!("{calls} calls, {rest} more bytes, {blocks} blocks not freed, values of {bytes} bytes (at most {most_bytes})")
     })
 }
 
-/// Where and how a program differs.
 fn difference(program: &Program, at: usize, why: &str, wanted: &[u8], actual: &[u8]) -> String {
     let (step, steps) = (&program.steps[at], program.steps.len());
     let [wanted, actual] = [wanted, actual].map(|bytes| shown(&bytes.escape_ascii().to_string()));

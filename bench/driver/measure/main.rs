@@ -38,7 +38,6 @@ fn upstream(operation: &str, texts: &str, others: &str, n: Turns) -> Option<u64>
     texts::run(operation, &cases, n).or_else(|| upstream::run(operation, &cases, n))
 }
 
-/// Another type, which has the operations alone that all types have.
 pub fn rival<T: Text>(operation: &str, texts: &str, others: &str, n: Turns) -> Option<u64> {
     texts::run::<T>(operation, &cases(texts, others), n)
 }
@@ -69,7 +68,6 @@ impl Bench {
     }
 }
 
-/// Drawn numbers, the same in every run.
 struct Draw(u64);
 
 impl Draw {

@@ -5,9 +5,10 @@ use smol_str::SmolStrBuilder as Upstream;
 
 /// More bytes than any memory has.
 const ABSURD: usize = 1 << 40;
-
 /// Where the report of an append has the length of the builder's text.
 const LENGTH_AT: usize = 2;
+
+type Appended = Result<(), AllocError>;
 
 #[derive(Default, PartialEq)]
 pub struct SmolStrBuilder(Upstream);
@@ -16,7 +17,7 @@ pub enum Step { Push(char), PushStr(String) }
 
 /// What is appended by one call.
 pub trait Piece: Display + Sized {
-    fn append_to(self, builder: &mut SmolStrBuilder) -> Result<(), AllocError> { builder.push_str(&self.to_string()) }
+    fn append_to(self, builder: &mut SmolStrBuilder) -> Appended { builder.push_str(&self.to_string()) }
 }
 impl<T: Display> Piece for T {}
 
@@ -34,7 +35,8 @@ impl SmolStrBuilder {
     pub fn with_capacity(_: Global, capacity: usize) -> Result<SmolStrBuilder, AllocError> {
         may_ask(capacity > INLINE_CAP);
         if capacity > ABSURD { departs(CAPACITY) }
-        if capacity > ABSURD || is_refused() { Err(AllocError) } else { Ok(SmolStrBuilder(Upstream::with_capacity(capacity))) }
+        if capacity > ABSURD || is_refused() { return Err(AllocError) }
+        Ok(SmolStrBuilder(Upstream::with_capacity(capacity)))
     }
     pub fn clone(&self) -> Result<SmolStrBuilder, AllocError> {
         unless_refused(self.inline_buffer().is_none(), SmolStrBuilder(self.0.clone()), AllocError)
@@ -45,7 +47,7 @@ impl SmolStrBuilder {
 
     /// Appends pieces. Where a request was refused, by as much of them as the machine reports, which must end where a
     /// piece does, if each is appended whole, and before the last one.
-    fn append(&mut self, pieces: &[String], are_whole: bool, grow: impl FnOnce(&mut Upstream)) -> Result<(), AllocError> {
+    fn append(&mut self, pieces: &[String], are_whole: bool, grow: impl FnOnce(&mut Upstream)) -> Appended {
         let (mut grown, joined) = (self.0.clone(), pieces.concat());
         grow(&mut grown);
         expect(grown.as_str() == self.as_str().to_string() + &joined, "upstream appends another text");
@@ -62,21 +64,21 @@ impl SmolStrBuilder {
         }
         Err(AllocError)
     }
-    pub fn push(&mut self, character: char) -> Result<(), AllocError> {
+    pub fn push(&mut self, character: char) -> Appended {
         self.append(&[character.to_string()], true, |text| text.push(character))
     }
-    pub fn push_str(&mut self, added: &str) -> Result<(), AllocError> {
+    pub fn push_str(&mut self, added: &str) -> Appended {
         self.append(&[added.to_string()], true, |text| text.push_str(added))
     }
 
-    pub fn extend<P: Display>(&mut self, items: impl Iterator<Item = P>) -> Result<(), AllocError> where Upstream: Extend<P> {
+    pub fn extend<P: Display>(&mut self, items: impl Iterator<Item = P>) -> Appended where Upstream: Extend<P> {
         let items: Vec<P> = items.collect();
         let pieces: Vec<String> = items.iter().map(P::to_string).collect();
         self.append(&pieces, true, |text| text.extend(items))
     }
-    pub fn extend_chars(&mut self, items: impl Iterator<Item = char>) -> Result<(), AllocError> { self.extend(items) }
-    pub fn extend_strs<'a>(&mut self, items: impl Iterator<Item = &'a str>) -> Result<(), AllocError> { self.extend(items) }
-    pub fn extend_strings<'a>(&mut self, items: impl Iterator<Item = &'a String>) -> Result<(), AllocError> { self.extend(items) }
+    pub fn extend_chars(&mut self, items: impl Iterator<Item = char>) -> Appended { self.extend(items) }
+    pub fn extend_strs<'a>(&mut self, items: impl Iterator<Item = &'a str>) -> Appended { self.extend(items) }
+    pub fn extend_strings<'a>(&mut self, items: impl Iterator<Item = &'a String>) -> Appended { self.extend(items) }
 
     /// A print by one call is one piece; where the pieces of another end is not known.
     pub fn write_fmt(&mut self, value: impl Display) -> fmt::Result {
@@ -100,7 +102,6 @@ pub fn try_take(builder: &mut SmolStrBuilder) -> Result<SmolStrBuilder, AllocErr
 
 impl Deref for SmolStrBuilder { type Target = Upstream; fn deref(&self) -> &Upstream { &self.0 } }
 
-/// What is printed, by calls.
 struct Pieces(Vec<String>);
 
 impl Write for Pieces {

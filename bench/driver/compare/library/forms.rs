@@ -10,10 +10,8 @@ use smol_str::StrExt as _;
 use std::io::{self, ErrorKind, Read, Write};
 use std::str::Utf8Error;
 
-/// The most bytes that one read asks for, by docs/differences.md.
+/// The most bytes that one read asks for, by docs/differences.md; and those of a wire form before its body.
 pub const CHUNK: usize = 4096;
-
-/// The bytes of a wire form before its body.
 const PREFIX: usize = 4;
 
 #[derive(Debug)]
