@@ -9,17 +9,10 @@ COLORS = ((1.0, "#2a7f62"), (1.25, "#c9a227"), (float("inf"), "#b5432f"))
 
 def bar(left, at, name, ratio):
     color = next(color for limit, color in COLORS if ratio <= limit)
-    width = min(ratio, MOST) * SCALE
-    return (f'<text x="{left + LABEL - 5}" y="{at + 9}" text-anchor="end">{html.escape(name)}</text>'
-            f'<rect x="{left + LABEL}" y="{at + 1}" width="{width:.1f}" height="{STEP - 3}" fill="{color}"/>'
-            f'<text x="{left + LABEL + width + 3:.1f}" y="{at + 9}" stroke="#fff" stroke-width="3" paint-order="stroke">{ratio:.2f}</text>')
-
-
-def half(left, title, bars):
-    lines = [f'<text x="{left + LABEL}" y="{TOP - 8}" font-weight="bold">{title}</text>']
-    x, bottom = left + LABEL + SCALE, TOP + STEP * len(bars)
-    lines.append(f'<path d="M{x} {TOP - 3}V{bottom}" stroke="#222" stroke-dasharray="3 2"/>')
-    return lines + [bar(left, TOP + STEP * number, name, ratio) for number, (name, ratio) in enumerate(bars)]
+    x, width = left + LABEL, min(ratio, MOST) * SCALE
+    return (f'<text x="{x - 5}" y="{at + 9}" text-anchor="end">{html.escape(name)}</text>'
+            f'<rect x="{x}" y="{at + 1}" width="{width:.1f}" height="{STEP - 3}" fill="{color}"/>'
+            f'<text x="{x + width + 3:.1f}" y="{at + 9}" stroke="#fff" stroke-width="3" paint-order="stroke">{ratio:.2f}</text>')
 
 
 def picture(rows):
@@ -30,6 +23,10 @@ def picture(rows):
              'font-family="sans-serif" font-size="10">',
              f'<rect width="{WIDTH}" height="{height}" fill="#fff"/>',
              '<text x="8" y="16" font-size="12">Our instructions as parts of those of upstream with link-time optimization '
-             'and our limits; the dashed line is 1</text>',
-             *half(0, "short texts", halves[0]), *half(WIDTH // 2, "other texts", halves[1]), "</svg>", ""]
-    return "\n".join(lines)
+             'and our limits; the dashed line is 1</text>']
+    for left, title, bars in ((0, "short texts", halves[0]), (WIDTH // 2, "other texts", halves[1])):
+        x, bottom = left + LABEL + SCALE, TOP + STEP * len(bars)
+        lines += [f'<text x="{left + LABEL}" y="{TOP - 8}" font-weight="bold">{title}</text>',
+                  f'<path d="M{x} {TOP - 3}V{bottom}" stroke="#222" stroke-dasharray="3 2"/>',
+                  *(bar(left, TOP + STEP * number, name, ratio) for number, (name, ratio) in enumerate(bars))]
+    return "\n".join([*lines, "</svg>", ""])

@@ -1,77 +1,48 @@
-//! Each scalar value through the four cases, alone and in the contexts of a final sigma, short and long,
-//! and through prints, JSON and the wire form.
+//! Each scalar value through prints, JSON, the wire form, and, in the contexts of a final sigma too, the four cases.
+use crate::host::{Call, Program};
 use crate::limits::INLINE_CAP;
 use crate::process::{Process, Refusal};
-use crate::host::{Call, Program};
-use crate::table::named;
-use crate::totals::{Totals, tell};
-use crate::unicode;
+use crate::totals::Totals;
 
 /// No letter with a case stands from here on, so that fewer contexts are enough.
 const NO_CASE_FROM: char = '\u{20000}';
 
 /// What stands around a character, which `_` stands for here; and behind a text that is not short.
-const AROUND: &str = "a_b|A_|_A|Σ_|_Σ|aΣ_|aΣ_a|aΣ_ |_Σa|a_Σ|a_Σb|é_Z|ΑΣ_Σ|İ_ß";
+const AROUND: &str = "_|a_b|A_|_A|Σ_|_Σ|aΣ_|aΣ_a|aΣ_ |_Σa|a_Σ|a_Σb|é_Z|ΑΣ_Σ|İ_ß";
 const AROUND_LONG: &str = "_|aΣ_a|aΣ_|a_Σ| _Σ|ß_İ";
+const AROUND_LATE: &str = "_|aΣ_a|a_Σ";
 
 fn contexts(character: char) -> Vec<String> {
-    let long = "a".repeat(INLINE_CAP + 1);
-    let alone = character.to_string();
-    if character >= NO_CASE_FROM {
-        return ["_".to_string(), long + "aΣ_a", "aΣ_a".into(), "a_Σ".into()].map(|it| it.replace('_', &alone)).to_vec();
+    let (long, alone, has_case) = ("a".repeat(INLINE_CAP + 1), character.to_string(), character < NO_CASE_FROM);
+    let around = |shapes: &str| shapes.split('|').map(|shape| shape.replace('_', &alone)).collect::<Vec<_>>();
+    let mut all = around(if has_case { AROUND } else { AROUND_LATE });
+    all.extend(around(if has_case { AROUND_LONG } else { "aΣ_a" }).iter().map(|shape| format!("{long} {shape}")));
+    if has_case {
+        all.push("A".repeat(INLINE_CAP - alone.len()) + &alone);
+        all.push("Z".repeat(INLINE_CAP - 3) + &alone);
+        all.push("a".repeat(15) + &alone + &"B".repeat(18));
     }
-    let mut all = vec![alone.clone()];
-    all.extend(AROUND.split('|').map(|around| around.replace('_', &alone)));
-    all.extend(AROUND_LONG.split('|').map(|around| format!("{long} {}", around.replace('_', &alone))));
-    all.push("A".repeat(INLINE_CAP - alone.len()) + &alone);
-    all.push("Z".repeat(INLINE_CAP - 3) + &alone);
-    all.push("a".repeat(15) + &alone + &"B".repeat(18));
     all
-}
-
-fn call(name: &str, form: u8, text: &str) -> Call {
-    Call { form, width: 7, digits: 1, ..Call::of(named(name), vec![text.as_bytes().to_vec()]) }
 }
 
 fn program_of(character: char) -> Program {
     let text = character.to_string();
     let escaped = text.encode_utf16().fold("\"".to_string(), |all, unit| format!("{all}\\u{unit:04x}")) + "\"";
     let quoted = serde_json::to_string(&text).unwrap();
-    let mut steps: Vec<Call> = [
-        ("From<char>", 0, text.as_str()),
-        ("Display and Debug", 5, ""),
-        ("Display and Debug", 9, ""),
-        ("Display and Debug", 11, ""),
-        ("== < cmp hash", 0, ""),
-        ("serialize", 0, ""),
-        ("to_json", 0, ""),
-        ("from_json", 0, &quoted),
-        ("from_json", 0, &escaped),
-        ("from_utf8", 0, &text),
-        ("new_inline", 0, &text),
-        ("push", 0, &text),
-        ("finish", 0, ""),
-    ]
-    .map(|(name, form, text)| call(name, form, text))
-    .to_vec();
-    let mut names = vec!["to_lowercase_smolstr", "to_uppercase_smolstr"];
-    if character < NO_CASE_FROM {
-        names.extend(["to_ascii_lowercase_smolstr", "to_ascii_uppercase_smolstr"]);
-    }
-    for text in contexts(character) {
-        steps.extend(names.iter().map(|name| call(name, 0, &text)));
-    }
+    let mut steps = vec![Call::of("From<char>", 0, &text)];
+    steps.extend([5, 9, 11].map(|form| Call::of("Display and Debug", form, "")));
+    steps.extend(["== < cmp hash", "serialize", "to_json"].map(|name| Call::of(name, 0, "")));
+    steps.extend([&quoted, &escaped].map(|json| Call::of("from_json", 0, json)));
+    steps.extend(["from_utf8", "new_inline", "push", "finish"].map(|name| Call::of(name, 0, &text)));
+    let names = ["to_lowercase_smolstr", "to_uppercase_smolstr", "to_ascii_lowercase_smolstr", "to_ascii_uppercase_smolstr"];
+    let names = &names[..if character < NO_CASE_FROM { 4 } else { 2 }];
+    steps.extend(contexts(character).iter().flat_map(|text| names.iter().map(move |name| Call::of(name, 0, text))));
     Program { steps, refusal: Refusal::None }
 }
 
 /// Runs each character but those on which the versions of Unicode differ.
-pub fn run(totals: &mut Totals, process: &mut Process) {
-    for character in ('\0'..=char::MAX).filter(|it| !unicode::differs(*it)) {
-        let program = program_of(character);
-        if let Some(found) = totals.run(process, &program) {
-            if totals.differing <= 10 {
-                tell(&format!("U+{:04X}", character as u32), &program, &found);
-            }
-        }
+pub fn run(totals: &mut Totals, process: &mut Process, differing: &[char]) {
+    for character in ('\0'..=char::MAX).filter(|it| !differing.contains(it)) {
+        totals.run_and_tell(process, &program_of(character), &format!("U+{:04X}", character as u32));
     }
 }

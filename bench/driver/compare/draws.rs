@@ -9,38 +9,33 @@ const EDGES: &[usize] =
     &[0, 1, 7, 8, 9, 15, 16, 17, 22, 23, 24, 31, 32, 33, 37, 38, 39, 40, 41, 47, 48, 63, 64, 65, 77, 78, 79, 80];
 const LONG_EDGES: &[usize] = &[959, 960, 961, 1023, 1024, 1025, 4095, 4096, 4097, 8192, 65535, 65536, 65537, 70_000];
 
+/// What a text is of: letters and their neighbours, what is quoted, letters that are shorter in the other case.
+const ALPHABETS: &[&str] = &[
+    LETTERS, LETTERS, WITH_CASE, WITH_CASE, WIDE, "abAZz@[`{\u{7f}0", "\u{212a}ẞ\u{2126}ﬃ", "aaZ Σ", "abé€", "aab",
+    "\"\\/\n\r\t\u{8}\u{c}\0\u{1f}\u{7f}\u{2028}\u{ad}\u{300}aé",
+];
+const LETTERS: &str = "abcdefghijklmnopqrstuvwxyz";
 /// Characters whose case is more than one ASCII letter for another.
 const WITH_CASE: &str = "ΣσςİıßẞŉǰΐΰևﬀﬁﬂﬃﬄﬅﬆﬓǄǅǆǇǈǉKÅΩᾳᾼᾀᾈῳῼẖẗẘéÉÿŸµſᲐაᎠꭰᏰᏸȺⱥȾⱦ𐐀𐐨𞤀𞤢ＡａⒶⓐⅧⅷ\
     \u{307}\u{345}\u{301}'’.:·\u{ad}ΔδАаёЁ\u{212a}\u{2126}";
-
 /// The ends of the ranges of two, three and four bytes, and characters between them.
 const WIDE: &str = "éß\u{80}\u{7ff}€\u{800}\u{fffd}\u{ffff}\u{d7ff}\u{e000}🦀\u{10000}\u{10ffff}中";
-
 /// Characters that stand in another order by their code units of 16 bits.
 const ORDERED: &str = "é中\u{e000}\u{ffff}\u{10000}🦀";
-
-const QUOTED: &str = "\"\\/\n\r\t\u{8}\u{c}\0\u{1f}\u{7f}\u{2028}\u{ad}\u{300}aé";
-
-const NEAR_LETTERS: &str = "abAZz@[`{\u{7f}0";
-
 #[rustfmt::skip]
 const NOT_UTF8: &[&[u8]] = &[
-    b"\xed\xa0\x80", b"\xed\xbf\xbf", b"\xf4\x90\x80\x80", b"\xe0\x9f\xbf", b"\xf0\x8f\xbf\xbf", b"\xc0\x80",
-    b"\xc1\xbf", b"\xf0\x9f\xa6", b"\xe2\x82", b"\xc3", b"\xf5\x80\x80\x80", b"\xff", b"\xfe", b"\x80",
-    b"\xf4\x8f\xbf\xbf", b"\xef\xbf\xbf", b"\xed\x9f\xbf",
+    b"\xed\xa0\x80", b"\xed\xbf\xbf", b"\xf4\x90\x80\x80", b"\xe0\x9f\xbf", b"\xf0\x8f\xbf\xbf", b"\xc0\x80", b"\xc1\xbf",
+    b"\xf0\x9f\xa6", b"\xe2\x82", b"\xc3", b"\xf5\x80\x80\x80", b"\xff", b"\xfe", b"\x80", b"\xf4\x8f\xbf\xbf",
+    b"\xef\xbf\xbf", b"\xed\x9f\xbf",
 ];
 
-const ODD_BYTES: &[u8] = &[
-    0, 0x7f, 0x80, 0x8f, 0x90, 0x9f, 0xa0, 0xbf, 0xc0, 0xc1, 0xc2, 0xdf, 0xe0, 0xe1, 0xec, 0xed, 0xee, 0xef, 0xf0,
-    0xf1, 0xf3, 0xf4, 0xf5, 0xff,
-];
+/// The ends of what a byte of UTF-8 may be at each place.
+const ODD_BYTES: &[u8] = b"\0\x7f\x80\x8f\x90\x9f\xa0\xbf\xc0\xc1\xc2\xdf\xe0\xe1\xec\xed\xee\xef\xf0\xf1\xf3\xf4\xf5\xff";
 
-/// A length in bytes.
 fn length(random: &mut Random) -> usize {
-    if random.is_long && random.one_in(3) {
-        return if random.one_in(2) { random.pick(LONG_EDGES) } else { random.below(70_001) };
-    }
     match random.below(8) {
+        _ if random.is_long && random.one_in(6) => random.pick(LONG_EDGES),
+        _ if random.is_long && random.one_in(6) => random.below(70_001),
         0..=2 => random.below(46),
         3..=5 => random.pick(EDGES),
         6 => random.pick(&[INLINE_CAP - 1, INLINE_CAP, INLINE_CAP + 1]),
@@ -48,49 +43,32 @@ fn length(random: &mut Random) -> usize {
     }
 }
 
-fn lower(random: &mut Random) -> char {
-    (b'a' + random.below(26) as u8) as char
-}
-
 /// A character on which both sides' Unicode agrees.
-pub fn character(random: &mut Random) -> char {
-    match random.below(10) {
-        0..=3 => lower(random),
-        4 => (random.below(128) as u8) as char,
-        5 | 6 => random.char_of(WITH_CASE),
-        7 | 8 => random.char_of(WIDE),
-        _ => unicode::agreed(random),
+fn character(random: &mut Random) -> char {
+    let alphabet = random.pick(ALPHABETS);
+    match random.below(5) {
+        0 => (random.below(128) as u8) as char,
+        1 => unicode::known(random),
+        _ => random.char_of(alphabet),
     }
 }
 
 /// A text whose letters mostly have another case: any letter that both sides map alike.
 fn cased(random: &mut Random) -> String {
-    if random.one_in(3) {
-        return text(random);
-    }
-    let count = if random.one_in(2) { random.below(14) } else { random.below(60) };
-    let mut letter = || match random.below(5) {
-        0 => random.char_of("aZ Σ"),
-        1 => random.char_of(WITH_CASE),
-        _ => unicode::letter(random),
-    };
-    (0..count).map(|_| letter()).collect()
-}
-
-fn number_of_blanks(random: &mut Random, most: usize) -> usize {
-    match random.below(4) {
-        0 => 0,
-        1 => random.pick(&[most - 1, most, most + 1]),
-        2 => random.below(INLINE_CAP + 3),
-        _ => random.below(most + 4),
-    }
+    let (count, is_any) = (random.below(50), random.one_in(3));
+    let mut letter = || if random.one_in(3) { random.char_of(WITH_CASE) } else { unicode::letter(random) };
+    if is_any { text(random) } else { (0..count).map(|_| letter()).collect() }
 }
 
 /// Newlines and then spaces, at times with another character among them.
 fn blank(random: &mut Random) -> String {
-    let newlines = number_of_blanks(random, BLANK_NEWLINES);
-    let spaces = number_of_blanks(random, BLANK_SPACES);
-    let mut text = "\n".repeat(newlines) + &" ".repeat(spaces);
+    let mut count = |most: usize| match random.below(4) {
+        0 => 0,
+        1 => random.pick(&[most - 1, most, most + 1]),
+        2 => random.below(INLINE_CAP + 3),
+        _ => random.below(most + 4),
+    };
+    let mut text = "\n".repeat(count(BLANK_NEWLINES)) + &" ".repeat(count(BLANK_SPACES));
     if random.one_in(5) && !text.is_empty() {
         let at = random.below(text.len());
         text.replace_range(at..=at, random.pick(&["\t", "\r", "a", "\n", " ", "\0", "\u{a0}", "\n "]));
@@ -98,28 +76,20 @@ fn blank(random: &mut Random) -> String {
     text
 }
 
-/// A text of about so many bytes.
+fn drawn(random: &mut Random, count: usize, alphabet: &str) -> String {
+    (0..count).map(|_| random.char_of(alphabet)).collect()
+}
+
 fn sized(random: &mut Random, length: usize) -> String {
-    let mut text = String::new();
-    let drawn: fn(&mut Random) -> char = match random.below(6) {
-        0 => lower,
-        1 => |random| random.char_of(NEAR_LETTERS),
-        2 => {
-            // ASCII with one wide character, which ends at, before or behind the length
-            text.push_str(&"a".repeat(random.below(length + 1)));
-            text.push(random.char_of(WIDE));
-            |random| (b'A' + random.below(26) as u8) as char
-        }
-        3 => |random| if random.one_in(4) { random.char_of("aA é") } else { random.char_of(WITH_CASE) },
-        4 => {
-            let unit: String = (0..1 + random.below(4)).map(|_| random.char_of("abé€")).collect();
-            text.push_str(&unit.repeat(length / unit.len() + 1));
-            |_| 'a'
-        }
-        _ => character,
+    let (count, alphabet, is_any) = (1 + random.below(4), random.pick(ALPHABETS), random.one_in(6));
+    let mut text = match random.below(5) {
+        0 => drawn(random, count, alphabet).repeat(length / count),
+        // ASCII with one wide character, which ends at, before or behind the length
+        1 => "a".repeat(random.below(length + 1)) + &drawn(random, 1, WIDE) + &"Z".repeat(length),
+        _ => String::new(),
     };
     while text.len() < length {
-        text.push(drawn(random));
+        text.push(if is_any { character(random) } else { random.char_of(alphabet) });
     }
     if random.one_in(2) {
         text.truncate(text.floor_char_boundary(length));
@@ -127,51 +97,25 @@ fn sized(random: &mut Random, length: usize) -> String {
     text
 }
 
-/// One of few texts that begin in the same way, so that orders are decided late and by wide characters.
-fn alike(random: &mut Random) -> String {
-    let mut text = "a".repeat(random.pick(&[0, 0, 15, 39]));
-    text.push(random.char_of(ORDERED));
-    text.push_str(random.pick(&["", "a"]));
-    text
-}
-
 fn text(random: &mut Random) -> String {
-    if random.one_in(6) {
-        return blank(random);
-    }
-    if random.one_in(12) {
-        return (0..length(random)).map(|_| random.char_of(QUOTED)).collect();
-    }
-    if random.one_in(8) {
-        return alike(random);
-    }
-    if random.one_in(40) {
-        // characters that are shorter in the other case
-        return random.pick(&["\u{212a}", "ẞ", "\u{2126}", "ﬃ"]).repeat(random.below(30));
-    }
     let length = length(random);
-    sized(random, length)
+    match random.below(20) {
+        0..=3 => blank(random),
+        // one of few texts that begin in the same way, so that orders are decided late and by wide characters
+        4 | 5 => "a".repeat(random.pick(&[0, 0, 15, 39])) + &drawn(random, 1, ORDERED) + random.pick(&["", "a"]),
+        _ => sized(random, length),
+    }
 }
 
-/// A text of at most `INLINE_CAP` bytes.
-fn short(random: &mut Random) -> String {
-    let mut text = text(random);
-    text.truncate(text.floor_char_boundary(INLINE_CAP));
-    text
-}
-
-/// A text of a few characters.
 fn piece(random: &mut Random) -> String {
     let length = random.below(12);
     sized(random, length)
 }
 
-/// The pieces of a text.
 fn pieces(random: &mut Random) -> Vec<Vec<u8>> {
     let whole = text(random);
     let most = if whole.len() > 1000 { whole.len() / 4 } else { 2 + random.below(20) };
-    let mut pieces = vec![];
-    let mut rest = whole.as_str();
+    let (mut pieces, mut rest) = (vec![], whole.as_str());
     while !rest.is_empty() && pieces.len() < 50 {
         let (piece, behind) = rest.split_at(rest.ceil_char_boundary(random.below(most)));
         pieces.push(piece.into());
@@ -181,26 +125,22 @@ fn pieces(random: &mut Random) -> Vec<Vec<u8>> {
     pieces
 }
 
-fn odd_byte(random: &mut Random) -> u8 {
-    if random.one_in(3) { random.next() as u8 } else { random.pick(ODD_BYTES) }
-}
-
 /// Bytes with up to three faults, or none where a fault makes a character on which both sides' Unicode disagrees.
 fn spoilt(random: &mut Random, whole: Vec<u8>) -> Vec<u8> {
     let mut bytes = whole.clone();
     for _ in 0..=random.below(3) {
         let at = random.below(bytes.len() + 1);
+        let odd = if random.one_in(3) { random.next() as u8 } else { random.pick(ODD_BYTES) };
         match random.below(4) {
-            0 if at < bytes.len() => bytes[at] = odd_byte(random),
-            1 => bytes.insert(at, odd_byte(random)),
+            0 if at < bytes.len() => bytes[at] = odd,
+            1 => bytes.insert(at, odd),
             2 => bytes.truncate(bytes.len().saturating_sub(1 + random.below(4))),
             _ => drop(bytes.splice(at..at, random.pick(NOT_UTF8).iter().copied())),
         }
     }
-    if String::from_utf8_lossy(&bytes).chars().any(unicode::differs) { whole } else { bytes }
+    if String::from_utf8_lossy(&bytes).chars().any(unicode::may_differ) { whole } else { bytes }
 }
 
-/// Bytes that are a text, or nearly.
 fn nearly_text(random: &mut Random) -> Vec<u8> {
     let text = text(random).into_bytes();
     if random.one_in(3) { text } else { spoilt(random, text) }
@@ -233,27 +173,26 @@ const JSON_WORDS: &str = "null true false nul tru 0 -0 - 01 1.5 1. .5 1e5 1e 1E+
     18446744073709551615 18446744073709551616 -9223372036854775808 -9223372036854775809 123456789012345678901234567890 0.1e1 \
     -1 +1 NaN Infinity 'a' \" \"\\ ";
 const JSON_LISTS: &str = r#"["a"] {"a":"b"} [ ] ["a",] {"a"} {} [] {"a":1,"a":2} [1,2,[3]] {"a":} ["\ud800"] [1e999]"#;
-const ESCAPES: &str = r#"\" \\ \/ \b \f \n \r \t"#;
-const CODES: &[u32] = &[0, 0x1f, 0x22, 0x41, 0x5c, 0x7f, 0x80, 0xe9, 0x7ff, 0x800, 0x2028, 0xfffd];
+const SPACES: &[&str] = &["", "", " ", "\n", "\t\r"];
+const BEHIND_JSON: &[&str] = &["x", "\"", "1", ",", "]", "}", "null", "\u{a0}", "\u{feff}", "\u{c}", "\0"];
+const ESCAPES: &str = r#"\" \\ \/ \b \f \n \r \t \u0000 \u001f \u0022 \u005C \u007F \u0080 \u00e9 \u07fF \u0800 \u2028 \ufFfD"#;
 const PAIRS: &str =
     r"\ud800\udc00 \ud800\udd80 \ud800\udfff \ud83e\udc00 \ud83e\udd80 \ud83e\udfff \udbff\udc00 \udbff\udfff";
 const BAD_ESCAPES: &str = "\\ud800 \\udc00 \\ud800\\ud800 \\udc00\\ud800 \\ud800a \\ud800\\n \\ud800\\u0041 \
     \\x41 \\u12 \\u12g4 \\U0041 \\ \" \n \u{1f} \0 \\a \\' \\u \\ud800\\ \\ud800\\u \\uD83E\\uDD80 \\ud83e\\uDD80";
 
-/// A JSON text, or nearly one.
 fn json(random: &mut Random) -> String {
-    let mut space = |random: &mut Random| (0..random.below(5) / 3).map(|_| random.char_of(" \n\t\r ")).collect::<String>();
-    let (before, behind) = (space(random), space(random));
+    let (before, behind) = (random.pick(SPACES).to_string(), random.pick(SPACES));
     let json = match random.below(12) {
         0 => random.word_of(JSON_WORDS).to_string(),
         1 => random.word_of(JSON_LISTS).to_string(),
         2 => nested(random),
         _ => string(random),
     };
-    let mut json = before + &json + &behind;
+    let mut json = before + &json + behind;
     match random.below(16) {
         0 => drop(json.pop()),
-        1 => json.push_str(random.pick(&["x", "\"", "1", ",", "]", "}", "null", "\u{a0}", "\u{feff}", "\u{c}", "\0"])),
+        1 => json.push_str(random.pick(BEHIND_JSON)),
         _ => {}
     }
     json
@@ -261,37 +200,32 @@ fn json(random: &mut Random) -> String {
 
 /// Lists or objects in one another, about as deep as is read.
 fn nested(random: &mut Random) -> String {
-    let depth = random.pick(&[1, 2, 126, 127, 128, 129, 300]);
-    let closed = if random.one_in(3) { depth - 1 } else { depth };
+    let (depth, missing) = (random.pick(&[1, 2, 126, 127, 128, 129, 300]), random.pick(&[0, 0, 1]));
     let (open, inside, close) = random.pick(&[("[", "", "]"), ("{\"a\":", "1", "}")]);
-    open.repeat(depth) + inside + &close.repeat(closed)
+    open.repeat(depth) + inside + &close.repeat(depth - missing)
 }
 
 fn string(random: &mut Random) -> String {
-    let most = if random.is_long { 70_000 } else { 80 };
-    let mut part = |random: &mut Random| match random.below(14) {
-        0 => random.word_of(ESCAPES).to_string(),
-        1 if random.one_in(2) => format!("\\u{:04x}", random.pick(CODES)),
-        1 => format!("\\u{:04X}", random.pick(CODES)),
+    let count = length(random).min(if random.is_long { 70_000 } else { 80 });
+    let mut part = || match random.below(14) {
+        0 | 1 => random.word_of(ESCAPES).to_string(),
         2 => random.word_of(PAIRS).to_string(),
         3 if random.one_in(12) => random.word_of(BAD_ESCAPES).to_string(),
         4 => character(random).to_string(),
-        _ => lower(random).to_string(),
+        _ => drawn(random, 1, LETTERS),
     };
-    let count = length(random).min(most);
-    format!("\"{}\"", (0..count).map(|_| part(random)).collect::<String>())
+    format!("\"{}\"", (0..count).map(|_| part()).collect::<String>())
 }
 
 /// A text of which a pattern often stands somewhere.
 fn haystack(random: &mut Random) -> String {
+    let (count, length) = (1 + random.below(5), length(random));
     match random.below(3) {
         0 => {
-            let unit: String = (0..=random.below(5)).map(|_| random.char_of("abé€🦀 ")).collect();
-            let times = random.below(if random.is_long { 2000 } else { 30 });
-            let tail = if random.one_in(3) { piece(random) } else { String::new() };
-            unit.repeat(times) + &tail
+            let (unit, times) = (drawn(random, count, "abé€🦀 "), random.below(if random.is_long { 2000 } else { 30 }));
+            unit.repeat(times) + &if random.one_in(3) { piece(random) } else { String::new() }
         }
-        1 => (0..length(random)).map(|_| random.char_of("aab")).collect(),
+        1 => drawn(random, length, "aab"),
         _ => text(random),
     }
 }
@@ -302,11 +236,10 @@ fn needle(random: &mut Random, haystack: &str) -> String {
         0 | 1 => random.pick(&["a", "aa", "aba", "abab", "b", "ab", "é", "€", "\n", " ", "  "]).to_string(),
         2 => piece(random),
         _ => {
-            let characters: Vec<char> = haystack.chars().collect();
-            let at = random.below(characters.len() + 1);
-            let most = characters.len() - at;
-            let count = if random.one_in(8) { random.below(most + 1) } else { random.below(4).min(most) };
-            characters[at..at + count].iter().collect()
+            let at = haystack.floor_char_boundary(random.below(haystack.len() + 1));
+            let most = if random.one_in(8) { haystack.len() } else { 3 };
+            let count = random.below(most + 1);
+            haystack[at..].chars().take(count).collect()
         }
     }
 }
@@ -331,7 +264,10 @@ pub type Texts = fn(&mut Random) -> Vec<Vec<u8>>;
 
 pub const NONE: Texts = |_| vec![];
 pub const TEXT: Texts = |random| vec![text(random).into()];
-pub const SHORT: Texts = |random| vec![short(random).into()];
+pub const SHORT: Texts = |random| {
+    let text = text(random);
+    vec![text[..text.floor_char_boundary(INLINE_CAP)].into()]
+};
 pub const PIECE: Texts = |random| vec![if random.one_in(2) { piece(random) } else { text(random) }.into()];
 pub const CHARACTER: Texts = |random| vec![character(random).to_string().into()];
 pub const CASED: Texts = |random| vec![cased(random).into()];

@@ -1,19 +1,18 @@
-//! A program: its operations, and which requests for memory are refused; and calls of std that are passed the allocator in
-//! the machine.
-use crate::library::{AllocError, Global, RcStr, SmolStr, SmolStrBuilder, Step};
+//! A program: its operations, and which requests for memory are refused; and how an operation is written for the machine.
+use crate::library::Step;
 use crate::operation::Operation;
 use crate::process::Refusal;
-use crate::table::Row;
+use crate::table::{ROWS, Row};
 use std::fmt::{Display, Formatter};
 
-#[derive(Clone, Debug)]
+#[derive(Clone)]
 pub struct Program {
     pub steps: Vec<Call>,
     pub refusal: Refusal,
 }
 
 /// An operation as it was drawn: its row of the table, and the operands that every one has.
-#[derive(Clone, Debug)]
+#[derive(Clone)]
 pub struct Call {
     pub row: &'static Row,
     pub dst: u8,
@@ -27,25 +26,24 @@ pub struct Call {
 }
 
 impl Call {
-    /// An operation that needs its texts alone.
-    pub fn of(row: &'static Row, texts: Vec<Vec<u8>>) -> Call {
-        Call { row, dst: 0, src: 0, form: 0, number: 0, width: 0, digits: 0, texts }
+    /// An operation on one text, with room for it in prints.
+    pub fn of(name: &str, form: u8, text: &str) -> Call {
+        let row = ROWS.iter().find(|row| row.name == name).expect("an operation of the table");
+        Call { row, dst: 0, src: 0, form, number: 0, width: 7, digits: 30, texts: vec![text.into()] }
     }
 
-    pub fn encode(&self, to: &mut Vec<u8>) {
-        let bytes = |bytes: &[u8], to: &mut Vec<u8>| {
-            to.extend((bytes.len() as u64).to_le_bytes());
-            to.extend(bytes);
-        };
-        to.push(self.row.group);
-        bytes(self.row.name.as_bytes(), to);
-        to.extend([self.dst, self.src, self.form]);
-        [self.number, self.width as u64, self.digits as u64].iter().for_each(|it| to.extend(it.to_le_bytes()));
-        to.push(self.texts.len() as u8);
-        self.texts.iter().for_each(|text| bytes(text, to));
+    /// The bytes that the machine reads; the first text stands before them all too, since it need not be one.
+    pub fn encoded(&self) -> Vec<u8> {
+        let sized = |bytes: &[u8]| [&(bytes.len() as u64).to_le_bytes()[..], bytes].concat();
+        let mut all = [&[self.row.group], &sized(self.row.name.as_bytes())[..], &[self.dst, self.src, self.form]].concat();
+        all.extend([self.number, self.width as u64, self.digits as u64].iter().flat_map(|number| number.to_le_bytes()));
+        all.extend(sized(self.texts.first().map_or(&[], |text| text)));
+        all.push(self.texts.len() as u8);
+        all.extend(self.texts.iter().flat_map(|text| sized(text)));
+        all
     }
 
-    /// The operation that the machine reads of this; a text that is not UTF-8 is empty.
+    /// The operation that the machine reads of them; a text that is not UTF-8 is empty.
     pub fn decoded(&self) -> Operation<'_> {
         let texts: Vec<&str> = self.texts.iter().map(|text| str::from_utf8(text).unwrap_or("")).collect();
         let first = texts.first().copied().unwrap_or("");
@@ -63,7 +61,7 @@ impl Call {
             steps: texts.iter().map(step).collect(),
             owned: Some(first.into()),
             boxed: Some(first.into()),
-            shared: Some(RcStr(first.into())),
+            shared: Some(first.into()),
             json: serde_json::from_str(first).ok(),
             texts,
         }
@@ -74,31 +72,8 @@ impl Display for Call {
     fn fmt(&self, f: &mut Formatter) -> std::fmt::Result {
         let Call { row, dst, src, form, number, width, digits, texts } = self;
         write!(f, "{} dst {dst} src {src} form {form} number {number} width {width} digits {digits}", row.name)?;
-        texts.iter().try_for_each(|text| match str::from_utf8(text) {
-            Ok(text) => write!(f, " {text:?}"),
-            Err(_) => write!(f, " {text:x?}"),
-        })
+        texts.iter().try_for_each(|text| write!(f, " \"{}\"", text.escape_ascii()))
     }
-}
-
-pub fn default_builder(_: Global) -> SmolStrBuilder {
-    SmolStrBuilder::default()
-}
-
-pub fn taken(builder: &mut SmolStrBuilder) -> Option<SmolStrBuilder> {
-    Some(std::mem::take(builder))
-}
-
-pub fn collected(_: Global, it: &mut Operation) -> Option<Result<SmolStr, AllocError>> {
-    Some(match it.form {
-        0 => SmolStr::from_items(Global, it.text(0).chars()),
-        1 => SmolStr::from_items(Global, it.texts.iter().copied()),
-        2 => SmolStr::from_items(Global, it.strings.take()?),
-        3 => SmolStr::from_items(Global, it.strings.as_ref()?),
-        4 => SmolStr::from_items(Global, it.text(0).chars().rev()),
-        5 => SmolStr::from_items(Global, it.text(0).split(' ')),
-        _ => SmolStr::from_items(Global, it.text(0).lines()),
-    })
 }
 
 pub use crate::library::by_serde::{entry_to_string, name_of_entry};

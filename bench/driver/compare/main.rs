@@ -1,19 +1,18 @@
-//! The library and upstream's crate on the same programs: every report is compared byte for byte.
+//! The library and upstream's crate on the same programs: every report is compared byte for byte. The modules of
+//! bench/operations run on both sides: there over the library, here over `library`, upstream's crate with its calls.
 //!
-//! compare random SEED FROM TO [refuse]     random programs by number, with memory refused or not
-//! compare random SEED FROM TO mixed        each second one with memory refused
-//! compare chars                            each scalar value in cases, contexts, prints, JSON and wire forms
-//! compare show SEED NUMBER [refuse]        one program, an operation a line, and where it differs
-//! compare shrink SEED NUMBER [refuse]      the same, made short
-//!
-//! The modules of bench/operations run on both sides: there over the library, here over `library`, upstream's crate with
-//! the library's calls.
+//! compare random SEED PROGRAMS [HOW]    so many random programs; memory is refused with HOW `refuse`, in each second
+//!                                       program with `mixed`
+//! compare show SEED NUMBER [HOW]        one of them, an operation a line, and where it differs; with `shrink` made short
+//! compare chars                         each scalar value in cases, contexts, prints, JSON and wire forms
 mod builders;
 mod chars;
 mod departures;
 mod draws;
 mod forms;
 mod host;
+// a call a line
+#[rustfmt::skip]
 mod library;
 mod limits;
 mod machine;
@@ -32,26 +31,14 @@ use host::Program;
 use process::{Process, Refusal};
 use random::Random;
 use std::process::ExitCode;
-use std::time::Instant;
-use totals::{Totals, shown, tell};
+use totals::{Totals, shown};
 
-/// The operations of a program, and of one with long texts.
-const OPERATIONS: usize = 60;
-const LONG_OPERATIONS: usize = 16;
-
-/// One program in so many has long texts.
-const LONG: usize = 40;
-
-/// The most programs that are told of.
-const TOLD: u64 = 10;
-
-fn program_of(seed: u64, number: u64, word: &str) -> Program {
+fn program_of(seed: u64, number: u64, how: &str) -> Program {
     let mut random = Random::of(seed, number);
-    random.is_long = random.one_in(LONG);
-    let count = if random.is_long { LONG_OPERATIONS } else { OPERATIONS };
-    let steps = (0..count).map(|_| table::draw(&mut random)).collect();
+    random.is_long = random.one_in(40);
+    let steps = (0..if random.is_long { 16 } else { 60 }).map(|_| table::draw(&mut random)).collect();
     let refusal = match random.below(5) {
-        _ if word != "refuse" && (word != "mixed" || number % 2 == 0) => Refusal::None,
+        _ if how != "refuse" && (how != "mixed" || number % 2 == 0) => Refusal::None,
         0 => Refusal::One(1 + random.below(40) as u64),
         1 => Refusal::From(1 + random.below(40) as u64),
         2 => Refusal::Chance(2, random.next()),
@@ -62,16 +49,11 @@ fn program_of(seed: u64, number: u64, word: &str) -> Program {
 }
 
 /// Runs programs by number; those of a mixed run only up to the first that differs.
-fn run_random(totals: &mut Totals, process: &mut Process, seed: u64, numbers: std::ops::Range<u64>, word: &str) {
-    for number in numbers {
-        let program = program_of(seed, number, word);
-        if let Some(found) = totals.run(process, &program) {
-            if totals.differing <= TOLD {
-                tell(&format!("program {number} of seed {seed}"), &program, &found);
-            }
-            if word == "mixed" {
-                break;
-            }
+fn run_random(totals: &mut Totals, process: &mut Process, seed: u64, programs: u64, how: &str) {
+    for number in 0..programs {
+        totals.run_and_tell(process, &program_of(seed, number, how), &format!("program {number} of seed {seed}"));
+        if how == "mixed" && totals.differing > 0 {
+            break;
         }
     }
 }
@@ -106,38 +88,28 @@ fn show_one(process: &mut Process, mut program: Program, is_shrunk: bool) -> boo
         println!("{:>3}  {}", at + 1, shown(&step.to_string()));
     }
     let found = differs(&program);
-    match &found {
-        Some(found) => tell("this program", &program, found),
-        None => println!("this program does not differ"),
-    }
+    println!("{}", found.as_ref().map_or("this program does not differ".into(), |found| format!("DIFFERS: {found}")));
     found.is_some()
 }
 
 fn compare(process: &mut Process, words: &[&str]) -> Option<bool> {
     let number = |at: usize| words.get(at)?.parse::<u64>().ok();
-    let word = |at: usize| words.get(at).copied().unwrap_or_default();
-    let unexplained = unicode::compare(process, std::env::var("PRELOAD").is_err() && word(0) != "chars")?;
-    library::RUN.take();
-    let started = Instant::now();
+    let (what, how) = (words.first()?, words.get(3).copied().unwrap_or_default());
+    let [differing, unexplained] = unicode::compare(process, std::env::var("PRELOAD").is_err() && *what != "chars")?;
+    library::DEPARTURES.take();
     let mut totals = Totals::default();
-    match word(0) {
-        "random" => run_random(&mut totals, process, number(1)?, number(2)?..number(3)?, word(4)),
-        "chars" => chars::run(&mut totals, process),
-        how => return Some(show_one(process, program_of(number(1)?, number(2)?, word(3)), how == "shrink")),
+    match *what {
+        "random" => run_random(&mut totals, process, number(1)?, number(2)?, how),
+        "chars" => chars::run(&mut totals, process, &differing),
+        _ => return Some(show_one(process, program_of(number(1)?, number(2)?, how), *what == "shrink")),
     }
     totals.print();
-    println!("{:.1} s; programs that differ: {}", started.elapsed().as_secs_f64(), totals.differing);
-    Some(totals.differing > 0 || unexplained > 0)
+    Some(totals.differing > 0 || !unexplained.is_empty())
 }
 
 fn main() -> ExitCode {
     let words: Vec<String> = std::env::args().skip(1).collect();
     let words: Vec<&str> = words.iter().map(String::as_str).collect();
-    match compare(&mut Process::start(), &words) {
-        Some(differs) => ExitCode::from(u8::from(differs)),
-        None => {
-            println!("DIFFERS: the words are wrong, or the machine ended while it was asked for characters");
-            ExitCode::from(2)
-        }
-    }
+    let differs = compare(&mut Process::start(), &words);
+    ExitCode::from(u8::from(differs.expect("the words are right, and the machine lives while it is asked for characters")))
 }

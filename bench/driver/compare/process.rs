@@ -1,14 +1,12 @@
 //! The machine: a program that MACHINE names, with the heap of heap.c below it.
 use std::io::{BufReader, Read, Write};
-use std::process::{Child, ChildStdin, ChildStdout, Command, Stdio};
+use std::process::{ChildStdin, ChildStdout, Command, Stdio};
 
-/// Which requests for memory are refused, counted over the calls of a whole program from 1.
+/// Which requests for memory are refused, counted over the calls of a whole program from 1; a number as heap.c reads it.
 #[derive(Clone, Copy, Debug, PartialEq)]
 pub enum Refusal {
     None,
-    /// The nth alone.
     One(u64),
-    /// The nth and each later one.
     From(u64),
     /// Each with a chance of one in so many, by a seed.
     Chance(u64, u64),
@@ -17,24 +15,23 @@ pub enum Refusal {
 }
 
 impl Refusal {
-    /// The head of a program, as heap.c reads it: a byte that says which, seven of a number, and eight of a seed.
-    fn head(self) -> Vec<u8> {
-        let (which, n, seed) = match self {
+    fn number(self) -> u64 {
+        let (how, n, seed) = match self {
             Refusal::None => (0, 0, 0),
             Refusal::One(n) => (1, n, 0),
             Refusal::From(n) => (2, n, 0),
             Refusal::Chance(n, seed) => (3, n, seed),
             Refusal::Smaller => (4, 0, 0),
         };
-        [(n << 8 | which).to_le_bytes(), seed.to_le_bytes()].concat()
+        how << 56 | n << 48 | seed >> 16
     }
 }
 
 /// What one call asked for.
 #[derive(Clone, Copy, Debug, Default, PartialEq)]
 pub struct Asked {
-    pub requests: u32,
-    pub refused: u32,
+    pub requests: i64,
+    pub refused: i64,
 }
 
 /// What the machine says of a program: its report, what each operation asked for, the bytes that its values have at the
@@ -46,43 +43,32 @@ pub struct Outcome {
     pub blocks: i64,
 }
 
-pub struct Process(Child, ChildStdin, BufReader<ChildStdout>);
+pub struct Process(ChildStdin, BufReader<ChildStdout>);
 
 impl Process {
     pub fn start() -> Process {
         let mut command = Command::new(std::env::var("MACHINE").expect("MACHINE names the machine"));
         command.envs(std::env::var("PRELOAD").map(|library| ("LD_PRELOAD", library)));
         command.stdin(Stdio::piped()).stdout(Stdio::piped()).stderr(Stdio::null());
-        let mut child = command.spawn().expect("the machine starts");
-        let (input, output) = (child.stdin.take().unwrap(), BufReader::new(child.stdout.take().unwrap()));
-        Process(child, input, output)
+        let child = command.spawn().expect("the machine starts");
+        Process(child.stdin.unwrap(), BufReader::new(child.stdout.unwrap()))
     }
 
     /// Runs a program; `None` where the machine ended.
     pub fn run(&mut self, program: &[u8], refusal: Refusal) -> Option<Outcome> {
-        let frame = [&refusal.head()[..], program].concat();
-        self.1.write_all(&[&(frame.len() as u32).to_le_bytes(), &frame[..]].concat()).ok()?;
-        self.1.flush().ok()?;
-        let (bytes, blocks) = (i64::from_le_bytes(self.read()?), i64::from_le_bytes(self.read()?));
-        let mut asked = vec![];
-        for _ in 0..u32::from_le_bytes(self.read()?) {
-            asked.push(Asked { requests: u32::from_le_bytes(self.read()?), refused: u32::from_le_bytes(self.read()?) });
-        }
-        let mut report = vec![0; u64::from_le_bytes(self.read()?) as usize];
-        self.2.read_exact(&mut report).ok()?;
+        let numbers = [program.len() as u64 + 8, refusal.number()].map(u64::to_le_bytes).concat();
+        self.0.write_all(&[&numbers, program].concat()).ok()?;
+        let (bytes, blocks, calls) = (self.number()?, self.number()?, self.number()?);
+        let mut asked = || Some(Asked { requests: self.number()?, refused: self.number()? });
+        let asked = (0..calls).map(|_| asked()).collect::<Option<_>>()?;
+        let mut report = vec![0; self.number()? as usize];
+        self.1.read_exact(&mut report).ok()?;
         Some(Outcome { report, asked, bytes, blocks })
     }
 
-    fn read<const N: usize>(&mut self) -> Option<[u8; N]> {
-        let mut bytes = [0; N];
-        self.2.read_exact(&mut bytes).ok()?;
-        Some(bytes)
-    }
-}
-
-impl Drop for Process {
-    fn drop(&mut self) {
-        let _ = self.0.kill();
-        let _ = self.0.wait();
+    fn number(&mut self) -> Option<i64> {
+        let mut bytes = [0; 8];
+        self.1.read_exact(&mut bytes).ok()?;
+        Some(i64::from_le_bytes(bytes))
     }
 }

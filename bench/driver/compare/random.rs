@@ -10,12 +10,8 @@ impl Random {
     /// A generator of its own for each program, so that a program is known by its seed and its number.
     pub fn of(seed: u64, number: u64) -> Random {
         let mixed = seed.wrapping_mul(0x9e37_79b9_7f4a_7c15) ^ number.wrapping_mul(0xbf58_476d_1ce4_e5b9);
-        let mixed = mixed ^ 0x94d0_49bb_1331_11eb;
         let state = (mixed ^ (mixed >> 31)).wrapping_mul(0x94d0_49bb_1331_11eb) | 1;
-        let mut random = Random { state, is_long: false };
-        random.next();
-        random.next();
-        random
+        Random { state, is_long: false }
     }
 
     pub fn next(&mut self) -> u64 {
@@ -36,14 +32,13 @@ impl Random {
     pub fn pick<T: Copy>(&mut self, from: &[T]) -> T {
         from[self.below(from.len())]
     }
+
     pub fn char_of(&mut self, from: &str) -> char {
-        let at = self.below(from.chars().count());
-        from.chars().nth(at).unwrap()
+        from.chars().nth(self.below(from.chars().count())).unwrap()
     }
 
     /// One of the words between single spaces.
     pub fn word_of<'a>(&mut self, from: &'a str) -> &'a str {
-        let at = self.below(from.split(' ').count());
-        from.split(' ').nth(at).unwrap()
+        from.split(' ').nth(self.below(from.split(' ').count())).unwrap()
     }
 }

@@ -1,7 +1,7 @@
 //! The operations: the module of the machine that runs each, what it is given, and the calls of the library that it makes.
 use crate::draws::{self, Texts};
-use crate::machine::REGISTERS;
 use crate::host::Call;
+use crate::machine::REGISTERS;
 use crate::random::Random;
 
 /// What draws the number of an operation, of the length of its first text.
@@ -20,35 +20,29 @@ const LIMIT: Number = |random, len| match random.below(2) {
     0 => (len as u64).saturating_sub(random.pick(&[0, 3, 4, 5])),
     _ => random.pick(LIMITS),
 };
-/// A place in the text.
 const PLACE: Number = |random, len| random.below(len + 1) as u64;
 
-#[derive(Debug)]
 pub struct Row {
     pub group: u8,
     pub name: &'static str,
     /// How often it is drawn, beside the others.
-    pub weight: usize,
-    /// So many forms it has.
-    pub forms: usize,
-    pub texts: Texts,
-    pub number: Number,
-    /// The calls by the names that .ci/interface.py has for them.
+    weight: usize,
+    forms: usize,
+    texts: Texts,
+    number: Number,
+    /// By the names that .ci/interface.py has for them.
     pub calls: &'static str,
 }
 
-#[rustfmt::skip]
-const fn row(
-    group: u8, name: &'static str, weight: usize, forms: usize, texts: Texts, number: Number, calls: &'static str,
-) -> Row {
+type Name = &'static str;
+const fn row(group: u8, name: Name, weight: usize, forms: usize, texts: Texts, number: Number, calls: Name) -> Row {
     Row { group, name, weight, forms, texts, number, calls }
 }
 
 /// What each operation that reports a value or a builder reads of it.
 pub const READS: &str = "SmolStr::as_str SmolStr::len SmolStr::is_empty SmolStr::is_ascii SmolStr::is_heap_allocated \
-    SmolStr::place SmolStr::inline_buffer";
-pub const BUILDER_READS: &str =
-    "SmolStrBuilder::as_str SmolStrBuilder::len SmolStrBuilder::is_empty SmolStrBuilder::inline_buffer";
+    SmolStr::place SmolStr::inline_buffer SmolStrBuilder::as_str SmolStrBuilder::len SmolStrBuilder::is_empty \
+    SmolStrBuilder::inline_buffer";
 
 #[rustfmt::skip]
 pub static ROWS: &[Row] = &[
@@ -136,10 +130,6 @@ pub static ROWS: &[Row] = &[
     row(b't', "version of Unicode", 0, 1, draws::NONE, ANY, ""),
 ];
 
-pub fn named(name: &str) -> &'static Row {
-    ROWS.iter().find(|row| row.name == name).expect("an operation of the table")
-}
-
 const CAPACITIES: &[u64] =
     &[0, 1, 38, 39, 40, 41, 45, 64, 80, 100, 5000, 1 << 50, u64::MAX >> 1, (u64::MAX >> 1) + 1, u64::MAX];
 const LIMITS: &[u64] = &[0, 1, 5, 38, 39, 40, 100, 4095, 4096, 4097, 9000, u32::MAX as u64];
@@ -149,7 +139,6 @@ const WIDTHS: &[usize] = &[0, 1, 2, 5, 36, 37, 38, 39, 40, 41, 64, 90, 254, 256,
 const STEPS: &[usize] = &[1, 2, 3, 5, 39, 40, 4095, 4096, 4097, 5000];
 const ROOMS: &[usize] = &[0, 0, 1, 2, 7, 8, 16, 64, 700, 5000];
 
-/// A random operation.
 pub fn draw(random: &mut Random) -> Call {
     let mut left = random.below(ROWS.iter().map(|row| row.weight).sum());
     let row = ROWS.iter().find(|row| left < row.weight || { left -= row.weight; false }).expect("a row");

@@ -1,28 +1,16 @@
 //! Runs programs on both sides, and counts what they do.
 use crate::departures;
-use crate::library::{self, Global, Place, RUN, SmolStr, SmolStrBuilder};
+use crate::host::Program;
+use crate::library::{self, DEPARTURES, Global, Place, SmolStr, SmolStrBuilder};
 use crate::machine::{Machine, REGISTERS};
 use crate::process::{Asked, Outcome, Process, Refusal};
-use crate::host::Program;
 use crate::report::Report;
-use crate::table::{BUILDER_READS, READS, ROWS};
+use crate::table::{READS, ROWS};
 use std::collections::BTreeMap;
 
-/// The most bytes of a report.
+/// The most bytes of a report, and the most programs that are told of.
 const ROOM: usize = 1 << 23;
-
-/// The bytes of a block of a value beside its text, and of the list of values.
-const BESIDE_TEXT: usize = 48;
-const LIST: usize = 512;
-
-/// Where a program differs.
-pub struct Difference {
-    pub at: usize,
-    pub why: String,
-    pub wanted: Vec<u8>,
-    pub actual: Vec<u8>,
-    pub asked: Asked,
-}
+const TOLD: u64 = 10;
 
 #[derive(Default)]
 pub struct Totals {
@@ -30,7 +18,6 @@ pub struct Totals {
     pub differing: u64,
     /// How often each operation was run, and how often it was refused memory.
     calls: BTreeMap<&'static str, [u64; 2]>,
-    requests: u64,
 }
 
 /// The machine over upstream's crate.
@@ -40,33 +27,37 @@ pub fn mirror() -> Machine {
 }
 
 impl Totals {
-    /// Runs a program on both sides and compares the reports, up to the first difference.
-    pub fn run(&mut self, process: &mut Process, program: &Program) -> Option<Difference> {
-        let mut encoded = vec![];
-        program.steps.iter().for_each(|step| step.encode(&mut encoded));
+    /// Runs a program on both sides and compares the reports; says the first difference.
+    pub fn run(&mut self, process: &mut Process, program: &Program) -> Option<String> {
+        let encoded: Vec<u8> = program.steps.iter().flat_map(|step| step.encoded()).collect();
         // where blocks cannot be made smaller, no call asks for other memory in place of that
         let ample = (program.refusal == Refusal::Smaller).then(|| process.run(&encoded, Refusal::None)).flatten();
-        let outcome = process.run(&encoded, program.refusal);
         self.programs += 1;
-        let found = match outcome {
+        let found = match process.run(&encoded, program.refusal) {
             Some(outcome) => self.compare(program, &outcome).or_else(|| asks_again(program, &ample?.asked, &outcome.asked)),
             None => {
                 *process = Process::start();
-                Some(at_end(program, "the machine ended, or took too long".to_string(), &[]))
+                Some("the machine ended, or took too long".to_string())
             }
         };
         self.differing += u64::from(found.is_some());
         found
     }
 
-    fn compare(&mut self, program: &Program, outcome: &Outcome) -> Option<Difference> {
+    /// The same, and prints it of the first that differ.
+    pub fn run_and_tell(&mut self, process: &mut Process, program: &Program, name: &str) {
+        if let Some(found) = self.run(process, program) && self.differing <= TOLD {
+            println!("DIFFERS: {name}, {found}");
+        }
+    }
+
+    fn compare(&mut self, program: &Program, outcome: &Outcome) -> Option<String> {
         let (mut mirror, mut room) = (mirror(), vec![0; ROOM]);
         let mut rest = outcome.report.as_slice();
         for (at, step) in program.steps.iter().enumerate() {
             let asked = outcome.asked.get(at).copied().unwrap_or_default();
-            let counts = self.calls.entry(step.row.name).or_default();
-            *counts = [counts[0] + 1, counts[1] + u64::from(asked.refused > 0)];
-            self.requests += u64::from(asked.requests);
+            let [times, refused] = self.calls.entry(step.row.name).or_default();
+            (*times, *refused) = (*times + 1, *refused + u64::from(asked.refused > 0));
             library::begin(asked, rest);
             let mut wanted = Report::new(&mut room);
             mirror.run(&mut step.decoded(), &mut wanted);
@@ -74,12 +65,12 @@ impl Totals {
             let wanted = &room[..len];
             let fault = if rest.starts_with(wanted) { library::fault() } else { Some("the reports differ") };
             if let Some(why) = fault {
-                let actual = rest[..rest.len().min(len + 64)].to_vec();
-                return Some(Difference { at, why: why.to_string(), wanted: wanted.to_vec(), actual, asked });
+                let actual = &rest[..rest.len().min(len + 64)];
+                return Some(difference(program, at, &format!("{why}; {asked:?}"), wanted, actual));
             }
             rest = &rest[len..];
         }
-        left_over(program, outcome, rest, most_bytes(&mirror))
+        left_over(program, outcome, rest.len(), most_bytes(&mirror))
     }
 
     /// A line for each operation: `call`, how often, how often refused, its name, and the calls of the library.
@@ -89,64 +80,47 @@ impl Totals {
             println!("call {times:>9} {refused:>8}  {:30}  {}", row.name, row.calls);
         }
         let calls: u64 = self.calls.values().map(|counts| counts[0]).sum();
-        println!("call {calls:>9} {:>8}  {:30}  {READS} {BUILDER_READS}", 0, "what is reported is read");
+        println!("call {calls:>9} {:>8}  {:30}  {READS}", 0, "what is reported is read");
         for departure in departures::ALL {
-            let times = RUN.with_borrow(|run| run.departures.get(departure).copied().unwrap_or(0));
+            let times = DEPARTURES.with_borrow(|met| met.get(departure).copied().unwrap_or(0));
             println!("departure {times:>9}  {departure}");
         }
-        println!("{} programs, {calls} calls, {} requests for memory", self.programs, self.requests);
+        println!("{} programs, {calls} calls; programs that differ: {}", self.programs, self.differing);
     }
 }
 
-/// The most bytes that the registers of values have.
+/// The most bytes that the registers of values have: in all and for each value some beside the texts.
 fn most_bytes(mirror: &Machine) -> i64 {
     let on_heap = mirror.values.iter().filter(|value| value.place() == Place::Heap);
-    (on_heap.map(|value| value.len() + BESIDE_TEXT).sum::<usize>() + LIST) as i64
-}
-
-fn at_end(program: &Program, why: String, actual: &[u8]) -> Difference {
-    let (at, actual) = (program.steps.len().saturating_sub(1), actual[..actual.len().min(64)].to_vec());
-    Difference { at, why, wanted: vec![], actual, asked: Asked::default() }
+    on_heap.map(|value| value.len() as i64 + 48).sum::<i64>() + 512
 }
 
 /// The first call whose requests are others than with ample memory.
-fn asks_again(program: &Program, ample: &[Asked], asked: &[Asked]) -> Option<Difference> {
+fn asks_again(program: &Program, ample: &[Asked], asked: &[Asked]) -> Option<String> {
     let at = ample.iter().zip(asked).position(|(ample, asked)| ample != asked)?;
-    let why = format!("the call asks {} times where it asks {} times with ample memory", asked[at].requests, ample[at].requests);
-    Some(Difference { at, asked: asked[at], ..at_end(program, why, &[]) })
+    Some(difference(program, at, &format!("{:?}, and with ample memory {:?}", asked[at], ample[at]), &[], &[]))
 }
 
 /// What is wrong though each operation's report is as it has to be.
-fn left_over(program: &Program, outcome: &Outcome, rest: &[u8], most_bytes: i64) -> Option<Difference> {
+fn left_over(program: &Program, outcome: &Outcome, rest: usize, most_bytes: i64) -> Option<String> {
     let Outcome { bytes, blocks, asked, .. } = outcome;
-    let why = if !rest.is_empty() || asked.len() != program.steps.len() {
-        format!("the machine reports {} bytes more, and {} calls", rest.len(), asked.len())
-    } else if *blocks != 0 {
-        format!("{blocks} blocks of memory are not freed")
-    } else if *bytes > most_bytes && program.refusal == Refusal::None {
-        format!("the values have {bytes} bytes on the heap, and need at most {most_bytes}")
-    } else {
-        return None;
-    };
-    Some(at_end(program, why, rest))
+    let has_too_much = *bytes > most_bytes && program.refusal == Refusal::None;
+    let is_wrong = rest > 0 || asked.len() != program.steps.len() || *blocks != 0 || has_too_much;
+    is_wrong.then(|| {
+        let calls = asked.len();
+        format!("{calls} calls, {rest} more bytes, {blocks} blocks not freed, values of {bytes} bytes (at most {most_bytes})")
+    })
 }
 
-/// Prints where a program differs.
-pub fn tell(name: &str, program: &Program, found: &Difference) {
-    let step = &program.steps[found.at];
-    println!("DIFFERS: {name}, operation {} of {}, {}: {}", found.at + 1, program.steps.len(), step.row.name, found.why);
-    println!("  {}", shown(&step.to_string()));
-    println!("  requests for memory {}, refused {}", found.asked.requests, found.asked.refused);
-    println!("  wanted {}", shown(&String::from_utf8_lossy(&found.wanted).escape_debug().to_string()));
-    println!("  actual {}", shown(&String::from_utf8_lossy(&found.actual).escape_debug().to_string()));
-    let same = found.wanted.iter().zip(&found.actual).take_while(|(wanted, actual)| wanted == actual).count();
-    println!("  the first {same} bytes of {} are the same", found.wanted.len());
+fn difference(program: &Program, at: usize, why: &str, wanted: &[u8], actual: &[u8]) -> String {
+    let (step, steps) = (&program.steps[at], program.steps.len());
+    let [wanted, actual] = [wanted, actual].map(|bytes| shown(&bytes.escape_ascii().to_string()));
+    format!("operation {} of {steps}: {why}\n  {}\n  wanted {wanted}\n  actual {actual}", at + 1, shown(&step.to_string()))
 }
 
 /// The first part of a long text.
 pub fn shown(text: &str) -> String {
-    const MOST: usize = 600;
-    match text.char_indices().nth(MOST) {
+    match text.char_indices().nth(600) {
         Some((end, _)) => format!("{} .. ({} bytes)", &text[..end], text.len()),
         None => text.to_string(),
     }

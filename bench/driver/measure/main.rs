@@ -1,16 +1,11 @@
-//! The library, upstream's crate and other string types in one process, over the same input. `bench/upstream measure` builds
-//! and runs it:
-//!
-//!     measure rows          each row's kind and name, how many texts it has, and the sides that have it: each is run once,
-//!                           and the sums must be equal
-//!     measure sizes         the bytes of a value of each side
-//!     measure count SIDE    under callgrind, which writes counts at each end of `counted`: for each row after FEW and
-//!                           after MANY rounds
-//!     measure times         each row's name, and the least nanoseconds of a text on each side
-//!
-//! A word after that leaves out the rows whose name does not begin with it, or with one of several.
+//! The library, upstream's crate and other string types in one process, over the same input, for `bench/upstream measure`.
+//! Of each row `rows` says its kind, its name, how many texts it has and the sides that have it; `times` the least
+//! nanoseconds of a text on each side; `sizes` says the bytes of a value of each side. `count SIDE` runs under callgrind,
+//! which writes counts at each end of `counted`. Words after that leave out the rows whose name begins with none of them.
 mod rivals;
 mod rows;
+// a helper a line
+#[rustfmt::skip]
 mod texts;
 mod upstream;
 
@@ -29,9 +24,6 @@ unsafe extern "C" {
     ) -> u64;
 }
 
-const FEW: usize = 8;
-const MUCH: usize = 40;
-
 /// The sum of an operation's rounds over the texts; `None` where a side has no such operation.
 pub type Side = fn(&str, &str, &str, Turns) -> Option<u64>;
 
@@ -46,7 +38,6 @@ fn upstream(operation: &str, texts: &str, others: &str, n: Turns) -> Option<u64>
     texts::run(operation, &cases, n).or_else(|| upstream::run(operation, &cases, n))
 }
 
-/// Another type, which has the operations alone that all types have.
 pub fn rival<T: Text>(operation: &str, texts: &str, others: &str, n: Turns) -> Option<u64> {
     texts::run::<T>(operation, &cases(texts, others), n)
 }
@@ -77,7 +68,6 @@ impl Bench {
     }
 }
 
-/// Drawn numbers, the same in every run.
 struct Draw(u64);
 
 impl Draw {
@@ -90,7 +80,6 @@ impl Draw {
         (0..size).map(|_| char::from(b'a' + self.below(most) as u8)).collect()
     }
 
-    /// An identifier of at most twelve letters.
     fn word(&mut self) -> String {
         let size = 1 + self.below(12);
         self.letters(size, 26)
@@ -131,26 +120,25 @@ extern "C" fn counted(bench: &Bench, side: &Side, rounds: usize) -> u64 {
 }
 
 fn count(bench: &Bench, side: Side) {
+    const FEW: usize = 8;
     // what is bound late is bound now, and the heap comes into a state that lasts
-    for _ in 0..3 {
-        black_box(bench.run(side, FEW));
-    }
+    (0..3).for_each(|_| drop(black_box(bench.run(side, FEW))));
     counted(bench, &side, FEW);
-    counted(bench, &side, MUCH);
+    counted(bench, &side, FEW + 32);
 }
 
 /// The sides that have a row, which must all return one sum.
-fn sides_of(name: &str, bench: &Bench) -> Vec<&'static str> {
+fn sides_of(name: &str, bench: &Bench) -> String {
     let sums: Vec<(&str, u64)> = sides().iter().filter_map(|(side, of)| Some((*side, bench.run(*of, 2)?))).collect();
     if sums.iter().any(|(_, sum)| *sum != sums[0].1 || *sum == 0) {
         eprintln!("{name}: the sums differ: {sums:?}");
         std::process::exit(1);
     }
-    sums.into_iter().map(|(side, _)| side).collect()
+    sums.iter().map(|(side, _)| *side).collect::<Vec<_>>().join(",")
 }
 
 /// The least nanoseconds of an operation on each side, of 101 runs of a millisecond in turn.
-fn times(bench: &Bench) -> Vec<f64> {
+fn times(bench: &Bench) -> String {
     let seconds = |side: Side, rounds| {
         let start = Instant::now();
         black_box(bench.run(side, rounds)).map(|_| start.elapsed().as_secs_f64())
@@ -166,36 +154,36 @@ fn times(bench: &Bench) -> Vec<f64> {
             least[at] = seconds(all[at].1, rounds).map_or(f64::MAX, |it| it.min(least[at]));
         }
     }
-    least.iter().filter(|it| **it < f64::MAX).map(|it| it * 1e9 / (rounds * bench.count) as f64).collect()
+    let texts = (rounds * bench.count) as f64;
+    least.iter().filter(|it| **it < f64::MAX).map(|it| format!("\t{}", it * 1e9 / texts)).collect()
+}
+
+fn for_each_row(words: &[String], run: impl Fn(&str, &str, &Bench)) {
+    for (kind, count, rows) in KINDS {
+        for (name, operation, short, long, input) in *rows {
+            for size in if *kind == "short" { *short } else { *long } {
+                let name = name.replace("{}", &size.to_string());
+                if words.is_empty() || words.iter().any(|word| name.starts_with(word.as_str())) {
+                    run(kind, &name, &Bench::new(operation, *size, *input, *count));
+                }
+            }
+        }
+    }
 }
 
 fn main() {
     let words: Vec<String> = std::env::args().skip(1).collect();
-    let command = words.first().expect("rows, sizes, count or times").as_str();
-    let counted = (command == "count").then(|| *sides().iter().find(|it| it.0 == words[1]).expect("a side"));
-    let wanted = &words[1 + usize::from(counted.is_some())..];
-    if command == "sizes" {
-        let bench = Bench::new("size", 1, Same, 1);
-        sides().iter().for_each(|(name, side)| println!("{name}\t{}", bench.run(*side, 1).unwrap()));
-        return;
-    }
-    for (kind, count_of_texts, rows) in KINDS {
-        for (name, operation, size, input) in rows.iter().flat_map(|row| row.2.iter().map(|size| (row.0, row.1, *size, row.3))) {
-            let name = name.replace("{}", &size.to_string());
-            if !wanted.is_empty() && !wanted.iter().any(|word| name.starts_with(word.as_str())) {
-                continue;
-            }
-            let bench = Bench::new(operation, size, input, *count_of_texts);
-            match (command, counted) {
-                ("rows", _) => println!("{kind}\t{name}\t{count_of_texts}\t{}", sides_of(&name, &bench).join(",")),
-                ("count", _) if *kind == "many" => {}
-                ("count", Some((_, side))) => {
-                    if bench.run(side, 1).is_some() {
-                        count(&bench, side);
-                    }
-                }
-                _ => println!("{name}\t{}", times(&bench).iter().map(f64::to_string).collect::<Vec<_>>().join("\t")),
-            }
+    let (command, words) = words.split_first().expect("rows, sizes, count or times");
+    match command.as_str() {
+        "rows" => for_each_row(words, |kind, name, it| println!("{kind}\t{name}\t{}\t{}", it.count, sides_of(name, it))),
+        "times" => for_each_row(words, |_, name, it| println!("{name}{}", times(it))),
+        "sizes" => sides().iter().for_each(|(name, side)| {
+            println!("{name}\t{}", Bench::new("size", 1, Same, 1).run(*side, 1).unwrap());
+        }),
+        _ => {
+            let (_, side) = *sides().iter().find(|side| side.0 == words[0]).expect("a side");
+            let is_counted = |kind: &str, it: &Bench| kind != "many" && it.run(side, 1).is_some();
+            for_each_row(&words[1..], |kind, _, it| if is_counted(kind, it) { count(it, side) });
         }
     }
 }

@@ -1,28 +1,13 @@
 //! The operations that every string type has, by the names that loops.rt.in has for them over ours.
 use std::collections::HashMap;
 use std::fmt::{Display, Write};
-use std::hash::{BuildHasherDefault, DefaultHasher, Hash, Hasher};
+use std::hash::{BuildHasher, BuildHasherDefault, DefaultHasher, Hash, Hasher, RandomState};
 use std::hint::black_box;
 use std::ops::Deref;
 
-pub trait Text: Clone + Ord + Hash + Display + Deref<Target = str> + From<String> {
-    fn made(text: &str) -> Self;
-}
+pub trait Text: Clone + Ord + Hash + Display + Deref<Target = str> + From<String> + for<'a> From<&'a str> {}
+impl<T: Clone + Ord + Hash + Display + Deref<Target = str> + From<String> + for<'a> From<&'a str>> Text for T {}
 
-macro_rules! text {
-    ($type:ty, $new:ident) => {
-        impl crate::texts::Text for $type {
-            #[inline(always)]
-            fn made(text: &str) -> Self {
-                <$type>::$new(text)
-            }
-        }
-    };
-}
-pub(crate) use text;
-text!(smol_str::SmolStr, new);
-
-/// Two texts, and the value of each.
 pub struct Case<T> {
     pub text: String,
     pub other: String,
@@ -36,41 +21,22 @@ pub type Turns = (usize, usize);
 /// The texts of the input, between bars.
 pub fn cases<T: Text>(texts: &str, others: &str) -> Vec<Case<T>> {
     let case = |(text, other): (&str, &str)| {
-        Case { value: T::made(text), other_value: T::made(other), text: text.to_string(), other: other.to_string() }
+        Case { value: text.into(), other_value: other.into(), text: text.to_string(), other: other.to_string() }
     };
     texts.split('|').zip(others.split('|')).map(case).collect()
 }
 
-/// The length and one byte of a text.
-#[inline(always)]
-pub fn seen(text: &str, pick: usize) -> u64 {
-    seen_bytes(text.as_bytes(), pick)
-}
-
-#[inline(always)]
-pub fn seen_bytes(bytes: &[u8], pick: usize) -> u64 {
-    u64::from(bytes.get(pick).copied().unwrap_or(0)).wrapping_add(bytes.len() as u64)
-}
-
-#[inline(always)]
-pub fn told(answer: u64, pick: usize) -> u64 {
-    answer.wrapping_add(pick as u64)
-}
-
-#[inline(always)]
-pub fn number(order: std::cmp::Ordering) -> u64 {
-    (order as i8 + 2) as u64
-}
+#[inline(always)] pub fn seen(text: &str, pick: usize) -> u64 { seen_bytes(text.as_bytes(), pick) }
+#[inline(always)] pub fn seen_bytes(bytes: &[u8], pick: usize) -> u64 { byte_at(bytes, pick).wrapping_add(bytes.len() as u64) }
+#[inline(always)] pub fn byte_at(bytes: &[u8], pick: usize) -> u64 { u64::from(bytes.get(pick).copied().unwrap_or(0)) }
+#[inline(always)] pub fn told(answer: u64, pick: usize) -> u64 { answer.wrapping_add(pick as u64) }
+#[inline(always)] pub fn number(order: std::cmp::Ordering) -> u64 { (order as i8 + 2) as u64 }
+#[inline(always)] fn keywords(it: &str) -> u64 { u64::from(it == "if" || it == "else" || it == "while" || it == "return") }
 
 #[inline(always)]
 pub fn hashed<H: Hasher>(value: &(impl Hash + ?Sized), mut hasher: H, pick: usize) -> u64 {
     value.hash(&mut hasher);
     told(hasher.finish(), pick)
-}
-
-#[inline(always)]
-fn keywords(value: &str) -> u64 {
-    u64::from(value == "if" || value == "else" || value == "while" || value == "return")
 }
 
 /// So many rounds over all cases. Which byte is looked at changes from round to round, and the compiler knows
@@ -86,7 +52,6 @@ pub fn rounds<C>(cases: &[C], (count, pick): Turns, mut operation: impl FnMut(&C
     sum
 }
 
-/// So many rounds of an operation on all cases at once.
 #[inline(never)]
 pub fn batches<C>(cases: &[C], (count, pick): Turns, mut operation: impl FnMut(&[C], usize) -> u64) -> u64 {
     (0..count).fold(0, |sum, turn| sum.wrapping_add(operation(black_box(cases), pick ^ (turn & 1))))
@@ -113,17 +78,16 @@ fn count<T: Text>(all: &[Case<T>]) -> u64 {
     for case in all {
         match counts.get_mut(&case.value) {
             Some(count) => *count += 1,
-            None => {
-                counts.insert(case.value.clone(), 1);
-            }
+            None => drop(counts.insert(case.value.clone(), 1)),
         }
     }
     counts.len() as u64
 }
 
-/// Where each value stands among the cases.
-fn places<T: Text, S: Default + std::hash::BuildHasher>(all: &[Case<T>]) -> HashMap<T, usize, S> {
-    all.iter().enumerate().map(|(place, case)| (case.value.clone(), place)).collect()
+/// Where the other value of each case stands among the values.
+fn looked_up<T: Text, S: Default + BuildHasher>(all: &[Case<T>], n: Turns) -> u64 {
+    let places: HashMap<T, usize, S> = all.iter().enumerate().map(|(place, case)| (case.value.clone(), place)).collect();
+    rounds(all, n, |it, at| told(places[&it.other_value] as u64, at))
 }
 
 /// So many rounds of an operation over the input; the sum of what it gave, and `None` where the type has no such row.
@@ -132,7 +96,7 @@ pub fn run<T: Text>(operation: &str, all: &[Case<T>], n: Turns) -> Option<u64> {
     Some(match operation {
         "size" => size_of::<T>() as u64,
         "loop" => rounds(all, n, |it, at| seen(&it.text, at)),
-        "new" => rounds(all, n, |it, at| seen(&T::made(&it.text), at)),
+        "new" => rounds(all, n, |it, at| seen(&T::from(it.text.as_str()), at)),
         "as_str" => rounds(all, n, |it, at| seen(&it.value, at)),
         "len" => rounds(all, n, |it, at| told(it.value.len() as u64, at)),
         "clone" => rounds(all, n, |it, at| seen(&it.value.clone(), at)),
@@ -141,22 +105,16 @@ pub fn run<T: Text>(operation: &str, all: &[Case<T>], n: Turns) -> Option<u64> {
         "keywords" => rounds(all, n, |it, at| told(keywords(&it.value), at)),
         "cmp" => rounds(all, n, |it, at| told(number(it.value.cmp(&it.other_value)), at)),
         "cmp_str" => rounds(all, n, |it, at| told(number((*it.value).cmp(&*it.other)), at)),
-        "hash-fnv" => rounds(all, n, |it, at| hashed(&it.value, Fnv::new(), at)),
+        "hash-fnv" => rounds(all, n, |it, at| hashed(&it.value, Fnv(0xcbf2_9ce4_8422_2325), at)),
         "hash-sip" => rounds(all, n, |it, at| hashed(&it.value, DefaultHasher::new(), at)),
         "from_string" => rounds(all, n, |it, at| seen(&T::from(String::from(it.text.as_str())), at)),
         "display" => rounds(all, n, |it, at| {
             out.clear();
             write!(out, "{}", it.value).map_or(0, |()| seen(&out, at))
         }),
-        "get" => {
-            let places = places::<T, BuildHasherDefault<DefaultHasher>>(all);
-            rounds(all, n, |it, at| told(places[&it.other_value] as u64, at))
-        }
-        "get by default" => {
-            let places = places::<T, std::hash::RandomState>(all);
-            rounds(all, n, |it, at| told(places[&it.other_value] as u64, at))
-        }
-        "new into a Vec" => batches(all, n, |all, at| last_of(kept(all, |it| T::made(&it.text)), at)),
+        "get" => looked_up::<T, BuildHasherDefault<DefaultHasher>>(all, n),
+        "get by default" => looked_up::<T, RandomState>(all, n),
+        "new into a Vec" => batches(all, n, |all, at| last_of(kept(all, |it| T::from(it.text.as_str())), at)),
         "clone into a Vec" => batches(all, n, |all, at| last_of(kept(all, |it| it.value.clone()), at)),
         "sort" => batches(all, n, |all, at| {
             let mut values = kept(all, |it| it.value.clone());
@@ -168,15 +126,8 @@ pub fn run<T: Text>(operation: &str, all: &[Case<T>], n: Turns) -> Option<u64> {
     })
 }
 
-/// FNV-1a, by bytes.
+/// FNV-1a.
 struct Fnv(u64);
-
-impl Fnv {
-    #[inline]
-    fn new() -> Fnv {
-        Fnv(0xcbf2_9ce4_8422_2325)
-    }
-}
 
 impl Hasher for Fnv {
     #[inline]
@@ -184,9 +135,6 @@ impl Hasher for Fnv {
         let next = |hash: u64, byte: &u8| (hash ^ u64::from(*byte)).wrapping_mul(1_099_511_628_211);
         self.0 = bytes.iter().fold(self.0, next);
     }
-
     #[inline]
-    fn finish(&self) -> u64 {
-        self.0
-    }
+    fn finish(&self) -> u64 { self.0 }
 }

@@ -1,5 +1,5 @@
 //! The operations that are upstream's crate's own.
-use crate::texts::{Case, Turns, batches, hashed, kept, last_of, number, rounds, seen, seen_bytes, told};
+use crate::texts::{Case, Turns, batches, byte_at, hashed, kept, last_of, number, rounds, seen, seen_bytes, told};
 use borsh::{BorshDeserialize, BorshSerialize};
 use smol_str::{SmolStr, SmolStrBuilder, StrExt, ToSmolStr, format_smolstr};
 use std::hash::DefaultHasher;
@@ -11,11 +11,6 @@ fn grown(mut builder: SmolStrBuilder, pick: usize, grow: impl FnOnce(&mut SmolSt
     seen(&builder.finish(), pick)
 }
 
-#[inline(always)]
-fn new_inline(text: &str, pick: usize) -> u64 {
-    if text.len() > SmolStr::INLINE_CAP { 0 } else { seen(&SmolStr::new_inline(text), pick) }
-}
-
 /// A literal; the compiler does not know which.
 #[inline(always)]
 fn new_static(text: &str, pick: usize) -> u64 {
@@ -25,7 +20,7 @@ fn new_static(text: &str, pick: usize) -> u64 {
 /// A number of eight or nine digits that the text decides.
 #[inline(always)]
 fn number_of(text: &str, pick: usize) -> u64 {
-    u64::from(text.as_bytes().get(pick).copied().unwrap_or(0)).wrapping_mul(1_000_003)
+    byte_at(text.as_bytes(), pick).wrapping_mul(1_000_003)
 }
 
 /// The wire form, in a `Vec` that begins empty.
@@ -39,17 +34,15 @@ fn form_of(value: &SmolStr) -> Vec<u8> {
 #[inline(always)]
 fn reader(form: &[u8], pick: usize) -> u64 {
     let mut rest = form;
-    match SmolStr::deserialize_reader(&mut rest) {
-        Ok(value) => seen(&value, pick).wrapping_add((form.len() - rest.len()) as u64),
-        Err(_) => 0,
-    }
+    let value = SmolStr::deserialize_reader(&mut rest).unwrap();
+    seen(&value, pick).wrapping_add((form.len() - rest.len()) as u64)
 }
 
 pub fn run(operation: &str, all: &[Case<SmolStr>], n: Turns) -> Option<u64> {
     let empty = SmolStrBuilder::new;
     Some(match operation {
         "string" => rounds(all, n, |it, at| seen(&String::from(it.text.as_str()), at)),
-        "new_inline" => rounds(all, n, |it, at| new_inline(&it.text, at)),
+        "new_inline" => rounds(all, n, |it, at| seen(&SmolStr::new_inline(&it.text), at)),
         "new_static" => rounds(all, n, |it, at| new_static(&it.text, at)),
         "from_utf8" => rounds(all, n, |it, at| SmolStr::from_utf8(it.text.as_bytes()).map_or(0, |value| seen(&value, at))),
         "into_string" => rounds(all, n, |it, at| seen(&String::from(it.value.clone()), at)),
@@ -88,7 +81,7 @@ pub fn run(operation: &str, all: &[Case<SmolStr>], n: Turns) -> Option<u64> {
         "number" => rounds(all, n, |it, at| seen(&number_of(&it.text, at).to_smolstr(), at)),
         "to_smolstr" => rounds(all, n, |it, at| seen(&it.text.as_str().to_smolstr(), at)),
         "from_chars into a Vec" => {
-            batches(all, n, |all, at| last_of(kept(all, |it| it.text.chars().collect::<SmolStr>()), at))
+            batches(all, n, |all, at| last_of::<SmolStr>(kept(all, |it| it.text.chars().collect()), at))
         }
         "format into a Vec" => {
             let format = |it: &Case<SmolStr>| format_smolstr!("{}-{}", it.text, number_of(&it.text, 0));

@@ -12,39 +12,38 @@ fn main() -> Result<(), Box<dyn Error>> {
     let words: Vec<&str> = words.iter().map(String::as_str).collect();
     let mut text = String::new();
     io::stdin().read_to_string(&mut text)?;
+    let lines = text.split_terminator('\n');
     let report = match words[..] {
-        [] | ["show"] => lines_report(&text, |line| SmolStr::new(line))?,
-        ["lower"] => lines_report(&text, |line| line.to_ascii_lowercase_smolstr())?,
-        ["upper"] => lines_report(&text, |line| line.to_ascii_uppercase_smolstr())?,
-        ["replace", from, to] => lines_report(&text, |line| line.replace_smolstr(from, to))?,
-        ["join"] => join_report(&text)?,
-        ["tokens"] => tokens_report(&text)?,
+        [] | ["show"] => rows(lines.map(SmolStr::new))?,
+        ["lower"] => rows(lines.map(|line| line.to_ascii_lowercase_smolstr()))?,
+        ["upper"] => rows(lines.map(|line| line.to_ascii_uppercase_smolstr()))?,
+        ["replace", from, to] => rows(lines.map(|line| line.replace_smolstr(from, to)))?,
+        ["join"] => rows([lines.collect()])?,
+        ["tokens"] => counts(lines)?,
         _ => return Err("usage".into()),
     };
     io::stdout().write_all(report.as_bytes())?;
     Ok(())
 }
 
-/// One row for each line, as the mode changes it.
-fn lines_report(text: &str, change: impl Fn(&str) -> SmolStr) -> Result<String, fmt::Error> {
+/// One row for each value. Upstream tells the heap alone apart.
+fn rows(values: impl IntoIterator<Item = SmolStr>) -> Result<String, fmt::Error> {
     let mut report = String::new();
-    for line in text.split_terminator('\n') {
-        push_row(&mut report, &change(line))?;
+    for value in values {
+        let place = match value.is_heap_allocated() {
+            true => "heap",
+            false if value.len() <= SmolStr::INLINE_CAP => "inline",
+            false => "static",
+        };
+        writeln!(report, "{place} {} {value}", value.len())?;
     }
     Ok(report)
 }
 
-/// One row: of all lines as one text.
-fn join_report(text: &str) -> Result<String, fmt::Error> {
-    let mut report = String::new();
-    push_row(&mut report, &text.split_terminator('\n').collect::<SmolStr>())?;
-    Ok(report)
-}
-
 /// How often each different line stands, in order of first sight.
-fn tokens_report(text: &str) -> Result<String, fmt::Error> {
+fn counts<'a>(lines: impl Iterator<Item = &'a str>) -> Result<String, fmt::Error> {
     let mut counts: IndexMap<SmolStr, u64, RandomState> = IndexMap::default();
-    for line in text.split_terminator('\n') {
+    for line in lines {
         *counts.entry(SmolStr::new(line)).or_insert(0) += 1;
     }
     let mut report = String::new();
@@ -52,19 +51,4 @@ fn tokens_report(text: &str) -> Result<String, fmt::Error> {
         writeln!(report, "{count} {token}")?;
     }
     Ok(report)
-}
-
-fn push_row(report: &mut String, value: &SmolStr) -> fmt::Result {
-    writeln!(report, "{} {} {value}", place_word(value), value.len())
-}
-
-/// Where a value keeps its text. Upstream tells the heap alone apart.
-fn place_word(value: &SmolStr) -> &'static str {
-    if value.is_heap_allocated() {
-        "heap"
-    } else if value.len() <= SmolStr::INLINE_CAP {
-        "inline"
-    } else {
-        "static"
-    }
 }

@@ -1,73 +1,50 @@
 //! Prints, case and replacement, the wire form by borsh, JSON by serde_json, and reading and writing by single calls.
 //!
 //! Upstream has no single calls: they are made here of what the documents say of them.
-use super::{AllocError, Global, INLINE_CAP, SmolStr, actual_number, departs, expect, is_refused, is_short, may_ask};
-use super::{made_of_parts, made_or, unless_refused};
+use super::*;
 use crate::departures::{INTERRUPTED, NO_STRING, SHORT_SIGMA, WIRE_FAULT};
 use crate::forms::{SlowReader, SlowWriter};
 pub use borsh::{BorshDeserialize, BorshSerialize};
 use serde_json::Value;
-use smol_str::SmolStr as Upstream;
-use std::fmt::Display;
+use smol_str::StrExt as _;
 use std::io::{self, ErrorKind, Read, Write};
 use std::str::Utf8Error;
 
-/// The most bytes that one read asks for, by docs/differences.md.
+/// The most bytes that one read asks for, by docs/differences.md; and those of a wire form before its body.
 pub const CHUNK: usize = 4096;
-
-/// The bytes of a wire form before its body.
 const PREFIX: usize = 4;
 
 #[derive(Debug)]
 pub struct FormatError;
 
-pub trait ToSmolStr {
-    fn to_smolstr(&self, alloc: Global) -> Result<SmolStr, FormatError>;
+pub trait ToSmolStr: Display {
+    fn to_smolstr(&self, _: Global) -> Made<FormatError> { printed(smol_str::ToSmolStr::to_smolstr(self)) }
 }
+impl<T: Display> ToSmolStr for T {}
 
-impl<T: Display> ToSmolStr for T {
-    fn to_smolstr(&self, _: Global) -> Result<SmolStr, FormatError> {
-        printed(smol_str::ToSmolStr::to_smolstr(self))
-    }
-}
+pub fn printed(text: Upstream) -> Made<FormatError> { made_of_parts(text, FormatError) }
 
-pub fn printed(text: Upstream) -> Result<SmolStr, FormatError> {
-    made_of_parts(text, FormatError)
-}
-
-#[macro_export]
 macro_rules! format_smolstr {
-    ($alloc:expr; $($print:tt)*) => {
-        $crate::library::printed(smol_str::format_smolstr!($($print)*))
-    };
+    ($alloc:expr; $($print:tt)*) => { $crate::library::printed(smol_str::format_smolstr!($($print)*)) };
 }
-pub use crate::format_smolstr;
+pub(crate) use format_smolstr;
 
-pub enum AsciiCase {
-    Lower,
-    Upper,
-}
+pub enum AsciiCase { Lower, Upper }
 
 impl AsciiCase {
     pub fn of(&self, text: &str) -> String {
-        match self {
-            AsciiCase::Lower => text.to_ascii_lowercase(),
-            AsciiCase::Upper => text.to_ascii_uppercase(),
-        }
+        if let AsciiCase::Lower = self { text.to_ascii_lowercase() } else { text.to_ascii_uppercase() }
     }
 }
 
 /// Case and replacement: as std has them, and upstream too. Some may ask for memory where the text is past ASCII.
 macro_rules! str_ext {
     ($($name:ident($($more:ident: $type:ty),*) $of_std:ident, $asks:literal;)*) => {
-        pub trait StrExt {
-            $(fn $name(&self, alloc: Global $(, $more: $type)*) -> Result<SmolStr, AllocError>;)*
-        }
-
-        impl StrExt for &str {
-            $(fn $name(&self, _: Global $(, $more: $type)*) -> Result<SmolStr, AllocError> {
-                may_ask($asks && !self.is_ascii());
-                changed(self, smol_str::StrExt::$name(*self $(, $more)*), self.$of_std($($more),*))
+        pub trait StrExt: AsRef<str> {
+            $(fn $name(&self, _: Global $(, $more: $type)*) -> Made {
+                let text = self.as_ref();
+                may_ask($asks && !text.is_ascii());
+                changed(text, text.$name($($more),*), text.$of_std($($more),*))
             })*
         }
     };
@@ -80,83 +57,54 @@ str_ext! {
     replace_smolstr(from: &str, to: &str) replace, false;
     replacen_smolstr(from: &str, to: &str, count: usize) replacen, false;
 }
+impl StrExt for &str {}
 
-fn changed(text: &str, made: Upstream, of_std: String) -> Result<SmolStr, AllocError> {
+fn changed(text: &str, made: Upstream, of_std: String) -> Made {
     let is_sigma = made != of_std && is_short(text) && text.contains('Σ');
-    if is_sigma {
-        departs(SHORT_SIGMA);
-    }
+    if is_sigma { departs(SHORT_SIGMA) }
     expect(is_sigma || made == of_std, "upstream's text is not std's");
     made_of_parts(Upstream::from(of_std), AllocError)
 }
 
 pub fn convert_while_ascii(text: &str, case: AsciiCase) -> ([u8; INLINE_CAP], usize) {
     let front: String = text.chars().take_while(char::is_ascii).collect();
-    (super::buffer_of(&case.of(&front)), front.len())
+    (buffer_of(&case.of(&front)), front.len())
 }
 
-pub fn next_match(text: &str, from: usize, needle: &str) -> Option<usize> {
-    Some(from + text[from..].find(needle)?)
-}
-
-pub fn length_prefix(size: usize) -> Option<[u8; PREFIX]> {
-    Some(u32::try_from(size).ok()?.to_le_bytes())
-}
+pub fn next_match(text: &str, from: usize, needle: &str) -> Option<usize> { Some(from + text[from..].find(needle)?) }
+pub fn length_prefix(size: usize) -> Option<[u8; PREFIX]> { Some(u32::try_from(size).ok()?.to_le_bytes()) }
 
 /// The faults, whose debug texts are the library's.
 #[derive(Debug)]
-pub enum Fault {
-    Ended,
-    TooLong,
-    NotUtf8(Utf8Error),
-    OutOfMemory,
-    Io(io::Error),
-    Decode(Box<Fault>),
-}
-pub use Fault as DecodeFault;
-pub use Fault as ReadFault;
+pub enum Fault { Ended, TooLong, NotUtf8(Utf8Error), OutOfMemory, Io(io::Error), Decode(Box<Fault>) }
+pub use self::{Fault as DecodeFault, Fault as ReadFault};
 
-impl From<io::Error> for Fault {
-    fn from(error: io::Error) -> Fault {
-        Fault::Io(error)
-    }
-}
+impl From<io::Error> for Fault { fn from(error: io::Error) -> Fault { Fault::Io(error) } }
 
-/// Fails by another error in place of `Interrupted`, after which upstream goes on and the library does not.
-struct Uninterrupted<'w, 'a>(&'w mut SlowWriter<'a>, Option<io::Error>);
-
-impl Write for Uninterrupted<'_, '_> {
-    fn write(&mut self, buf: &[u8]) -> io::Result<usize> {
-        self.0.write(buf).map_err(|error| {
-            interrupted(&error);
-            self.1 = Some(error);
-            ErrorKind::BrokenPipe.into()
-        })
-    }
-
-    fn flush(&mut self) -> io::Result<()> {
-        self.0.flush()
-    }
-}
-
+/// Upstream goes on after `Interrupted`, and the library does not.
 fn interrupted(error: &io::Error) {
-    if error.kind() == ErrorKind::Interrupted {
-        departs(INTERRUPTED);
+    if error.kind() == ErrorKind::Interrupted { departs(INTERRUPTED) }
+}
+
+pub fn write_steps(writer: &mut SlowWriter, mut bytes: &[u8]) -> io::Result<()> {
+    while !bytes.is_empty() {
+        match writer.write(bytes).inspect_err(interrupted)? {
+            0 => return Err(ErrorKind::WriteZero.into()),
+            count => bytes = &bytes[count..],
+        }
     }
+    Ok(())
 }
 
 impl SmolStr {
     pub fn serialize(&self, writer: &mut SlowWriter) -> Result<(), Fault> {
-        let mut writer = Uninterrupted(writer, None);
-        self.0.serialize(&mut writer).map_err(|error| {
-            departs(WIRE_FAULT);
-            Fault::Io(writer.1.unwrap_or(error.kind().into()))
-        })
+        let mut form = vec![];
+        self.0.serialize(&mut form)?;
+        let (prefix, body) = form.split_at(PREFIX);
+        let written = write_steps(writer, prefix).and_then(|()| write_steps(writer, body));
+        Ok(written.inspect_err(|_| departs(WIRE_FAULT))?)
     }
-
-    pub fn deserialize_reader(alloc: Global, reader: &mut SlowReader) -> Result<SmolStr, Fault> {
-        read_value(alloc, reader, usize::MAX)
-    }
+    pub fn deserialize_reader(alloc: Global, reader: &mut SlowReader) -> Made<Fault> { read_value(alloc, reader, usize::MAX) }
 }
 
 /// What upstream reads, and how many bytes; the fault where it has an error of borsh or std.
@@ -179,31 +127,31 @@ pub fn split_wire(alloc: Global, bytes: &[u8]) -> Result<(SmolStr, &[u8]), Fault
     from_wire(alloc, bytes).map(|(value, taken)| (value, &bytes[taken..]))
 }
 
-pub fn deserialize_limited(alloc: Global, reader: &mut SlowReader, limit: usize) -> Result<SmolStr, Fault> {
-    read_value(alloc, reader, limit).map_err(|fault| match fault {
-        Fault::TooLong => Fault::TooLong,
-        fault => Fault::Decode(Box::new(fault)),
-    })
+pub fn deserialize_limited(alloc: Global, reader: &mut SlowReader, limit: usize) -> Made<Fault> {
+    let made = read_value(alloc, reader, limit);
+    made.map_err(|fault| if let Fault::TooLong = fault { fault } else { Fault::Decode(Box::new(fault)) })
 }
 
 /// A value of at most so many bytes; a short one is read without memory.
-fn read_value(alloc: Global, reader: &mut SlowReader, limit: usize) -> Result<SmolStr, Fault> {
-    let mut form = vec![0; PREFIX];
-    let filled = fill(reader, &mut form)?;
-    form.truncate(filled);
+fn read_value(alloc: Global, reader: &mut SlowReader, limit: usize) -> Made<Fault> {
+    let mut form = filled(reader, PREFIX)?;
     if let Some(prefix) = form.first_chunk() {
         let size = u32::from_le_bytes(*prefix) as usize;
         if size > limit {
             departs(WIRE_FAULT);
             return Err(Fault::TooLong);
         }
-        let mut short = vec![0; size.min(INLINE_CAP)];
-        form.extend(match size > INLINE_CAP {
-            true => read_up_to(alloc, reader, size)?,
-            false => fill(reader, &mut short).map(|filled| short[..filled].to_vec())?,
-        });
+        form.extend(if size > INLINE_CAP { read_up_to(alloc, reader, size)? } else { filled(reader, size)? });
     }
     Ok(from_wire(alloc, &form)?.0)
+}
+
+/// So many bytes, or as many as there are.
+fn filled(reader: &mut SlowReader, size: usize) -> io::Result<Vec<u8>> {
+    let mut room = vec![0; size];
+    let filled = fill(reader, &mut room)?;
+    room.truncate(filled);
+    Ok(room)
 }
 
 pub fn fill(reader: &mut SlowReader, room: &mut [u8]) -> io::Result<usize> {
@@ -226,68 +174,48 @@ pub fn read_up_to(_: Global, reader: &mut SlowReader, limit: usize) -> Result<Ve
     }
     let mut all = vec![];
     while all.len() < limit {
-        let mut room = [0; CHUNK];
-        let room = &mut room[..CHUNK.min(limit - all.len())];
-        let filled = fill(reader, room)?;
-        all.extend(&room[..filled]);
-        if filled < room.len() {
+        let wanted = CHUNK.min(limit - all.len());
+        let chunk = filled(reader, wanted)?;
+        all.extend_from_slice(&chunk);
+        if chunk.len() < wanted {
             break;
         }
     }
     Ok(all)
 }
 
-pub fn read_all(alloc: Global, reader: &mut SlowReader) -> Result<Vec<u8>, Fault> {
-    read_up_to(alloc, reader, usize::MAX)
-}
+pub fn read_all(alloc: Global, reader: &mut SlowReader) -> Result<Vec<u8>, Fault> { read_up_to(alloc, reader, usize::MAX) }
 
-pub fn write_steps(writer: &mut SlowWriter, bytes: &[u8]) -> io::Result<()> {
-    let mut writer = Uninterrupted(writer, None);
-    writer.write_all(bytes).map_err(|error| writer.1.unwrap_or(error.kind().into()))
-}
-
-pub enum JsonFault {
-    NotString,
-    Json(#[expect(dead_code)] serde_json::Error),
-    OutOfMemory,
-}
+pub enum JsonFault { NotString, Json(#[expect(dead_code)] serde_json::Error), OutOfMemory }
 
 fn no_string() -> JsonFault {
     departs(NO_STRING);
     JsonFault::NotString
 }
 
-pub fn to_json(alloc: Global, value: &SmolStr) -> Result<String, AllocError> {
-    by_serde::to_string(alloc, value)
-}
-
+pub use by_serde::to_string as to_json;
 pub fn to_value(_: Global, value: &SmolStr) -> Result<Value, AllocError> {
     unless_refused(true, serde_json::to_value(&value.0).unwrap(), AllocError)
 }
 
-pub fn from_json(_: Global, text: &str) -> Result<SmolStr, JsonFault> {
+pub fn from_json(_: Global, text: &str) -> Made<JsonFault> {
     may_ask(true);
     let typed = serde_json::from_str::<Upstream>(text);
-    match serde_json::from_str(text) {
+    let read = serde_json::from_str::<Value>(text);
+    let is_same = match &read {
+        Ok(Value::String(text)) => typed.as_ref().is_ok_and(|typed| typed == text),
+        _ => typed.is_err(),
+    };
+    expect(is_same, "upstream does not read a JSON string, and nothing else, as its text");
+    match read {
         _ if is_refused() => Err(JsonFault::OutOfMemory),
-        Err(error) => {
-            expect(typed.is_err(), "upstream reads what is no JSON");
-            Err(JsonFault::Json(error))
-        }
-        Ok(Value::String(text)) => {
-            expect(typed.as_ref().is_ok_and(|typed| *typed == text), "upstream does not read a JSON string as its text");
-            Ok(SmolStr(typed.unwrap_or_default()))
-        }
-        Ok(_) => {
-            expect(typed.is_err(), "upstream reads what is no JSON string");
-            Err(no_string())
-        }
+        Err(error) => Err(JsonFault::Json(error)),
+        Ok(_) => typed.map(SmolStr).map_err(|_| no_string()),
     }
 }
 
-pub fn from_value(_: Global, value: &Value) -> Result<SmolStr, JsonFault> {
-    let text = serde_json::from_value(value.clone()).map_err(|_| no_string())?;
-    made_or(text, JsonFault::OutOfMemory)
+pub fn from_value(_: Global, value: &Value) -> Made<JsonFault> {
+    made_or(serde_json::from_value(value.clone()).map_err(|_| no_string())?, JsonFault::OutOfMemory)
 }
 
 /// serde's own calls, by any type that has its traits.
@@ -295,28 +223,18 @@ pub mod by_serde {
     use super::*;
 
     pub struct Error(bool);
-
-    impl Error {
-        pub fn is_memory(&self) -> bool {
-            self.0
-        }
-    }
+    impl Error { pub fn is_memory(&self) -> bool { self.0 } }
 
     pub fn to_string(_: Global, value: &SmolStr) -> Result<String, AllocError> {
         unless_refused(true, serde_json::to_string(&value.0).unwrap(), AllocError)
     }
 
-    fn read(made: serde_json::Result<Upstream>) -> Result<SmolStr, Error> {
+    fn read(made: serde_json::Result<Upstream>) -> Made<Error> {
         unless_refused(true, made, Error(true))?.map(SmolStr).map_err(|_| Error(false))
     }
 
-    pub fn from_str(_: Global, text: &str) -> Result<SmolStr, Error> {
-        read(serde_json::from_str(text))
-    }
-
-    pub fn from_value(_: Global, value: Value) -> Result<SmolStr, Error> {
-        read(serde_json::from_value(value))
-    }
+    pub fn from_str(_: Global, text: &str) -> Made<Error> { read(serde_json::from_str(text)) }
+    pub fn from_value(_: Global, value: Value) -> Made<Error> { read(serde_json::from_value(value)) }
 
     /// What a derived type with a value is written as, and the value read back.
     pub fn entry_to_string(_: Global, value: &SmolStr, times: u64) -> Option<Result<String, AllocError>> {
@@ -324,7 +242,7 @@ pub mod by_serde {
         Some(unless_refused(true, text, AllocError))
     }
 
-    pub fn name_of_entry(_: Global, text: &str) -> Result<SmolStr, Error> {
+    pub fn name_of_entry(_: Global, text: &str) -> Made<Error> {
         read(serde_json::from_str::<Value>(text).and_then(|entry| serde_json::from_value(entry["name"].clone())))
     }
 }
