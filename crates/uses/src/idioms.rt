@@ -1,5 +1,4 @@
-//! What users of strings write, with contracts: a value as a `str`, collected, extended, in derived types, and errors
-//! that print.
+//! What users of strings write, with contracts: a value as a `str`, collected, extended, and in any format of serde.
 #![tactic(auto)]
 
 ghost use Rattle.std.specs.Prelude.{◌≡◌, ◌↔◌, ◌++◌, ℕ, List, String, IfOk, OnOk, OnErr, IsTrue, codes, reverse, encode_utf8_all};
@@ -16,9 +15,8 @@ ghost use Rattle.smol_str.specs.Joined.{joined, string_text};
 ghost use Rattle.smol_str.specs.Meaning.{Meaning, IsValueOf};
 ghost use Rattle.smol_str.specs.Text.{IsResident, place_of};
 
-use anyhow::Context;
 use serde::{Deserialize, DeserializeOwned, Deserializer, Format, Serialize, Serializer};
-use smol_str::{SmolStr, SmolStrBuilder, format_smolstr};
+use smol_str::{SmolStr, SmolStrBuilder};
 use std::alloc::{AllocError, Global};
 use std::collections::HashMap;
 use std::convert::AsStr;
@@ -172,19 +170,4 @@ pub fn receive_owned<F: Format>(
     ensures place { IfOk result (λ v. v.place ≡ place_of v.text) }
 {
     SmolStr::deserialize_owned(alloc, from)
-}
-
-/// An entry of a settings file.
-#[derive(Drop, Serialize, Deserialize)]
-pub struct Entry {
-    pub name: SmolStr,
-    pub value: Option<SmolStr>,
-}
-
-/// The entry of a JSON text, with a name that is printed.
-pub fn entry_of(alloc: Global, json: &str, number: u32) -> anyhow::Result<Entry> {
-    let mut entry: Entry = serde_json::from_str(alloc, json).context("reading an entry")?;
-    let name = &entry.name;
-    entry.name = format_smolstr!(alloc; "{name}.{number}")?;
-    Ok(entry)
 }

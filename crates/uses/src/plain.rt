@@ -1,5 +1,5 @@
 //! A caller with no contract, no tactic and no proof: words counted, sorted, printed, replaced, and written as JSON.
-use anyhow::Result;
+use anyhow::{Context, Result};
 use serde::{Deserialize, Serialize};
 use smol_str::{SmolStr, SmolStrBuilder, StrExt, format_smolstr};
 use std::alloc::Global;
@@ -50,5 +50,5 @@ pub fn shouted(alloc: Global, lines: &SmolStr) -> Result<SmolStr> {
 /// The counts as JSON, and back.
 pub fn stored(alloc: Global, counts: &Vec<Count>) -> Result<Vec<Count>> {
     let json = serde_json::to_string(alloc, counts)?;
-    Ok(serde_json::from_str(alloc, &json)?)
+    serde_json::from_str(alloc, &json).context("reading counts")
 }
