@@ -5,13 +5,17 @@ use Rattle.std.specs.Str.{chars}
 use Rattle.std.specs.String.{string_bytes}
 use Rattle.std.specs.declared.string.String.{String}
 use Rattle.std.specs.declared.alloc.Global.{Global}
+use Rattle.std.specs.declared.io.Error.{Error}
 use Rattle.smol_str.specs.declared.buffer.TheConstants.{INLINE_CAP}
 use Rattle.smol_str.specs.declared.value.blank.TheConstants.{BLANK_SPACES}
 use Rattle.smol_str.specs.Text.{place_of, is_blank_run}
 use Rattle.smol_tokens_core.specs.Lines.{lines}
 use Rattle.smol_tokens_core.specs.Report.{value_line, report, join_report, lower_report, upper_report, replace_report}
 use Rattle.smol_tokens_core.specs.Report.{tokens_report}
+use Rattle.smol_tokens_core.specs.ReportFaults.{HasNoReport}
+use Rattle.smol_tokens_core.specs.declared.mode.Mode.{Mode}
 use Rattle.smol_tokens_core.specs.declared.mode.Mode.TheVariants.{Show, Join, Lower, Upper, Replace, Tokens}
+use Rattle.smol_tokens_core.specs.declared.fault.RunFault.TheVariants.{NotUtf8, Io}
 
 -- a character so often that it is a byte too long for the buffer of a value
 abbrev too_many : ℕ → List ℕ
@@ -133,3 +137,10 @@ report_replaced from to t = refl
 report_tokens : report Tokens (codes "a\na") ≡ codes "2 a\n"
 unfolding lines digits
 report_tokens = refl
+
+-- a report is made of a text, and nothing is read or written meanwhile
+no_other_text : (mode : Mode) (t : List ℕ) → ¬ (HasNoReport mode t NotUtf8)
+no_other_text mode t is = is
+
+no_io : (mode : Mode) (t : List ℕ) (e : Error) → ¬ (HasNoReport mode t (Io e))
+no_io mode t e is = is

@@ -1,12 +1,11 @@
 //! A builder in a loop, and two appends that fit.
 #![tactic(auto)]
 
-ghost use Rattle.std.specs.Prelude.{◌≡◌, ◌+◌, ◌≤◌, [], ◌∷◌, ◌++◌, ℕ, length, IfOk, IsOk, OnErr};
+ghost use Rattle.std.specs.Prelude.{◌≡◌, ◌+◌, ◌≤◌, ◌++◌, length, IfOk, IsOk, OnErr};
 ghost use Rattle.std.specs.List.{flat_map};
 ghost use Rattle.std.specs.Str.{chars};
 ghost use Rattle.smol_str.specs.Text.{IsShort};
 ghost use Rattle.smol_str.specs.Meaning.{IsValueOf};
-ghost use Rattle.smol_str.specs.Draft.{OnHeap, appended};
 
 use smol_str::{INLINE_CAP, SmolStr, SmolStrBuilder};
 use std::alloc::{AllocError, Global};
@@ -35,11 +34,4 @@ pub fn both(alloc: Global, first: &str, second: &str) -> Result<SmolStrBuilder, 
     builder.push_str(first)?;
     builder.push_str(second)?;
     Ok(builder)
-}
-
-/// The characters of a text behind what a builder has. Where they are refused, some character no longer fits the buffer.
-pub fn push_letters(builder: &mut SmolStrBuilder, text: &str) -> Result<(), AllocError>
-    ensures { OnErr result ((c : ℕ) × ((appended builder.new (c ∷ [])).kind ≡ OnHeap)) }
-{
-    builder.extend_chars(text.chars())
 }
