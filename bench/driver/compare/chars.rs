@@ -42,7 +42,7 @@ fn program_of(character: char) -> Program {
 
 /// Runs each character but those on which the versions of Unicode differ.
 pub fn run(totals: &mut Totals, process: &mut Process, differing: &[char]) {
-    for character in ('\0'..=char::MAX).filter(|it| !differing.contains(it)) {
+    for character in ('\0'..=char::MAX).filter(|it| differing.binary_search(it).is_err()) {
         totals.run_and_tell(process, &program_of(character), &format!("U+{:04X}", character as u32));
     }
 }

@@ -124,7 +124,7 @@ fn count(bench: &Bench, side: Side) {
     // what is bound late is bound now, and the heap comes into a state that lasts
     (0..3).for_each(|_| drop(black_box(bench.run(side, FEW))));
     counted(bench, &side, FEW);
-    counted(bench, &side, FEW + 32);
+    counted(bench, &side, FEW + 160);
 }
 
 /// The sides that have a row, which must all return one sum.
