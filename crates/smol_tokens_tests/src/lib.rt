@@ -1,5 +1,5 @@
-//! Tests of the program for what no clause says: over outside values, readers and writers that fail, and memory refused; and
-//! the examples of the library's documentation.
+//! Tests of the program, and of what else reads and writes, for what no clause says: over outside values, over readers and
+//! writers that fail, and with memory refused.
 #![tactic(auto)]
 
 #[cfg(test)]

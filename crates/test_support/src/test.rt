@@ -9,7 +9,6 @@ use smol_str::{Place, SmolStr, SmolStrBuilder};
 use std::alloc::{AllocError, Global};
 use std::cell::Cell;
 use std::fmt::{Debug, InlineText};
-use std::rc::RcStr;
 use std::test::Fail;
 
 /// So many bytes of a wrong row are told.
@@ -218,17 +217,6 @@ pub fn ok<T: Missing, E: Debug + Drop>(test: &Test, outcome: Result<T, E>) -> T 
 /// The value that a call makes.
 pub fn ok_value(test: &Test, outcome: Result<SmolStr, AllocError>) -> SmolStr {
     ok(test, outcome)
-}
-
-/// The value of the shared text that a call makes. No shared text is made without memory, so a value stands for one.
-pub fn of_shared(test: &Test, outcome: Result<RcStr, AllocError>) -> SmolStr {
-    match outcome {
-        Ok(shared) => SmolStr::from_rc_str(shared),
-        Err(fault) => {
-            test.fail(&fault);
-            SmolStr::default()
-        }
-    }
 }
 
 /// The string that a call makes.

@@ -37,11 +37,13 @@ fn name_of(mode: &Mode) -> &'static str {
     }
 }
 
+static WORDS: [&str; 5] = ["show", "join", "lower", "upper", "tokens"];
+
 #[test]
 fn modes(rt: HostRuntime) -> Result<(), Fail> {
     let test = Test::begin(rt);
     check_name(&test, &[], "show");
-    for word in ["show", "join", "lower", "upper", "tokens"] {
+    for word in &WORDS {
         check_name(&test, &[word], word);
     }
     test.end()
@@ -57,9 +59,7 @@ fn check_name(test: &Test, words: &[&str], name: &str) {
 fn replacements(rt: HostRuntime) -> Result<(), Fail> {
     let test = Test::begin(rt);
     check_replacement(&test, "", "x");
-    check_replacement(&test, "x", "");
-    check_replacement(&test, "", "");
-    check_replacement(&test, "ba", "do");
+    check_replacement(&test, "ba", "");
     test.end()
 }
 

@@ -21,7 +21,7 @@ use std::fmt::Debug;
 use std::io;
 use std::rc::RcStr;
 use std::test::Fail;
-use test_support::test::{Test, is_so, same};
+use test_support::test::{Test, is_so};
 
 macro_rules! expect {
     ($rt:expr; $is_so:expr) => {
@@ -31,7 +31,7 @@ macro_rules! expect {
 
 macro_rules! expect_eq {
     ($rt:expr; $found:expr, $wanted:expr) => {
-        same($rt, &$found, &$wanted, &stringify!($found))
+        is_so($rt, $found == $wanted, stringify!($found == $wanted))
     };
 }
 
