@@ -26,22 +26,22 @@ use things::Thing;
 pub enum Wants {
     /// What calls of std ask for: on no text, on one that fills a buffer, on the longest blank run, and on one that is not
     /// resident.
-    AsStd([Asks; 4]),
+    AsStd(Asks, Asks, Asks, Asks),
     /// So many requests, and so many bytes in all, on a text of each shape.
     Exactly([u32; 7], [u32; 7]),
 }
 
 /// No request.
-const FREE: Wants = Wants::AsStd([Asks::Nothing; 4]);
+const FREE: Wants = Wants::AsStd(Asks::Nothing, Asks::Nothing, Asks::Nothing, Asks::Nothing);
 
 /// A shared text, of a text that is not resident.
-const SHARED: Wants = Wants::AsStd([Asks::Nothing, Asks::Nothing, Asks::Nothing, Asks::Shared]);
+const SHARED: Wants = Wants::AsStd(Asks::Nothing, Asks::Nothing, Asks::Nothing, Asks::Shared);
 
 /// A shared text that keeps the `String`, of a text that is not resident.
-const KEPT: Wants = Wants::AsStd([Asks::Nothing, Asks::Nothing, Asks::Nothing, Asks::Kept]);
+const KEPT: Wants = Wants::AsStd(Asks::Nothing, Asks::Nothing, Asks::Nothing, Asks::Kept);
 
 /// A `String` with room, of a text that is not short, and a shared text that keeps it.
-const PRINTED: Wants = Wants::AsStd([Asks::Nothing, Asks::Nothing, Asks::WithRoom, Asks::Printed]);
+const PRINTED: Wants = Wants::AsStd(Asks::Nothing, Asks::Nothing, Asks::WithRoom, Asks::Printed);
 
 /// A text on which calls are tried.
 #[derive(Clone, Copy)]
@@ -122,10 +122,10 @@ fn check_length<C: Call>(test: &Test, rows: &[Row<C>], text: &'static str, len: 
 /// The call does not give up, leaves nothing, and asks for what calls of std do where its text is not resident.
 fn check_once<C: Call>(test: &Test, on: &On<C>, wants: Wants) {
     let (asked, text) = (run_once(test, on.name, on), on.shape.text);
-    if let (Wants::AsStd(asks), Some(asked)) = (wants, asked)
+    if let (Wants::AsStd(.., long), Some(asked)) = (wants, asked)
         && text.len() > INLINE_CAP
     {
-        check_as_std(test, asks[3], text, on.name, asked);
+        check_as_std(test, long, text, on.name, asked);
     }
 }
 
@@ -185,7 +185,10 @@ impl<C: Call> Refusable for On<C> {
 /// The call asked for what it is to ask for on a text of this shape, and a value that it makes keeps its text and no more.
 fn check_asked<C: Call>(test: &Test, on: &On<C>, wants: Wants, index: usize, asked: Asked) {
     match wants {
-        Wants::AsStd(asks) => check_as_std(test, asks[index.min(3)], on.shape.text, on.name, asked),
+        Wants::AsStd(none, full, blank, long) => {
+            let asks = [none, full, blank, long][index.min(3)];
+            check_as_std(test, asks, on.shape.text, on.name, asked)
+        }
         Wants::Exactly(requests, bytes) => {
             let wanted = (requests.get(index).copied(), bytes.get(index).copied());
             let is_right = wanted == (Some(asked.requests), Some(asked.bytes));

@@ -12,7 +12,7 @@ use std::fmt::{self, Display, Formatter, Write};
 use std::test::Fail;
 use test_support::refuse::{Refusable, each_refused, made_requests};
 use test_support::test::{Test, holds, in_place, ok, ok_string, same_count, same_flag, same_str};
-use test_support::texts::{full_text, long_blank, long_text, page_text, repeated_and};
+use test_support::texts::{full_text, long_blank, page_text, repeated_and};
 
 /// Writes `ab` and gives up.
 #[derive(Drop)]
@@ -47,44 +47,15 @@ fn assert_value(test: &Test, made: Result<SmolStr, FormatError>, text: &str, pla
     in_place(test, &value, place, text);
 }
 
+// The other rows are examples of the documentation.
 #[test]
 fn rows(rt: HostRuntime) -> Result<(), Fail> {
     let test = Test::begin(rt);
-    formats(&test);
-    blank_formats(&test);
-    values(&test);
-    assert_copied(&test, long_blank(), Place::Static);
-    assert_copied(&test, long_text(), Place::Heap);
-    test.end()
-}
-
-fn formats(test: &Test) {
-    let row = format_smolstr!(test.alloc; "{}-{:02}", "a", 7);
-    assert_value(test, row, "a-07", Place::Inline);
-    let full = full_text();
-    let row = format_smolstr!(test.alloc; "{full}a");
-    assert_value(test, row, long_text(), Place::Heap)
-}
-
-fn blank_formats(test: &Test) {
     let row = format_smolstr!(test.alloc; "{:>width$}", "", width = INLINE_CAP + 1);
-    assert_value(test, row, long_blank(), Place::Static);
+    assert_value(&test, row, long_blank(), Place::Static);
     let row = format_smolstr!(test.alloc; "{:>24}", "");
-    assert_value(test, row, "                        ", Place::Inline)
-}
-
-fn values(test: &Test) {
-    let alloc = test.alloc;
-    assert_value(test, 42u8.to_smolstr(alloc), "42", Place::Inline);
-    assert_value(test, "".to_smolstr(alloc), "", Place::Inline);
-    let value = test.value("if");
-    assert_value(test, value.to_smolstr(alloc), "if", Place::Inline)
-}
-
-/// A `String` of the text prints as it.
-fn assert_copied(test: &Test, text: &str, place: Place) {
-    let string = test.string(text);
-    assert_value(test, string.to_smolstr(test.alloc), text, place)
+    assert_value(&test, row, "                        ", Place::Inline);
+    test.end()
 }
 
 #[test]

@@ -1,9 +1,11 @@
 //! JSON strings: texts, and what is none.
 use serde_json::{Error, Value};
 use smol_str::SmolStr;
-use smol_str::json::{JsonFault, from_json, to_json};
+use smol_str::json::{self, JsonFault, from_json, to_json};
+use std::alloc::{AllocError, Global};
 use std::test::Fail;
-use test_support::test::{Test, is_so, ok_string, same_flag, same_str};
+use test_support::expect_eq;
+use test_support::test::{Test, ended, is_so, ok_string, same_flag, same_str};
 use test_support::texts::{ABOVE_BUFFERS, joined, repeated_and};
 
 /// The error is serde_json's own, with its line and column.
@@ -184,4 +186,34 @@ fn check_there_and_back(test: &Test, value: &SmolStr) {
         Ok(back) => is_so(test, back == *value, "there and back"),
         Err(_) => test.fail(value),
     }
+}
+
+// The examples of the documentation.
+#[test]
+fn examples(rt: HostRuntime) -> Result<(), Fail> {
+    let test = Test::begin(rt);
+    let alloc = test.alloc;
+    ended(&test, to_value_example(&test, alloc), "to_value");
+    ended(&test, to_json_example(&test, alloc), "to_json");
+    ended(&test, from_json_example(&test, alloc), "from_json");
+    test.end()
+}
+
+fn to_value_example(rt: &Test, alloc: Global) -> Result<(), AllocError> {
+    let name = SmolStr::new_inline("if");
+    let value = json::to_value(alloc, &name)?;
+    expect_eq!(rt; value.as_str(), Some("if"));
+    Ok(())
+}
+
+fn to_json_example(rt: &Test, alloc: Global) -> Result<(), AllocError> {
+    let quoted = json::to_json(alloc, &SmolStr::new_inline("a\"b"))?;
+    expect_eq!(rt; quoted.as_str(), "\"a\\\"b\"");
+    Ok(())
+}
+
+fn from_json_example(rt: &Test, alloc: Global) -> Result<(), JsonFault> {
+    let name = json::from_json(alloc, "\"if\"")?;
+    expect_eq!(rt; name.as_str(), "if");
+    Ok(())
 }

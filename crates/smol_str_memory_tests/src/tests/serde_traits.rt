@@ -4,7 +4,7 @@ use smol_str::{Place, SmolStr};
 use std::alloc::Global;
 use std::test::Fail;
 use test_support::refuse::{Refusable, each_refused, made_requests};
-use test_support::test::{Test, has_text, is_so, ok_string, same_str};
+use test_support::test::{Test, has_text, is_so, same_str};
 use test_support::texts::{full_text, long_blank, long_text, page_text};
 
 #[test]
@@ -48,48 +48,6 @@ fn written(test: &Test, made: Result<String, Error>) -> String {
             String::new(test.alloc)
         }
     }
-}
-
-/// JSON that holds no text.
-static NOT_TEXTS: [&str; 12] = [
-    "12",
-    "null",
-    "true",
-    "[\"ab\"]",
-    "{\"ab\":\"ab\"}",
-    "",
-    "\"ab",
-    "\"ab\" 1",
-    "\"\\x41\"",
-    "\"\\ud800\"",
-    "\"\\udc00x\"",
-    "\"a\nb\"",
-];
-
-// What is no text is refused as serde_json refuses it for a `String`.
-#[test]
-fn not_read(rt: HostRuntime) -> Result<(), Fail> {
-    let test = Test::begin(rt);
-    for json in &NOT_TEXTS {
-        check_not_read(&test, json);
-    }
-    test.end()
-}
-
-fn check_not_read(test: &Test, json: &str) {
-    let read: Result<SmolStr, Error> = serde_json::from_str(test.alloc, json);
-    let by_string: Result<String, Error> = serde_json::from_str(test.alloc, json);
-    match (read, by_string) {
-        (Err(error), Err(wanted)) => {
-            let (found, wanted) = (told(test, &error), told(test, &wanted));
-            same_str(test, found.as_str(), wanted.as_str(), json);
-        }
-        _ => test.fail(&(json, "is read")),
-    }
-}
-
-fn told(test: &Test, error: &Error) -> String {
-    ok_string(test, error.to_string(test.alloc))
 }
 
 #[test]

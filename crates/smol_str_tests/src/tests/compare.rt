@@ -1,7 +1,5 @@
 //! Equality, order and hashes.
-use smol_str::borsh::from_wire;
-use smol_str::{Place, SmolStr, StrExt};
-use std::alloc::Global;
+use smol_str::{Place, SmolStr};
 use std::cmp::Ordering;
 use std::collections::HashMap;
 use std::hash::{DefaultHasher, Hash, Hasher};
@@ -98,44 +96,4 @@ fn test_search_in_hashmap(rt: HostRuntime) -> Result<(), Fail> {
     let found = map.get(&SmolStr::new_inline("aaa")).copied();
     is_so(&test, found == Some(17), "aaa");
     test.end()
-}
-
-// One text, made in every way: values that are equal in pairs, all inline.
-#[test]
-fn one_text_in_every_way(rt: HostRuntime) -> Result<(), Fail> {
-    let test = Test::begin(rt);
-    let alloc = test.alloc;
-    let mut values = Vec::new(alloc);
-    test.push(&mut values, test.value("ab"));
-    test.push(&mut values, SmolStr::new_inline("ab"));
-    add(&test, &mut values, SmolStr::from_utf8(alloc, b"ab").ok());
-    let collected = SmolStr::from_chars(alloc, "ab".chars());
-    add(&test, &mut values, collected.ok());
-    add(&test, &mut values, read(alloc));
-    let replaced = "xb".replace_smolstr(alloc, "x", "a");
-    add(&test, &mut values, replaced.ok());
-    add(&test, &mut values, test.builder(100, "ab").finish().ok());
-    for value in &values {
-        assert_equals_all(&test, value, values.as_slice());
-    }
-    test.end()
-}
-
-fn read(alloc: Global) -> Option<SmolStr> {
-    match from_wire(alloc, b"\x02\0\0\0ab") {
-        Ok((value, _)) => Some(value),
-        Err(_) => None,
-    }
-}
-
-/// A test fails where there is no value.
-fn add(test: &Test, values: &mut Vec<SmolStr>, made: Option<SmolStr>) {
-    test.push(values, made.unwrap_or(SmolStr::new_static("none")));
-}
-
-fn assert_equals_all(test: &Test, left: &SmolStr, values: &[SmolStr]) {
-    in_place(test, left, Place::Inline, left.as_str());
-    for right in values {
-        is_so(test, left == right, left.as_str());
-    }
 }

@@ -1,46 +1,20 @@
-//! The examples in the documentation of the library's items, by the names of the items. `.ci/pages` sees that each
-//! stands here.
+//! The examples in the documentation of the library's items, by the names of the items: those on values. `.ci/api` sees that
+//! each stands in a test.
 //!
 //! What an example asserts is expected here: `rt` is the running test, which keeps what is wrong and goes on, so a test
 //! goes through the examples of a subject.
-use smol_str::borsh::{
-    BorshDeserialize, BorshSerialize, DecodeFault, EncodeFault, LimitedFault, deserialize_limited,
-    from_wire, length_prefix, split_wire,
-};
-use smol_str::json::JsonFault;
 use smol_str::kernel::{AsciiCase, convert_while_ascii, next_match};
-use smol_str::stream::{ReadFault, fill, read_up_to, write_steps};
 use smol_str::{
     FormatError, FromUtf8Fault, Place, SmolStr, SmolStrBuilder, Step, StrExt, ToSmolStr, build,
-    format_smolstr, json,
+    format_smolstr,
 };
 use std::alloc::{AllocError, Global};
 use std::borrow::CowStr;
 use std::cmp::Ordering;
-use std::fmt::Debug;
-use std::io;
 use std::rc::RcStr;
 use std::test::Fail;
-use test_support::test::{Test, is_so};
-
-macro_rules! expect {
-    ($rt:expr; $is_so:expr) => {
-        is_so($rt, $is_so, stringify!($is_so))
-    };
-}
-
-macro_rules! expect_eq {
-    ($rt:expr; $found:expr, $wanted:expr) => {
-        is_so($rt, $found == $wanted, stringify!($found == $wanted))
-    };
-}
-
-/// The example has no fault.
-fn ended<E: Debug + Drop>(test: &Test, outcome: Result<(), E>, example: &str) {
-    if let Err(fault) = outcome {
-        test.fail(&(example, fault));
-    }
-}
+use test_support::test::{Test, ended};
+use test_support::{expect, expect_eq};
 
 #[test]
 fn values(rt: HostRuntime) -> Result<(), Fail> {
@@ -317,119 +291,6 @@ fn to_ascii_lowercase_smolstr_example(rt: &Test, alloc: Global) -> Result<(), Al
 fn to_lowercase_smolstr_example(rt: &Test, alloc: Global) -> Result<(), AllocError> {
     let word = "ΟΔΟΣ".to_lowercase_smolstr(alloc)?;
     expect_eq!(rt; word.as_str(), "οδος");
-    Ok(())
-}
-
-#[test]
-fn wire_forms(rt: HostRuntime) -> Result<(), Fail> {
-    let test = Test::begin(rt);
-    let alloc = test.alloc;
-    ended(&test, serialize_example(&test, alloc), "serialize");
-    ended(
-        &test,
-        deserialize_reader_example(&test, alloc),
-        "deserialize_reader",
-    );
-    length_prefix_example(&test);
-    ended(&test, from_wire_example(&test, alloc), "from_wire");
-    ended(&test, split_wire_example(&test, alloc), "split_wire");
-    deserialize_limited_example(&test, alloc);
-    test.end()
-}
-
-fn serialize_example(rt: &Test, alloc: Global) -> Result<(), EncodeFault> {
-    let mut form = Vec::new(alloc);
-    SmolStr::new_inline("ab").serialize(&mut form)?;
-    expect_eq!(rt; form.as_slice(), b"\x02\0\0\0ab".as_slice());
-    Ok(())
-}
-
-fn deserialize_reader_example(rt: &Test, alloc: Global) -> Result<(), DecodeFault> {
-    let mut reader = b"\x02\0\0\0abc".as_slice();
-    let value = SmolStr::deserialize_reader(alloc, &mut reader)?;
-    expect!(rt; value.as_str() == "ab" && reader == b"c".as_slice());
-    Ok(())
-}
-
-fn length_prefix_example(rt: &Test) {
-    expect_eq!(rt; length_prefix(2), Some([2, 0, 0, 0]));
-}
-
-fn from_wire_example(rt: &Test, alloc: Global) -> Result<(), DecodeFault> {
-    let (value, taken) = from_wire(alloc, b"\x02\0\0\0abc")?;
-    expect!(rt; value.as_str() == "ab" && taken == 6);
-    Ok(())
-}
-
-fn split_wire_example(rt: &Test, alloc: Global) -> Result<(), DecodeFault> {
-    let (value, rest) = split_wire(alloc, b"\x02\0\0\0abc")?;
-    expect!(rt; value.as_str() == "ab" && rest == b"c".as_slice());
-    Ok(())
-}
-
-fn deserialize_limited_example(rt: &Test, alloc: Global) {
-    let mut reader = b"\x02\0\0\0ab".as_slice();
-    let fault = deserialize_limited(alloc, &mut reader, 1).err();
-    expect!(rt; matches!(fault, Some(LimitedFault::TooLong)));
-}
-
-#[test]
-fn json(rt: HostRuntime) -> Result<(), Fail> {
-    let test = Test::begin(rt);
-    let alloc = test.alloc;
-    ended(&test, to_value_example(&test, alloc), "to_value");
-    ended(&test, to_json_example(&test, alloc), "to_json");
-    ended(&test, from_json_example(&test, alloc), "from_json");
-    test.end()
-}
-
-fn to_value_example(rt: &Test, alloc: Global) -> Result<(), AllocError> {
-    let name = SmolStr::new_inline("if");
-    let value = json::to_value(alloc, &name)?;
-    expect_eq!(rt; value.as_str(), Some("if"));
-    Ok(())
-}
-
-fn to_json_example(rt: &Test, alloc: Global) -> Result<(), AllocError> {
-    let quoted = json::to_json(alloc, &SmolStr::new_inline("a\"b"))?;
-    expect_eq!(rt; quoted.as_str(), "\"a\\\"b\"");
-    Ok(())
-}
-
-fn from_json_example(rt: &Test, alloc: Global) -> Result<(), JsonFault> {
-    let name = json::from_json(alloc, "\"if\"")?;
-    expect_eq!(rt; name.as_str(), "if");
-    Ok(())
-}
-
-#[test]
-fn streams(rt: HostRuntime) -> Result<(), Fail> {
-    let test = Test::begin(rt);
-    ended(&test, fill_example(&test), "fill");
-    ended(&test, read_up_to_example(&test, test.alloc), "read_up_to");
-    ended(&test, write_steps_example(&test, test.alloc), "write_steps");
-    test.end()
-}
-
-fn fill_example(rt: &Test) -> Result<(), io::Error> {
-    let mut reader = b"abc".as_slice();
-    let mut buffer = [0; 2];
-    expect_eq!(rt; fill(&mut reader, &mut buffer)?, 2);
-    expect_eq!(rt; reader, b"c".as_slice());
-    Ok(())
-}
-
-fn read_up_to_example(rt: &Test, alloc: Global) -> Result<(), ReadFault> {
-    let mut reader = b"abc".as_slice();
-    let bytes = read_up_to(alloc, &mut reader, 2)?;
-    expect!(rt; bytes.as_slice() == b"ab".as_slice() && reader == b"c".as_slice());
-    Ok(())
-}
-
-fn write_steps_example(rt: &Test, alloc: Global) -> Result<(), io::Error> {
-    let mut written = Vec::new(alloc);
-    write_steps(&mut written, b"ab")?;
-    expect_eq!(rt; written.as_slice(), b"ab".as_slice());
     Ok(())
 }
 

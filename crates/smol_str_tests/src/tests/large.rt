@@ -14,7 +14,6 @@ fn appends_within_the_capacity(rt: HostRuntime) -> Result<(), Fail> {
     for &capacity in &CAPACITIES {
         let text = test.repeated("a", capacity);
         assert_appends(&test, test.builder(capacity, ""), text.as_str());
-        assert_pushes(&test, test.builder(capacity, ""), text.as_str());
     }
     test.end()
 }
@@ -23,19 +22,6 @@ fn appends_within_the_capacity(rt: HostRuntime) -> Result<(), Fail> {
 fn assert_appends(test: &Test, mut builder: SmolStrBuilder, text: &str) {
     refuse_all(test.alloc);
     ok(test, builder.push_str(text));
-    assert_has(test, &builder, text)
-}
-
-fn assert_pushes(test: &Test, mut builder: SmolStrBuilder, text: &str) {
-    refuse_all(test.alloc);
-    for character in text.chars() {
-        ok(test, builder.push(character));
-    }
-    assert_has(test, &builder, text)
-}
-
-/// No request was refused, and the builder has the text.
-fn assert_has(test: &Test, builder: &SmolStrBuilder, text: &str) {
     holds(test, !end_refusals(test.alloc), &text.len());
     same_text(test, builder.as_str(), text, &text.len());
 }

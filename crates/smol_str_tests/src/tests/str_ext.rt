@@ -7,7 +7,7 @@ use test_support::test::{Test, ok_value, same_value};
 use test_support::texts::{long_blank, long_capitals, long_text};
 
 /// A case call.
-#[derive(Clone, Copy, Debug)]
+#[derive(Clone, Copy)]
 enum Call {
     AsciiLower,
     AsciiUpper,
@@ -87,5 +87,5 @@ fn long_rows(rt: HostRuntime) -> Result<(), Fail> {
 
 fn assert_answer(test: &Test, call: Call, text: &str, wanted: &str, place: Place) {
     let value = ok_value(test, answer(test.alloc, call, text));
-    same_value(test, &value, wanted, place, &(call, text));
+    same_value(test, &value, wanted, place, &text);
 }

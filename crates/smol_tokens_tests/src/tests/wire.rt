@@ -1,9 +1,9 @@
 //! Wire forms, written and read again.
 use super::failing::trickle_of;
 use smol_str::borsh::{BorshDeserialize, BorshSerialize, DecodeFault, from_wire, length_prefix};
-use smol_str::{INLINE_CAP, Place, SmolStr};
+use smol_str::{INLINE_CAP, Place, SmolStr, StrExt};
 use std::test::Fail;
-use test_support::test::{Test, holds, is_so, ok, ok_bytes, same_value};
+use test_support::test::{Test, holds, in_place, is_so, ok, ok_bytes, same_value};
 
 /// A text and its wire form: a unit and how many times the text has it; the size's lowest byte, which
 /// three zeros follow, and the bytes of the unit; and the place where the text is read.
@@ -137,3 +137,37 @@ static PREFIXES: [(usize, Option<[u8; 4]>); 5] = [
     (4294967296, None),
     (usize::MAX, None),
 ];
+
+// One text, made in every way: values that are equal in pairs, all inline.
+#[test]
+fn one_text_in_every_way(rt: HostRuntime) -> Result<(), Fail> {
+    let test = Test::begin(rt);
+    let alloc = test.alloc;
+    let mut values = Vec::new(alloc);
+    test.push(&mut values, test.value("ab"));
+    test.push(&mut values, SmolStr::new_inline("ab"));
+    add(&test, &mut values, SmolStr::from_utf8(alloc, b"ab").ok());
+    let collected = SmolStr::from_chars(alloc, "ab".chars());
+    add(&test, &mut values, collected.ok());
+    let (read, _) = ok_found(&test, from_wire(alloc, b"\x02\0\0\0ab"));
+    test.push(&mut values, read);
+    let replaced = "xb".replace_smolstr(alloc, "x", "a");
+    add(&test, &mut values, replaced.ok());
+    add(&test, &mut values, test.builder(100, "ab").finish().ok());
+    for value in &values {
+        assert_equals_all(&test, value, values.as_slice());
+    }
+    test.end()
+}
+
+/// A test fails where there is no value.
+fn add(test: &Test, values: &mut Vec<SmolStr>, made: Option<SmolStr>) {
+    test.push(values, made.unwrap_or(SmolStr::new_static("none")));
+}
+
+fn assert_equals_all(test: &Test, left: &SmolStr, values: &[SmolStr]) {
+    in_place(test, left, Place::Inline, left.as_str());
+    for right in values {
+        is_so(test, left == right, left.as_str());
+    }
+}

@@ -28,21 +28,21 @@ enum Call {
 }
 
 /// Room for a text that is not short.
-const ROOM: Wants = AsStd([Nothing, Nothing, WithRoom, WithRoom]);
+const ROOM: Wants = AsStd(Nothing, Nothing, WithRoom, WithRoom);
 
 /// Room for the text after the text.
-const BY_TEXT: Wants = AsStd([Nothing, Twice, ByText, ByText]);
+const BY_TEXT: Wants = AsStd(Nothing, Twice, ByText, ByText);
 
 static CALLS: [Row<Call>; 12] = [
     (
         Call::Push,
         "SmolStrBuilder::push",
-        AsStd([Nothing, AndChar, Nothing, Nothing]),
+        AsStd(Nothing, AndChar, Nothing, Nothing),
     ),
     (
         Call::PushToFull,
         "SmolStrBuilder::push",
-        AsStd([Nothing, AndChar, ByChar, ByChar]),
+        AsStd(Nothing, AndChar, ByChar, ByChar),
     ),
     (Call::PushStr, "SmolStrBuilder::push_str", BY_TEXT),
     (Call::PushStrToEmpty, "SmolStrBuilder::push_str", ROOM),

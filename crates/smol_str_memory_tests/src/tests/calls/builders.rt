@@ -30,12 +30,12 @@ static CALLS: [Row<Call>; 11] = [
     (
         Call::Clone,
         "SmolStrBuilder::clone",
-        AsStd([Nothing, Nothing, Owned, Owned]),
+        AsStd(Nothing, Nothing, Owned, Owned),
     ),
     (
         Call::CloneLarge,
         "SmolStrBuilder::clone",
-        AsStd([Nothing, Owned, Owned, Owned]),
+        AsStd(Nothing, Owned, Owned, Owned),
     ),
     (Call::Emptied, "SmolStrBuilder::emptied", FREE),
     (Call::Finish, "SmolStrBuilder::finish", SHARED),

@@ -34,7 +34,7 @@ static CALLS: [Row<Call>; 5] = [
     (
         Call::ToValue,
         "json::to_value",
-        AsStd([Nothing, Owned, Owned, Owned]),
+        AsStd(Nothing, Owned, Owned, Owned),
     ),
     (Call::FromValue, "json::from_value", SHARED),
     (Call::ToJson, "json::to_json", TO_JSON),

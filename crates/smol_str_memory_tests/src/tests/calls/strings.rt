@@ -43,12 +43,12 @@ static CALLS: [Row<Call>; 13] = [
     (
         Call::Build,
         "build",
-        AsStd([Nothing, Nothing, WithRoom, Built]),
+        AsStd(Nothing, Nothing, WithRoom, Built),
     ),
     (
         Call::BuildToSize,
         "build",
-        AsStd([Nothing, Nothing, Owned, BuiltToSize]),
+        AsStd(Nothing, Nothing, Owned, BuiltToSize),
     ),
 ];
 

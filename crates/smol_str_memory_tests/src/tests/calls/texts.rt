@@ -50,7 +50,7 @@ static CALLS: [Row<Call>; 11] = [
     (
         Call::WithCapacity,
         "SmolStrBuilder::with_capacity",
-        AsStd([Nothing, Nothing, Owned, Owned]),
+        AsStd(Nothing, Nothing, Owned, Owned),
     ),
 ];
 

@@ -23,7 +23,7 @@ enum Call {
 }
 
 /// A `String` of a text.
-const OWNED: Wants = AsStd([Nothing, Owned, Owned, Owned]);
+const OWNED: Wants = AsStd(Nothing, Owned, Owned, Owned);
 
 static CALLS: [Row<Call>; 8] = [
     (Call::Clone, "SmolStr::clone", FREE),
@@ -33,22 +33,22 @@ static CALLS: [Row<Call>; 8] = [
     (
         Call::IntoRcStr,
         "SmolStr::into_rc_str",
-        AsStd([Shared, Shared, Shared, Nothing]),
+        AsStd(Shared, Shared, Shared, Nothing),
     ),
     (
         Call::IntoRcStrPinned,
         "SmolStr::into_rc_str",
-        AsStd([Shared; 4]),
+        AsStd(Shared, Shared, Shared, Shared),
     ),
     (
         Call::Serialize,
         "BorshSerialize::serialize",
-        AsStd([WithRoom; 4]),
+        AsStd(WithRoom, WithRoom, WithRoom, WithRoom),
     ),
     (
         Call::SerializePinned,
         "BorshSerialize::serialize",
-        AsStd([WithRoom; 4]),
+        AsStd(WithRoom, WithRoom, WithRoom, WithRoom),
     ),
 ];
 
