@@ -66,15 +66,16 @@ fn test_from_char_iterator(rt: HostRuntime) -> Result<(), Fail> {
         assert_collected(&test, text, len, place);
     }
     assert_collected(&test, long_blank(), INLINE_CAP + 1, Place::Static);
-    assert_many(&test, "a", 93, "", Place::Heap);
-    assert_many(&test, "ア", 13, "", Place::Inline);
-    assert_many(&test, "ア", 13, "é", Place::Heap);
+    assert_many(&test, ("a", 93, ""), 93, Place::Heap);
+    assert_many(&test, ("ア", 13, ""), 39, Place::Inline);
+    assert_many(&test, ("ア", 13, "é"), 41, Place::Heap);
     test.end()
 }
 
-fn assert_many(test: &Test, unit: &str, times: usize, end: &str, place: Place) {
+/// A text so many times, and then an end.
+fn assert_many(test: &Test, (unit, times, end): (&str, usize, &str), len: usize, place: Place) {
     let text = ok_string(test, repeated_and(test.alloc, unit, times, end));
-    assert_collected(test, text.as_str(), text.len(), place)
+    assert_collected(test, text.as_str(), len, place)
 }
 
 fn assert_collected(test: &Test, text: &str, len: usize, place: Place) {
@@ -244,10 +245,12 @@ fn extended_by_strs(test: &Test, text: &str, lower: usize) -> SmolStrBuilder {
     builder
 }
 
-/// There is a value, of the text.
+/// There is a value of the text, which is no blank run.
 fn assert_made(test: &Test, made: Result<SmolStr, AllocError>, text: &str) {
     let value = ok_value(test, made);
+    let is_long = text.len() > INLINE_CAP;
     same_str(test, value.as_str(), text, "made");
+    same_flag(test, value.is_heap_allocated(), is_long, text);
 }
 
 fn chars_of(test: &Test, text: &str) -> Vec<char> {

@@ -14,23 +14,10 @@ enum Call {
     AsciiUpper,
     Lower,
     Upper,
-    /// A byte by a byte.
-    Replace,
-    ReplaceByItself,
-    ReplaceByBlank,
-    /// A byte by a byte, at most 0 times.
-    ReplaceNone,
-    /// A byte by more.
-    ReplaceByMore,
-    ReplacePieces,
-    Halve,
-    /// The empty pattern.
-    ReplaceNothing,
-    Remove,
-    ReplaceThree,
-    ReplaceOnePiece,
-    /// A pattern whose first byte alone is there.
-    ReplaceMissing,
+    /// A pattern by a new text.
+    Replace(&'static str, &'static str),
+    /// At most so many times.
+    ReplaceSome(&'static str, &'static str, usize),
     /// The text as the pattern.
     ReplaceWhole,
     /// The first match by the text.
@@ -64,16 +51,16 @@ static CALLS: [Row<Call>; 18] = [
     ),
     (Call::Lower, LOWER, MAPPED),
     (Call::Upper, "StrExt::to_uppercase_smolstr", MAPPED),
-    (Call::Replace, REPLACE, AS_LONG),
-    (Call::ReplaceByItself, REPLACE, AS_LONG),
+    (Call::Replace("a", "b"), REPLACE, AS_LONG),
+    (Call::Replace("a", "a"), REPLACE, AS_LONG),
     (
-        Call::ReplaceByBlank,
+        Call::Replace("a", " "),
         REPLACE,
         Exactly([0, 0, 1, 1, 2, 2, 2], [0, 0, 320, 40, 5040, 5040, 70_040]),
     ),
-    (Call::ReplaceNone, REPLACEN, COPIED),
+    (Call::ReplaceSome("a", "b", 0), REPLACEN, COPIED),
     (
-        Call::ReplaceByMore,
+        Call::Replace("a", "éé"),
         REPLACE,
         Exactly(
             [0, 3, 1, 4, 10, 2, 14],
@@ -81,7 +68,7 @@ static CALLS: [Row<Call>; 18] = [
         ),
     ),
     (
-        Call::ReplacePieces,
+        Call::Replace("aa", "bb"),
         REPLACE,
         Exactly(
             [0, 0, 1, 2, 8, 2, 12],
@@ -89,12 +76,12 @@ static CALLS: [Row<Call>; 18] = [
         ),
     ),
     (
-        Call::Halve,
+        Call::Replace("aa", "b"),
         REPLACE,
         Exactly([0, 0, 1, 0, 7, 2, 11], [0, 0, 359, 0, 5017, 5079, 80_857]),
     ),
     (
-        Call::ReplaceNothing,
+        Call::Replace("", "-"),
         REPLACE,
         Exactly(
             [0, 2, 6, 3, 9, 9, 13],
@@ -102,13 +89,13 @@ static CALLS: [Row<Call>; 18] = [
         ),
     ),
     (
-        Call::Remove,
+        Call::Replace("a", ""),
         REPLACE,
         Exactly([0, 0, 1, 0, 0, 2, 0], [0, 0, 359, 0, 0, 5079, 0]),
     ),
-    (Call::ReplaceThree, REPLACEN, COPIED),
-    (Call::ReplaceOnePiece, REPLACEN, COPIED),
-    (Call::ReplaceMissing, REPLACE, COPIED),
+    (Call::ReplaceSome("a", "b", 3), REPLACEN, COPIED),
+    (Call::ReplaceSome("aa", "bb", 1), REPLACEN, COPIED),
+    (Call::Replace("ab", "-"), REPLACE, COPIED),
     (Call::ReplaceWhole, REPLACE, Exactly([0; 7], [0; 7])),
     (
         Call::ReplaceByWhole,
@@ -161,18 +148,8 @@ impl Call {
             Call::AsciiUpper => text.to_ascii_uppercase_smolstr(alloc),
             Call::Lower => text.to_lowercase_smolstr(alloc),
             Call::Upper => text.to_uppercase_smolstr(alloc),
-            Call::Replace => text.replace_smolstr(alloc, "a", "b"),
-            Call::ReplaceByItself => text.replace_smolstr(alloc, "a", "a"),
-            Call::ReplaceByBlank => text.replace_smolstr(alloc, "a", " "),
-            Call::ReplaceNone => text.replacen_smolstr(alloc, "a", "b", 0),
-            Call::ReplaceByMore => text.replace_smolstr(alloc, "a", "éé"),
-            Call::ReplacePieces => text.replace_smolstr(alloc, "aa", "bb"),
-            Call::Halve => text.replace_smolstr(alloc, "aa", "b"),
-            Call::ReplaceNothing => text.replace_smolstr(alloc, "", "-"),
-            Call::Remove => text.replace_smolstr(alloc, "a", ""),
-            Call::ReplaceThree => text.replacen_smolstr(alloc, "a", "b", 3),
-            Call::ReplaceOnePiece => text.replacen_smolstr(alloc, "aa", "bb", 1),
-            Call::ReplaceMissing => text.replace_smolstr(alloc, "ab", "-"),
+            Call::Replace(from, to) => text.replace_smolstr(alloc, from, to),
+            Call::ReplaceSome(from, to, count) => text.replacen_smolstr(alloc, from, to, count),
             Call::ReplaceWhole => text.replace_smolstr(alloc, text, "b"),
             Call::ReplaceByWhole => text.replacen_smolstr(alloc, "a", text, 1),
         }
