@@ -1,5 +1,5 @@
 //! Tests of what each call of the library asks the heap for, of what stands where that is refused, and of texts that are
-//! printed, written and read.
+//! printed, and written and read as JSON.
 #![tactic(auto)]
 
 #[cfg(test)]

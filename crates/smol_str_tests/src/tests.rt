@@ -1,16 +1,14 @@
-//! Tests of what no clause says: values and builders by rows from outside.
+//! Tests of what no clause says: values and builders by rows from outside, and the examples of the documentation.
 
 mod built;
 mod collect;
 mod compare;
 mod convert;
-mod idioms;
+mod doc_examples;
 mod kernel;
-mod keys;
 mod large;
 mod places;
 mod replace;
-mod serde_traits;
 mod str_ext;
 
 use smol_str::{BLANK_NEWLINES, BLANK_SPACES, INLINE_CAP};
@@ -24,11 +22,14 @@ fn limits(rt: HostRuntime) -> Result<(), Fail> {
     same_count(&test, INLINE_CAP, 39, "INLINE_CAP");
     same_count(&test, BLANK_NEWLINES, 64, "BLANK_NEWLINES");
     same_count(&test, BLANK_SPACES, 256, "BLANK_SPACES");
-    for text in [full_text(), full_capitals()] {
-        same_count(&test, text.len(), INLINE_CAP, text);
-    }
-    for text in [long_text(), long_capitals(), long_blank()] {
-        same_count(&test, text.len(), INLINE_CAP + 1, text);
-    }
+    assert_sizes(&test);
     test.end()
+}
+
+fn assert_sizes(test: &Test) {
+    same_count(test, full_text().len(), 39, "full_text");
+    same_count(test, full_capitals().len(), 39, "full_capitals");
+    same_count(test, long_text().len(), 40, "long_text");
+    same_count(test, long_capitals().len(), 40, "long_capitals");
+    same_count(test, long_blank().len(), 40, "long_blank");
 }

@@ -1,5 +1,6 @@
-//! Tests of the program for what no clause says: over outside values, readers and writers that fail, and memory refused; and
-//! the examples of the library's documentation. Beside them callers of the program's `run`, proved by its contract.
+//! Tests of the program, and of what else reads and writes, for what no clause says: over outside values, over readers and
+//! writers that fail, and with memory refused. Beside them callers of the program's core, proved by its
+//! contracts.
 #![tactic(auto)]
 
 pub mod callers;

@@ -1,9 +1,15 @@
-//! The program over outside values, readers and writers that fail, and memory refused; the examples of the documentation.
+//! Whatever reads and writes, over readers and writers of every step that fail: the program in every mode, and wire forms;
+//! the program with memory refused, and tallies.
 mod doc_examples;
+mod failing;
+mod readers;
 mod refused;
 mod reports;
 mod runs;
 mod streams;
 mod tally;
-mod whole;
+mod wire;
+mod wire_faults;
+mod wire_memory;
 mod words;
+mod writers;

@@ -19,7 +19,7 @@ const WORD: usize = 0x1_0000_0000;
 const MOST: u32 = 1000;
 
 /// Which requests for memory are refused, counted from 1; the 0th is no request.
-#[derive(Clone, Copy, PartialEq, Eq, Debug)]
+#[derive(Clone, Copy)]
 pub enum Refusals {
     /// The nth, and no other.
     One(u32),
@@ -65,7 +65,7 @@ pub fn can_refuse(alloc: Global) -> bool {
 }
 
 /// What a call asked the heap for; 0 without the library.
-#[derive(Clone, Copy, PartialEq, Eq, Debug)]
+#[derive(Clone, Copy, PartialEq, Debug)]
 pub struct Asked {
     pub requests: u32,
     pub bytes: u32,

@@ -9,7 +9,6 @@ use smol_str::{Place, SmolStr, SmolStrBuilder};
 use std::alloc::{AllocError, Global};
 use std::cell::Cell;
 use std::fmt::{Debug, InlineText};
-use std::rc::RcStr;
 use std::test::Fail;
 
 /// So many bytes of a wrong row are told.
@@ -95,6 +94,22 @@ impl Test {
             None => Ok(()),
         }
     }
+}
+
+/// What an example asserts: it is so.
+#[macro_export]
+macro_rules! expect {
+    ($rt:expr; $is_so:expr) => {
+        $crate::test::is_so($rt, $is_so, stringify!($is_so))
+    };
+}
+
+/// What an example asserts: the two are equal.
+#[macro_export]
+macro_rules! expect_eq {
+    ($rt:expr; $found:expr, $wanted:expr) => {
+        $crate::test::is_so($rt, $found == $wanted, stringify!($found))
+    };
 }
 
 /// It is so, in a row of any type.
@@ -215,20 +230,14 @@ pub fn ok<T: Missing, E: Debug + Drop>(test: &Test, outcome: Result<T, E>) -> T 
     }
 }
 
+/// The example of this name has no fault.
+pub fn ended<E: Drop>(test: &Test, outcome: Result<(), E>, example: &str) {
+    is_so(test, outcome.is_ok(), example);
+}
+
 /// The value that a call makes.
 pub fn ok_value(test: &Test, outcome: Result<SmolStr, AllocError>) -> SmolStr {
     ok(test, outcome)
-}
-
-/// The value of the shared text that a call makes. No shared text is made without memory, so a value stands for one.
-pub fn of_shared(test: &Test, outcome: Result<RcStr, AllocError>) -> SmolStr {
-    match outcome {
-        Ok(shared) => SmolStr::from_rc_str(shared),
-        Err(fault) => {
-            test.fail(&fault);
-            SmolStr::default()
-        }
-    }
 }
 
 /// The string that a call makes.

@@ -1,5 +1,5 @@
 //! Texts about the limits, made from the library's constants.
-use smol_str::{BLANK_NEWLINES, BLANK_SPACES, INLINE_CAP};
+use smol_str::INLINE_CAP;
 use std::alloc::{AllocError, Global};
 
 /// Byte lengths above each buffer that a call reads or writes by, and one far above.
@@ -68,17 +68,5 @@ pub fn repeated_and(
 ) -> Result<String, AllocError> {
     let mut all = repeated(alloc, text, times)?;
     all.push_str(end)?;
-    Ok(all)
-}
-
-/// A text that stays for as long as the process lives.
-pub fn leaked(text: String) -> &'static str {
-    text_of(text.into_bytes().leak())
-}
-
-/// The longest blank run.
-pub fn longest_blank(alloc: Global) -> Result<String, AllocError> {
-    let mut all = repeated(alloc, "\n", BLANK_NEWLINES)?;
-    all.push_str(repeated(alloc, " ", BLANK_SPACES)?.as_str())?;
     Ok(all)
 }

@@ -2,6 +2,7 @@
 //! are in the modules below, each with its name, what it asks for on texts of these shapes, and how it is made.
 mod appends;
 mod builders;
+mod by_std;
 mod cases;
 mod forms;
 mod json;
@@ -11,14 +12,13 @@ mod things;
 mod values;
 
 use super::rows::held_exactly;
-use smol_str::INLINE_CAP;
+use by_std::{Asks, asked_by, is_asked};
+use smol_str::{BLANK_NEWLINES, BLANK_SPACES, INLINE_CAP};
 use std::alloc::Global;
-use std::fmt::Debug;
 use std::test::Fail;
-use test_support::by_std::{Asks, asked_by, is_asked};
 use test_support::refuse::{Asked, Refusable, can_refuse, each_refused, run_once};
-use test_support::test::{Test, holds, ok_string, same};
-use test_support::texts::{full_text, leaked, long_text, longest_blank};
+use test_support::test::{Test, holds, ok_string};
+use test_support::texts::{full_text, long_text, repeated_and};
 use things::Thing;
 
 /// What a call asks for.
@@ -26,10 +26,22 @@ use things::Thing;
 pub enum Wants {
     /// What calls of std ask for: on no text, on one that fills a buffer, on the longest blank run, and on one that is not
     /// resident.
-    AsStd([Asks; 4]),
+    AsStd(Asks, Asks, Asks, Asks),
     /// So many requests, and so many bytes in all, on a text of each shape.
     Exactly([u32; 7], [u32; 7]),
 }
+
+/// No request.
+const FREE: Wants = Wants::AsStd(Asks::Nothing, Asks::Nothing, Asks::Nothing, Asks::Nothing);
+
+/// A shared text, of a text that is not resident.
+const SHARED: Wants = Wants::AsStd(Asks::Nothing, Asks::Nothing, Asks::Nothing, Asks::Shared);
+
+/// A shared text that keeps the `String`, of a text that is not resident.
+const KEPT: Wants = Wants::AsStd(Asks::Nothing, Asks::Nothing, Asks::Nothing, Asks::Kept);
+
+/// A `String` with room, of a text that is not short, and a shared text that keeps it.
+const PRINTED: Wants = Wants::AsStd(Asks::Nothing, Asks::Nothing, Asks::WithRoom, Asks::Printed);
 
 /// A text on which calls are tried.
 #[derive(Clone, Copy)]
@@ -40,13 +52,12 @@ pub struct Shape {
 
 /// No text, one that fills a buffer, the longest blank run, and texts that are not resident.
 fn shapes(test: &Test) -> [Shape; 7] {
+    let spaces = test.repeated(" ", BLANK_SPACES);
+    let blank = repeated_and(test.alloc, "\n", BLANK_NEWLINES, spaces.as_str());
     [
         shape_of("no text", ""),
         shape_of("a full buffer", full_text()),
-        shape_of(
-            "the longest blank",
-            leaked(ok_string(test, longest_blank(test.alloc))),
-        ),
+        shape_of("the longest blank", leaked(ok_string(test, blank))),
         shape_of("a byte too many", long_text()),
         shape_of("5,000 bytes", leaked(test.repeated("a", 5000))),
         shape_of("2,500 accents", leaked(test.repeated("é", 2500))),
@@ -58,24 +69,29 @@ pub fn shape_of(name: &'static str, text: &'static str) -> Shape {
     Shape { name, text }
 }
 
+/// A text that stays for as long as the process lives.
+pub fn leaked(text: String) -> &'static str {
+    str::from_utf8(text.into_bytes().leak()).unwrap_or("")
+}
+
+/// A call, its name as the library's documentation has it, and what it asks for.
+pub type Row<C> = (C, &'static str, Wants);
+
 /// Each call asks for what it is to ask for on a text of each shape; and once on texts of each length up to 400 bytes, about
 /// the ends of buffers and far above them, where memory is counted.
-pub fn check_calls<C: Row>(rt: HostRuntime, calls: &[C]) -> Result<(), Fail> {
+pub fn check_calls<C: Call>(rt: HostRuntime, rows: &[Row<C>]) -> Result<(), Fail> {
     let test = Test::begin(rt);
     for (index, &shape) in shapes(&test).iter().enumerate() {
-        for &call in calls {
-            let on = On { call, shape };
-            let asked = each_refused(&test, call.name(), &on);
-            check_asked(&test, &on, index, asked);
+        for &(call, name, wants) in rows {
+            let on = On { call, name, shape };
+            let asked = each_refused(&test, name, &on);
+            check_asked(&test, &on, wants, index, asked);
         }
     }
     if can_refuse(test.alloc) {
-        check_lengths(&test, calls, leaked(test.repeated("a", HUGE)));
-        check_lengths(
-            &test,
-            calls,
-            leaked(test.repeated("\0\n\"\\Σ€🦀", HUGE / 13)),
-        );
+        check_lengths(&test, rows, leaked(test.repeated("a", HUGE)));
+        let all_sizes = test.repeated("\0\n\"\\Σ€🦀", HUGE / 13);
+        check_lengths(&test, rows, leaked(all_sizes));
     }
     test.end()
 }
@@ -83,26 +99,33 @@ pub fn check_calls<C: Row>(rt: HostRuntime, calls: &[C]) -> Result<(), Fail> {
 /// A multiple of 13, which the characters of one to four bytes above have.
 const HUGE: usize = 13 * 1_600_000;
 
-fn check_lengths<C: Row>(test: &Test, calls: &[C], text: &'static str) {
-    let far = [4095, 4096, 4097, 65_535, 65_536, 65_537, HUGE];
-    for len in (0..400).chain(far) {
-        if let Some(text) = text.get(..len) {
-            let shape = shape_of("a length", text);
-            for &call in calls {
-                check_once(test, &On { call, shape });
-            }
+static FAR: [usize; 7] = [4095, 4096, 4097, 65_535, 65_536, 65_537, HUGE];
+
+fn check_lengths<C: Call>(test: &Test, rows: &[Row<C>], text: &'static str) {
+    for len in 0..400 {
+        check_length(test, rows, text, len);
+    }
+    for &len in &FAR {
+        check_length(test, rows, text, len);
+    }
+}
+
+fn check_length<C: Call>(test: &Test, rows: &[Row<C>], text: &'static str, len: usize) {
+    if let Some(text) = text.get(..len) {
+        let shape = shape_of("a length", text);
+        for &(call, name, wants) in rows {
+            check_once(test, &On { call, name, shape }, wants);
         }
     }
 }
 
 /// The call does not give up, leaves nothing, and asks for what calls of std do where its text is not resident.
-fn check_once<C: Row>(test: &Test, on: &On<C>) {
-    let name = on.call.name();
-    let (asked, text) = (run_once(test, name, on), on.shape.text);
-    if let (Wants::AsStd(asks), Some(asked)) = (on.call.asks(), asked)
+fn check_once<C: Call>(test: &Test, on: &On<C>, wants: Wants) {
+    let (asked, text) = (run_once(test, on.name, on), on.shape.text);
+    if let (Wants::AsStd(.., long), Some(asked)) = (wants, asked)
         && text.len() > INLINE_CAP
     {
-        check_wanted(test, Wants::AsStd(asks), text, (name, text.len()), asked);
+        check_as_std(test, long, text, on.name, asked);
     }
 }
 
@@ -115,16 +138,10 @@ pub fn halves(text: &str) -> [&str; 2] {
     ]
 }
 
-/// A call with its row in a table.
-pub trait Row: Copy + Debug {
+/// How a call is made.
+pub trait Call: Copy {
     /// What it takes beside a text.
     type Input;
-
-    /// As the library's documentation has it.
-    fn name(self) -> &'static str;
-
-    /// What it asks for.
-    fn asks(self) -> Wants;
 
     /// What it takes, made of the text with ample memory.
     fn input(self, test: &Test, text: &'static str) -> Self::Input;
@@ -137,10 +154,11 @@ pub trait Row: Copy + Debug {
 #[derive(Drop)]
 pub struct On<C> {
     pub call: C,
+    pub name: &'static str,
     pub shape: Shape,
 }
 
-impl<C: Row> Refusable for On<C> {
+impl<C: Call> Refusable for On<C> {
     type Input = C::Input;
 
     type Made = Thing;
@@ -159,32 +177,32 @@ impl<C: Row> Refusable for On<C> {
     fn check(&self, test: &Test, ended: Result<Thing, Thing>) {
         if let Err(left) = ended {
             let is_right = left.stands_after(self.shape.text);
-            holds(test, is_right, &(self.call, self.shape.name));
+            holds(test, is_right, &(self.name, self.shape.name));
         }
     }
 }
 
 /// The call asked for what it is to ask for on a text of this shape, and a value that it makes keeps its text and no more.
-fn check_asked<C: Row>(test: &Test, on: &On<C>, index: usize, asked: Asked) {
-    let name = on.call.name();
-    check_wanted(test, on.call.asks(), on.shape.text, (name, index), asked);
+fn check_asked<C: Call>(test: &Test, on: &On<C>, wants: Wants, index: usize, asked: Asked) {
+    match wants {
+        Wants::AsStd(none, full, blank, long) => {
+            let asks = [none, full, blank, long][index.min(3)];
+            check_as_std(test, asks, on.shape.text, on.name, asked)
+        }
+        Wants::Exactly(requests, bytes) => {
+            let wanted = (requests.get(index).copied(), bytes.get(index).copied());
+            let is_right = wanted == (Some(asked.requests), Some(asked.bytes));
+            let row = (on.name, on.shape.name, asked);
+            holds(test, is_right || !can_refuse(test.alloc), &row);
+        }
+    }
     if let Ok(Thing::Value(value)) = on.call(test.alloc, on.input(test)) {
-        held_exactly(test, asked.held, &value, name);
+        held_exactly(test, asked.held, &value, on.name);
     }
 }
 
-fn check_wanted(test: &Test, wants: Wants, text: &str, row: (&str, usize), asked: Asked) {
-    let (_, index) = row;
-    match wants {
-        Wants::AsStd(asks) => {
-            let wanted = asked_by(test, asks[index.min(3)], text);
-            holds(test, is_asked(asked, wanted), &(row, asked, wanted))
-        }
-        Wants::Exactly(requests, bytes) if can_refuse(test.alloc) => {
-            let wanted = (requests.get(index).copied(), bytes.get(index).copied());
-            let found = (Some(asked.requests), Some(asked.bytes));
-            same(test, &found, &wanted, &row)
-        }
-        Wants::Exactly(..) => {}
-    }
+fn check_as_std(test: &Test, asks: Asks, text: &str, name: &str, asked: Asked) {
+    let wanted = asked_by(test, asks, text);
+    let row = (name, text.len(), asked, wanted);
+    holds(test, is_asked(asked, wanted), &row)
 }

@@ -3,10 +3,10 @@ use std::alloc::{AllocError, Global};
 use std::cell::Cell;
 use std::test::Fail;
 use test_support::refuse::{Refusable, can_refuse, each_refused};
-use test_support::test::{Test, holds};
+use test_support::test::{Test, is_so, same_flag};
 
 /// What a call does wrong.
-#[derive(Clone, Copy, PartialEq, Eq, Debug)]
+#[derive(Clone, Copy)]
 enum Mistake {
     HidesARefusal,
     GivesUp,
@@ -15,7 +15,7 @@ enum Mistake {
     Leaks,
 }
 
-const ALL: [(Mistake, &str); 5] = [
+static ALL: [(Mistake, &str); 5] = [
     (Mistake::HidesARefusal, "hides a refusal"),
     (Mistake::GivesUp, "gives up unrefused"),
     (Mistake::WantsNoRoom, "gives up unrefused"),
@@ -27,8 +27,8 @@ const ALL: [(Mistake, &str); 5] = [
 #[test]
 fn each_faulty_call_is_seen(rt: HostRuntime) -> Result<(), Fail> {
     let test = Test::begin(rt);
-    for (mistake, told) in ALL {
-        let is_known = can_refuse(test.alloc) || mistake == Mistake::GivesUp;
+    for &(mistake, told) in &ALL {
+        let is_known = can_refuse(test.alloc) || matches!(mistake, Mistake::GivesUp);
         check_told(&test, mistake, is_known, told);
     }
     test.end()
@@ -42,11 +42,10 @@ fn check_told(test: &Test, mistake: Mistake, is_known: bool, told: &str) {
         kept: Cell::new(None),
     };
     each_refused(&tried, "a call", &call);
-    let is_told = match tried.first_wrong() {
-        Some(row) => row.as_str().contains(told),
-        None => false,
-    };
-    holds(test, is_told == is_known, &mistake);
+    match tried.first_wrong() {
+        Some(row) => same_flag(test, row.as_str().contains(told), is_known, told),
+        None => same_flag(test, false, is_known, told),
+    }
 }
 
 /// A call that asks for memory, and makes this mistake.
@@ -101,6 +100,6 @@ impl FaultyCall {
 fn an_emptied_test_fails(rt: HostRuntime) -> Result<(), Fail> {
     let test = Test::begin(rt);
     let emptied = Test::new(test.alloc).first_wrong();
-    holds(&test, emptied.is_some(), &"an emptied test");
+    is_so(&test, emptied.is_some(), "an emptied test");
     test.end()
 }

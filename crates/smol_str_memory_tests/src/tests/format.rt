@@ -1,13 +1,18 @@
 //! Values of what is printed: the texts, prints that give up, and memory refused.
+use smol_str::borsh::{DecodeFault, EncodeFault, LimitedFault};
+use smol_str::json::JsonFault;
+use smol_str::stream::ReadFault;
 use smol_str::{
-    FormatError, INLINE_CAP, Place, SmolStr, SmolStrBuilder, ToSmolStr, format_smolstr,
+    FormatError, FromUtf8Fault, INLINE_CAP, Place, SmolStr, SmolStrBuilder, ToSmolStr,
+    format_smolstr,
 };
 use std::alloc::Global;
+use std::error::Error;
 use std::fmt::{self, Display, Formatter, Write};
 use std::test::Fail;
 use test_support::refuse::{Refusable, each_refused, made_requests};
 use test_support::test::{Test, holds, in_place, ok, ok_string, same_count, same_flag, same_str};
-use test_support::texts::{full_text, long_blank, long_text, page_text, repeated_and};
+use test_support::texts::{full_text, long_blank, page_text, repeated_and};
 
 /// Writes `ab` and gives up.
 #[derive(Drop)]
@@ -42,44 +47,15 @@ fn assert_value(test: &Test, made: Result<SmolStr, FormatError>, text: &str, pla
     in_place(test, &value, place, text);
 }
 
+// The other rows are examples of the documentation.
 #[test]
 fn rows(rt: HostRuntime) -> Result<(), Fail> {
     let test = Test::begin(rt);
-    formats(&test);
-    blank_formats(&test);
-    values(&test);
-    assert_copied(&test, long_blank(), Place::Static);
-    assert_copied(&test, long_text(), Place::Heap);
-    test.end()
-}
-
-fn formats(test: &Test) {
-    let row = format_smolstr!(test.alloc; "{}-{:02}", "a", 7);
-    assert_value(test, row, "a-07", Place::Inline);
-    let full = full_text();
-    let row = format_smolstr!(test.alloc; "{full}a");
-    assert_value(test, row, long_text(), Place::Heap)
-}
-
-fn blank_formats(test: &Test) {
     let row = format_smolstr!(test.alloc; "{:>width$}", "", width = INLINE_CAP + 1);
-    assert_value(test, row, long_blank(), Place::Static);
+    assert_value(&test, row, long_blank(), Place::Static);
     let row = format_smolstr!(test.alloc; "{:>24}", "");
-    assert_value(test, row, "                        ", Place::Inline)
-}
-
-fn values(test: &Test) {
-    let alloc = test.alloc;
-    assert_value(test, 42u8.to_smolstr(alloc), "42", Place::Inline);
-    assert_value(test, "".to_smolstr(alloc), "", Place::Inline);
-    let value = test.value("if");
-    assert_value(test, value.to_smolstr(alloc), "if", Place::Inline)
-}
-
-/// A `String` of the text prints as it.
-fn assert_copied(test: &Test, text: &str, place: Place) {
-    let string = test.string(text);
-    assert_value(test, string.to_smolstr(test.alloc), text, place)
+    assert_value(&test, row, "                        ", Place::Inline);
+    test.end()
 }
 
 #[test]
@@ -113,28 +89,35 @@ fn assert_row(test: &Test, wanted: &str, row: &impl Display) {
 #[test]
 fn texts_as_a_string(rt: HostRuntime) -> Result<(), Fail> {
     let test = Test::begin(rt);
-    let value = test.value("ab");
-    assert_row(&test, "ab", &format_args!("{value}"));
-    assert_row(&test, "   ab", &format_args!("{value:>5}"));
-    assert_row(&test, "ab**", &format_args!("{value:*<4}"));
-    assert_row(&test, "\"ab\"", &format_args!("{value:?}"));
-    let value = test.value("a\"b");
-    assert_row(&test, "\"a\\\"b\"", &format_args!("{value:?}"));
-    let quoted = ok_string(&test, format!(in test.alloc; "\"{}\"", page_text()));
-    for value in [test.value(page_text()), SmolStr::new_static(page_text())] {
-        assert_row(&test, page_text(), &format_args!("{value:>50}"));
-        assert_row(&test, quoted.as_str(), &format_args!("{value:?}"));
-    }
-    let value = test.value("né");
-    assert_row(&test, "   né", &format_args!("{value:>5}"));
-    assert_row(&test, "né**", &format_args!("{value:*<4}"));
-    assert_row(&test, "  né  ", &format_args!("{value:^6}"));
-    assert_row(&test, "éééa", &format_args!("{:é>4}", "a"));
-    assert_row(&test, "ab", &format_args!("{:.2}", "abc"));
-    assert_row(&test, "   a|", &format_args!("{:>4.1}|", "abc"));
-    let wide = "a                        b";
-    assert_row(&test, wide, &format_args!("a{:24}b", ""));
+    check_short(&test, &test.value("ab"));
+    check_quoted(&test, &test.value("a\"b"));
+    check_wide(&test, &test.value("né"));
+    check_page(&test, &test.value(page_text()));
+    check_page(&test, &SmolStr::new_static(page_text()));
     test.end()
+}
+
+fn check_short(test: &Test, value: &SmolStr) {
+    assert_row(test, "ab", &format_args!("{value}"));
+    assert_row(test, "   ab", &format_args!("{value:>5}"));
+    assert_row(test, "ab**", &format_args!("{value:*<4}"));
+    assert_row(test, "   a|", &format_args!("{value:>4.1}|"))
+}
+
+fn check_quoted(test: &Test, value: &SmolStr) {
+    assert_row(test, "\"a\\\"b\"", &format_args!("{value:?}"))
+}
+
+fn check_wide(test: &Test, value: &SmolStr) {
+    assert_row(test, "né**", &format_args!("{value:*<4}"));
+    assert_row(test, "  né  ", &format_args!("{value:^6}"));
+    assert_row(test, "éénn", &format_args!("{:é>3}n", "n"))
+}
+
+fn check_page(test: &Test, value: &SmolStr) {
+    let quoted = ok_string(test, format!(in test.alloc; "\"{}\"", page_text()));
+    assert_row(test, page_text(), &format_args!("{value:>50}"));
+    assert_row(test, quoted.as_str(), &format_args!("{value:?}"))
 }
 
 // Signs and bases too.
@@ -142,12 +125,8 @@ fn texts_as_a_string(rt: HostRuntime) -> Result<(), Fail> {
 fn numbers_as_a_string(rt: HostRuntime) -> Result<(), Fail> {
     let test = Test::begin(rt);
     assert_row(&test, "-0042", &format_args!("{:05}", -42));
-    assert_row(&test, "+7", &format_args!("{:+}", 7u8));
-    assert_row(&test, "42  |", &format_args!("{:<4}|", 42u16));
-    assert_row(&test, "0xff", &format_args!("{:#x}", 255u8));
-    assert_row(&test, "00000101", &format_args!("{:08b}", 5u8));
-    assert_row(&test, "{true}", &format_args!("{{{}}}", true));
-    assert_row(&test, "\"a\\n\"", &format_args!("{:?}", "a\n"));
+    assert_row(&test, "+7 0xff", &format_args!("{:+} {:#x}", 7u8, 255u8));
+    assert_row(&test, "{00000101}", &format_args!("{{{:08b}}}", 5u8));
     test.end()
 }
 
@@ -171,30 +150,6 @@ fn assert_kept(test: &Test) {
     let printed = write!(builder, "{}{GivesUp}", 1);
     same_flag(test, printed.is_err(), true, "write!");
     same_str(test, builder.as_str(), "x1ab", "write!");
-}
-
-#[test]
-fn written_to_a_builder(rt: HostRuntime) -> Result<(), Fail> {
-    let test = Test::begin(rt);
-    let mut builder = SmolStrBuilder::new(test.alloc);
-    ok(&test, print_pieces(&mut builder));
-    same_str(&test, builder.as_str(), "éab  7", "written");
-    ok(&test, write!(builder, "{:>width$}", "", width = INLINE_CAP));
-    assert_written(&test, &builder);
-    test.end()
-}
-
-fn assert_written(test: &Test, builder: &SmolStrBuilder) {
-    let spaces = test.repeated(" ", INLINE_CAP);
-    let written = builder.as_str().strip_prefix("éab  7").unwrap_or("");
-    same_str(test, written, spaces.as_str(), "written");
-    same_flag(test, builder.inline_buffer().is_none(), true, "on the heap");
-}
-
-fn print_pieces(builder: &mut SmolStrBuilder) -> fmt::Result {
-    builder.write_char('é')?;
-    builder.write_str("ab")?;
-    write!(builder, "{:>3}", 7)
 }
 
 // With each request refused in turn there is the whole text or none.
@@ -233,4 +188,30 @@ impl Refusable for Printed<'_> {
             same_str(test, value.as_str(), self.2, "to_smolstr");
         }
     }
+}
+
+#[test]
+fn faults_print(rt: HostRuntime) -> Result<(), Fail> {
+    let test = Test::begin(rt);
+    let memory = "memory allocation failed";
+    prints(&test, &FormatError, "formatting failed or memory ran out");
+    prints(&test, &FromUtf8Fault::OutOfMemory, memory);
+    prints(
+        &test,
+        &JsonFault::NotString,
+        "the JSON value is not a string",
+    );
+    prints(&test, &ReadFault::OutOfMemory, memory);
+    let ended = "the bytes end before the text does";
+    prints(&test, &DecodeFault::Ended, ended);
+    let too_long = "the text has more than 4294967295 bytes";
+    prints(&test, &EncodeFault::TooLong, too_long);
+    let above_limit = "the stated length exceeds the limit";
+    prints(&test, &LimitedFault::TooLong, above_limit);
+    test.end()
+}
+
+fn prints<E: Error>(test: &Test, fault: &E, text: &str) {
+    let printed = ok_printed(test, fault.to_smolstr(test.alloc));
+    same_str(test, printed.as_str(), text, "a fault");
 }

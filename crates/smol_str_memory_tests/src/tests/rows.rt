@@ -1,7 +1,5 @@
-//! What rows compare and expect to be `Ok`, for the types of this crate.
+//! What a value holds.
 use smol_str::SmolStr;
-use smol_str::borsh::DecodeFault;
-use std::fmt::Debug;
 use test_support::refuse::count_held;
 use test_support::test::{Test, holds};
 
@@ -18,20 +16,4 @@ pub fn held_exactly(test: &Test, held: u32, value: &SmolStr, row: &str) {
     let wanted = count_held(test.alloc).wrapping_sub(before);
     let left = if exact.is_heap_allocated() { LEFT } else { 0 };
     holds(test, held.abs_diff(wanted) <= left, &(row, held, wanted));
-}
-
-/// The bytes are equal.
-pub fn same_bytes(test: &Test, found: &[u8], wanted: &[u8], row: &impl Debug) {
-    holds(test, found == wanted, &(row, found, wanted));
-}
-
-/// The value of a wire form, and how many bytes the form has.
-pub fn ok_found(test: &Test, outcome: Result<(SmolStr, usize), DecodeFault>) -> (SmolStr, usize) {
-    match outcome {
-        Ok(found) => found,
-        Err(fault) => {
-            test.fail(&fault);
-            (SmolStr::default(), 0)
-        }
-    }
 }

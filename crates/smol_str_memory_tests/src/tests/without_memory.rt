@@ -1,4 +1,5 @@
-//! Calls that ask for no memory: one line a call, by its name, with every request refused.
+//! Calls that ask for no memory: one line a call, by its name, with every request refused. Rows stand in functions of their
+//! own: the proof of a row costs more with each value that its function holds.
 use smol_str::borsh::length_prefix;
 use smol_str::kernel::{AsciiCase, convert_while_ascii, next_match};
 use smol_str::stream::write_steps;
@@ -13,22 +14,16 @@ use test_support::refuse::{end_refusals, refuse_all};
 use test_support::test::{Test, is_so, ok_bytes, ok_string};
 use test_support::texts::{full_text, long_text};
 
-/// Makes each call, by its name, and returns the name of the first that does not do what it is to do. Rows stand in
-/// functions of their own: the proof of a row costs more with each value that its function holds.
+/// Each call, by its name, does what it is to do.
 macro_rules! rows {
-    ($($name:literal: $call:expr;)+) => {{
-        $(if !$call {
-            return Some($name);
-        })+
-        None
-    }};
+    ($test:ident; $($name:literal: $call:expr;)+) => {
+        $(is_so($test, $call, $name);)+
+    };
 }
 
-/// Ends the refusals; no row was wrong, and no call made a request.
-fn check_free(test: &Test, wrong: Option<&str>) {
-    let was_refused = end_refusals(test.alloc);
-    is_so(test, wrong.is_none(), wrong.unwrap_or(""));
-    is_so(test, !was_refused, "a call makes a request");
+/// Ends the refusals; no call made a request.
+fn check_free(test: &Test) {
+    is_so(test, !end_refusals(test.alloc), "a call makes a request");
 }
 
 #[test]
@@ -36,19 +31,17 @@ fn values_made(rt: HostRuntime) -> Result<(), Fail> {
     let test = Test::begin(rt);
     let alloc = test.alloc;
     refuse_all(alloc);
-    check_free(&test, maker_rows(alloc));
+    maker_rows(&test, alloc);
+    check_free(&test);
     match RcStr::from_str(alloc, long_text()) {
-        Ok(shared) => {
-            refuse_all(alloc);
-            check_free(&test, shared_rows(shared))
-        }
+        Ok(shared) => shared_rows(&test, shared),
         Err(fault) => test.fail(&fault),
     }
     test.end()
 }
 
-fn maker_rows(alloc: Global) -> Option<&'static str> {
-    rows! {
+fn maker_rows(test: &Test, alloc: Global) {
+    rows! { test;
         "SmolStr::new_inline": SmolStr::new_inline("ab").len() == 2;
         "SmolStr::new_inline_in_case": SmolStr::new_inline_in_case("ab", AsciiCase::Upper).eq_str("AB");
         "SmolStr::new_static": SmolStr::new_static(long_text()).place() == Place::Static;
@@ -61,10 +54,11 @@ fn maker_rows(alloc: Global) -> Option<&'static str> {
     }
 }
 
-fn shared_rows(shared: RcStr) -> Option<&'static str> {
-    rows! {
-        "SmolStr::from_rc_str": SmolStr::from_rc_str(shared).place() == Place::Heap;
-    }
+fn shared_rows(test: &Test, shared: RcStr) {
+    refuse_all(test.alloc);
+    let is_shared = SmolStr::from_rc_str(shared).place() == Place::Heap;
+    is_so(test, is_shared, "SmolStr::from_rc_str");
+    check_free(test)
 }
 
 #[test]
@@ -75,16 +69,15 @@ fn values_read(rt: HostRuntime) -> Result<(), Fail> {
     let string = test.string(long_text());
     let mut room = ok_string(&test, String::with_capacity(alloc, 100));
     refuse_all(alloc);
-    let wrong = value_rows(&value, &mut room);
-    check_free(&test, wrong);
-    refuse_all(alloc);
-    check_free(&test, comparison_rows(&value, &string));
+    value_rows(&test, &value);
+    printed_rows(&test, &value, &mut room);
+    comparison_rows(&test, &value, &string);
+    check_free(&test);
     test.end()
 }
 
-fn value_rows(value: &SmolStr, room: &mut String) -> Option<&'static str> {
-    let mut hasher = DefaultHasher::default();
-    rows! {
+fn value_rows(test: &Test, value: &SmolStr) {
+    rows! { test;
         "SmolStr::as_str": value.as_str() == long_text();
         "SmolStr::len": value.len() == INLINE_CAP + 1;
         "SmolStr::is_empty": !value.is_empty();
@@ -92,14 +85,21 @@ fn value_rows(value: &SmolStr, room: &mut String) -> Option<&'static str> {
         "SmolStr::is_heap_allocated": value.is_heap_allocated();
         "SmolStr::place": value.place() == Place::Heap;
         "SmolStr::inline_buffer": value.inline_buffer().is_none();
-        "SmolStr::hash": { value.hash(&mut hasher); true };
+    }
+}
+
+/// What is hashed and printed.
+fn printed_rows(test: &Test, value: &SmolStr, room: &mut String) {
+    let mut hasher = DefaultHasher::default();
+    value.hash(&mut hasher);
+    rows! { test;
         "SmolStr::fmt": write!(room, "{value}{value:?}").is_ok();
     }
 }
 
-fn comparison_rows(value: &SmolStr, string: &String) -> Option<&'static str> {
+fn comparison_rows(test: &Test, value: &SmolStr, string: &String) {
     let other = SmolStr::new_static(long_text());
-    rows! {
+    rows! { test;
         "SmolStr::eq": value.eq(&other);
         "SmolStr::eq_str": value.eq_str(long_text());
         "SmolStr::eq_string": value.eq_string(string);
@@ -116,12 +116,13 @@ fn builders_read(rt: HostRuntime) -> Result<(), Fail> {
     let builder = test.builder(0, full_text());
     let large = test.builder(100, full_text());
     refuse_all(test.alloc);
-    check_free(&test, builder_rows(&builder, &large));
+    builder_rows(&test, &builder, &large);
+    check_free(&test);
     test.end()
 }
 
-fn builder_rows(builder: &SmolStrBuilder, large: &SmolStrBuilder) -> Option<&'static str> {
-    rows! {
+fn builder_rows(test: &Test, builder: &SmolStrBuilder, large: &SmolStrBuilder) {
+    rows! { test;
         "SmolStrBuilder::as_str": builder.as_str() == full_text();
         "SmolStrBuilder::len": builder.len() == INLINE_CAP;
         "SmolStrBuilder::is_empty": !builder.is_empty();
@@ -135,13 +136,13 @@ fn bytes(rt: HostRuntime) -> Result<(), Fail> {
     let test = Test::begin(rt);
     let mut out = ok_bytes(&test, Vec::with_capacity(test.alloc, 100));
     refuse_all(test.alloc);
-    let wrong = byte_rows(full_text(), long_text(), &mut out);
-    check_free(&test, wrong);
+    byte_rows(&test, full_text(), long_text(), &mut out);
+    check_free(&test);
     test.end()
 }
 
-fn byte_rows(full: &str, long: &str, out: &mut Vec<u8>) -> Option<&'static str> {
-    rows! {
+fn byte_rows(test: &Test, full: &str, long: &str, out: &mut Vec<u8>) {
+    rows! { test;
         "kernel::next_match": long.is_char_boundary(0) && next_match(long, 0, "aa").is_some();
         "kernel::convert_while_ascii": full.len() <= INLINE_CAP && convert_while_ascii(full, AsciiCase::Upper).1 == INLINE_CAP;
         "borsh::length_prefix": length_prefix(5000).is_some();

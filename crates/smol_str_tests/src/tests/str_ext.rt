@@ -1,13 +1,13 @@
 //! Case, against outside rows.
 use super::replace::{assert_rows, upstream_rows};
-use smol_str::{INLINE_CAP, Place, SmolStr, StrExt};
+use smol_str::{Place, SmolStr, StrExt};
 use std::alloc::{AllocError, Global};
 use std::test::Fail;
-use test_support::test::{Test, in_place, ok_value, same_count, same_value};
+use test_support::test::{Test, ok_value, same_value};
 use test_support::texts::{long_blank, long_capitals, long_text};
 
 /// A case call.
-#[derive(Clone, Copy, Debug)]
+#[derive(Clone, Copy)]
 enum Call {
     AsciiLower,
     AsciiUpper,
@@ -87,30 +87,5 @@ fn long_rows(rt: HostRuntime) -> Result<(), Fail> {
 
 fn assert_answer(test: &Test, call: Call, text: &str, wanted: &str, place: Place) {
     let value = ok_value(test, answer(test.alloc, call, text));
-    same_value(test, &value, wanted, place, &(call, text));
-}
-
-// A short text can become longer than the buffer, and a long one shorter.
-#[test]
-fn sizes_that_change(rt: HostRuntime) -> Result<(), Fail> {
-    let test = Test::begin(rt);
-    let text = test.repeated("ΐ", INLINE_CAP / 2);
-    let upper = text.as_str().to_uppercase_smolstr(test.alloc);
-    assert_size(&test, upper, 6 * (INLINE_CAP / 2), Place::Heap, "longer");
-    let kelvins = test.repeated("\u{212A}", INLINE_CAP / 3 + 1);
-    let lower = kelvins.as_str().to_lowercase_smolstr(test.alloc);
-    assert_size(&test, lower, INLINE_CAP / 3 + 1, Place::Inline, "shorter");
-    test.end()
-}
-
-fn assert_size(
-    test: &Test,
-    made: Result<SmolStr, AllocError>,
-    len: usize,
-    place: Place,
-    row: &str,
-) {
-    let value = ok_value(test, made);
-    in_place(test, &value, place, row);
-    same_count(test, value.len(), len, row);
+    same_value(test, &value, wanted, place, &text);
 }

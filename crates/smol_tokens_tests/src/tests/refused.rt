@@ -1,6 +1,7 @@
 //! `run` with memory refused: nothing is written, or all.
+use super::failing::{Drip, Kind, empty_drip, trickle_of};
 use super::reports::report_by;
-use super::runs::{Words, kind_of};
+use super::runs::{Words, fixed_state, kind_of};
 use super::words::mode_by;
 use smol_str::stream::CHUNK;
 use smol_tokens_core::mode::Mode;
@@ -8,8 +9,6 @@ use smol_tokens_core::run::run;
 use std::alloc::Global;
 use std::test::Fail;
 use test_support::refuse::{Refusable, can_refuse, each_refused, run_once};
-use test_support::state::fixed_state;
-use test_support::streams::{Drip, Kind, empty_drip, trickle_of};
 use test_support::test::{Test, holds, ok_bytes, same};
 use test_support::texts::{long_blank, long_text};
 

@@ -1,14 +1,19 @@
 //! Runs of the program, and how they end.
+use super::failing::{Kind, cause_of};
 use super::words::mode_by;
 use smol_tokens_core::fault::RunFault;
 use smol_tokens_core::run::run;
+use std::hash::{BuildHasherDefault, FoldHasher};
 use std::io::{Read, Write};
-use test_support::state::fixed_state;
-use test_support::streams::{Kind, cause_of};
 use test_support::test::Test;
 
 /// The words of a mode.
 pub type Words = &'static [&'static str];
+
+/// A state of the hasher that is the same in each run.
+pub fn fixed_state() -> BuildHasherDefault<FoldHasher> {
+    BuildHasherDefault::new()
+}
 
 /// Runs in the mode of these words; `None` where the run ends well.
 pub fn run_by<R: Read, W: Write>(

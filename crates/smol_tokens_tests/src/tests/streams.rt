@@ -1,14 +1,14 @@
 //! `run` in every mode, over readers and writers of every step, which fail at each call, and over inputs that are not
 //! UTF-8.
+use super::failing::{
+    Drip, Kind, Reading, STEPS, Trickle, Writing, empty_drip, fails_at_each_read,
+    fails_at_each_write, trickle_of,
+};
 use super::reports::{all_rows, letters};
 use super::runs::{Words, run_by};
 use smol_str::stream::CHUNK;
 use std::alloc::Global;
 use std::test::Fail;
-use test_support::streams::{
-    Drip, Kind, Reading, STEPS, Trickle, Writing, empty_drip, fails_at_each_read,
-    fails_at_each_write, trickle_of,
-};
 use test_support::test::{Test, holds, ok_bytes, same};
 
 /// A run in the mode of these words.

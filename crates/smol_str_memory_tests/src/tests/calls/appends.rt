@@ -1,14 +1,15 @@
 //! Calls that append to a builder.
+use super::Wants::{AsStd, Exactly};
+use super::by_std::Asks::{AndChar, ByChar, ByText, Nothing, Twice, WithRoom};
 use super::things::{Thing, changed};
 use super::{Row, Wants, check_calls, halves};
 use smol_str::{Piece, SmolStrBuilder};
 use std::alloc::Global;
 use std::fmt::Write;
 use std::test::Fail;
-use test_support::by_std::Asks;
 use test_support::test::Test;
 
-#[derive(Clone, Copy, Debug)]
+#[derive(Clone, Copy)]
 enum Call {
     Push,
     /// To a builder that has room for its text alone.
@@ -21,19 +22,53 @@ enum Call {
     ExtendChars,
     ExtendStrs,
     ExtendStrings,
+    /// By the trait's call, as below.
+    Extend,
+    ExtendByRefs,
 }
 
-static CALLS: [Call; 10] = [
-    Call::Push,
-    Call::PushToFull,
-    Call::PushStr,
-    Call::PushStrToEmpty,
-    Call::WriteStr,
-    Call::WriteFmt,
-    Call::AppendTo,
-    Call::ExtendChars,
-    Call::ExtendStrs,
-    Call::ExtendStrings,
+/// Room for a text that is not short.
+const ROOM: Wants = AsStd(Nothing, Nothing, WithRoom, WithRoom);
+
+/// Room for the text after the text.
+const BY_TEXT: Wants = AsStd(Nothing, Twice, ByText, ByText);
+
+static CALLS: [Row<Call>; 12] = [
+    (
+        Call::Push,
+        "SmolStrBuilder::push",
+        AsStd(Nothing, AndChar, Nothing, Nothing),
+    ),
+    (
+        Call::PushToFull,
+        "SmolStrBuilder::push",
+        AsStd(Nothing, AndChar, ByChar, ByChar),
+    ),
+    (Call::PushStr, "SmolStrBuilder::push_str", BY_TEXT),
+    (Call::PushStrToEmpty, "SmolStrBuilder::push_str", ROOM),
+    (Call::WriteStr, "SmolStrBuilder::write_str", BY_TEXT),
+    (Call::WriteFmt, "SmolStrBuilder::write_fmt", BY_TEXT),
+    (Call::AppendTo, "Piece::append_to", ROOM),
+    (
+        Call::ExtendChars,
+        "SmolStrBuilder::extend_chars",
+        Exactly(
+            [0, 0, 4, 1, 7, 7, 11],
+            [0, 0, 1185, 79, 10_033, 10_033, 161_713],
+        ),
+    ),
+    (
+        Call::ExtendStrs,
+        "SmolStrBuilder::extend_strs",
+        Exactly([0, 0, 2, 1, 2, 2, 2], [0, 0, 597, 79, 7617, 7617, 105_117]),
+    ),
+    (Call::ExtendStrings, "SmolStrBuilder::extend_strings", ROOM),
+    (
+        Call::Extend,
+        "SmolStrBuilder::extend",
+        Exactly([0, 0, 2, 1, 2, 2, 2], [0, 0, 597, 79, 7617, 7617, 105_117]),
+    ),
+    (Call::ExtendByRefs, "SmolStrBuilder::extend", ROOM),
 ];
 
 #[test]
@@ -41,47 +76,9 @@ fn each_request(rt: HostRuntime) -> Result<(), Fail> {
     check_calls(rt, &CALLS)
 }
 
-impl Row for Call {
+impl super::Call for Call {
     /// A builder, and the text as a string.
     type Input = (SmolStrBuilder, String);
-
-    fn name(self) -> &'static str {
-        match self {
-            Call::Push | Call::PushToFull => "SmolStrBuilder::push",
-            Call::PushStr | Call::PushStrToEmpty => "SmolStrBuilder::push_str",
-            Call::WriteStr => "SmolStrBuilder::write_str",
-            Call::WriteFmt => "SmolStrBuilder::write_fmt",
-            Call::AppendTo => "Piece::append_to",
-            Call::ExtendChars => "SmolStrBuilder::extend_chars",
-            Call::ExtendStrs => "SmolStrBuilder::extend_strs",
-            Call::ExtendStrings => "SmolStrBuilder::extend_strings",
-        }
-    }
-
-    fn asks(self) -> Wants {
-        Wants::AsStd(match self {
-            Call::Push => [Asks::Nothing, Asks::AndChar, Asks::Nothing, Asks::Nothing],
-            Call::PushToFull => [Asks::Nothing, Asks::AndChar, Asks::ByChar, Asks::ByChar],
-            Call::PushStr | Call::WriteStr | Call::WriteFmt => [
-                Asks::Nothing,
-                Asks::Twice,
-                Asks::ByText,
-                Asks::ByText,
-            ],
-            Call::PushStrToEmpty | Call::AppendTo | Call::ExtendStrings => {
-                [Asks::Nothing, Asks::Nothing, Asks::WithRoom, Asks::WithRoom]
-            }
-            Call::ExtendChars => {
-                return Wants::Exactly(
-                    [0, 0, 4, 1, 7, 7, 11],
-                    [0, 0, 1185, 79, 10_033, 10_033, 161_713],
-                );
-            }
-            Call::ExtendStrs => {
-                return Wants::Exactly([0, 0, 2, 1, 2, 2, 2], [0, 0, 597, 79, 7617, 7617, 105_117]);
-            }
-        })
-    }
 
     fn input(self, test: &Test, text: &'static str) -> (SmolStrBuilder, String) {
         let builder = match self {
@@ -107,6 +104,8 @@ impl Row for Call {
             Call::ExtendChars => changed(builder.extend_chars(text.chars()), builder),
             Call::ExtendStrs => changed(builder.extend_strs(halves(text).into_iter()), builder),
             Call::ExtendStrings => changed(builder.extend_strings([string].iter()), builder),
+            Call::Extend => changed(builder.extend(halves(text)), builder),
+            Call::ExtendByRefs => changed(builder.extend([string].iter()), builder),
         }
     }
 }

@@ -1,17 +1,20 @@
 //! Calls that take a builder.
+use super::Wants::AsStd;
+use super::by_std::Asks::{Nothing, Owned};
 use super::things::{Thing, things_of};
-use super::{Row, Wants, check_calls};
+use super::{FREE, KEPT, Row, SHARED, check_calls};
 use smol_str::{SmolStr, SmolStrBuilder, ValueAlloc, finished};
 use std::alloc::Global;
+use std::default::Emptied;
 use std::test::Fail;
-use test_support::by_std::Asks;
 use test_support::test::Test;
 
-#[derive(Clone, Copy, Debug)]
+#[derive(Clone, Copy)]
 enum Call {
     Clone,
     /// Of a builder that is on the heap and has room for more, as those below.
     CloneLarge,
+    Emptied,
     Finish,
     FinishLarge,
     FromBuilder,
@@ -23,17 +26,26 @@ enum Call {
     Finished,
 }
 
-static CALLS: [Call; 10] = [
-    Call::Clone,
-    Call::CloneLarge,
-    Call::Finish,
-    Call::FinishLarge,
-    Call::FromBuilder,
-    Call::IntoValue,
-    Call::IntoValueLarge,
-    Call::IntoValueFull,
-    Call::ValueOf,
-    Call::Finished,
+static CALLS: [Row<Call>; 11] = [
+    (
+        Call::Clone,
+        "SmolStrBuilder::clone",
+        AsStd(Nothing, Nothing, Owned, Owned),
+    ),
+    (
+        Call::CloneLarge,
+        "SmolStrBuilder::clone",
+        AsStd(Nothing, Owned, Owned, Owned),
+    ),
+    (Call::Emptied, "SmolStrBuilder::emptied", FREE),
+    (Call::Finish, "SmolStrBuilder::finish", SHARED),
+    (Call::FinishLarge, "SmolStrBuilder::finish", SHARED),
+    (Call::FromBuilder, "SmolStr::from_builder", SHARED),
+    (Call::IntoValue, "SmolStrBuilder::into_value", KEPT),
+    (Call::IntoValueLarge, "SmolStrBuilder::into_value", KEPT),
+    (Call::IntoValueFull, "SmolStrBuilder::into_value", KEPT),
+    (Call::ValueOf, "ValueAlloc::value_of", KEPT),
+    (Call::Finished, "format::finished", KEPT),
 ];
 
 #[test]
@@ -41,39 +53,12 @@ fn each_request(rt: HostRuntime) -> Result<(), Fail> {
     check_calls(rt, &CALLS)
 }
 
-impl Row for Call {
+impl super::Call for Call {
     type Input = SmolStrBuilder;
-
-    fn name(self) -> &'static str {
-        match self {
-            Call::Clone | Call::CloneLarge => "SmolStrBuilder::clone",
-            Call::Finish | Call::FinishLarge => "SmolStrBuilder::finish",
-            Call::FromBuilder => "SmolStr::from_builder",
-            Call::IntoValue | Call::IntoValueLarge | Call::IntoValueFull => {
-                "SmolStrBuilder::into_value"
-            }
-            Call::ValueOf => "ValueAlloc::value_of",
-            Call::Finished => "format::finished",
-        }
-    }
-
-    fn asks(self) -> Wants {
-        Wants::AsStd(match self {
-            Call::Clone => [Asks::Nothing, Asks::Nothing, Asks::Owned, Asks::Owned],
-            Call::CloneLarge => [Asks::Nothing, Asks::Owned, Asks::Owned, Asks::Owned],
-            Call::Finish | Call::FinishLarge | Call::FromBuilder => [
-                Asks::Nothing,
-                Asks::Nothing,
-                Asks::Nothing,
-                Asks::Shared,
-            ],
-            _ => [Asks::Nothing, Asks::Nothing, Asks::Nothing, Asks::Kept],
-        })
-    }
 
     fn input(self, test: &Test, text: &'static str) -> SmolStrBuilder {
         let capacity = match self {
-            Call::CloneLarge | Call::FinishLarge | Call::IntoValueLarge => 80_000,
+            Call::CloneLarge | Call::Emptied | Call::FinishLarge | Call::IntoValueLarge => 80_000,
             Call::IntoValueFull => text.len(),
             _ => 0,
         };
@@ -83,6 +68,7 @@ impl Row for Call {
     fn run(self, _alloc: Global, _text: &str, builder: SmolStrBuilder) -> Result<Thing, Thing> {
         match self {
             Call::Clone | Call::CloneLarge => cloned(builder),
+            Call::Emptied => things_of(SmolStrBuilder::emptied(&builder)),
             Call::Finish | Call::FinishLarge => things_of(builder.finish()),
             Call::FromBuilder => things_of(SmolStr::from_builder(builder)),
             Call::IntoValue | Call::IntoValueLarge | Call::IntoValueFull => {

@@ -1,61 +1,110 @@
 //! Case and replacement.
+use super::Wants::Exactly;
 use super::things::{Thing, things_of};
-use super::{On, Row, Wants, check_calls, shape_of};
+use super::{On, Row, Wants, check_calls, leaked, shape_of};
 use smol_str::{SmolStr, StrExt};
 use std::alloc::{AllocError, Global};
 use std::test::Fail;
 use test_support::refuse::{each_refused, made_requests};
 use test_support::test::Test;
-use test_support::texts::leaked;
 
-#[derive(Clone, Copy, Debug)]
+#[derive(Clone, Copy)]
 enum Call {
     AsciiLower,
     AsciiUpper,
     Lower,
     Upper,
-    /// A byte by a byte.
-    Replace,
-    ReplaceByItself,
-    ReplaceByBlank,
-    /// A byte by a byte, at most 0 times.
-    ReplaceNone,
-    /// A byte by more.
-    ReplaceByMore,
-    ReplacePieces,
-    Halve,
-    /// The empty pattern.
-    ReplaceNothing,
-    Remove,
-    ReplaceThree,
-    ReplaceOnePiece,
-    /// A pattern whose first byte alone is there.
-    ReplaceMissing,
+    /// A pattern by a new text.
+    Replace(&'static str, &'static str),
+    /// At most so many times.
+    ReplaceSome(&'static str, &'static str, usize),
     /// The text as the pattern.
     ReplaceWhole,
     /// The first match by the text.
     ReplaceByWhole,
 }
 
-static CALLS: [Call; 18] = [
-    Call::AsciiLower,
-    Call::AsciiUpper,
-    Call::Lower,
-    Call::Upper,
-    Call::Replace,
-    Call::ReplaceByItself,
-    Call::ReplaceByBlank,
-    Call::ReplaceNone,
-    Call::ReplaceByMore,
-    Call::ReplacePieces,
-    Call::Halve,
-    Call::ReplaceNothing,
-    Call::Remove,
-    Call::ReplaceThree,
-    Call::ReplaceOnePiece,
-    Call::ReplaceMissing,
-    Call::ReplaceWhole,
-    Call::ReplaceByWhole,
+const LOWER: &str = "StrExt::to_lowercase_smolstr";
+
+const REPLACE: &str = "StrExt::replace_smolstr";
+
+const REPLACEN: &str = "StrExt::replacen_smolstr";
+
+/// Of results as long as the text, made in room of their size.
+const AS_LONG: Wants = Exactly([0, 0, 1, 2, 2, 2, 2], [0, 0, 320, 80, 5040, 5040, 70_040]);
+
+const MAPPED: Wants = Exactly([0, 0, 1, 2, 2, 8, 2], [0, 0, 320, 80, 5040, 10_073, 70_040]);
+
+/// Of results as long as the text, made by a builder.
+const COPIED: Wants = Exactly([0, 0, 1, 2, 2, 2, 2], [0, 0, 359, 119, 5079, 5079, 70_079]);
+
+static CALLS: [Row<Call>; 18] = [
+    (
+        Call::AsciiLower,
+        "StrExt::to_ascii_lowercase_smolstr",
+        AS_LONG,
+    ),
+    (
+        Call::AsciiUpper,
+        "StrExt::to_ascii_uppercase_smolstr",
+        AS_LONG,
+    ),
+    (Call::Lower, LOWER, MAPPED),
+    (Call::Upper, "StrExt::to_uppercase_smolstr", MAPPED),
+    (Call::Replace("a", "b"), REPLACE, AS_LONG),
+    (Call::Replace("a", "a"), REPLACE, AS_LONG),
+    (
+        Call::Replace("a", " "),
+        REPLACE,
+        Exactly([0, 0, 1, 1, 2, 2, 2], [0, 0, 320, 40, 5040, 5040, 70_040]),
+    ),
+    (Call::ReplaceSome("a", "b", 0), REPLACEN, COPIED),
+    (
+        Call::Replace("a", "éé"),
+        REPLACE,
+        Exactly(
+            [0, 3, 1, 4, 10, 2, 14],
+            [0, 277, 359, 593, 40_409, 5079, 647_129],
+        ),
+    ),
+    (
+        Call::Replace("aa", "bb"),
+        REPLACE,
+        Exactly(
+            [0, 0, 1, 2, 8, 2, 12],
+            [0, 0, 359, 119, 10_073, 5079, 161_753],
+        ),
+    ),
+    (
+        Call::Replace("aa", "b"),
+        REPLACE,
+        Exactly([0, 0, 1, 0, 7, 2, 11], [0, 0, 359, 0, 5017, 5079, 80_857]),
+    ),
+    (
+        Call::Replace("", "-"),
+        REPLACE,
+        Exactly(
+            [0, 2, 6, 3, 9, 9, 13],
+            [0, 119, 2489, 277, 20_185, 20_185, 323_545],
+        ),
+    ),
+    (
+        Call::Replace("a", ""),
+        REPLACE,
+        Exactly([0, 0, 1, 0, 0, 2, 0], [0, 0, 359, 0, 0, 5079, 0]),
+    ),
+    (Call::ReplaceSome("a", "b", 3), REPLACEN, COPIED),
+    (Call::ReplaceSome("aa", "bb", 1), REPLACEN, COPIED),
+    (Call::Replace("ab", "-"), REPLACE, COPIED),
+    (Call::ReplaceWhole, REPLACE, Exactly([0; 7], [0; 7])),
+    (
+        Call::ReplaceByWhole,
+        REPLACEN,
+        Exactly(
+            [0, 2, 1, 2, 3, 2, 3],
+            [0, 156, 359, 119, 15_157, 5079, 210_157],
+        ),
+    ),
 ];
 
 #[test]
@@ -67,64 +116,23 @@ fn each_request(rt: HostRuntime) -> Result<(), Fail> {
 #[test]
 fn sigma(rt: HostRuntime) -> Result<(), Fail> {
     let test = Test::begin(rt);
-    for (name, times) in [("a capital sigma", 1), ("2,000 capital sigmas", 2000)] {
-        let shape = shape_of(name, leaked(test.repeated("ΑΣ", times)));
-        let call = Call::Lower;
-        let asked = each_refused(&test, call.name(), &On { call, shape });
-        made_requests(&test, asked, &name);
-    }
+    check_sigma(&test, "ΑΣ");
+    check_sigma(&test, leaked(test.repeated("ΑΣ", 2000)));
     test.end()
 }
 
-impl Row for Call {
+fn check_sigma(test: &Test, text: &'static str) {
+    let (call, shape) = (Call::Lower, shape_of("a capital sigma", text));
+    let on = On {
+        call,
+        name: LOWER,
+        shape,
+    };
+    made_requests(test, each_refused(test, LOWER, &on), &text.len())
+}
+
+impl super::Call for Call {
     type Input = ();
-
-    fn name(self) -> &'static str {
-        match self {
-            Call::AsciiLower => "StrExt::to_ascii_lowercase_smolstr",
-            Call::AsciiUpper => "StrExt::to_ascii_uppercase_smolstr",
-            Call::Lower => "StrExt::to_lowercase_smolstr",
-            Call::Upper => "StrExt::to_uppercase_smolstr",
-            Call::ReplaceNone | Call::ReplaceThree | Call::ReplaceOnePiece | Call::ReplaceByWhole =>
-                "StrExt::replacen_smolstr",
-            _ => "StrExt::replace_smolstr",
-        }
-    }
-
-    fn asks(self) -> Wants {
-        let (requests, bytes) = match self {
-            Call::AsciiLower | Call::AsciiUpper | Call::Replace | Call::ReplaceByItself => (
-                [0, 0, 1, 2, 2, 2, 2],
-                [0, 0, 320, 80, 5040, 5040, 70_040],
-            ),
-            Call::ReplaceByBlank => ([0, 0, 1, 1, 2, 2, 2], [0, 0, 320, 40, 5040, 5040, 70_040]),
-            Call::Lower | Call::Upper => (
-                [0, 0, 1, 2, 2, 8, 2],
-                [0, 0, 320, 80, 5040, 10_073, 70_040],
-            ),
-            Call::ReplaceByMore => (
-                [0, 3, 1, 4, 10, 2, 14],
-                [0, 277, 359, 593, 40_409, 5079, 647_129],
-            ),
-            Call::ReplacePieces => (
-                [0, 0, 1, 2, 8, 2, 12],
-                [0, 0, 359, 119, 10_073, 5079, 161_753],
-            ),
-            Call::Halve => ([0, 0, 1, 0, 7, 2, 11], [0, 0, 359, 0, 5017, 5079, 80_857]),
-            Call::ReplaceNothing => (
-                [0, 2, 6, 3, 9, 9, 13],
-                [0, 119, 2489, 277, 20_185, 20_185, 323_545],
-            ),
-            Call::Remove => ([0, 0, 1, 0, 0, 2, 0], [0, 0, 359, 0, 0, 5079, 0]),
-            Call::ReplaceWhole => ([0; 7], [0; 7]),
-            Call::ReplaceByWhole => (
-                [0, 2, 1, 2, 3, 2, 3],
-                [0, 156, 359, 119, 15_157, 5079, 210_157],
-            ),
-            _ => ([0, 0, 1, 2, 2, 2, 2], [0, 0, 359, 119, 5079, 5079, 70_079]),
-        };
-        Wants::Exactly(requests, bytes)
-    }
 
     fn input(self, _test: &Test, _text: &'static str) {}
 
@@ -140,18 +148,8 @@ impl Call {
             Call::AsciiUpper => text.to_ascii_uppercase_smolstr(alloc),
             Call::Lower => text.to_lowercase_smolstr(alloc),
             Call::Upper => text.to_uppercase_smolstr(alloc),
-            Call::Replace => text.replace_smolstr(alloc, "a", "b"),
-            Call::ReplaceByItself => text.replace_smolstr(alloc, "a", "a"),
-            Call::ReplaceByBlank => text.replace_smolstr(alloc, "a", " "),
-            Call::ReplaceNone => text.replacen_smolstr(alloc, "a", "b", 0),
-            Call::ReplaceByMore => text.replace_smolstr(alloc, "a", "éé"),
-            Call::ReplacePieces => text.replace_smolstr(alloc, "aa", "bb"),
-            Call::Halve => text.replace_smolstr(alloc, "aa", "b"),
-            Call::ReplaceNothing => text.replace_smolstr(alloc, "", "-"),
-            Call::Remove => text.replace_smolstr(alloc, "a", ""),
-            Call::ReplaceThree => text.replacen_smolstr(alloc, "a", "b", 3),
-            Call::ReplaceOnePiece => text.replacen_smolstr(alloc, "aa", "bb", 1),
-            Call::ReplaceMissing => text.replace_smolstr(alloc, "ab", "-"),
+            Call::Replace(from, to) => text.replace_smolstr(alloc, from, to),
+            Call::ReplaceSome(from, to, count) => text.replacen_smolstr(alloc, from, to, count),
             Call::ReplaceWhole => text.replace_smolstr(alloc, text, "b"),
             Call::ReplaceByWhole => text.replacen_smolstr(alloc, "a", text, 1),
         }

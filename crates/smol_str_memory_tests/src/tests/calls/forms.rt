@@ -1,16 +1,15 @@
 //! Calls that read a wire form of the text, or all bytes of it.
+use super::Wants::Exactly;
 use super::things::{IntoThing, Thing, things_of};
-use super::{Row, Wants, check_calls};
-use crate::tests::wire::of_units;
+use super::{FREE, Row, SHARED, Wants, check_calls};
 use smol_str::SmolStr;
 use smol_str::borsh::{BorshDeserialize, DecodeFault, deserialize_limited, from_wire, split_wire};
 use smol_str::stream::{fill, read_all, read_up_to};
 use std::alloc::Global;
 use std::test::Fail;
-use test_support::by_std::Asks;
-use test_support::test::Test;
+use test_support::test::{Test, ok, ok_bytes};
 
-#[derive(Clone, Copy, Debug)]
+#[derive(Clone, Copy)]
 enum Call {
     FromWire,
     SplitWire,
@@ -22,14 +21,34 @@ enum Call {
     Fill,
 }
 
-static CALLS: [Call; 7] = [
-    Call::FromWire,
-    Call::SplitWire,
-    Call::DeserializeReader,
-    Call::DeserializeLimited,
-    Call::ReadUpTo,
-    Call::ReadAll,
-    Call::Fill,
+/// Of a value, that is read from a reader.
+const VALUE: Wants = Exactly(
+    [0, 0, 1, 2, 4, 4, 8],
+    [0, 0, 320, 80, 17_328, 17_328, 328_088],
+);
+
+/// Of a list of bytes.
+const BYTES: Wants = Exactly(
+    [0, 1, 1, 1, 2, 2, 6],
+    [0, 39, 320, 40, 12_288, 12_288, 258_048],
+);
+
+static CALLS: [Row<Call>; 7] = [
+    (Call::FromWire, "borsh::from_wire", SHARED),
+    (Call::SplitWire, "borsh::split_wire", SHARED),
+    (
+        Call::DeserializeReader,
+        "BorshDeserialize::deserialize_reader",
+        VALUE,
+    ),
+    (
+        Call::DeserializeLimited,
+        "borsh::deserialize_limited",
+        VALUE,
+    ),
+    (Call::ReadUpTo, "stream::read_up_to", BYTES),
+    (Call::ReadAll, "stream::read_all", BYTES),
+    (Call::Fill, "stream::fill", FREE),
 ];
 
 #[test]
@@ -37,51 +56,17 @@ fn each_request(rt: HostRuntime) -> Result<(), Fail> {
     check_calls(rt, &CALLS)
 }
 
-impl Row for Call {
+impl super::Call for Call {
     /// The bytes that are read.
     type Input = Vec<u8>;
 
-    fn name(self) -> &'static str {
-        match self {
-            Call::FromWire => "borsh::from_wire",
-            Call::SplitWire => "borsh::split_wire",
-            Call::DeserializeReader => "BorshDeserialize::deserialize_reader",
-            Call::DeserializeLimited => "borsh::deserialize_limited",
-            Call::ReadUpTo => "stream::read_up_to",
-            Call::ReadAll => "stream::read_all",
-            Call::Fill => "stream::fill",
-        }
-    }
-
-    fn asks(self) -> Wants {
-        match self {
-            Call::FromWire | Call::SplitWire => Wants::AsStd([
-                Asks::Nothing,
-                Asks::Nothing,
-                Asks::Nothing,
-                Asks::Shared,
-            ]),
-            Call::Fill => Wants::AsStd([Asks::Nothing; 4]),
-            Call::DeserializeReader | Call::DeserializeLimited => Wants::Exactly(
-                [0, 0, 1, 2, 4, 4, 8],
-                [0, 0, 320, 80, 17_328, 17_328, 328_088],
-            ),
-            Call::ReadUpTo | Call::ReadAll => Wants::Exactly(
-                [0, 1, 1, 1, 2, 2, 6],
-                [0, 39, 320, 40, 12_288, 12_288, 258_048],
-            ),
-        }
-    }
-
     fn input(self, test: &Test, text: &'static str) -> Vec<u8> {
         match self {
-            Call::ReadUpTo | Call::ReadAll | Call::Fill => of_units(test, b"", text.as_bytes(), 1),
-            _ => of_units(
-                test,
-                &u32::try_from(text.len()).unwrap_or(0).to_le_bytes(),
-                text.as_bytes(),
-                1,
-            ),
+            Call::ReadUpTo | Call::ReadAll | Call::Fill => form_of(test, b"", text),
+            _ => {
+                let size = u32::try_from(text.len()).unwrap_or(0).to_le_bytes();
+                form_of(test, &size, text)
+            }
         }
     }
 
@@ -103,9 +88,15 @@ impl Row for Call {
     }
 }
 
+fn form_of(test: &Test, size: &[u8], text: &str) -> Vec<u8> {
+    let mut form = ok_bytes(test, Vec::from_slice(test.alloc, size));
+    ok(test, form.extend_from_slice(text.as_bytes()));
+    form
+}
+
 fn filled(mut reader: &[u8], mut bytes: Vec<u8>) -> Result<Thing, Thing> {
     match fill(&mut reader, &mut bytes) {
-        Ok(_) => Ok(Thing::Bytes(bytes)),
+        Ok(_) => Ok(Thing::Nothing),
         Err(_) => Err(Thing::Fault),
     }
 }

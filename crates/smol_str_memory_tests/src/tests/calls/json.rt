@@ -1,15 +1,16 @@
 //! JSON calls.
+use super::Wants::{AsStd, Exactly};
+use super::by_std::Asks::{Nothing, Owned};
 use super::things::{Thing, things_of};
-use super::{Row, Wants, check_calls};
+use super::{Row, SHARED, Wants, check_calls};
 use serde_json::Value;
 use smol_str::SmolStr;
 use smol_str::json::{from_json, from_value, to_json, to_value};
 use std::alloc::Global;
 use std::test::Fail;
-use test_support::by_std::Asks;
 use test_support::test::{Test, ok_string};
 
-#[derive(Clone, Copy, Debug)]
+#[derive(Clone, Copy)]
 enum Call {
     ToValue,
     FromValue,
@@ -19,12 +20,26 @@ enum Call {
     FromJson,
 }
 
-static CALLS: [Call; 5] = [
-    Call::ToValue,
-    Call::FromValue,
-    Call::ToJson,
-    Call::ToJsonPinned,
-    Call::FromJson,
+const TO_JSON: Wants = Exactly(
+    [1, 2, 4, 2, 3, 3, 3],
+    [128, 167, 1216, 168, 10_131, 10_131, 140_131],
+);
+
+const FROM_JSON: Wants = Exactly(
+    [1, 2, 2, 4, 4, 4, 4],
+    [8, 80, 706, 162, 15_042, 15_042, 210_042],
+);
+
+static CALLS: [Row<Call>; 5] = [
+    (
+        Call::ToValue,
+        "json::to_value",
+        AsStd(Nothing, Owned, Owned, Owned),
+    ),
+    (Call::FromValue, "json::from_value", SHARED),
+    (Call::ToJson, "json::to_json", TO_JSON),
+    (Call::ToJsonPinned, "json::to_json", TO_JSON),
+    (Call::FromJson, "json::from_json", FROM_JSON),
 ];
 
 #[test]
@@ -40,37 +55,8 @@ struct Input {
     json: String,
 }
 
-impl Row for Call {
+impl super::Call for Call {
     type Input = Input;
-
-    fn name(self) -> &'static str {
-        match self {
-            Call::ToValue => "json::to_value",
-            Call::FromValue => "json::from_value",
-            Call::ToJson | Call::ToJsonPinned => "json::to_json",
-            Call::FromJson => "json::from_json",
-        }
-    }
-
-    fn asks(self) -> Wants {
-        match self {
-            Call::ToValue => Wants::AsStd([Asks::Nothing, Asks::Owned, Asks::Owned, Asks::Owned]),
-            Call::FromValue => Wants::AsStd([
-                Asks::Nothing,
-                Asks::Nothing,
-                Asks::Nothing,
-                Asks::Shared,
-            ]),
-            Call::ToJson | Call::ToJsonPinned => Wants::Exactly(
-                [1, 2, 4, 2, 3, 3, 3],
-                [128, 167, 1216, 168, 10_131, 10_131, 140_131],
-            ),
-            Call::FromJson => Wants::Exactly(
-                [1, 2, 2, 4, 4, 4, 4],
-                [8, 80, 706, 162, 15_042, 15_042, 210_042],
-            ),
-        }
-    }
 
     fn input(self, test: &Test, text: &'static str) -> Input {
         let tree = Value::String(test.string(text));

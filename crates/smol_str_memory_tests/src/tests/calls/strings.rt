@@ -1,15 +1,16 @@
 //! Calls that take a `String` of the text, or what is made of one.
+use super::Wants::AsStd;
+use super::by_std::Asks::{Built, BuiltToSize, Nothing, Owned, WithRoom};
 use super::things::{Thing, things_of};
-use super::{Row, Wants, check_calls};
+use super::{KEPT, PRINTED, Row, SHARED, check_calls};
 use smol_str::{SmolStr, Step, build};
 use std::alloc::Global;
 use std::borrow::CowStr;
 use std::slice::from_ref;
 use std::test::Fail;
-use test_support::by_std::Asks;
 use test_support::test::{Test, ok, ok_string};
 
-#[derive(Clone, Copy, Debug)]
+#[derive(Clone, Copy)]
 enum Call {
     FromStringRef,
     FromString,
@@ -22,23 +23,33 @@ enum Call {
     FromBoxed,
     FromStrings,
     FromStringRefs,
+    FromIter,
     Build,
     BuildToSize,
 }
 
-static CALLS: [Call; 12] = [
-    Call::FromStringRef,
-    Call::FromString,
-    Call::FromRoomy,
-    Call::FromOwned,
-    Call::FromOwnedRoomy,
-    Call::FromCow,
-    Call::FromCowRoomy,
-    Call::FromBoxed,
-    Call::FromStrings,
-    Call::FromStringRefs,
-    Call::Build,
-    Call::BuildToSize,
+static CALLS: [Row<Call>; 13] = [
+    (Call::FromStringRef, "SmolStr::from_string_ref", SHARED),
+    (Call::FromString, "SmolStr::from_string", SHARED),
+    (Call::FromRoomy, "SmolStr::from_string", SHARED),
+    (Call::FromOwned, "SmolStr::from_owned", KEPT),
+    (Call::FromOwnedRoomy, "SmolStr::from_owned", KEPT),
+    (Call::FromCow, "SmolStr::from_cow_str", SHARED),
+    (Call::FromCowRoomy, "SmolStr::from_cow_str", SHARED),
+    (Call::FromBoxed, "SmolStr::from_boxed_str", SHARED),
+    (Call::FromStrings, "SmolStr::from_strings", PRINTED),
+    (Call::FromStringRefs, "SmolStr::from_string_refs", PRINTED),
+    (Call::FromIter, "SmolStr::from_iter", PRINTED),
+    (
+        Call::Build,
+        "build",
+        AsStd(Nothing, Nothing, WithRoom, Built),
+    ),
+    (
+        Call::BuildToSize,
+        "build",
+        AsStd(Nothing, Nothing, Owned, BuiltToSize),
+    ),
 ];
 
 #[test]
@@ -46,38 +57,8 @@ fn each_request(rt: HostRuntime) -> Result<(), Fail> {
     check_calls(rt, &CALLS)
 }
 
-impl Row for Call {
+impl super::Call for Call {
     type Input = String;
-
-    fn name(self) -> &'static str {
-        match self {
-            Call::FromStringRef => "SmolStr::from_string_ref",
-            Call::FromString | Call::FromRoomy => "SmolStr::from_string",
-            Call::FromOwned | Call::FromOwnedRoomy => "SmolStr::from_owned",
-            Call::FromCow | Call::FromCowRoomy => "SmolStr::from_cow_str",
-            Call::FromBoxed => "SmolStr::from_boxed_str",
-            Call::FromStrings => "SmolStr::from_strings",
-            Call::FromStringRefs => "SmolStr::from_string_refs",
-            Call::Build | Call::BuildToSize => "build",
-        }
-    }
-
-    fn asks(self) -> Wants {
-        Wants::AsStd(match self {
-            Call::FromOwned | Call::FromOwnedRoomy => {
-                [Asks::Nothing, Asks::Nothing, Asks::Nothing, Asks::Kept]
-            }
-            Call::FromStrings | Call::FromStringRefs => [
-                Asks::Nothing,
-                Asks::Nothing,
-                Asks::WithRoom,
-                Asks::Printed,
-            ],
-            Call::Build => [Asks::Nothing, Asks::Nothing, Asks::WithRoom, Asks::Built],
-            Call::BuildToSize => [Asks::Nothing, Asks::Nothing, Asks::Owned, Asks::BuiltToSize],
-            _ => [Asks::Nothing, Asks::Nothing, Asks::Nothing, Asks::Shared],
-        })
-    }
 
     fn input(self, test: &Test, text: &'static str) -> String {
         match self {
@@ -97,6 +78,7 @@ impl Row for Call {
             Call::FromBoxed => things_of(SmolStr::from_boxed_str(alloc, string.into_boxed_str())),
             Call::FromStrings => things_of(SmolStr::from_strings(alloc, [string].into_iter())),
             Call::FromStringRefs => things_of(SmolStr::from_string_refs(alloc, [string].iter())),
+            Call::FromIter => things_of(SmolStr::from_iter(alloc, [string])),
             Call::Build => built(alloc, 0, string),
             Call::BuildToSize => built(alloc, string.len(), string),
         }

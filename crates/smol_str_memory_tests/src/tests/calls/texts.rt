@@ -1,14 +1,15 @@
 //! Calls on a text.
+use super::Wants::{AsStd, Exactly};
+use super::by_std::Asks::{Nothing, Owned};
 use super::things::{Thing, things_of};
-use super::{Row, Wants, check_calls, halves};
+use super::{PRINTED, Row, SHARED, Wants, check_calls, halves};
 use smol_str::{SmolStr, SmolStrBuilder, ToSmolStr, format_smolstr};
-use std::alloc::Global;
+use std::alloc::{AllocError, Global};
 use std::borrow::CowStr;
 use std::test::Fail;
-use test_support::by_std::Asks;
 use test_support::test::Test;
 
-#[derive(Clone, Copy, Debug)]
+#[derive(Clone, Copy)]
 enum Call {
     New,
     FromStr,
@@ -17,22 +18,40 @@ enum Call {
     FromBorrowed,
     FromChars,
     FromStrs,
+    /// By the trait's call.
+    Collect,
     ToSmolStr,
     Format,
     WithCapacity,
 }
 
-static CALLS: [Call; 10] = [
-    Call::New,
-    Call::FromStr,
-    Call::FromUtf8,
-    Call::FromUtf8Unchecked,
-    Call::FromBorrowed,
-    Call::FromChars,
-    Call::FromStrs,
-    Call::ToSmolStr,
-    Call::Format,
-    Call::WithCapacity,
+const CHARS: Wants = Exactly(
+    [0, 0, 4, 2, 8, 8, 12],
+    [0, 0, 1185, 119, 10_073, 10_073, 161_753],
+);
+
+const HALVES: Wants = Exactly([0, 0, 2, 2, 3, 3, 3], [0, 0, 597, 119, 7657, 7657, 105_157]);
+
+static CALLS: [Row<Call>; 11] = [
+    (Call::New, "SmolStr::new", SHARED),
+    (Call::FromStr, "SmolStr::from_str", SHARED),
+    (Call::FromUtf8, "SmolStr::from_utf8", SHARED),
+    (
+        Call::FromUtf8Unchecked,
+        "SmolStr::from_utf8_unchecked",
+        SHARED,
+    ),
+    (Call::FromBorrowed, "SmolStr::from_cow_str", SHARED),
+    (Call::FromChars, "SmolStr::from_chars", CHARS),
+    (Call::FromStrs, "SmolStr::from_strs", HALVES),
+    (Call::Collect, "SmolStr::from_iter", CHARS),
+    (Call::ToSmolStr, "ToSmolStr::to_smolstr", PRINTED),
+    (Call::Format, "format_smolstr!", PRINTED),
+    (
+        Call::WithCapacity,
+        "SmolStrBuilder::with_capacity",
+        AsStd(Nothing, Nothing, Owned, Owned),
+    ),
 ];
 
 #[test]
@@ -40,49 +59,8 @@ fn each_request(rt: HostRuntime) -> Result<(), Fail> {
     check_calls(rt, &CALLS)
 }
 
-impl Row for Call {
+impl super::Call for Call {
     type Input = ();
-
-    fn name(self) -> &'static str {
-        match self {
-            Call::New => "SmolStr::new",
-            Call::FromStr => "SmolStr::from_str",
-            Call::FromUtf8 => "SmolStr::from_utf8",
-            Call::FromUtf8Unchecked => "SmolStr::from_utf8_unchecked",
-            Call::FromBorrowed => "SmolStr::from_cow_str",
-            Call::FromChars => "SmolStr::from_chars",
-            Call::FromStrs => "SmolStr::from_strs",
-            Call::ToSmolStr => "ToSmolStr::to_smolstr",
-            Call::Format => "format_smolstr!",
-            Call::WithCapacity => "SmolStrBuilder::with_capacity",
-        }
-    }
-
-    fn asks(self) -> Wants {
-        match self {
-            Call::ToSmolStr | Call::Format => Wants::AsStd([
-                Asks::Nothing,
-                Asks::Nothing,
-                Asks::WithRoom,
-                Asks::Printed,
-            ]),
-            Call::FromChars => Wants::Exactly(
-                [0, 0, 4, 2, 8, 8, 12],
-                [0, 0, 1185, 119, 10_073, 10_073, 161_753],
-            ),
-            Call::FromStrs => Wants::Exactly(
-                [0, 0, 2, 2, 3, 3, 3],
-                [0, 0, 597, 119, 7657, 7657, 105_157],
-            ),
-            Call::WithCapacity => Wants::AsStd([
-                Asks::Nothing,
-                Asks::Nothing,
-                Asks::Owned,
-                Asks::Owned,
-            ]),
-            _ => Wants::AsStd([Asks::Nothing, Asks::Nothing, Asks::Nothing, Asks::Shared]),
-        }
-    }
 
     fn input(self, _test: &Test, _text: &'static str) {}
 
@@ -98,9 +76,14 @@ impl Row for Call {
             Call::FromBorrowed => things_of(SmolStr::from_cow_str(alloc, CowStr::Borrowed(text))),
             Call::FromChars => things_of(SmolStr::from_chars(alloc, text.chars())),
             Call::FromStrs => things_of(SmolStr::from_strs(alloc, halves(text).into_iter())),
+            Call::Collect => things_of(collected(alloc, text)),
             Call::ToSmolStr => things_of(text.to_smolstr(alloc)),
             Call::Format => things_of(format_smolstr!(alloc; "{}", text)),
             Call::WithCapacity => things_of(SmolStrBuilder::with_capacity(alloc, text.len())),
         }
     }
+}
+
+fn collected(alloc: Global, text: &str) -> Result<SmolStr, AllocError> {
+    text.chars().collect(alloc)
 }

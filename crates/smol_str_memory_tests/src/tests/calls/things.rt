@@ -12,6 +12,7 @@ use std::rc::RcStr;
 /// What a call made, or left where it was refused.
 #[derive(Drop)]
 pub enum Thing {
+    /// Nothing, or what no row asks about.
     Nothing,
     /// A fault that does not say that memory was refused.
     Fault,
@@ -19,32 +20,18 @@ pub enum Thing {
     Builder(SmolStrBuilder),
     Owned(String),
     Boxed(BoxedStr),
-    Shared(RcStr),
-    Json(Value),
-    Bytes(Vec<u8>),
 }
 
 impl Thing {
-    fn text(&self) -> Option<&str> {
-        match self {
-            Thing::Nothing | Thing::Fault => None,
-            Thing::Value(value) => Some(value.as_str()),
-            Thing::Builder(builder) => Some(builder.as_str()),
-            Thing::Owned(string) => Some(string.as_str()),
-            Thing::Boxed(boxed) => Some(boxed.as_str()),
-            Thing::Shared(shared) => Some(shared.as_str()),
-            Thing::Json(json) => json.as_str(),
-            Thing::Bytes(bytes) => str::from_utf8(bytes.as_slice()).ok(),
-        }
-    }
-
     /// Whether it may stand after a refusal of a call on the text: nothing, the text, or a builder that has a front of it.
     pub fn stands_after(&self, text: &str) -> bool {
         match self {
             Thing::Nothing => true,
             Thing::Fault => false,
+            Thing::Value(value) => value.eq_str(text),
             Thing::Builder(builder) => text.starts_with(builder.as_str()),
-            _ => self.text() == Some(text),
+            Thing::Owned(string) => string.as_str() == text,
+            Thing::Boxed(boxed) => boxed.as_str() == text,
         }
     }
 }
@@ -104,19 +91,19 @@ impl IntoThing for BoxedStr {
 
 impl IntoThing for RcStr {
     fn into_thing(self) -> Thing {
-        Thing::Shared(self)
+        Thing::Nothing
     }
 }
 
 impl IntoThing for Value {
     fn into_thing(self) -> Thing {
-        Thing::Json(self)
+        Thing::Nothing
     }
 }
 
 impl IntoThing for Vec<u8> {
     fn into_thing(self) -> Thing {
-        Thing::Bytes(self)
+        Thing::Nothing
     }
 }
 

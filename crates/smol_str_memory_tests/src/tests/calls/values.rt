@@ -1,14 +1,15 @@
-//! Calls on a value.
+//! Calls on a value. A clone shares the text, and a value on the heap hands out the shared text that it has.
+use super::Wants::AsStd;
+use super::by_std::Asks::{Nothing, Owned, Shared, WithRoom};
 use super::things::{Thing, things_of};
-use super::{Row, Wants, check_calls};
+use super::{FREE, Row, Wants, check_calls};
 use smol_str::borsh::BorshSerialize;
 use smol_str::{INLINE_CAP, SmolStr};
 use std::alloc::Global;
 use std::test::Fail;
-use test_support::by_std::Asks;
 use test_support::test::Test;
 
-#[derive(Clone, Copy, Debug)]
+#[derive(Clone, Copy)]
 enum Call {
     Clone,
     /// Of a pinned value, as those below.
@@ -21,15 +22,34 @@ enum Call {
     SerializePinned,
 }
 
-static CALLS: [Call; 8] = [
-    Call::Clone,
-    Call::ClonePinned,
-    Call::IntoString,
-    Call::IntoStringPinned,
-    Call::IntoRcStr,
-    Call::IntoRcStrPinned,
-    Call::Serialize,
-    Call::SerializePinned,
+/// A `String` of a text.
+const OWNED: Wants = AsStd(Nothing, Owned, Owned, Owned);
+
+static CALLS: [Row<Call>; 8] = [
+    (Call::Clone, "SmolStr::clone", FREE),
+    (Call::ClonePinned, "SmolStr::clone", FREE),
+    (Call::IntoString, "SmolStr::into_string", OWNED),
+    (Call::IntoStringPinned, "SmolStr::into_string", OWNED),
+    (
+        Call::IntoRcStr,
+        "SmolStr::into_rc_str",
+        AsStd(Shared, Shared, Shared, Nothing),
+    ),
+    (
+        Call::IntoRcStrPinned,
+        "SmolStr::into_rc_str",
+        AsStd(Shared, Shared, Shared, Shared),
+    ),
+    (
+        Call::Serialize,
+        "BorshSerialize::serialize",
+        AsStd(WithRoom, WithRoom, WithRoom, WithRoom),
+    ),
+    (
+        Call::SerializePinned,
+        "BorshSerialize::serialize",
+        AsStd(WithRoom, WithRoom, WithRoom, WithRoom),
+    ),
 ];
 
 #[test]
@@ -37,30 +57,8 @@ fn each_request(rt: HostRuntime) -> Result<(), Fail> {
     check_calls(rt, &CALLS)
 }
 
-impl Row for Call {
+impl super::Call for Call {
     type Input = SmolStr;
-
-    fn name(self) -> &'static str {
-        match self {
-            Call::Clone | Call::ClonePinned => "SmolStr::clone",
-            Call::IntoString | Call::IntoStringPinned => "SmolStr::into_string",
-            Call::IntoRcStr | Call::IntoRcStrPinned => "SmolStr::into_rc_str",
-            Call::Serialize | Call::SerializePinned => "BorshSerialize::serialize",
-        }
-    }
-
-    /// A clone shares the text, and a value on the heap hands out the shared text that it has.
-    fn asks(self) -> Wants {
-        Wants::AsStd(match self {
-            Call::Clone | Call::ClonePinned => [Asks::Nothing; 4],
-            Call::IntoString | Call::IntoStringPinned => {
-                [Asks::Nothing, Asks::Owned, Asks::Owned, Asks::Owned]
-            }
-            Call::IntoRcStr => [Asks::Shared, Asks::Shared, Asks::Shared, Asks::Nothing],
-            Call::IntoRcStrPinned => [Asks::Shared; 4],
-            Call::Serialize | Call::SerializePinned => [Asks::WithRoom; 4],
-        })
-    }
 
     fn input(self, test: &Test, text: &'static str) -> SmolStr {
         match self {
@@ -87,7 +85,7 @@ fn serialized(alloc: Global, value: &SmolStr) -> Result<Thing, Thing> {
     let room = value.len().saturating_add(INLINE_CAP);
     match Vec::with_capacity(alloc, room) {
         Ok(mut form) => match value.serialize(&mut form) {
-            Ok(()) => Ok(Thing::Bytes(form)),
+            Ok(()) => Ok(Thing::Nothing),
             Err(_) => Err(Thing::Fault),
         },
         Err(_) => Err(Thing::Nothing),

@@ -1,11 +1,11 @@
 //! Each call that writes, over writers of every step, which fail at each call.
+use super::failing::{Drip, Kind, Writing, cause_of, empty_drip, fails_at_each_write};
 use super::readers::forms;
-use super::rows::ok_found;
+use super::wire::ok_found;
 use smol_str::SmolStr;
 use smol_str::borsh::{BorshSerialize, EncodeFault, from_wire};
 use smol_str::stream::write_steps;
 use std::test::Fail;
-use test_support::streams::{Drip, Kind, Writing, cause_of, empty_drip, fails_at_each_write};
 use test_support::test::{Test, same, same_count};
 
 /// A call that writes a wire form.

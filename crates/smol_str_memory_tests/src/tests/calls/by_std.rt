@@ -1,9 +1,9 @@
 //! What calls of std ask the heap for.
-use crate::refuse::{Asked, can_refuse, count_asked};
-use crate::test::{Test, holds};
 use smol_str::INLINE_CAP;
 use std::alloc::Global;
 use std::rc::RcStr;
+use test_support::refuse::{Asked, can_refuse, count_asked};
+use test_support::test::{Test, holds};
 
 /// Calls of std that ask for what a call under test is to ask for.
 #[derive(Clone, Copy)]

@@ -2,11 +2,11 @@
 //! call.
 ghost use Rattle.std.specs.Prelude.{Some, ◌≡◌, []};
 
-use crate::test::{Test, holds, same};
 use smol_str::stream::CHUNK;
 use std::alloc::Global;
 use std::io;
 use std::io::{ErrorKind, Read, Write};
+use test_support::test::{Test, holds, same};
 
 /// How many bytes a call the readers and writers give and take at most.
 pub const STEPS: [usize; 7] = [1, 2, 3, CHUNK - 1, CHUNK, CHUNK + 1, usize::MAX];
@@ -135,8 +135,6 @@ pub enum Kind {
     NotUtf8,
     OutOfMemory,
     TooLong,
-    NotString,
-    NotJson,
     Full,
     Io(Cause),
 }

@@ -1,4 +1,5 @@
 //! Each call that reads, over readers of every step, which end after each byte and fail at each call.
+use super::failing::{Kind, Reading, Trickle, cause_of, fails_at_each_read, trickle_of};
 use super::wire::{LETTERS, ROWS, form_of, of_units};
 use super::wire_faults::{kind_of, kind_of_limited};
 use smol_str::SmolStr;
@@ -6,11 +7,10 @@ use smol_str::borsh::{BorshDeserialize, BorshSerialize, deserialize_limited};
 use smol_str::stream::{CHUNK, ReadFault, fill, read_all, read_up_to};
 use std::alloc::Global;
 use std::test::Fail;
-use test_support::streams::{Kind, Reading, Trickle, cause_of, fails_at_each_read, trickle_of};
-use test_support::test::{Test, holds, same, same_count};
+use test_support::test::{Test, holds, is_so};
 
 /// A call that reads.
-#[derive(Clone, Copy, PartialEq, Eq, Debug)]
+#[derive(Clone, Copy)]
 enum Call {
     Fill,
     ReadUpTo,
@@ -54,7 +54,7 @@ impl Reading for Reads {
     }
 
     fn reads_the_end(&self) -> bool {
-        self.call == Call::ReadAll
+        matches!(self.call, Call::ReadAll)
     }
 
     /// Of a value, its wire form.
@@ -152,24 +152,26 @@ fn end_after_each_byte(rt: HostRuntime) -> Result<(), Fail> {
 }
 
 fn check_end(test: &Test, reads: &Reads, front: &[u8]) {
-    let row = (reads.call, front.len());
+    let row = (reads.name(), front.len());
     let mut reader = trickle_of(front, 1, 0);
-    let is_of_a_value = reads.call == Call::WireForm || reads.call == Call::LimitedForm;
-    match reads.read(test, &mut reader) {
-        Ok(all) => holds(test, all.as_slice() == front && !is_of_a_value, &row),
-        Err(kind) => same(test, &(kind, is_of_a_value), &(Kind::Ended, true), &row),
-    }
-    holds(test, reader.rest.is_empty(), &row);
+    let is_of_a_value = matches!(reads.call, Call::WireForm | Call::LimitedForm);
+    let is_right = match reads.read(test, &mut reader) {
+        Ok(all) => all.as_slice() == front && !is_of_a_value,
+        Err(kind) => kind == Kind::Ended && is_of_a_value,
+    };
+    holds(test, is_right && reader.rest.is_empty(), &row);
 }
 
 #[test]
 fn no_read_into_nothing(rt: HostRuntime) -> Result<(), Fail> {
     let test = Test::begin(rt);
-    let mut reader = trickle_of(b"ab", 1, 1);
-    for call in [Call::Fill, Call::ReadUpTo] {
-        let read = Reads { call, size: 0 }.read(&test, &mut reader);
-        holds(&test, read.is_ok(), &call);
-    }
-    same_count(&test, reader.calls, 0, "calls");
+    check_no_read(&test, Call::Fill);
+    check_no_read(&test, Call::ReadUpTo);
     test.end()
+}
+
+fn check_no_read(test: &Test, call: Call) {
+    let (reads, mut reader) = (Reads { call, size: 0 }, trickle_of(b"ab", 1, 1));
+    let is_done = reads.read(test, &mut reader).is_ok();
+    is_so(test, is_done && reader.calls == 0, reads.name());
 }

@@ -1,11 +1,11 @@
 //! Bytes that hold no wire form.
+use super::failing::{Kind, STEPS, cause_of, trickle_of};
 use super::wire::letters;
 use smol_str::borsh::{
     BorshDeserialize, DecodeFault, LimitedFault, deserialize_limited, from_wire, split_wire,
 };
 use smol_str::{INLINE_CAP, SmolStr};
 use std::test::Fail;
-use test_support::streams::{Kind, STEPS, cause_of, trickle_of};
 use test_support::test::{Test, same};
 use test_support::texts::ABOVE_BUFFERS;
 
@@ -110,16 +110,21 @@ fn assert_refused_by(test: &Test, bytes: &[u8], step: usize, (kind, left): (Kind
     same_fault(test, read.err(), kind, row);
     same(test, &reader.rest.len(), &left, &row);
     let mut reader = trickle_of(bytes, step, 0);
-    match deserialize_limited(test.alloc, &mut reader, usize::MAX) {
-        Ok(_) => test.fail(&row),
-        Err(fault) => same(test, &kind_of_limited(&fault), &kind, &row),
-    }
+    let read = deserialize_limited(test.alloc, &mut reader, usize::MAX);
+    same_limited_fault(test, read.err(), kind, row);
     same(test, &reader.rest.len(), &left, &row);
 }
 
 fn same_fault(test: &Test, found: Option<DecodeFault>, kind: Kind, row: (usize, usize)) {
     match found {
         Some(fault) => same(test, &kind_of(&fault), &kind, &row),
+        None => test.fail(&row),
+    }
+}
+
+fn same_limited_fault(test: &Test, found: Option<LimitedFault>, kind: Kind, row: (usize, usize)) {
+    match found {
+        Some(fault) => same(test, &kind_of_limited(&fault), &kind, &row),
         None => test.fail(&row),
     }
 }

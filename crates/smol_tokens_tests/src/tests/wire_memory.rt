@@ -1,10 +1,10 @@
 //! Wire forms with memory refused, and with memory counted.
+use super::failing::{Trickle, trickle_of};
 use super::wire::letters;
 use smol_str::borsh::{BorshDeserialize, DecodeFault, LimitedFault, deserialize_limited};
 use smol_str::{INLINE_CAP, SmolStr};
 use std::test::Fail;
 use test_support::refuse::{count_bytes, end_refusals, refuse_all, start_counts};
-use test_support::streams::{Trickle, trickle_of};
 use test_support::test::{Test, holds, is_so};
 
 /// The most bytes that may be asked for where ten million came.
