@@ -4,6 +4,5 @@
 #![tactic(auto)]
 
 pub mod callers;
-
 #[cfg(test)]
 mod tests;
