@@ -5,6 +5,7 @@ mod collect;
 mod compare;
 mod convert;
 mod doc_examples;
+mod idioms;
 mod kernel;
 mod large;
 mod places;

@@ -1,10 +1,11 @@
-//! Values by serde's traits, through serde_json: alone and in a list.
+//! Values by serde's traits, through serde_json: alone and in a derived type.
+use serde::{Deserialize, Serialize};
 use serde_json::Error;
 use smol_str::{Place, SmolStr};
 use std::alloc::Global;
 use std::test::Fail;
 use test_support::refuse::{Refusable, each_refused, made_requests};
-use test_support::test::{Test, has_text, is_so, same_str};
+use test_support::test::{Test, has_text, is_so, ok_string, same_str};
 use test_support::texts::{full_text, long_blank, long_text, page_text};
 
 #[test]
@@ -50,17 +51,105 @@ fn written(test: &Test, made: Result<String, Error>) -> String {
     }
 }
 
+// What is no text is refused as serde_json refuses it for a `String`.
 #[test]
-fn each_request_in_turn(rt: HostRuntime) -> Result<(), Fail> {
+fn not_read(rt: HostRuntime) -> Result<(), Fail> {
     let test = Test::begin(rt);
-    let asked = each_refused(&test, "a list there and back", &Rewritten);
-    made_requests(&test, asked, &"a list");
+    for json in NOT_READ {
+        check_not_read(&test, json);
+    }
     test.end()
 }
 
-const LIST: &str = r#"["é\n",null,"a name of more bytes than any buffer has"]"#;
+static NOT_READ: [&str; 12] = [
+    "12",
+    "null",
+    "true",
+    "[\"ab\"]",
+    "{\"ab\":\"ab\"}",
+    "",
+    "\"ab",
+    "\"ab\" 1",
+    "\"\\x41\"",
+    "\"\\ud800\"",
+    "\"\\udc00x\"",
+    "\"a\nb\"",
+];
 
-/// The list, read and written again.
+fn check_not_read(test: &Test, json: &str) {
+    let read: Result<SmolStr, Error> = serde_json::from_str(test.alloc, json);
+    let by_string: Result<String, Error> = serde_json::from_str(test.alloc, json);
+    match (read, by_string) {
+        (Err(error), Err(wanted)) => {
+            let wanted = ok_string(test, wanted.to_string(test.alloc));
+            let found = ok_string(test, error.to_string(test.alloc));
+            same_str(test, found.as_str(), wanted.as_str(), json);
+        }
+        _ => test.fail(&(json, "is read")),
+    }
+}
+
+/// What a settings file has.
+#[derive(Drop, Serialize, Deserialize)]
+struct Entry {
+    name: SmolStr,
+    aliases: Vec<SmolStr>,
+    note: Option<SmolStr>,
+}
+
+const JSON: &str =
+    r#"{"name":"é\n","aliases":["a","a name of more bytes than any buffer has"],"note":null}"#;
+
+#[test]
+fn derived(rt: HostRuntime) -> Result<(), Fail> {
+    let test = Test::begin(rt);
+    match read_entry(test.alloc, JSON) {
+        Ok(entry) => check_entry(&test, &entry),
+        Err(error) => test.fail(&error),
+    }
+    test.end()
+}
+
+fn read_entry(alloc: Global, json: &str) -> Result<Entry, Error> {
+    serde_json::from_str(alloc, json)
+}
+
+fn check_entry(test: &Test, entry: &Entry) {
+    has_text(test, &entry.name, "é\n", Place::Inline, "name");
+    let alias = entry.aliases.last().map(|alias| alias.place());
+    is_so(test, alias == Some(Place::Heap), "aliases");
+    is_so(test, entry.note.is_none(), "note");
+    let json = written(test, serde_json::to_string(test.alloc, entry));
+    same_str(test, json.as_str(), JSON, "written");
+}
+
+// A derived type is refused where one of its fields is.
+#[test]
+fn derived_not_read(rt: HostRuntime) -> Result<(), Fail> {
+    let test = Test::begin(rt);
+    for json in FIELDS_NOT_READ {
+        let is_refused = read_entry(test.alloc, json).is_err_and(|error| !error.is_memory());
+        is_so(&test, is_refused, json);
+    }
+    test.end()
+}
+
+static FIELDS_NOT_READ: [&str; 4] = [
+    r#"{"name":1,"aliases":[],"note":null}"#,
+    r#"{"name":"a","aliases":[{}],"note":null}"#,
+    r#"{"name":"a","aliases":[],"note":"\ud800"}"#,
+    r#"{"aliases":[],"note":null}"#,
+];
+
+#[test]
+fn each_request_in_turn(rt: HostRuntime) -> Result<(), Fail> {
+    let test = Test::begin(rt);
+    let asked = each_refused(&test, "an entry there and back", &Rewritten);
+    made_requests(&test, asked, &"an entry");
+    test.end()
+}
+
+/// The entry, read and written again.
 #[derive(Drop)]
 struct Rewritten;
 
@@ -74,13 +163,12 @@ impl Refusable for Rewritten {
     fn input(&self, _test: &Test) {}
 
     fn call(&self, alloc: Global, _input: ()) -> Result<String, Error> {
-        let list: Vec<Option<SmolStr>> = serde_json::from_str(alloc, LIST)?;
-        serde_json::to_string(alloc, &list)
+        serde_json::to_string(alloc, &read_entry(alloc, JSON)?)
     }
 
     fn check(&self, test: &Test, made: Result<String, Error>) {
         match made {
-            Ok(json) => same_str(test, json.as_str(), LIST, "rewritten"),
+            Ok(json) => same_str(test, json.as_str(), JSON, "rewritten"),
             Err(error) => is_so(test, error.is_memory(), "another error than memory"),
         }
     }
