@@ -26,7 +26,7 @@ pub mod Collecting
 pub mod Wire
 pub mod Maps
 pub use Rattle.smol_str.proofs.CallerLemmas.Texts.{appended-step, replaced-each_with, printed-value, chars-as_str, length-as_str, IsResident-few, texts, builders, appended-more, appended-refused, each_replaced-value, each_replaced-refused, size-replaced_each, replacing}
-pub use Rattle.smol_str.proofs.CallerLemmas.Collecting.{chars_collected, chars_refused, chars_extended, chars_extend_refused, strs_collected, strs_refused, strs_extended, strs_extend_refused, strings_collected, strings_refused, string_refs_collected, string_refs_refused, string_refs_extended, string_refs_extend_refused, texts_collected, texts_refused, mapped_collected, mapped_refused, mapped_extended, mapped_extend_refused, items_collected, items_refused, items_extended, split_collected, split_refused, chars_made, chars_grown, strs_made, strs_grown, strings_made, string_refs_made, string_refs_grown, array_chars_long, array_strs_long, split_long, collecting}
+pub use Rattle.smol_str.proofs.CallerLemmas.Collecting.{chars_collected, chars_refused, chars_extended, chars_extend_refused, chars_extend_stopped, strs_collected, strs_refused, strs_extended, strs_extend_refused, strings_collected, strings_refused, string_refs_collected, string_refs_refused, string_refs_extended, string_refs_extend_refused, texts_collected, texts_refused, mapped_collected, mapped_refused, mapped_extended, mapped_extend_refused, items_collected, items_refused, items_extended, split_collected, split_refused, chars_made, chars_grown, strs_made, strs_grown, strings_made, string_refs_made, string_refs_grown, array_chars_long, array_strs_long, split_long, collecting}
 pub use Rattle.smol_str.proofs.CallerLemmas.Wire.{Holds-parts, form_is_whole, form-utf8, form-text, form-held, form-read, form-cut-held, form-cut-long, form-cut-utf8, form-cut-text, count-apart, items-apart, forms-apart, begun, one_written, AreTaken, one_taken, forms-next, forms-more, AreRead, one_read, all_read, next_form}
 pub use Rattle.smol_str.proofs.CallerLemmas.Maps.{key_of, same_key-other, text-set, stands_for-text, lookup-stands_for, lookup-lent, lookups, entry_texts-insert, lookup-with_entry}
 -- what std's iterators give

@@ -1,8 +1,8 @@
 //! Tests of the program, and of what else reads and writes, for what no clause says: over outside values, over readers and
-//! writers that fail, and with memory refused. Beside them callers of the program's core, proved by its
-//! contracts.
+//! writers that fail, and with memory refused. Beside them callers of the program's core, proved by its contracts.
 #![tactic(auto)]
 
-pub mod callers;
+#[cfg(test)]
+mod callers;
 #[cfg(test)]
 mod tests;

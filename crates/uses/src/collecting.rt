@@ -1,7 +1,7 @@
 //! Texts collected from iterators whose items the caller knows.
 #![tactic(auto)]
 
-ghost use Rattle.std.specs.Prelude.{◌≡◌, ◌≤◌, String, length, IfOk, IsOk, OnOk, OnErr};
+ghost use Rattle.std.specs.Prelude.{◌≡◌, ◌<◌, ◌≤◌, ℕ, String, length, take, IfOk, IsOk, OnOk, OnErr};
 ghost use Rattle.std.specs.Str.{chars};
 ghost use Rattle.smol_str.specs.Text.{IsShort};
 ghost use Rattle.smol_str.specs.Meaning.{IsValueOf};
@@ -48,11 +48,13 @@ pub fn all_of_slice(alloc: Global, texts: &[String]) -> Result<SmolStr, AllocErr
     SmolStr::from_string_refs(alloc, texts.iter())
 }
 
-/// A builder, and the characters of a text after it.
+/// A builder, and the characters of a text after it; after a refusal those before the refused one.
 #[tactic(auto, using(smol_str::proofs::CallerLemmas::collecting))]
 pub fn push_chars(builder: &mut SmolStrBuilder, text: &str) -> Result<(), AllocError>
     ensures ok { OnOk result (builder.new ≡ appended builder.old (chars text.now)) }
     ensures refused { OnErr result ((appended builder.old (chars text.now)).kind ≡ OnHeap) }
+    ensures front { OnErr result ((n : ℕ) × (n < length (chars text.now))
+        × (builder.new ≡ appended builder.old (take n (chars text.now)))) }
 {
     builder.extend_chars(text.chars())
 }

@@ -1,5 +1,5 @@
 -- For collecting, extending and building by steps: items drawn and appended one after another.
-use Rattle.std.proofs.Common.{true, false, ◌≡◌, ℕ, ◌<◌, List, [], ◌∷◌, ◌++◌, length, take, drop, map, Option, Some, None, Result, Ok, Err, IfOk, OnOk, OnErr, refl, sym, ap, ◌∙◌, subst, arith, rules, inl, length-append}
+use Rattle.std.proofs.Common.{true, false, ◌≡◌, ℕ, ◌<◌, List, [], ◌∷◌, ◌++◌, length, take, drop, map, Option, Some, None, Result, Ok, Err, IfOk, OnOk, OnErr, refl, sym, ap, ◌∙◌, subst, arith, rules, inl, length-append, length-take}
 use Rattle.std.specs.Iterator.{Yields, YieldsThen, Drains}
 use Rattle.std.specs.Iterator.Runs.{Run}
 use Rattle.std.specs.Result.{MatchResult}
@@ -7,7 +7,7 @@ use Rattle.std.proofs.iter.runs.Made.{run, took, to_end, to_item}
 use Rattle.std.proofs.lemmas.Grind.{flat_map-append, common_steps}
 use Rattle.std.proofs.lemmas.Iterator.{YieldsList, items_from_drains}
 use Rattle.std.proofs.lemmas.Iterator.Consumers.{YieldsList-so_far}
-use Rattle.std.proofs.lemmas.List.{append-nil}
+use Rattle.std.proofs.lemmas.List.{append-nil, length-map}
 use Rattle.smol_str.specs.Text.{IsShort, IsResident}
 use Rattle.smol_str.specs.Cut.{but_last}
 use Rattle.smol_str.specs.Draft.{Draft, InBuffer, OnHeap, empty_draft, appended}
@@ -16,6 +16,7 @@ use Rattle.smol_str.specs.Meaning.{Meaning, IsValueOf}
 use Rattle.smol_str.specs.Collect.{AppendedAll, StoppedAt, Collected, Outgrown}
 use Rattle.smol_str.proofs.TextLemmas.Places.{IsShort-front}
 use Rattle.smol_str.proofs.BuilderLemmas.Draft.{appended-twice, OnHeap-long}
+use Rattle.smol_str.proofs.CutLemmas.Cut.{length_but_last}
 
 joined-last : {A : Type 0} (f : A → List ℕ) (xs : List A) (x : A) → joined f (xs ++ x ∷ []) ≡ joined f xs ++ f x
 joined-last f xs x = flat_map-append f xs (x ∷ []) ∙ ap (λ t. joined f xs ++ t) (append-nil (f x))
@@ -142,3 +143,16 @@ module _ {S A B : Type 0} {steps : S → Option A → S → Type 0} {s : S} {v :
     where
       appended-heap : (b : Draft) (t u : List ℕ) → (appended b t).kind ≡ OnHeap → (appended b (t ++ u)).kind ≡ OnHeap
       appended-heap b t u h = grind (arith, common_steps, appended-twice)
+
+  -- the builder has the text of a front then, and not of the whole
+  pub front-stopped : (old new : Draft) → StoppedAt texts steps s old new → YieldsList steps v s all
+      → (n : ℕ) × (n < length all) × (new ≡ appended old (whole (take n all)))
+  unfolding StoppedAt
+  front-stopped old new (p, from, (some, front, heap)) gives =
+      let before = came-before steps s _ p.items (run-yields steps s p from) in
+      let came = YieldsList-so_far gives (but_last p.items) before.0 before.1 in
+      let all_came = YieldsList-so_far gives p.items _ (run-yields steps s p from) in
+      let few = length_but_last p.items in
+      let n = length (but_last p.items) in
+      let most = sym (length-map p.items v) ∙ ap length all_came ∙ length-take (length p.items) all in
+      (n, omega (arith, some, few, most), front ∙ ap (appended old) (is (but_last p.items) ∙ ap whole came))

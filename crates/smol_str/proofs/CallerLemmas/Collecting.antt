@@ -9,7 +9,7 @@ use Rattle.std.specs.Str.Pattern.{FindsText}
 use Rattle.std.proofs.lemmas.List.Folds.{flat_map-map}
 use Rattle.smol_str.specs.Collect.{AppendedAll, StoppedAt, Collected, Outgrown}
 use Rattle.smol_str.specs.JoinedLaws.{joined-strs}
-use Rattle.smol_str.proofs.BuilderLemmas.Collect.{text-whole, not_short-outgrown, heap-stopped}
+use Rattle.smol_str.proofs.BuilderLemmas.Collect.{text-whole, not_short-outgrown, heap-stopped, front-stopped}
 use Rattle.smol_str.proofs.IteratorLemmas.{YieldsList-from_array, iterators}
 use Rattle.smol_str.proofs.PieceLemmas.{joined-nothing, gives-split}
 use Rattle.smol_str.proofs.TextLemmas.Lists.{flat_map-parts}
@@ -47,6 +47,12 @@ module _ {S A B : Type 0} {steps : S → Option A → S → Type 0} {s : S} {v :
         → YieldsList steps v s all → OnErr r ((appended old (whole all)).kind ≡ OnHeap)
     extend_refused (Ok x) old new stopped gives = tt
     extend_refused (Err e) old new stopped gives = heap-stopped texts whole is parts old new stopped gives
+
+    -- and the builder has the text of a front at its end then
+    extend_stopped : {T E : Type 0} (r : Result T E) (old new : Draft) → OnErr r (StoppedAt texts steps s old new)
+        → YieldsList steps v s all → OnErr r ((n : ℕ) × (n < length all) × (new ≡ appended old (whole (take n all))))
+    extend_stopped (Ok x) old new stopped gives = tt
+    extend_stopped (Err e) old new stopped gives = front-stopped texts whole is parts old new stopped gives
 
   -- the same by std's traits, `iter.collect(alloc)` and `builder.extend(iter)`
   drained : (xs : List A) → DrainsIf steps (Unit {0}) s xs → YieldsList steps v s all → texts xs ≡ whole all
@@ -90,6 +96,11 @@ module _ {S E : Type 0} {steps : S → Option ℕ → S → Type 0} {s : S} {all
       → OnErr r (StoppedAt (λ xs. xs) steps s old new) → YieldsList steps (λ c. c) s all
       → OnErr r ((appended old all).kind ≡ OnHeap)
   chars_extend_refused r old new out gives = extend_refused (λ xs. xs) (λ xs. xs) same (parts all) r old new out gives
+
+  pub chars_extend_stopped : {T : Type 0} (r : Result T E) (old new : Draft)
+      → OnErr r (StoppedAt (λ xs. xs) steps s old new) → YieldsList steps (λ c. c) s all
+      → OnErr r ((n : ℕ) × (n < length all) × (new ≡ appended old (take n all)))
+  chars_extend_stopped r old new out gives = extend_stopped (λ xs. xs) (λ xs. xs) same (parts all) r old new out gives
 
   pub chars_made : (r : Result Meaning E)
       → IfOk r (λ y. (xs : List ℕ) × DrainsIf steps (Unit {0}) s xs × IsValueOf xs y)
@@ -280,6 +291,7 @@ pub ruleset collecting = (
   chars_refused,
   chars_extended,
   chars_extend_refused,
+  chars_extend_stopped,
   strs_collected,
   strs_refused,
   strs_extended,
