@@ -6,6 +6,7 @@ import pathlib
 import re
 import shutil
 import sys
+import time
 
 CRATES = pathlib.Path(__file__).resolve().parent.parent / "crates"
 # trait: of its impl, or None. takes, gives, fault: types as the compiler writes them, of a Result its `Ok` and its `Err`.
@@ -29,12 +30,18 @@ def library(crate):
     return folder
 
 
-def lend_libraries(top):
-    """Puts the built libraries into a copy of the repository, with the stamps that `rt check` goes by: the gate writes none,
-    and without them each would be proved once more."""
+def lend_libraries(top, name):
+    """Puts the libraries below a crate into a copy of the repository, with the stamps that `rt check` goes by: the gate writes
+    none, and without them each would be proved once more. They are whole once the gate has begun with the crate itself,
+    which is waited for, a quarter of an hour at most."""
     sys.path.insert(0, str(pathlib.Path(shutil.which("rt")).resolve().parent))
     import rtlib  # rt's own module
-    for it in rtlib.crates_below(str(top)):
+    below = next(it for it in rtlib.crates_below(str(top)) if it.name == name).below()
+    for _ in range(900 if below else 0):
+        if (CRATES / name / "out" / "rlib").is_dir():
+            break
+        time.sleep(1)
+    for it in below:
         built, lent = (crates / it.name / "out" / "rlib" for crates in (CRATES, top / "crates"))
         if (built / f"{it.name}.rlib" / "format").is_file():
             shutil.copytree(built, lent)
