@@ -57,17 +57,24 @@ fn collected(rt: HostRuntime) -> Result<(), Fail> {
     test.end()
 }
 
-// What was there stays in front.
+// What was there stays in front, in a buffer and on the heap.
 #[test]
 fn extended(rt: HostRuntime) -> Result<(), Fail> {
     let test = Test::begin(rt);
-    let mut builder = test.builder(0, "let ");
-    ok(&test, builder.extend("x, y".split(", ")));
-    ok(&test, builder.extend(['=', '1']));
-    ok(&test, builder.extend([test.string(";")].iter()));
-    ok(&test, builder.extend([test.string("//")]));
-    same_str(&test, builder.as_str(), "let xy=1;//", "extended");
+    check_extended(&test, test.builder(0, "let "));
+    check_extended(&test, test.builder(100, "let "));
     test.end()
+}
+
+fn check_extended(test: &Test, mut builder: SmolStrBuilder) {
+    ok(test, builder.extend("x, y".split(", ")));
+    ok(test, builder.extend(['=', '1']));
+    ok(test, builder.extend([test.string(";")].iter()));
+    ok(test, builder.extend([test.string("//")]));
+    ok(test, builder.extend_chars(" a".chars()));
+    ok(test, builder.extend_strs(["b", "c"].into_iter()));
+    ok(test, builder.extend_strings([test.string("d")].iter()));
+    same_str(test, builder.as_str(), "let xy=1;// abcd", "extended");
 }
 
 #[test]
