@@ -65,8 +65,8 @@ pub fn told_as_other(alloc: Global, json: &Value) -> JsonFault
     }
 }
 
-/// No bytes at all are no JSON: that is told, whatever the memory.
-pub fn told_as_none(alloc: Global, json: &str) -> Result<SmolStr, JsonFault>
+/// Reads a text that is empty, which never fails for want of memory.
+pub fn read_empty(alloc: Global, json: &str) -> Result<SmolStr, JsonFault>
     requires { json.now ≡ [] }
     ensures { IfErr result (λ fault. ¬ (fault ≡ JsonFault.OutOfMemory)) }
 {
