@@ -4,7 +4,7 @@ pub use Rattle.smol_str.specs.Buffer.{IsPacked, packed, padded, unpacked, HaveOn
 pub use Rattle.smol_str.specs.Case.{front, lower, upper, lowercased, uppercased, IsAsciiText, HasSigma, BeginsPastAscii}
 pub use Rattle.smol_str.specs.InCase.{letter, converted, letters, full_case, mapped, IsMappedAlone, IsAsciiFront}
 pub use Rattle.smol_str.specs.Cut.{StandsAt, Occurs, IsNextMatch, IsCut, IsOnlyCut, joined_by, IsFirstAfter, IsCutAt, but_last, IsSpelled, IsCutBetween}
-pub use Rattle.smol_str.specs.Draft.{Draft, OnHeap, empty_draft, kind_for, appended, Kind, InBuffer, kind_with, draft_of}
+pub use Rattle.smol_str.specs.Draft.{Draft, OnHeap, empty_draft, kind_for, appended, Kind, InBuffer, kind_with}
 pub use Rattle.smol_str.specs.Joined.{joined, char_text, str_text, string_text, string_ref_text, joined_strs, joined_strings, joined_string_refs}
 pub use Rattle.smol_str.specs.Meaning.{Meaning, IsValueOf}
 pub use Rattle.smol_str.specs.Replace.{replaced, replaced_all, first_match, cut, cut_at, cut_between, spell, no_limit, match_count, each_with, each_replaced}

@@ -1,7 +1,7 @@
 -- Kinds of small builders, computed by the checker. Where a limit matters, the example names the constant.
 use Rattle.std.specs.Prelude.{◌≡◌, ◌+◌, ◌-◌, [], ◌∷◌, codes, replicate, refl}
 use Rattle.smol_str.specs.declared.buffer.TheConstants.{INLINE_CAP}
-use Rattle.smol_str.specs.Draft.{Kind, InBuffer, OnHeap, empty_draft, appended, kind_for, draft_of}
+use Rattle.smol_str.specs.Draft.{Kind, InBuffer, OnHeap, empty_draft, appended, kind_for}
 use Rattle.smol_str.specs.Joined.{joined, char_text}
 
 -- a builder leaves its buffer with the first character that does not fit
@@ -14,10 +14,10 @@ unfolding lib.Utf8.encode
 across_the_end = refl
 
 -- and begins on the heap where a larger capacity was asked for
-capacity_of_the_buffer : kind_for INLINE_CAP [] ≡ InBuffer
+capacity_of_the_buffer : kind_for INLINE_CAP ≡ InBuffer
 capacity_of_the_buffer = refl
 
-larger_capacity : kind_for (INLINE_CAP + 1) [] ≡ OnHeap
+larger_capacity : kind_for (INLINE_CAP + 1) ≡ OnHeap
 larger_capacity = refl
 
 -- a new builder has no text, in either kind
@@ -28,12 +28,12 @@ empty kind = refl
 in_order : appended (record { text = codes "ab"; kind = OnHeap }) (codes "c") ≡ record { text = codes "abc"; kind = OnHeap }
 in_order = refl
 
--- of a whole text, one kind as if it had been appended
-short_draft : draft_of (codes "ab") ≡ record { text = codes "ab"; kind = InBuffer }
+-- a new builder that a text is appended to keeps it in its buffer where it fits
+short_draft : appended (empty_draft InBuffer) (codes "ab") ≡ record { text = codes "ab"; kind = InBuffer }
 unfolding lib.Utf8.encode
 short_draft = refl
 
-long_draft : (draft_of (replicate (INLINE_CAP + 1) 97)).kind ≡ OnHeap
+long_draft : (appended (empty_draft InBuffer) (replicate (INLINE_CAP + 1) 97)).kind ≡ OnHeap
 unfolding lib.Utf8.encode
 long_draft = refl
 

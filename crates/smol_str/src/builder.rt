@@ -82,7 +82,7 @@ impl SmolStrBuilder {
     /// assert!(rt; builder.is_empty() && builder.inline_buffer().is_none());
     /// ```
     pub fn with_capacity(alloc: Global, capacity: usize) -> Result<SmolStrBuilder, AllocError>
-        ensures ok { IfOk result (λ b. b ≡ empty_draft (kind_for capacity [])) }
+        ensures ok { IfOk result (λ b. b ≡ empty_draft (kind_for capacity)) }
         ensures refused { OnErr result (INLINE_CAP < capacity) }
     {
         if capacity <= INLINE_CAP {

@@ -17,31 +17,17 @@ pub kind_with-long : (t : List ℕ) → ¬ (IsShort t) → kind_with InBuffer t 
 kind_with-long t h = rw (is_short-false t h)
 
 -- a capacity that the buffer has not
-pub kind_for-large : (n : ℕ) (t : List ℕ) → INLINE_CAP < n → kind_for n t ≡ OnHeap
-kind_for-large n t h = let e : nat_le n INLINE_CAP ≡ false = grind (arith, nat_tests) in rw e
+pub kind_for-large : (n : ℕ) → INLINE_CAP < n → kind_for n ≡ OnHeap
+kind_for-large n h = let e : nat_le n INLINE_CAP ≡ false = grind (arith, nat_tests) in rw e
 
-append_case : (fits was is : Bool) (t : List ℕ) → (is ≡ true → was ≡ true) → is_short t ≡ is →
-    kind_with (cond (fits && was) InBuffer OnHeap) t ≡ cond (fits && is) InBuffer OnHeap
-append_case true true is t h e = rw e
-append_case true false true t h e = let k = h refl in cc
-append_case true false false t h e = refl
-append_case false was is t h e = refl
-
-short_front : (t u : List ℕ) → is_short (t ++ u) ≡ true → is_short t ≡ true
-short_front t u h = grind (arith, common_steps, is_short-true, size-append)
-
--- the kind after an append is that of the whole text
-pub kind_for-append : (n : ℕ) (t u : List ℕ) → kind_with (kind_for n t) (t ++ u) ≡ kind_for n (t ++ u)
-kind_for-append n t u = search (rules, append_case, short_front)
-
-heap_case : (fits is : Bool) → cond (fits && is) InBuffer OnHeap ≡ OnHeap → (fits ≡ false) ⊎ (is ≡ false)
-heap_case true true h = cc
-heap_case true false h = inr refl
-heap_case false is h = inl refl
+large_or_long : (fits : Bool) (t : List ℕ) → kind_with (cond fits InBuffer OnHeap) t ≡ OnHeap
+    → (fits ≡ false) ⊎ (¬ (IsShort t))
+large_or_long true t heap = inr (λ short. let stays = kind_with-short t short in cc)
+large_or_long false t heap = inl refl
 
 -- a builder is on the heap for its capacity or for its text
-pub why_heap : (n : ℕ) (t : List ℕ) → kind_for n t ≡ OnHeap → (INLINE_CAP < n) ⊎ (¬ (IsShort t))
-why_heap n t h = grind (arith, common_steps, heap_case, nat_le, is_short-true)
+pub why_heap : (n : ℕ) (t : List ℕ) → kind_with (kind_for n) t ≡ OnHeap → (INLINE_CAP < n) ⊎ (¬ (IsShort t))
+why_heap n t heap = grind (arith, common_steps, large_or_long, nat_le)
 
 kind_by_test : (s t : List ℕ) (b : Bool) → is_short s ≡ b →
     kind_with (cond b InBuffer OnHeap) (s ++ t) ≡ kind_with InBuffer (s ++ t)

@@ -1,22 +1,21 @@
 -- For the loops of `str_ext`: what is appended to a builder, and a text mapped character by character.
-use Rattle.smol_str.proofs.Common.{◌≡◌, ℕ, ◌+◌, ◌<◌, List, [], ◌∷◌, ◌++◌, length, map, get_or, take, drop, sym, ap, ◌∙◌, take-append-drop, arith, take_more, map-id, IsShort, Draft, OnHeap, kind_with, draft_of, appended, common_steps}
-use Rattle.smol_str.proofs.BuilderLemmas.Draft.{kind_for-append, why_heap, appended-twice}
+use Rattle.smol_str.proofs.Common.{◌≡◌, ℕ, ◌+◌, ◌<◌, List, [], ◌∷◌, ◌++◌, length, map, get_or, take, drop, sym, ap, ◌∙◌, take-append-drop, arith, take_more, map-id, IsShort, Draft, InBuffer, OnHeap, kind_with, empty_draft, appended, common_steps}
+use Rattle.smol_str.proofs.BuilderLemmas.Draft.{OnHeap-long, appended-twice}
 
 -- a builder that a front outgrows is outgrown by the whole
 pub appended-heap : (b : Draft) (u v : List ℕ) → (appended b u).kind ≡ OnHeap → (appended b (u ++ v)).kind ≡ OnHeap
 appended-heap b u v h = ap (λ d. d.kind) (sym (appended-twice b u v)) ∙ ap (λ k. kind_with k ((b.text ++ u) ++ v)) h
 
--- a builder that began without capacity
-pub appended-draft_of : (t u : List ℕ) → appended (draft_of t) u ≡ draft_of (t ++ u)
-appended-draft_of t u = ap (λ k. record { text = t ++ u; kind = k }) (kind_for-append 0 t u)
-
--- it is on the heap for its text alone
-pub draft_of-heap : (t u : List ℕ) → (appended (draft_of t) u).kind ≡ OnHeap → ¬ (IsShort (t ++ u))
-draft_of-heap t u h = grind (arith, common_steps, why_heap, appended-draft_of)
+-- a builder that was new is on the heap for its text alone
+pub new-heap : (t u : List ℕ) → (appended (appended (empty_draft InBuffer) t) u).kind ≡ OnHeap → ¬ (IsShort (t ++ u))
+new-heap t u heap = OnHeap-long (t ++ u) (ap (λ d. d.kind) (sym (appended-twice (empty_draft InBuffer) t u)) ∙ heap)
 
 -- and is still one after an append
-pub draft_of-appended : (old e : Draft) (v : List ℕ) → old ≡ draft_of old.text → e ≡ appended old v → e ≡ draft_of e.text
-draft_of-appended old e v is put = grind (arith, common_steps, appended-draft_of)
+pub new-appended : (old e : Draft) (v : List ℕ) → old ≡ appended (empty_draft InBuffer) old.text → e ≡ appended old v
+    → e ≡ appended (empty_draft InBuffer) e.text
+new-appended old e v was put =
+    put ∙ ap (λ b. appended b v) was ∙ appended-twice (empty_draft InBuffer) old.text v
+    ∙ ap (appended (empty_draft InBuffer)) (sym (ap (λ b. b.text) put))
 
 -- three texts appended, one after another
 module _ (old b d : Draft) (u v w all : List ℕ) (reads : all ≡ u ++ (v ++ w)) where

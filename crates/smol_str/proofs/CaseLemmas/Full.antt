@@ -1,7 +1,7 @@
 -- For `str_ext::case` and `str_ext::full`: the ASCII front of a text and the rest of it, in a case.
-use Rattle.smol_str.proofs.Common.{◌≡◌, ℕ, List, [], ◌++◌, length, take, drop, sym, ap, ◌∙◌, arith, length-append, IsUtf8, IsAscii, IsCharBoundary, chars, encode_utf8_all, take_at, IsUtf8-from_ascii, chars-IsAscii, encodes-IsAscii, IsAscii-from_all, AsciiCase, Lower, Upper, size, IsShort, padded, front, converted, Draft, OnHeap, draft_of, appended, common_steps, rules, suc, ◌<◌, ◌∷◌, Bool, false, Option, None, Some, flat_map, refl, append-nil, ne_eqb, to_ascii_lowercase, to_ascii_uppercase, chars-encodes, encodes_same, IsAscii-cons, IsAscii-nil, INLINE_CAP, Occurs, lower, upper, lowercased, uppercased, IsAsciiText, HasSigma, letter, letters, full_case, mapped, IsMappedAlone, length-map, map-append, IsUtf8-string_bytes, nat_tests}
+use Rattle.smol_str.proofs.Common.{◌≡◌, ℕ, List, [], ◌++◌, length, take, drop, sym, ap, ◌∙◌, arith, length-append, IsUtf8, IsAscii, IsCharBoundary, chars, encode_utf8_all, take_at, IsUtf8-from_ascii, chars-IsAscii, encodes-IsAscii, IsAscii-from_all, AsciiCase, Lower, Upper, size, IsShort, padded, front, converted, Draft, InBuffer, OnHeap, empty_draft, appended, common_steps, rules, suc, ◌<◌, ◌∷◌, Bool, false, Option, None, Some, flat_map, refl, append-nil, ne_eqb, to_ascii_lowercase, to_ascii_uppercase, chars-encodes, encodes_same, IsAscii-cons, IsAscii-nil, INLINE_CAP, Occurs, lower, upper, lowercased, uppercased, IsAsciiText, HasSigma, letter, letters, full_case, mapped, IsMappedAlone, length-map, map-append, IsUtf8-string_bytes, nat_tests}
 use Rattle.smol_str.proofs.CaseLemmas.Ascii.{front-parts, size-converted, front-append, IsAscii-converted, IsAscii-chars, ascii-converted}
-use Rattle.smol_str.proofs.BuilderLemmas.Push.{draft_of-heap, appended-heap, draft_of-appended, appended-thrice, appended-first_heap, appended-second_heap}
+use Rattle.smol_str.proofs.BuilderLemmas.Push.{appended-heap, new-appended, appended-thrice, appended-first_heap, appended-second_heap}
 use Rattle.smol_str.proofs.TextLemmas.Split.{boundary-parts, chars-drop}
 use Rattle.std.specs.Option.{option_to_list, is_some}
 use Rattle.std.specs.declared.char.ToLowercase.{CaseChanged}
@@ -13,7 +13,7 @@ use Rattle.std.specs.StrCase.Lower.{lowercase_chars, is_in_word_after, str_to_lo
 use Rattle.std.proofs.StrCases.{str_to_uppercase-IsAscii, str_to_lowercase-IsAscii}
 use Rattle.std.proofs.lemmas.Grind.{flat_map-append}
 use Rattle.smol_str.proofs.TextLemmas.Places.{OnErr-always, size-chars, chars-of}
-use Rattle.smol_str.proofs.BuilderLemmas.Draft.{appended-twice}
+use Rattle.smol_str.proofs.BuilderLemmas.Draft.{OnHeap-long, appended-twice}
 use Rattle.smol_str.proofs.CutLemmas.Cut.{not_later}
 use Rattle.smol_str.proofs.CutLemmas.Match.{some_char}
 use Rattle.smol_str.proofs.CutLemmas.Replacing.{chars-empty}
@@ -62,9 +62,9 @@ front-heap case t b heap =
     ∙ appended-heap b (converted case (front t)) (converted case p.0) heap
 
 -- a text that outgrows the buffer in a case is not short itself
-pub converted-heap : (case : AsciiCase) (t : List ℕ) → (appended (draft_of []) (converted case t)).kind ≡ OnHeap
+pub converted-heap : (case : AsciiCase) (t : List ℕ) → (appended (empty_draft InBuffer) (converted case t)).kind ≡ OnHeap
     → ¬ (IsShort t)
-converted-heap case t heap short = search (rules, draft_of-heap, size-converted)
+converted-heap case t heap short = search (rules, OnHeap-long, size-converted)
 
 pub lower_is : (bs : List ℕ) → str_to_lowercase bs ≡ encode_utf8_all (lowercased (chars bs))
 unfolding str_to_lowercase
@@ -185,15 +185,15 @@ none-found (Some x) b e f = absurd (cc)
 
 -- the short way: the front in a new builder, and then the rest, mapped character by character
 module _ (case : AsciiCase) (t r : List ℕ) (e : front t ++ r ≡ t) (alone : IsMappedAlone case r) (b d : Draft)
-    (begins : b ≡ draft_of []) (first : d ≡ appended b (converted case (front t))) where
-  appended-full_case : appended d (mapped case r) ≡ appended (draft_of []) (full_case case t)
+    (begins : b ≡ empty_draft InBuffer) (first : d ≡ appended b (converted case (front t))) where
+  appended-full_case : appended d (mapped case r) ≡ appended (empty_draft InBuffer) (full_case case t)
   appended-full_case = grind (arith, common_steps, appended-twice, full-parts)
 
   pub short-text : (f : Draft) → f ≡ appended d (mapped case r) → f.text ≡ full_case case t
   short-text f put = ap (λ x. x.text) (put ∙ appended-full_case)
 
   pub short-refused : (appended d (mapped case r)).kind ≡ OnHeap → ¬ (IsAsciiText t × IsShort t)
-  short-refused heap = search (rules, full-long, draft_of-heap, appended-full_case)
+  short-refused heap = search (rules, full-long, OnHeap-long, appended-full_case)
 
 pub ruleset whole_texts = (chars-of, IsUtf8-string_bytes, lower_is, upper_is)
 
@@ -201,7 +201,7 @@ pub ruleset fronts = (IsUtf8-front, chars-front, front-boundary, front-rest, OnE
 
 pub ruleset ascii_texts = (IsAscii-chars, full-ascii, full-alone)
 
-pub ruleset three_letters = (common_steps, letters-listed, OnErr-always, draft_of-appended, appended-thrice, appended-first_heap, appended-second_heap)
+pub ruleset three_letters = (common_steps, letters-listed, OnErr-always, new-appended, appended-thrice, appended-first_heap, appended-second_heap)
 
 pub ruleset short_texts = (OnErr-always, long-refused, ascii-converted, full-ascii)
 

@@ -1,9 +1,9 @@
 -- For `str_ext::replace`: replacing match by match.
-use Rattle.smol_str.proofs.Common.{◌≡◌, ℕ, ◌+◌, ◌-◌, ◌<◌, ◌≤◌, List, [], ◌∷◌, ◌++◌, length, take, drop, None, Some, refl, sym, ap, ◌∙◌, subst, arith, append_assoc, append-nil, length-append, Option, MatchOption, Result, IfOk, IsUtf8, IsCharBoundary, chars, encode_utf8_all, len_utf8, slice_get, encode, length-encode, length-le-encodes, chars-nil, size, IsShort, Occurs, IsNextMatch, IsOnlyCut, joined_by, cut, Meaning, IsValueOf, replaced, replaced_all, IsReplacing, Draft, OnHeap, draft_of, appended, nil_from_length, IfOk-weaker, nat_tests, common_steps, rules}
+use Rattle.smol_str.proofs.Common.{◌≡◌, ℕ, ◌+◌, ◌-◌, ◌<◌, ◌≤◌, List, [], ◌∷◌, ◌++◌, length, take, drop, None, Some, refl, sym, ap, ◌∙◌, subst, arith, append_assoc, append-nil, length-append, Option, MatchOption, Result, IfOk, IsUtf8, IsCharBoundary, chars, encode_utf8_all, len_utf8, slice_get, encode, length-encode, length-le-encodes, chars-nil, size, IsShort, Occurs, IsNextMatch, IsOnlyCut, joined_by, cut, Meaning, IsValueOf, replaced, replaced_all, IsReplacing, Draft, InBuffer, OnHeap, empty_draft, appended, nil_from_length, IfOk-weaker, nat_tests, common_steps, rules}
 use Rattle.smol_str.proofs.TextLemmas.Places.{size-append, size-chars, IsShort-front, OnErr-always}
 use Rattle.memchr.specs.Find.{FindsNeedle}
 use Rattle.smol_str.proofs.BuilderLemmas.Draft.{appended-twice}
-use Rattle.smol_str.proofs.BuilderLemmas.Push.{appended-draft_of, draft_of-heap, appended-heap}
+use Rattle.smol_str.proofs.BuilderLemmas.Push.{new-heap, appended-heap}
 use Rattle.smol_str.proofs.CutLemmas.Match.{IsNextMatch-found, Occurs-none, not_found}
 use Rattle.smol_str.proofs.CutLemmas.Replace.{replaced-none, replaced-matched, replaced-unmatched, replaced-between, replaced-end, replaced-enough, match_count-limit}
 use Rattle.smol_str.proofs.CutLemmas.Cut.{IsCut-cut, IsCut-unique}
@@ -18,7 +18,7 @@ pub replacing-inside : (bs p w : List ℕ) (n m : ℕ) (b : Draft) (i : ℕ) →
 replacing-inside bs p w n m b i h u = omega (arith, size-chars bs u, ap size h.parts, size-append h.done h.rest)
 
 -- nothing is replaced in a text without a match
-pub replacing-nothing : (t p w : List ℕ) (n : ℕ) (b : Draft) → b ≡ draft_of [] → ¬ Occurs p t → IsReplacing t p w n 0 b 0
+pub replacing-nothing : (t p w : List ℕ) (n : ℕ) (b : Draft) → b ≡ empty_draft InBuffer → ¬ Occurs p t → IsReplacing t p w n 0 b 0
 replacing-nothing t p w n b empty none = search (rules, arith, replaced-none, replaced-unmatched)
 
 -- no match is left, or none is wanted
@@ -58,23 +58,23 @@ module _ (t p w : List ℕ) (n m l : ℕ) (b : Draft) (i : ℕ) (h : IsReplacing
   more-text : (b.text ++ x) ++ replaced r p w l ≡ replaced t p w n
   more-text = append_assoc b.text x (replaced r p w l) ∙ ap (λ y. b.text ++ y) (sym made) ∙ h.text
 
-  more-draft_of : (d : Draft) → d ≡ appended b x → d ≡ draft_of (b.text ++ x)
-  more-draft_of d e = e ∙ ap (λ y. appended y x) h.draft ∙ appended-draft_of b.text x
+  more-appended : (d : Draft) → d ≡ appended b x → d ≡ appended (empty_draft InBuffer) (b.text ++ x)
+  more-appended d e = e ∙ ap (λ y. appended y x) h.draft ∙ appended-twice (empty_draft InBuffer) b.text x
 
   replacing-more : (d : Draft) → d ≡ appended b x → IsReplacing t p w n l d (i + size q)
   replacing-more d e =
-      let now : d.text ≡ b.text ++ x = ap (λ y. y.text) (more-draft_of d e) in
+      let now : d.text ≡ b.text ++ x = ap (λ y. y.text) (more-appended d e) in
       record {
         done = h.done ++ q;
         rest = r;
         parts = h.parts ∙ ap (λ y. h.done ++ y) reads ∙ sym (append_assoc h.done q r);
         at = omega (arith, size-append h.done q);
-        draft = more-draft_of d e ∙ ap draft_of (sym now);
+        draft = more-appended d e ∙ ap (appended (empty_draft InBuffer)) (sym now);
         text = ap (λ y. y ++ replaced r p w l) now ∙ more-text;
       }
 
   replacing-refused : (appended b x).kind ≡ OnHeap → ¬ (IsShort (replaced t p w n))
-  replacing-refused e = grind (arith, common_steps, draft_of-heap, IsShort-front, more-text)
+  replacing-refused e = grind (arith, common_steps, new-heap, IsShort-front, more-text)
 
 -- in the text bs, the next match of the pattern nd is at j
 module _ (bs nd w : List ℕ) (n m : ℕ) (b : Draft) (i j : ℕ) (h : IsReplacing (chars bs) (chars nd) w n m b i)
@@ -168,12 +168,12 @@ module _ (bs p w : List ℕ) (n : ℕ) (b : Draft) (i : ℕ) (h : IsReplacing (c
   rest-made : replaced h.rest p w 0 ≡ chars (drop i bs) ++ replaced [] p w 0
   rest-made = grind (arith, common_steps, replaced-none, chars-drop, append-nil)
 
-  pub rest-whole : (d : Draft) → d ≡ appended b (chars (drop i bs)) → d ≡ draft_of (replaced (chars bs) p w n)
+  pub rest-whole : (d : Draft) → d ≡ appended b (chars (drop i bs)) → d ≡ appended (empty_draft InBuffer) (replaced (chars bs) p w n)
   rest-whole d e =
       let x = chars (drop i bs) in
       let reads = sym (append-nil h.rest) in
-      more-draft_of (chars bs) p w n 0 0 b i h h.rest [] x reads rest-made d e
-      ∙ ap draft_of (sym (ap (λ y. (b.text ++ x) ++ y) (replaced-none [] p w) ∙ append-nil (b.text ++ x))
+      more-appended (chars bs) p w n 0 0 b i h h.rest [] x reads rest-made d e
+      ∙ ap (appended (empty_draft InBuffer)) (sym (ap (λ y. (b.text ++ x) ++ y) (replaced-none [] p w) ∙ append-nil (b.text ++ x))
       ∙ more-text (chars bs) p w n 0 0 b i h h.rest [] x reads rest-made)
 
   pub rest-refused : (appended b (chars (drop i bs))).kind ≡ OnHeap → ¬ (IsShort (replaced (chars bs) p w n))

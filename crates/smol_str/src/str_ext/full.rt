@@ -6,7 +6,7 @@ ghost use Rattle.std.specs.Str.{chars};
 ghost use Rattle.std.specs.Char.Iter.{case_mapping_chars};
 ghost use Rattle.smol_str.specs.Text.{IsShort};
 ghost use Rattle.smol_str.specs.Meaning.{IsValueOf};
-ghost use Rattle.smol_str.specs.Draft.{OnHeap, draft_of, appended};
+ghost use Rattle.smol_str.specs.Draft.{InBuffer, OnHeap, empty_draft, appended};
 ghost use Rattle.smol_str.specs.Case.{IsAsciiText};
 ghost use Rattle.smol_str.specs.InCase.{full_case, mapped, IsMappedAlone};
 
@@ -100,7 +100,7 @@ fn whole_full_case(alloc: Global, text: &str, case: AsciiCase) -> Result<SmolStr
 
 /// Appends what each character of a text is mapped to.
 fn push_mapped(builder: &mut SmolStrBuilder, text: &str, case: AsciiCase) -> Result<(), AllocError>
-    requires { builder.old ≡ draft_of builder.old.text }
+    requires { builder.old ≡ appended (empty_draft InBuffer) builder.old.text }
     ensures ok { OnOk result (builder.new ≡ appended builder.old (mapped case (chars text.now))) }
     ensures refused { OnErr result
         ((appended builder.old (mapped case (chars text.now))).kind ≡ OnHeap) }
@@ -119,7 +119,7 @@ fn push_one(
     character: char,
     case: AsciiCase,
 ) -> Result<(), AllocError>
-    requires { builder.old ≡ draft_of builder.old.text }
+    requires { builder.old ≡ appended (empty_draft InBuffer) builder.old.text }
     ensures ok { OnOk result (builder.new ≡ appended builder.old (mapped case (character ∷ []))) }
     ensures refused { OnErr result
         ((appended builder.old (mapped case (character ∷ []))).kind ≡ OnHeap) }
@@ -143,7 +143,7 @@ fn letters_of(character: char, case: AsciiCase) -> ToLowercase
 /// Appends the letters that one character is mapped to: at most three.
 #[tactic(auto, using(crate::proofs::CaseLemmas::Full::three_letters))]
 fn push_letters(builder: &mut SmolStrBuilder, mut letters: ToLowercase) -> Result<(), AllocError>
-    requires { builder.old ≡ draft_of builder.old.text }
+    requires { builder.old ≡ appended (empty_draft InBuffer) builder.old.text }
     ensures ok { OnOk result (builder.new ≡ appended builder.old (case_mapping_chars letters)) }
     ensures refused { OnErr result
         ((appended builder.old (case_mapping_chars letters)).kind ≡ OnHeap) }
@@ -156,7 +156,7 @@ fn push_letters(builder: &mut SmolStrBuilder, mut letters: ToLowercase) -> Resul
 /// Appends a character where there is one.
 #[inline(always)]
 fn push_some(builder: &mut SmolStrBuilder, letter: Option<char>) -> Result<(), AllocError>
-    requires { builder.old ≡ draft_of builder.old.text }
+    requires { builder.old ≡ appended (empty_draft InBuffer) builder.old.text }
     ensures ok { OnOk result (builder.new ≡ appended builder.old (option_to_list letter)) }
     ensures refused { OnErr result ((appended builder.old (option_to_list letter)).kind ≡ OnHeap) }
 {

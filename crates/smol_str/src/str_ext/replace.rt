@@ -3,7 +3,7 @@ ghost use Rattle.std.specs.Prelude.{◌≡◌, ◌<◌, [], length, IfOk, OnErr}
 ghost use Rattle.std.specs.Str.{chars};
 ghost use Rattle.smol_str.specs.Text.{IsShort};
 ghost use Rattle.smol_str.specs.Meaning.{IsValueOf};
-ghost use Rattle.smol_str.specs.Draft.{draft_of};
+ghost use Rattle.smol_str.specs.Draft.{InBuffer, empty_draft};
 ghost use Rattle.smol_str.specs.Replace.{replaced};
 ghost use Rattle.smol_str.specs.Replacing.{IsReplacing};
 
@@ -49,7 +49,7 @@ fn push_replaced(
     to: &str,
     count: usize,
 ) -> Result<usize, AllocError>
-    requires { builder.old ≡ draft_of [] }
+    requires { builder.old ≡ empty_draft InBuffer }
     ensures ok { IfOk result (λ index.
         IsReplacing (chars text.now) (chars from.now) (chars to.now) count 0 builder.new index) }
     ensures refused { OnErr result
@@ -72,7 +72,7 @@ fn push_between(
     to: &str,
     count: usize,
 ) -> Result<usize, AllocError>
-    requires { builder.old ≡ draft_of [] }
+    requires { builder.old ≡ empty_draft InBuffer }
     ensures ok { IfOk result (λ index.
         IsReplacing (chars text.now) [] (chars to.now) count 0 builder.new index) }
     ensures refused { OnErr result
@@ -102,7 +102,7 @@ fn push_matches(
 ) -> Result<usize, AllocError>
     requires search { search.now ≡ from.now }
     requires some { 0 < length from.now }
-    requires empty { builder.old ≡ draft_of [] }
+    requires empty { builder.old ≡ empty_draft InBuffer }
     ensures ok { IfOk result (λ index.
         IsReplacing (chars text.now) (chars from.now) (chars to.now) count 0 builder.new index) }
     ensures refused { OnErr result

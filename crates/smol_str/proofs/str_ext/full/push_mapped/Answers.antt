@@ -1,12 +1,12 @@
 use Rattle.smol_str.proofs.Common.{mapped, refl, YieldsList-from_chars}
 use Rattle.smol_str.proofs.TextLemmas.Places.{OnErr-always}
 use Rattle.smol_str.proofs.CaseLemmas.Full.{mapped-append}
-use Rattle.smol_str.proofs.BuilderLemmas.Push.{draft_of-appended, mapped-more, mapped-refused, mapped-all}
+use Rattle.smol_str.proofs.BuilderLemmas.Push.{new-appended, mapped-more, mapped-refused, mapped-all}
 use Rattle.std.proofs.lemmas.Iterator.Consumers.{YieldsList-so_far, YieldsList-turn, YieldsList-end}
 use Rattle.smol_str.proofs.str_ext.full.push_mapped.Goals as goal
 
 pub push_one-requires : goal.push_one-requires
-push_one-requires c = draft_of-appended _ _ _ c.requires c.loop-character.invariant
+push_one-requires c = new-appended _ _ _ c.requires c.loop-character.invariant
 
 pub loop-character-preserved : goal.loop-character-preserved
 loop-character-preserved c =
