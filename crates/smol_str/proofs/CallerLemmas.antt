@@ -2,17 +2,16 @@
 --     texts       a ruleset: from the bytes of `as_str` back to the text, and from bytes to sizes
 --     size-chars, size-append             the size of the text that bytes spell, and of two texts
 --     boundary-parts, chars-take, chars-drop    a `&str` whose text has two parts: it may be cut into these
---     builders    a ruleset: appends after appends, and when a builder leaves its buffer
---     appended-step, appended-more, appended-refused    a loop that appends a piece for each item of a list
---     printed-value    what was printed, as the text that it is
+--     builders    a ruleset: appends after appends, in a loop over a list too, and when a builder leaves its buffer
+--     prints      a ruleset: what was printed, as the text that it is
 --     collecting  a ruleset: collecting and extending from an iterator that gives a list; `iterators` in it: which list
 --     chars_made, ..   the same by std's `collect` and `extend`
 --     form_is_whole, form-..              bytes that are a wire form: both calls read its text
 --     form-cut-..                         bytes of which the end may be missing: what has not ended early is whole
 --     Holds-parts                         a form that is held, and what follows it
 --     count-apart, forms-..               lists of texts: their number, and their forms one after another
---     begun, beginning-of_first, beginning-of_second      what a writer has that failed
---     one_written, AreTaken, one_taken, items-apart       items of your own, written, read, and told apart
+--     writing, reading    rulesets: items of your own in a writer, also one that failed, and of a reader
+--     items-apart         and told apart
 --     AreRead, one_read, all_read, next_form    a loop that reads such a list
 --     replacing   a ruleset: one character in place of each of another; replaced-each_with: a text in place of a character
 --     key_of, same_key-other              a map with values as keys, at other texts than the one that changed
@@ -25,9 +24,9 @@ pub mod Texts
 pub mod Collecting
 pub mod Wire
 pub mod Maps
-pub use Rattle.smol_str.proofs.CallerLemmas.Texts.{appended-step, replaced-each_with, printed-value, chars-as_str, length-as_str, IsResident-few, texts, builders, appended-more, appended-refused, each_replaced-value, each_replaced-refused, size-replaced_each, replacing}
+pub use Rattle.smol_str.proofs.CallerLemmas.Texts.{replaced-each_with, printed-value, prints, chars-as_str, length-as_str, IsResident-few, texts, size-front, builders, each_replaced-value, each_replaced-refused, size-replaced_each, replacing}
 pub use Rattle.smol_str.proofs.CallerLemmas.Collecting.{chars_collected, chars_refused, chars_extended, chars_extend_refused, chars_extend_stopped, strs_collected, strs_refused, strs_extended, strs_extend_refused, strings_collected, strings_refused, string_refs_collected, string_refs_refused, string_refs_extended, string_refs_extend_refused, texts_collected, texts_refused, mapped_collected, mapped_refused, mapped_extended, mapped_extend_refused, items_collected, items_refused, items_extended, split_collected, split_refused, chars_made, chars_grown, strs_made, strs_grown, strings_made, string_refs_made, string_refs_grown, array_chars_long, array_strs_long, split_long, collecting}
-pub use Rattle.smol_str.proofs.CallerLemmas.Wire.{Holds-parts, form_is_whole, form-utf8, form-text, form-held, form-read, form-cut-held, form-cut-long, form-cut-utf8, form-cut-text, count-apart, items-apart, forms-apart, begun, one_written, AreTaken, one_taken, forms-next, forms-more, AreRead, one_read, all_read, next_form}
+pub use Rattle.smol_str.proofs.CallerLemmas.Wire.{Holds-parts, form_is_whole, form-utf8, form-text, form-held, form-read, form-cut-held, form-cut-long, form-cut-utf8, form-cut-text, count-apart, items-apart, forms-apart, begun_first, begun_second, writing, reading, forms-next, forms-more, AreRead, one_read, all_read, next_form}
 pub use Rattle.smol_str.proofs.CallerLemmas.Maps.{key_of, same_key-other, text-set, stands_for-text, lookup-stands_for, lookup-lent, lookups, entry_texts-insert, lookup-with_entry}
 -- what std's iterators give
 pub use Rattle.smol_str.proofs.IteratorLemmas.{iterators, gives-chars, gives-rev_chars, gives-slice, gives-map_lent}
@@ -41,9 +40,5 @@ pub use Rattle.smol_str.proofs.TextLemmas.Split.{boundary-parts, chars-take, cha
 -- appending twice is appending the joined text, and nothing changes nothing; a new builder leaves its buffer only for a
 -- text that is not short
 pub use Rattle.smol_str.proofs.BuilderLemmas.Draft.{appended-twice, appended-nothing, OnHeap-long}
--- what was written in two parts, of which one is missing its end; a result that is known to be a fault
-pub use Rattle.smol_str.proofs.WireLemmas.Stream.{beginning-of_first, beginning-of_second, IfErr-is}
--- whatever the result: for a clause on `Err` that holds anyway
-pub use Rattle.smol_str.proofs.TextLemmas.Places.{OnErr-always}
 -- cuts: the one there is, a first match in front of a cut, a text without a match, and what joins pieces
 pub use Rattle.smol_str.proofs.CutLemmas.Cut.{joined_more, IsCut-cut, IsCut-unique, IsCutAt-step, IsCutAt-unmatched}

@@ -2,7 +2,8 @@
 --     form record, HasForm record    its wire form, and whether it has one
 --     forms records                  the forms one after another
 --     texts record                   its level's and its message's text
---     AfterReadFault                 what stands where not all records were read
+--     AfterRecordFault, AfterNextFault, AfterReadFault
+--                                    what stands where a record was not read, or not kept, and where not all were
 use Rattle.std.specs.Prelude.{◌≡◌, ℕ, ◌<◌, ◌⊎◌, List, ◌++◌, length, All, Option}
 use Rattle.std.specs.List.{flat_map}
 use Rattle.std.specs.Io.KnownBytes.{Consumes}
@@ -32,10 +33,14 @@ AfterRecordFault level_limit limit input left fault =
     ⊎ ((level : List ℕ) × (middle : Option (List ℕ)) × HasWire level × Consumes input middle (wire level)
     × AfterLimitedFault limit middle left fault)
 
--- fewer records than count were read, and the next was not; or it was, and there was no memory for a longer list
+-- the next record was not read; or it was, and there was no memory for a longer list
+unfoldable pub AfterNextFault : ℕ → ℕ → Option (List ℕ) → Option (List ℕ) → LimitedFault → Type 0
+AfterNextFault level_limit limit input left fault =
+    AfterRecordFault level_limit limit input left fault
+    ⊎ ((fault ≡ Decode OutOfMemory) × (next : Record) × Consumes input left (form next))
+
+-- fewer records than count were read, and then one more was not
 abbrev pub AfterReadFault : ℕ → ℕ → ℕ → Option (List ℕ) → Option (List ℕ) → LimitedFault → Type 0
 AfterReadFault count level_limit limit input left fault =
     (done : List Record) × (middle : Option (List ℕ)) × All HasForm done × (length done < count)
-    × Consumes input middle (forms done)
-    × (AfterRecordFault level_limit limit middle left fault
-    ⊎ ((fault ≡ Decode OutOfMemory) × (next : Record) × Consumes middle left (form next)))
+    × Consumes input middle (forms done) × AfterNextFault level_limit limit middle left fault

@@ -64,6 +64,7 @@ pub fn indentation(alloc: Global, level: u8) -> Result<SmolStr, AllocError>
 }
 
 /// The text of a line, with its newline.
+#[tactic(auto, using(smol_str::proofs::CallerLemmas::prints))]
 pub fn lay_out_line(alloc: Global, line: &Line) -> Result<SmolStr, FormatError>
     ensures { IfOk result (λ v. IsValueOf (line_text line.now) v) }
 {

@@ -1,11 +1,12 @@
 //! Log records on the wire, and as lines of JSON.
-ghost use Rattle.std.specs.Prelude.{◌≡◌, ◌++◌, length, map, All, codes, IfOk, IfErr, IfSome, OnOk, OnErr};
+ghost use Rattle.std.specs.Prelude.{◌≡◌, ◌∷◌, [], ◌++◌, length, map, All, codes, IfOk, IfErr, IfSome, OnOk, OnErr};
 ghost use Rattle.std.specs.Io.KnownBytes.{Appends};
 ghost use Rattle.std.specs.String.{string_bytes};
 ghost use Rattle.serde_json.specs.Written.{compact_text};
 ghost use Rattle.smol_str.specs.Json.{json_value};
 ghost use Rattle.smol_str.specs.Stream.{Gave, AppendsBeginning};
-ghost use Rattle.uses.specs.LogRecords.{HasForm, form, forms, texts, AfterRecordFault, AfterReadFault};
+ghost use Rattle.uses.specs.declared.log_records.Record.{Record};
+ghost use Rattle.uses.specs.LogRecords.{HasForm, form, forms, texts, AfterRecordFault, AfterNextFault, AfterReadFault};
 
 use smol_str::borsh::{BorshSerialize, EncodeFault, LimitedFault, deserialize_limited};
 use smol_str::json::to_json;
@@ -24,6 +25,7 @@ pub struct Record {
 }
 
 /// Writes a record.
+#[tactic(auto, using(smol_str::proofs::CallerLemmas::writing))]
 pub fn write_record<W: Write>(writer: &mut W, entry: &Record) -> Result<(), EncodeFault>
     ensures sized { OnOk result (HasForm entry.now) }
     ensures ok { OnOk result (Appends (W.contents writer.old) (W.contents writer.new) (form entry.now)) }
@@ -35,6 +37,7 @@ pub fn write_record<W: Write>(writer: &mut W, entry: &Record) -> Result<(), Enco
 }
 
 /// Reads a record whose message has at most `limit` bytes.
+#[tactic(auto, using(smol_str::proofs::CallerLemmas::reading))]
 pub fn read_record<R: Read>(
     alloc: Global,
     reader: &mut R,
@@ -51,6 +54,7 @@ pub fn read_record<R: Read>(
 }
 
 /// The bytes of records.
+#[tactic(auto, using(smol_str::proofs::CallerLemmas::writing))]
 pub fn write_all(alloc: Global, records: &[Record]) -> Result<Vec<u8>, EncodeFault>
     ensures sized { OnOk result (All HasForm records.now) }
     ensures ok { IfOk result (λ bytes. bytes.items ≡ forms records.now) }
@@ -63,6 +67,7 @@ pub fn write_all(alloc: Global, records: &[Record]) -> Result<Vec<u8>, EncodeFau
 }
 
 /// Reads so many records, and no byte behind them.
+#[tactic(auto, using(smol_str::proofs::CallerLemmas::reading))]
 pub fn read_all<R: Read>(
     alloc: Global,
     reader: &mut R,
@@ -77,10 +82,27 @@ pub fn read_all<R: Read>(
 {
     let mut records = Vec::new(alloc);
     for i in 0..count {
-        let entry = read_record(alloc, reader, limit)?;
-        records.push(entry)?;
+        read_next(alloc, reader, &mut records, limit)?;
     }
     Ok(records)
+}
+
+/// Reads one record more, at the end of those so far.
+#[tactic(auto, using(smol_str::proofs::CallerLemmas::reading), unfolding(crate::specs::LogRecords::AfterNextFault))]
+fn read_next<R: Read>(
+    alloc: Global,
+    reader: &mut R,
+    records: &mut Vec<Record>,
+    limit: usize,
+) -> Result<(), LimitedFault>
+    ensures ok { OnOk result ((entry : Record) × HasForm entry × (records.new.items ≡ records.old.items ++ entry ∷ [])
+        × Gave R.remaining reader.old reader.new (form entry)) }
+    ensures fault { IfErr result
+        (AfterNextFault LEVEL_LIMIT limit (R.remaining reader.old) (R.remaining reader.new)) }
+{
+    let entry = read_record(alloc, reader, limit)?;
+    records.push(entry)?;
+    Ok(())
 }
 
 /// No records: reading none cannot fail.

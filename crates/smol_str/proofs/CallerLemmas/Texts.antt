@@ -1,10 +1,12 @@
 -- Texts: their bytes and sizes, builders, and one character in place of another.
-use Rattle.smol_str.proofs.Common.{◌≡◌, ◌∷◌, ℕ, ◌+◌, ◌<◌, ◌≤◌, Result, Ok, Err, IfOk, OnErr, subst, List, [], length, take, drop, get_or, encode_utf8_all, refl, sym, ap, ◌∙◌, inl, IsTrue, arith, flat_map, chars, all_scalars, IsUtf8, chars-encodes, chars_from_encodes, encodes-chars, encodes_same, chars-IsAscii, INLINE_CAP, size, IsShort, IsResident, place_of, Meaning, IsValueOf, Draft, InBuffer, OnHeap, appended, empty_draft, IsAscii, replaced_all, each_with, each_replaced, common_steps, rules}
+use Rattle.smol_str.proofs.Common.{◌≡◌, ◌∷◌, ℕ, ◌+◌, ◌<◌, ◌≤◌, Result, Ok, Err, IfOk, OnErr, subst, List, [], length, take, drop, encode_utf8_all, refl, ap, ◌∙◌, inl, IsTrue, arith, flat_map, chars, all_scalars, IsUtf8, chars-encodes, chars_from_encodes, encodes-chars, encodes_same, chars-IsAscii, INLINE_CAP, size, IsShort, IsResident, place_of, Meaning, IsValueOf, Draft, IsAscii, replaced_all, each_with, each_replaced, rules, nat_tests, append-nil, append_assoc, encodes-append}
+use Rattle.std.proofs.lemmas.Grind.{take_at_read, flat_map-append}
+use Rattle.std.proofs.lemmas.Str.{encode_ascii}
 use Rattle.std.proofs.lemmas.Str.Ascii.{IsAscii-cons, IsAscii-nil}
 use Rattle.smol_str.proofs.CaseLemmas.Ascii.{size-mapped}
 use Rattle.smol_str.proofs.CutLemmas.Bytes.{each-moves, replaced_all-each, replaced_all-character}
-use Rattle.smol_str.proofs.TextLemmas.Lists.{flat_map-more, flat_map-parts}
-use Rattle.smol_str.proofs.TextLemmas.Places.{IsShort-chars, IsShort-front, size-chars}
+use Rattle.smol_str.proofs.TextLemmas.Lists.{flat_map-parts}
+use Rattle.smol_str.proofs.TextLemmas.Places.{IsShort-chars, IsShort-front, size-append, size-chars}
 use Rattle.smol_str.proofs.BuilderLemmas.Draft.{appended-twice, appended-nothing, OnHeap-long}
 
 -- ---- texts
@@ -34,32 +36,26 @@ pub ruleset texts = (
 
 -- ---- builders
 
--- a loop that appends the piece f x of each item x: one step, at number i
-pub appended-step : {X : Type 0} (f : X → List ℕ) (xs : List X) (i : ℕ) (x : X) (start old new : Draft) → i < length xs
-    → x ≡ get_or xs i x → old ≡ appended start (flat_map f (take i xs)) → new ≡ appended old (f x)
-    → new ≡ appended start (flat_map f (take (i + 1) xs))
-appended-step f xs i x start old new here item so_far push = grind (arith, common_steps, flat_map-more, appended-twice)
+-- in a loop that appends a piece for each item: the pieces of the first, and of one more, are no longer than all pieces
+pub size-front : {X : Type 0} (f : X → List ℕ) (xs : List X) (i : ℕ)
+    → (flat_map f (take i xs) ≡ flat_map f (take i xs)) × (size (flat_map f (take (i + 1) xs)) ≤ size (flat_map f xs))
+size-front f xs i =
+    let parts = ap size (flat_map-parts f xs (i + 1)) in
+    (refl, omega (arith, parts, size-append (flat_map f (take (i + 1) xs)) (flat_map f (drop (i + 1) xs))))
 
-pub ruleset builders = (texts, appended-twice, appended-nothing, OnHeap-long, appended-step)
-
--- ---- a loop over a list, at its item x, number i: `builder.push_str(..)` with the bytes bs of the piece f x
-
-module _ {X : Type 0} (f : X →
-    List ℕ) (xs : List X) (i : ℕ) (x : X) (bs : List ℕ) (here : i < length xs) (item : x ≡ get_or xs i x)
-    (scalars : IsTrue (all_scalars (f x))) (lent : bs ≡ encode_utf8_all (f x)) where
-  -- the step
-  pub appended-more : (start old new : Draft) → old ≡ appended start (flat_map f (take i xs)) →
-      new ≡ appended old (chars bs) →
-      new ≡ appended start (flat_map f (take (i + 1) xs))
-  appended-more start old new so_far push = grind (arith, common_steps, chars-as_str, flat_map-more, appended-twice)
-
-  -- the refusal, of a builder that was new: the joined text of the whole list is not short
-  pub appended-refused : (old : Draft) → old ≡ appended (empty_draft InBuffer) (flat_map f (take i xs)) →
-      (appended old (chars bs)).kind ≡ OnHeap → ¬ (IsShort (flat_map f xs))
-  appended-refused old so_far heap = λ short.
-      let now = appended-more (empty_draft InBuffer) old (appended old (chars bs)) so_far refl in
-      let long = OnHeap-long (flat_map f (take (i + 1) xs)) (sym (ap (λ b. b.kind) now) ∙ heap) in
-      long (IsShort-front _ (flat_map f (drop (i + 1) xs)) (rw (flat_map-parts f xs (i + 1)) at short))
+pub ruleset builders = (
+  texts,
+  appended-twice,
+  appended-nothing,
+  OnHeap-long,
+  nat_tests,
+  size-append,
+  size-front,
+  take_at_read,
+  flat_map-append,
+  append-nil,
+  append_assoc,
+)
 
 -- ---- a text, or one character of ASCII, in place of each character of ASCII, as `text.replace_smolstr(alloc, "_", "-")`
 
@@ -97,9 +93,11 @@ pub ruleset replacing = (each_replaced-value, each_replaced-refused, size-replac
 -- ---- what was printed
 
 -- a value whose text has the bytes of t, where they are those that its contract says
-pub printed-value : {E : Type 0} (r : Result Meaning E) (t bs : List ℕ) → IfOk r (λ v. encode_utf8_all v.text ≡ bs)
-    → IfOk r (λ v. v.place ≡ place_of v.text) → encode_utf8_all t ≡ bs → IfOk r (λ v. IsValueOf t v)
-printed-value (Ok v) t bs text place same =
-    let is = encodes_same v.text t (text ∙ sym same) in
+pub printed-value : {E : Type 0} (r : Result Meaning E) (t : List ℕ) → IfOk r (λ v. encode_utf8_all v.text ≡ encode_utf8_all t)
+    → IfOk r (λ v. v.place ≡ place_of v.text) → IfOk r (λ v. IsValueOf t v)
+printed-value (Ok v) t same place =
+    let is = encodes_same v.text t same in
     record { text = is; place = place ∙ ap place_of is }
-printed-value (Err e) t bs text place same = tt
+printed-value (Err e) t same place = tt
+
+pub ruleset prints = (printed-value, encodes-append, encode_ascii)

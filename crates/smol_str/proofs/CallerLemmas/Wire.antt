@@ -1,13 +1,16 @@
 -- Wire forms in bytes.
-use Rattle.smol_str.proofs.Common.{◌≡◌, ◌∷◌, ℕ, ◌+◌, ◌<◌, ◌≤◌, ◌^◌, All, List, [], ◌++◌, append_assoc, map, map-id, Option, get_or, take_more, Consumes, Consumes-trans, length, take, drop, refl, sym, ap, ◌∙◌, subst, inl, inr, IsTrue, arith, flat_map, to_le_bytes, from_le_bytes, from_le_bytes-to_le_bytes_4, w32, chars, all_scalars, IsUtf8, take-append-le, chars-encodes, length-append, All-head, All-tail, size, HasWire, wire, Holds, HasEndedEarly, body, common_steps, rules}
+use Rattle.smol_str.proofs.Common.{◌≡◌, ◌∷◌, ℕ, ◌+◌, ◌<◌, ◌≤◌, ◌^◌, All, List, [], ◌++◌, append_assoc, map, map-id, Option, length, take, drop, refl, sym, ap, ◌∙◌, subst, inl, inr, IsTrue, arith, flat_map, to_le_bytes, from_le_bytes, from_le_bytes-to_le_bytes_4, w32, chars, all_scalars, IsUtf8, take-append-le, chars-encodes, length-append, All-head, All-tail, size, HasWire, wire, Holds, HasEndedEarly, body, common_steps, rules, append-nil, length-take, Result, OnErr, Appends}
 use Rattle.smol_str.specs.Wire.{prefix_size}
 use Rattle.smol_str.specs.Stream.{AppendsBeginning}
 use Rattle.smol_str.specs.WireFaults.{AfterEncodeFault}
 use Rattle.smol_str.specs.declared.borsh.fault.EncodeFault.{EncodeFault}
 use Rattle.smol_str.specs.declared.borsh.fault.EncodeFault.TheVariants.{TooLong, Io}
 use Rattle.std.proofs.KnownBytes.{Appends-nil, Appends-kept}
-use Rattle.std.proofs.lemmas.List.{flat_map_more}
+use Rattle.std.proofs.lemmas.Grind.{take_at_read, flat_map-append}
+use Rattle.std.proofs.lemmas.List.{flat_map_more, get_or-take, get_or_append_left, get_or_push}
 use Rattle.std.proofs.lemmas.List.Elements.{All-push}
+use Rattle.smol_str.proofs.TextLemmas.Places.{OnErr-always}
+use Rattle.smol_str.proofs.WireLemmas.Stream.{beginning-of_first, beginning-of_second}
 use Rattle.smol_str.proofs.WireLemmas.Wire.{length-wire, prefix_size-wire, wire-apart, Holds-one, Holds-whole, body-Holds, Holds-written, wire-held, length-Holds}
 
 -- ---- wire forms
@@ -144,7 +147,7 @@ module _ (bytes : List ℕ) (count : ℕ) (ts : List (List ℕ)) (rest : List �
       → (t after : List ℕ) × HasWire t × IsTrue (all_scalars t) × (rest ++ more ≡ wire t ++ after)
   next_form few below us more x can sized scalars e = search (rules, arith, append_assoc, count-apart, forms-next)
 
--- ---- items one after another, in a writer or of a reader, where `form` is what an item is written as
+-- ---- items one after another, in a writer or of a reader
 
 -- whatever the fault of a text that was not written: a beginning of its form was
 pub begun : (held holds : Option (List ℕ)) (t : List ℕ) (fault : EncodeFault)
@@ -153,30 +156,29 @@ begun held holds t TooLong h =
     ([], wire t, refl, omega (arith, length-wire t), Appends-kept held held holds [] (Appends-nil held) h.1)
 begun held holds t (Io e) h = h.1
 
-module _ {X : Type 0} (form : X → List ℕ) (P : X → Type 0) where
-  -- a loop over a list, at its item x, number i: one form more
-  pub one_written : (xs : List X) (i : ℕ) (x : X) (old new : List ℕ) → i < length xs → x ≡ get_or xs i x
-      → All P (take i xs) × (old ≡ flat_map form (take i xs)) → P x → new ≡ old ++ form x
-      → All P (take (i + 1) xs) × (new ≡ flat_map form (take (i + 1) xs))
-  one_written xs i x old new here item so_far fits wrote =
-      let more = take_more xs i x here ∙ ap (λ y. take i xs ++ y ∷ []) (sym item) in (
-        subst (All P) (sym more) (All-push P (take i xs) x so_far.0 fits),
-        wrote ∙ ap (λ bs. bs ++ form x) so_far.1 ∙ flat_map_more form [] (take i xs) x ∙ ap (flat_map form) (sym more),
-      )
+module _ {T E : Type 0} (r : Result T E) (held holds : Option (List ℕ)) (t bytes : List ℕ) where
+  -- and so of it and what would have come behind it
+  pub begun_first : ((fault : EncodeFault) × AfterEncodeFault (wire t) (HasWire t) held holds fault)
+      → OnErr r (AppendsBeginning held holds (wire t ++ bytes))
+  begun_first (fault, h) = OnErr-always r _ (beginning-of_first (wire t) bytes held holds (begun held holds t fault h))
 
-  -- a loop that reads items: those so far were read, and no more
-  pub record AreTaken (input left : Option (List ℕ)) (xs : List X) (i : ℕ) : Type 0 where
-    pub count : length xs ≡ i
-    pub fit : All P xs
-    pub taken : Consumes input left (flat_map form xs)
+  -- and of what was written before it and itself
+  pub begun_second : ((middle : Option (List ℕ)) × (fault : EncodeFault) × Appends held middle bytes
+      × AfterEncodeFault (wire t) (HasWire t) middle holds fault)
+      → OnErr r (AppendsBeginning held holds (bytes ++ wire t))
+  begun_second (middle, fault, wrote, h) =
+      OnErr-always r _ (beginning-of_second bytes (wire t) held middle holds wrote (begun middle holds t fault h))
 
-  pub one_taken : (input middle left : Option (List ℕ)) (xs more : List X) (i : ℕ) (x : X)
-      → AreTaken input middle xs i → Consumes middle left (form x) → P x → more ≡ xs ++ x ∷ []
-      → AreTaken input left more (i + 1)
-  one_taken input middle left xs more i x so_far read fits is =
-      rw is (record {
-        count = omega (arith, so_far.count, length-append xs (x ∷ []));
-        fit = All-push P xs x so_far.fit fits;
-        taken = subst (Consumes input left) (flat_map_more form [] xs x)
-            (Consumes-trans input middle left (flat_map form xs) (form x) so_far.taken read);
-      })
+-- a loop that writes items, and one that reads some into a list
+pub ruleset writing = (
+  append_assoc,
+  append-nil,
+  flat_map-append,
+  take_at_read,
+  length-take,
+  get_or-take,
+  begun_first,
+  begun_second,
+)
+
+pub ruleset reading = (append_assoc, append-nil, flat_map-append, length-append, get_or_append_left, get_or_push)

@@ -1,4 +1,4 @@
-use Rattle.std.proofs.Common.{◌∙◌, ap, sym, map, bytes_eq}
+use Rattle.std.proofs.Common.{◌∙◌, ap, sym, bytes_eq}
 use Rattle.std.specs.Str.Iter.{lines_rest}
 use Rattle.std.specs.Str.Lines.{lines}
 use Rattle.std.specs.Map.{lookup}
