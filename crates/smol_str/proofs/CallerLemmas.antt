@@ -5,13 +5,14 @@
 --     builders    a ruleset: appends after appends, in a loop over a list too, and when a builder leaves its buffer
 --     prints      a ruleset: what was printed, as the text that it is
 --     collecting  a ruleset: collecting and extending from an iterator that gives a list; `iterators` in it: which list
---     chars_made, ..   the same by std's `collect` and `extend`
+--     chars_by_std, strings_by_std    rulesets: the same by std's `collect` and `extend`; chars_made, ..
 --     form_is_whole, form-..              bytes that are a wire form: both calls read its text
 --     form-cut-..                         bytes of which the end may be missing: what has not ended early is whole
 --     Holds-parts                         a form that is held, and what follows it
 --     count-apart, forms-..               lists of texts: their number, and their forms one after another
---     writing, reading    rulesets: items of your own in a writer, also one that failed, and of a reader
---     items-apart         and told apart
+--     parts       a ruleset: a form of two parts, written and read, and what a writer has that failed
+--     items       a ruleset: a loop that writes the items of a list, or reads some into one
+--     items-apart                         and told apart
 --     AreRead, one_read, all_read, next_form    a loop that reads such a list
 --     replacing   a ruleset: one character in place of each of another; replaced-each_with: a text in place of a character
 --     key_of, same_key-other              a map with values as keys, at other texts than the one that changed
@@ -25,8 +26,8 @@ pub mod Collecting
 pub mod Wire
 pub mod Maps
 pub use Rattle.smol_str.proofs.CallerLemmas.Texts.{replaced-each_with, printed-value, prints, chars-as_str, length-as_str, IsResident-few, texts, size-front, builders, each_replaced-value, each_replaced-refused, size-replaced_each, replacing}
-pub use Rattle.smol_str.proofs.CallerLemmas.Collecting.{chars_collected, chars_refused, chars_extended, chars_extend_refused, chars_extend_stopped, strs_collected, strs_refused, strs_extended, strs_extend_refused, strings_collected, strings_refused, string_refs_collected, string_refs_refused, string_refs_extended, string_refs_extend_refused, texts_collected, texts_refused, mapped_collected, mapped_refused, mapped_extended, mapped_extend_refused, items_collected, items_refused, items_extended, split_collected, split_refused, chars_made, chars_grown, strs_made, strs_grown, strings_made, string_refs_made, string_refs_grown, array_chars_long, array_strs_long, split_long, collecting}
-pub use Rattle.smol_str.proofs.CallerLemmas.Wire.{Holds-parts, form_is_whole, form-utf8, form-text, form-held, form-read, form-cut-held, form-cut-long, form-cut-utf8, form-cut-text, count-apart, items-apart, forms-apart, begun_first, begun_second, writing, reading, forms-next, forms-more, AreRead, one_read, all_read, next_form}
+pub use Rattle.smol_str.proofs.CallerLemmas.Collecting.{chars_collected, chars_refused, chars_extended, chars_extend_refused, chars_extend_stopped, strs_collected, strs_refused, strs_extended, strs_extend_refused, strings_collected, strings_refused, string_refs_collected, string_refs_refused, string_refs_extended, string_refs_extend_refused, texts_collected, texts_refused, mapped_collected, mapped_refused, mapped_extended, mapped_extend_refused, items_collected, items_refused, items_extended, split_collected, split_refused, chars_made, strs_made, strings_made, string_refs_made, CameFrom, chars_came, chars_grown, string_refs_grown, chars_by_std, strings_by_std, array_chars_long, array_strs_long, split_long, collecting}
+pub use Rattle.smol_str.proofs.CallerLemmas.Wire.{Holds-parts, form_is_whole, form-utf8, form-text, form-held, form-read, form-cut-held, form-cut-long, form-cut-utf8, form-cut-text, count-apart, items-apart, forms-apart, begun_first, begun_second, parts, text-at, items, forms-next, forms-more, AreRead, one_read, all_read, next_form}
 pub use Rattle.smol_str.proofs.CallerLemmas.Maps.{key_of, same_key-other, text-set, stands_for-text, lookup-stands_for, lookup-lent, lookups, entry_texts-insert, lookup-with_entry}
 -- what std's iterators give
 pub use Rattle.smol_str.proofs.IteratorLemmas.{iterators, gives-chars, gives-rev_chars, gives-slice, gives-map_lent}

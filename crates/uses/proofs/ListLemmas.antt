@@ -1,18 +1,15 @@
--- For lists on the wire: a form is that of one list, and what was written and read so far.
-use Rattle.std.proofs.Common.{◌≡◌, ℕ, ◌+◌, ◌<◌, ◌^◌, List, [], ◌∷◌, ◌++◌, length, take, get_or, All, IsTrue, Result, Ok, Err, IfErr, IsErrAnd, sym, ap, subst, ◌∙◌, arith, append_assoc, append-nil, length-append}
+-- For lists on the wire: a form is that of one list, and what was read so far.
+use Rattle.std.proofs.Common.{◌≡◌, ℕ, ◌<◌, ◌^◌, List, [], ◌∷◌, ◌++◌, length, IsTrue, Result, Ok, Err, IfErr, IsErrAnd, sym, ap, subst, ◌∙◌, arith, append_assoc, append-nil, length-append}
 use Rattle.std.specs.Str.{all_scalars}
-use Rattle.std.specs.Prelude.{Option}
-use Rattle.std.proofs.lemmas.List.{map-append, length-map, take_more, flat_map_more, get_or-map}
-use Rattle.std.proofs.lemmas.List.Elements.{All-nil, All-cons, All-push, All-get_or}
-use Rattle.smol_str.specs.declared.borsh.fault.EncodeFault.{EncodeFault}
-use Rattle.smol_str.specs.declared.borsh.fault.EncodeFault.TheVariants.{TooLong, Io as WriteFailed}
+use Rattle.std.proofs.lemmas.List.{map-append}
+use Rattle.std.proofs.lemmas.List.Elements.{All-nil, All-cons}
 use Rattle.smol_str.specs.declared.borsh.fault.DecodeFault.{DecodeFault}
 use Rattle.smol_str.specs.declared.borsh.fault.DecodeFault.TheVariants.{Ended, NotUtf8, OutOfMemory, Io as ReadFailed}
 use Rattle.smol_str.specs.Meaning.{Meaning}
 use Rattle.smol_str.specs.Wire.{HasWire, wire}
-use Rattle.smol_str.specs.WireFaults.{AfterEncodeFault, AfterFromWireFault}
+use Rattle.smol_str.specs.WireFaults.{AfterFromWireFault}
 use Rattle.smol_str.proofs.CallerLemmas.{form_is_whole, form-cut-utf8, count-apart, forms-apart, AreRead, next_form}
-use Rattle.uses.specs.Lists.{CanBeListed, forms, list_form, BeginsWithList, AfterListFault, AfterUnlisted}
+use Rattle.uses.specs.Lists.{CanBeListed, forms, list_form, BeginsWithList, AfterListFault}
 use Rattle.uses.specs.Names.{texts}
 
 -- lists whose forms are one, and what follows them
@@ -37,39 +34,8 @@ one_begins bytes t rest fits scalars is =
     let can : CanBeListed (t ∷ []) = record { few = omega arith; sized = All-cons HasWire t [] fits (All-nil HasWire) } in
     (t ∷ [], rest, can, All-cons (λ u. IsTrue (all_scalars u)) t [] scalars (All-nil (λ u. IsTrue (all_scalars u))), is)
 
--- ---- writing: the i-th value
-
 pub texts-push : (values : List Meaning) (v : Meaning) → texts (values ++ v ∷ []) ≡ texts values ++ v.text ∷ []
 texts-push values v = map-append (λ (v : Meaning). v.text) values (v ∷ [])
-
-module _ (values : List Meaning) (i : ℕ) (v : Meaning) (here : i < length values) (item : v ≡ get_or values i v) where
-  texts-more : texts (take (i + 1) values) ≡ texts (take i values) ++ v.text ∷ []
-  texts-more =
-      ap texts (take_more values i v here ∙ ap (λ w. take i values ++ w ∷ []) (sym item)) ∙ texts-push (take i values) v
-
-  pub one_written : (front old new : List ℕ) → All HasWire (texts (take i values)) → HasWire v.text
-      → old ≡ front ++ forms (texts (take i values)) → new ≡ old ++ wire v.text
-      → All HasWire (texts (take (i + 1) values)) × (new ≡ front ++ forms (texts (take (i + 1) values)))
-  one_written front old new sized fits so_far written =
-      rw texts-more (
-        All-push HasWire (texts (take i values)) v.text sized fits,
-        written ∙ ap (λ l. l ++ wire v.text) so_far ∙ flat_map_more wire front (texts (take i values)) v.text,
-      )
-
-  after_unwritten : (old new : Option (List ℕ)) (fault : EncodeFault)
-      → AfterEncodeFault (wire v.text) (HasWire v.text) old new fault → AfterUnlisted (texts values) fault
-  after_unwritten old new (WriteFailed e) h = tt
-  after_unwritten old new TooLong h = λ can.
-      let long = length-map values (λ (v : Meaning). v.text) in
-      let fits = All-get_or HasWire (texts values) i v.text (omega (arith, here, long)) can.sized in
-      h.0 (rw (get_or-map (λ (v : Meaning). v.text) values i v v.text here, ← item) at fits)
-
-  pub not_written : {T : Type 0} (r : Result T EncodeFault) (old new : Option (List ℕ)) (fault : EncodeFault)
-      → IsErrAnd r (λ f. f ≡ fault) → AfterEncodeFault (wire v.text) (HasWire v.text) old new fault
-      → IfErr r (AfterUnlisted (texts values))
-  not_written (Ok x) old new fault same h = tt
-  not_written (Err f) old new fault same h =
-      subst (AfterUnlisted (texts values)) (sym same) (after_unwritten old new fault h)
 
 -- ---- reading
 

@@ -1,9 +1,13 @@
 -- For settings: what is set by lines, and what a key's last line sets.
-use Rattle.std.proofs.Common.{◌≡◌, ℕ, List, [], ◌∷◌, ◌++◌, map, fold, Option, Some, None, Bor, bytes_eq, refl, ap, ◌∙◌, arith}
+use Rattle.std.proofs.Common.{◌≡◌, ℕ, List, [], ◌∷◌, ◌++◌, map, fold, Bool, if◌then◌else◌, Option, Some, None, Bor, bytes_eq, refl, ap, ◌∙◌, arith}
 use Rattle.std.specs.Map.{lookup}
 use Rattle.std.proofs.lemmas.Grind.{fold-append}
 use Rattle.std.proofs.lemmas.List.{map-append}
-use Rattle.smol_str.proofs.CallerLemmas.{lookup-with_entry}
+use Rattle.indexmap.specs.IndexMap.{insert_entry}
+use Rattle.smol_str.specs.Keys.{same_key, with_entry, entry_texts}
+use Rattle.smol_str.specs.Meaning.{Meaning}
+use Rattle.smol_str.specs.declared.value.SmolStr.{SmolStr}
+use Rattle.smol_str.proofs.CallerLemmas.{entry_texts-insert, lookup-with_entry}
 use Rattle.uses.specs.Settings.{setting, with_setting, settings, value_in, or_else, last_value}
 
 module _ (key : List ℕ) where
@@ -36,3 +40,14 @@ pub settings-more : (yielded : List (Bor (List ℕ))) (line : Bor (List ℕ))
 settings-more yielded line =
     ap settings (map-append (λ (x : Bor (List ℕ)). x.now) yielded (line ∷ []))
     ∙ fold-append (λ pairs line. with_setting pairs (setting line)) [] (map (λ x. x.now) yielded) (line.now ∷ [])
+
+-- a map's insert, as texts
+pub entry_texts-inserted : (eq : Meaning → Meaning → Bool) (es : List (Meaning × SmolStr)) (k : Meaning) (v : SmolStr)
+    → ((x y : Meaning) → eq x y ≡ same_key x y)
+    → entry_texts (λ (v : SmolStr). v.text) (insert_entry eq es k v)
+    ≡ with_entry (entry_texts (λ (v : SmolStr). v.text) es) k.text v.text
+entry_texts-inserted eq es k v same =
+    entry_texts-insert (λ (v : SmolStr). v.text) (insert_entry eq) (λ _ _. refl)
+    (λ e es k v. ap (λ b. if b then (e.0, v) ∷ es else e ∷ insert_entry eq es k v) (same k e.0)) es k v
+
+pub ruleset inserts = (entry_texts-inserted)

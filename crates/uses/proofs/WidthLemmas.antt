@@ -16,3 +16,5 @@ chars-spaces = refl
 pub place-spaces : place_of (replicate 40 32) ≡ Static
 unfolding place_of is_blank_run lib.Utf8.encode
 place-spaces = refl
+
+pub ruleset spaces = (padded-spaces, chars-spaces, place-spaces)

@@ -67,6 +67,7 @@ pub fn wide_number(alloc: Global, number: u64) -> Result<SmolStr, FormatError>
 }
 
 /// Spaces by a width alone: a blank run, so that the value is a slice of the blank constant.
+#[tactic(auto, using(crate::proofs::WidthLemmas::spaces))]
 pub fn indentation(alloc: Global) -> Result<SmolStr, FormatError>
     ensures text { IfOk result (λ v. encode_utf8_all v.text ≡ replicate 40 32) }
     ensures place { IfOk result (λ v. v.place ≡ Static) }

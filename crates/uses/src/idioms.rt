@@ -56,6 +56,7 @@ pub fn row(alloc: Global, tokens: &[SmolStr]) -> Result<String, AllocError>
 }
 
 /// A text from its last character to its first.
+#[tactic(auto, using(smol_str::proofs::CallerLemmas::chars_by_std))]
 pub fn reversed(alloc: Global, text: &str) -> Result<SmolStr, AllocError>
     ensures { IfOk result (λ v. IsValueOf (reverse (chars text.now)) v) }
 {
@@ -86,6 +87,7 @@ pub fn of_lent(alloc: Global, texts: &[String]) -> Result<SmolStr, AllocError>
 }
 
 /// A builder, and the characters of a text after it.
+#[tactic(auto, using(smol_str::proofs::CallerLemmas::chars_by_std))]
 pub fn push_chars(builder: &mut SmolStrBuilder, text: &str) -> Result<(), AllocError>
     ensures { OnOk result (builder.new ≡ appended builder.old (chars text.now)) }
 {
@@ -93,6 +95,7 @@ pub fn push_chars(builder: &mut SmolStrBuilder, text: &str) -> Result<(), AllocE
 }
 
 /// A builder, and the texts of `String`s after it.
+#[tactic(auto, using(smol_str::proofs::CallerLemmas::strings_by_std))]
 pub fn push_strings(builder: &mut SmolStrBuilder, texts: &[String]) -> Result<(), AllocError>
     ensures { OnOk result (builder.new ≡ appended builder.old (joined string_text texts.now)) }
 {

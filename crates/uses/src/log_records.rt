@@ -25,7 +25,7 @@ pub struct Record {
 }
 
 /// Writes a record.
-#[tactic(auto, using(smol_str::proofs::CallerLemmas::writing))]
+#[tactic(auto, using(smol_str::proofs::CallerLemmas::parts))]
 pub fn write_record<W: Write>(writer: &mut W, entry: &Record) -> Result<(), EncodeFault>
     ensures sized { OnOk result (HasForm entry.now) }
     ensures ok { OnOk result (Appends (W.contents writer.old) (W.contents writer.new) (form entry.now)) }
@@ -37,7 +37,7 @@ pub fn write_record<W: Write>(writer: &mut W, entry: &Record) -> Result<(), Enco
 }
 
 /// Reads a record whose message has at most `limit` bytes.
-#[tactic(auto, using(smol_str::proofs::CallerLemmas::reading))]
+#[tactic(auto, using(smol_str::proofs::CallerLemmas::parts))]
 pub fn read_record<R: Read>(
     alloc: Global,
     reader: &mut R,
@@ -54,7 +54,7 @@ pub fn read_record<R: Read>(
 }
 
 /// The bytes of records.
-#[tactic(auto, using(smol_str::proofs::CallerLemmas::writing))]
+#[tactic(auto, using(smol_str::proofs::CallerLemmas::items))]
 pub fn write_all(alloc: Global, records: &[Record]) -> Result<Vec<u8>, EncodeFault>
     ensures sized { OnOk result (All HasForm records.now) }
     ensures ok { IfOk result (λ bytes. bytes.items ≡ forms records.now) }
@@ -67,7 +67,7 @@ pub fn write_all(alloc: Global, records: &[Record]) -> Result<Vec<u8>, EncodeFau
 }
 
 /// Reads so many records, and no byte behind them.
-#[tactic(auto, using(smol_str::proofs::CallerLemmas::reading))]
+#[tactic(auto, using(smol_str::proofs::CallerLemmas::items))]
 pub fn read_all<R: Read>(
     alloc: Global,
     reader: &mut R,
@@ -88,7 +88,7 @@ pub fn read_all<R: Read>(
 }
 
 /// Reads one record more, at the end of those so far.
-#[tactic(auto, using(smol_str::proofs::CallerLemmas::reading), unfolding(crate::specs::LogRecords::AfterNextFault))]
+#[tactic(auto, using(smol_str::proofs::CallerLemmas::items), unfolding(crate::specs::LogRecords::AfterNextFault))]
 fn read_next<R: Read>(
     alloc: Global,
     reader: &mut R,

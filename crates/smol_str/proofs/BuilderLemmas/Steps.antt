@@ -1,5 +1,5 @@
 -- For `build`: the steps of a list as items.
-use Rattle.smol_str.proofs.Common.{◌≡◌, ℕ, ◌<◌, List, [], ◌++◌, Option, sym, ◌∙◌, ap, subst, ◌⊎◌, inl, inr, map, take, drop, YieldsList, INLINE_CAP, IsShort, Draft, OnHeap, empty_draft, kind_for, appended}
+use Rattle.smol_str.proofs.Common.{◌≡◌, ℕ, ◌<◌, List, [], ◌++◌, Option, sym, ◌∙◌, ap, ◌⊎◌, map, take, drop, YieldsList, INLINE_CAP, IsShort, Draft, empty_draft, kind_for, appended}
 use Rattle.smol_str.specs.Collect.{AppendedAll, StoppedAt}
 use Rattle.smol_str.proofs.BuilderLemmas.Draft.{why_heap}
 use Rattle.smol_str.proofs.BuilderLemmas.Collect.{heap-stopped, text-whole}

@@ -1,6 +1,6 @@
 -- Collecting and extending from an iterator that gives a list.
-use Rattle.smol_str.proofs.Common.{◌≡◌, ℕ, ◌<◌, ◌≤◌, ◌++◌, String, Global, Bor, true, Option, Result, Ok, Err, IfOk, OnOk, OnErr, subst, List, [], length, take, drop, map, refl, sym, ap, ◌∙◌, arith, chars, IsUtf8, YieldsList, chars-encodes, take-append-drop, INLINE_CAP, size, IsShort, Meaning, IsValueOf, Draft, OnHeap, appended, joined, joined_strs, joined_strings, joined_string_refs, str_text, string_text, replaced_all, cut, no_limit, map-id, items_from_drains}
-use Rattle.std.specs.Iterator.{Drains, DrainsIf, ExtendsWithItems}
+use Rattle.smol_str.proofs.Common.{◌≡◌, ℕ, ◌<◌, ◌≤◌, ◌++◌, String, Global, Bor, true, Option, Result, Ok, Err, IfOk, OnOk, OnErr, subst, List, [], length, take, drop, map, refl, sym, ap, ◌∙◌, arith, chars, IsUtf8, YieldsList, chars-encodes, take-append-drop, INLINE_CAP, size, IsShort, Meaning, IsValueOf, Draft, OnHeap, appended, joined, joined_strs, joined_strings, joined_string_refs, str_text, string_text, replaced_all, cut, no_limit, map-id, items_from_drains, None, place_of}
+use Rattle.std.specs.Iterator.{Yields, DrainsIf}
 use Rattle.std.specs.Array.Iter.{array_steps, array_into_iter_items}
 use Rattle.std.specs.declared.array.IntoIter.{IntoIter}
 use Rattle.std.specs.declared.str.Split.{Split}
@@ -10,7 +10,7 @@ use Rattle.std.proofs.lemmas.List.Folds.{flat_map-map}
 use Rattle.smol_str.specs.Collect.{AppendedAll, StoppedAt, Collected, Outgrown}
 use Rattle.smol_str.specs.JoinedLaws.{joined-strs}
 use Rattle.smol_str.proofs.BuilderLemmas.Collect.{text-whole, not_short-outgrown, heap-stopped, front-stopped}
-use Rattle.smol_str.proofs.IteratorLemmas.{YieldsList-from_array, iterators}
+use Rattle.smol_str.proofs.IteratorLemmas.{YieldsList-from_array, iterators, gives-chars, gives-rev_chars, gives-slice}
 use Rattle.smol_str.proofs.PieceLemmas.{joined-nothing, gives-split}
 use Rattle.smol_str.proofs.TextLemmas.Lists.{flat_map-parts}
 
@@ -64,14 +64,6 @@ module _ {S A B : Type 0} {steps : S → Option A → S → Type 0} {s : S} {v :
   made (Ok y) (xs, d, h) gives = subst (λ t. IsValueOf t y) (drained xs d gives) h
   made (Err e) h gives = tt
 
-  grown : {E : Type 0} (r : Result (Unit {0}) E) (old new : Draft)
-      → ExtendsWithItems (λ i t. t ≡ i) steps (λ b xs c. c ≡ appended b (texts xs)) s old new r
-      → YieldsList steps v s all → OnOk r (new ≡ appended old (whole all))
-  grown (Ok u) old new (t, xs, b, h, d) gives =
-      let end = (subst (λ u. Drains steps u xs) b d).1 in
-      h ∙ ap (appended old) (drained xs (end.0, end.1, λ _. ((subst (λ u. Drains steps u xs) b d).0, end.2)) gives)
-  grown (Err e) old new h gives = tt
-
 -- the same of each kind of item: of characters,
 same : (xs : List ℕ) → xs ≡ map (λ c. c) xs
 same xs = sym (map-id xs)
@@ -107,11 +99,6 @@ module _ {S E : Type 0} {steps : S → Option ℕ → S → Type 0} {s : S} {all
       → YieldsList steps (λ c. c) s all → IfOk r (λ y. IsValueOf all y)
   chars_made r is gives = made (λ xs. xs) (λ xs. xs) same r is gives
 
-  pub chars_grown : (r : Result (Unit {0}) E) (old new : Draft)
-      → ExtendsWithItems (λ i t. t ≡ i) steps (λ b xs c. c ≡ appended b xs) s old new r
-      → YieldsList steps (λ c. c) s all → OnOk r (new ≡ appended old all)
-  chars_grown r old new is gives = grown (λ xs. xs) (λ xs. xs) same r old new is gives
-
 -- of `&str`s, read off their bytes,
 module _ {S E : Type 0} {steps : S → Option (Bor (List ℕ)) → S → Type 0} {s : S} {all : List (List ℕ)} where
   pub strs_collected : (m : Meaning → Meaning) (r : Result Meaning E) → IfOk r (Collected joined_strs steps s m)
@@ -135,11 +122,6 @@ module _ {S E : Type 0} {steps : S → Option (Bor (List ℕ)) → S → Type 0}
       → IfOk r (λ y. (xs : List (Bor (List ℕ))) × DrainsIf steps (Unit {0}) s xs × IsValueOf (joined_strs xs) y)
       → YieldsList steps (λ x. x.now) s all → IfOk r (λ y. IsValueOf (joined chars all) y)
   strs_made r is gives = made joined_strs (joined chars) (λ xs. refl) r is gives
-
-  pub strs_grown : (r : Result (Unit {0}) E) (old new : Draft)
-      → ExtendsWithItems (λ i t. t ≡ i) steps (λ b xs c. c ≡ appended b (joined_strs xs)) s old new r
-      → YieldsList steps (λ x. x.now) s all → OnOk r (new ≡ appended old (joined chars all))
-  strs_grown r old new is gives = grown joined_strs (joined chars) (λ xs. refl) r old new is gives
 
 -- of `String`s,
 module _ {S E : Type 0} {steps : S → Option (String Global) → S → Type 0} {s : S} {all : List (String Global)} where
@@ -180,10 +162,38 @@ module _ {S E : Type 0} {steps : S → Option (Bor (String Global)) → S → Ty
       → YieldsList steps (λ x. x.now) s all → IfOk r (λ y. IsValueOf (joined string_text all) y)
   string_refs_made r is gives = made joined_string_refs (joined string_text) (λ xs. refl) r is gives
 
-  pub string_refs_grown : (r : Result (Unit {0}) E) (old new : Draft)
-      → ExtendsWithItems (λ i t. t ≡ i) steps (λ b xs c. c ≡ appended b (joined_string_refs xs)) s old new r
-      → YieldsList steps (λ x. x.now) s all → OnOk r (new ≡ appended old (joined string_text all))
-  string_refs_grown r old new is gives = grown joined_string_refs (joined string_text) (λ xs. refl) r old new is gives
+-- items xs came from an iterator that gives a list, and then no more
+abbrev pub CameFrom : {A B : Type 0} → (A → B) → List B → List A → Type 1
+CameFrom {A} v all xs =
+    (S : Type 0) × (steps : S → Option A → S → Type 0) × (s t u : S) × Yields steps s xs t × steps t None u × YieldsList steps v s all
+
+came : {A B : Type 0} (v : A → B) (all : List B) (xs : List A) → CameFrom v all xs → map v xs ≡ all
+came v all xs (S, steps, s, t, u, runs, ends, gives) = items_from_drains xs (t, runs, λ _. (u, ends)) gives
+
+-- by std's `collect` and `extend`, in forms that `grind` finds
+pub chars_came : {E : Type 0} (r : Result Meaning E) (all : List ℕ)
+    → ((xs : List ℕ) × CameFrom (λ c. c) all xs × IfOk r (λ y. y.text ≡ xs) × IfOk r (λ y. y.place ≡ place_of xs))
+    → IfOk r (λ y. IsValueOf all y)
+chars_came (Err e) all h = tt
+chars_came (Ok y) all (xs, from, text, place) =
+    let is = same xs ∙ came (λ c. c) all xs from in
+    record { text = text ∙ is; place = place ∙ ap place_of is }
+
+pub chars_grown : {E : Type 0} (r : Result (Unit {0}) E) (old new : Draft) (all : List ℕ)
+    → ((xs : List ℕ) × CameFrom (λ c. c) all xs × (new ≡ appended old xs)) → OnOk r (new ≡ appended old all)
+chars_grown (Err e) old new all h = tt
+chars_grown (Ok x) old new all (xs, from, is) = is ∙ ap (appended old) (same xs ∙ came (λ c. c) all xs from)
+
+pub string_refs_grown : {E : Type 0} (r : Result (Unit {0}) E) (old new : Draft) (all : List (String Global))
+    → ((xs : List (Bor (String Global))) × CameFrom (λ x. x.now) all xs × (new ≡ appended old (joined_string_refs xs)))
+    → OnOk r (new ≡ appended old (joined string_text all))
+string_refs_grown (Err e) old new all h = tt
+string_refs_grown (Ok x) old new all (xs, from, is) =
+    is ∙ ap (λ ys. appended old (joined string_text ys)) (came (λ x. x.now) all xs from)
+
+pub ruleset chars_by_std = (gives-chars, gives-rev_chars, chars_came, chars_grown)
+
+pub ruleset strings_by_std = (gives-slice, string_refs_grown)
 
 -- the `&str`s themselves, whose texts a closure or a copy gives,
 lent : (xs : List (Bor (List ℕ))) → joined_strs xs ≡ joined str_text (map (λ x. x) xs)

@@ -1,5 +1,5 @@
 -- Wire forms in bytes.
-use Rattle.smol_str.proofs.Common.{◌≡◌, ◌∷◌, ℕ, ◌+◌, ◌<◌, ◌≤◌, ◌^◌, All, List, [], ◌++◌, append_assoc, map, map-id, Option, length, take, drop, refl, sym, ap, ◌∙◌, subst, inl, inr, IsTrue, arith, flat_map, to_le_bytes, from_le_bytes, from_le_bytes-to_le_bytes_4, w32, chars, all_scalars, IsUtf8, take-append-le, chars-encodes, length-append, All-head, All-tail, size, HasWire, wire, Holds, HasEndedEarly, body, common_steps, rules, append-nil, length-take, Result, OnErr, Appends}
+use Rattle.smol_str.proofs.Common.{◌≡◌, ◌∷◌, ℕ, ◌+◌, ◌<◌, ◌≤◌, ◌^◌, All, List, [], ◌++◌, append_assoc, map, map-id, Option, length, take, drop, refl, sym, ap, ◌∙◌, subst, inl, inr, IsTrue, arith, flat_map, to_le_bytes, from_le_bytes, from_le_bytes-to_le_bytes_4, w32, chars, all_scalars, IsUtf8, take-append-le, chars-encodes, length-append, All-head, All-tail, size, HasWire, wire, Holds, HasEndedEarly, body, common_steps, rules, append-nil, length-take, Result, OnErr, Appends, get_or, Meaning, map-append, length-map}
 use Rattle.smol_str.specs.Wire.{prefix_size}
 use Rattle.smol_str.specs.Stream.{AppendsBeginning}
 use Rattle.smol_str.specs.WireFaults.{AfterEncodeFault}
@@ -7,7 +7,7 @@ use Rattle.smol_str.specs.declared.borsh.fault.EncodeFault.{EncodeFault}
 use Rattle.smol_str.specs.declared.borsh.fault.EncodeFault.TheVariants.{TooLong, Io}
 use Rattle.std.proofs.KnownBytes.{Appends-nil, Appends-kept}
 use Rattle.std.proofs.lemmas.Grind.{take_at_read, flat_map-append}
-use Rattle.std.proofs.lemmas.List.{flat_map_more, get_or-take, get_or_append_left, get_or_push}
+use Rattle.std.proofs.lemmas.List.{flat_map_more, get_or-map, get_or_append_left, get_or_push}
 use Rattle.std.proofs.lemmas.List.Elements.{All-push}
 use Rattle.smol_str.proofs.TextLemmas.Places.{OnErr-always}
 use Rattle.smol_str.proofs.WireLemmas.Stream.{beginning-of_first, beginning-of_second}
@@ -169,16 +169,25 @@ module _ {T E : Type 0} (r : Result T E) (held holds : Option (List ℕ)) (t byt
   begun_second (middle, fault, wrote, h) =
       OnErr-always r _ (beginning-of_second bytes (wire t) held middle holds wrote (begun middle holds t fault h))
 
--- a loop that writes items, and one that reads some into a list
-pub ruleset writing = (
+-- a form of two parts, written and read
+pub ruleset parts = (append_assoc, begun_first, begun_second)
+
+-- at a value in a list, its text in the list of texts
+pub text-at : (values : List Meaning) (i : ℕ) (v : Meaning) → i < length values
+    → (get_or values i v ≡ get_or values i v) × (get_or (map (λ v. v.text) values) i v.text ≡ (get_or values i v).text)
+text-at values i v here = (refl, get_or-map (λ (v : Meaning). v.text) values i v v.text here)
+
+-- a loop that writes the items of a list, or reads some into one
+pub ruleset items = (
   append_assoc,
   append-nil,
   flat_map-append,
+  map-append,
   take_at_read,
   length-take,
-  get_or-take,
-  begun_first,
-  begun_second,
+  length-append,
+  length-map,
+  get_or_append_left,
+  get_or_push,
+  text-at,
 )
-
-pub ruleset reading = (append_assoc, append-nil, flat_map-append, length-append, get_or_append_left, get_or_push)

@@ -1,5 +1,5 @@
 -- For the lemmas of texts, cuts and builders: lists of any kind.
-use Rattle.smol_str.proofs.Common.{◌≡◌, ℕ, ◌+◌, List, ◌∷◌, ◌++◌, take, drop, sym, ap, ◌∙◌, flat_map, take-append-drop}
+use Rattle.smol_str.proofs.Common.{◌≡◌, ℕ, List, ◌∷◌, ◌++◌, take, drop, sym, ap, ◌∙◌, flat_map, take-append-drop}
 use Rattle.std.proofs.lemmas.List.Concat.{flat_map-append}
 
 pub head_same : (c d : ℕ) (s t : List ℕ) → c ∷ s ≡ d ∷ t → c ≡ d
