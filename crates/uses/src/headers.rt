@@ -41,6 +41,7 @@ impl<S: BuildHasher> Headers<S> {
     }
 
     /// Sets the value of a name, and leaves those of all others. A refusal leaves every one.
+    #[tactic(auto, using(smol_str::proofs::CallerLemmas::updates))]
     pub fn set(&mut self, alloc: Global, name: &str, value: SmolStr) -> Result<(), AllocError>
         ensures this { OnOk result (header_of (lower (chars name.now)) self.new ≡ Some value) }
         ensures others { OnOk result ((other : List ℕ) → other ≢ lower (chars name.now) →

@@ -1,6 +1,6 @@
 -- Maps with values as keys, at texts.
 use Rattle.smol_str.proofs.Common.{◌≡◌, ℕ, Bor, Option, None, Some, List, [], ◌∷◌, Bool, true, false, cond, false≢true, refl, sym, ap, ◌∙◌, arith, IsUtf8, bytes_eq, chars, encodes-chars, encodes_same, false_from_ne_true, option_map, if◌then◌else◌, Meaning, rules}
-use Rattle.std.specs.Map.{lookup}
+use Rattle.std.specs.Map.{lookup, KeepsOthers}
 use Rattle.std.specs.Option.{option_copied}
 use Rattle.std.proofs.lemmas.Slice.Eq.{bytes_eq-Decides}
 use Rattle.smol_str.specs.declared.value.place.Place.TheVariants.{Inline}
@@ -15,6 +15,16 @@ key_of t = record { text = t; place = Inline }
 -- a key of another text is another key: with it, `updates.2` of a change at `key` speaks of `value_at t`
 pub same_key-other : (key : Meaning) (t : List ℕ) → ¬ (t ≡ key.text) → same_key key (key_of t) ≡ false
 same_key-other key t other = search (rules, false_from_ne_true, bytes_eq-Decides)
+
+-- so after a change at the keys that pass a check, the map has at each other text what it had
+pub text-kept : {V : Type 0} (eq : Meaning → Meaning → Bool) (check : Meaning → Bool) (old new : List (Meaning × V))
+    → KeepsOthers eq check old new
+    → ((q : Meaning) → check q ≡ false → lookup (same_key q) new ≡ lookup (same_key q) old)
+    → (KeepsOthers eq check old new ≡ KeepsOthers eq check old new)
+    × ((t : List ℕ) → check (key_of t) ≡ false → lookup (λ k. bytes_eq t k.text) new ≡ lookup (λ k. bytes_eq t k.text) old)
+text-kept eq check old new keeps others = (refl, λ t apart. others (key_of t) apart)
+
+pub ruleset updates = (text-kept, same_key-other)
 
 -- what such a map has at a text, as a text, after a value was set
 pub text-set : (b : Bool) (v : Meaning) (old : Option Meaning)
