@@ -6,7 +6,7 @@
 --     prints      a ruleset: what was printed, as the text that it is
 --     collecting  a ruleset: collecting and extending from an iterator that gives a list; `iterators` in it: which list
 --     chars_by_std, strings_by_std    rulesets: the same by std's `collect` and `extend`; chars_made, ..
---     form_is_whole, form-..              bytes that are a wire form: both calls read its text
+--     forms       a ruleset: bytes that are a wire form, and what follows it: both calls read its text; form_is_whole, form-..
 --     form-cut-..                         bytes of which the end may be missing: what has not ended early is whole
 --     Holds-parts                         a form that is held, and what follows it
 --     count-apart, forms-..               lists of texts: their number, and their forms one after another
@@ -27,7 +27,7 @@ pub mod Wire
 pub mod Maps
 pub use Rattle.smol_str.proofs.CallerLemmas.Texts.{replaced-each_with, printed-value, prints, chars-as_str, length-as_str, IsResident-few, texts, size-front, builders, each_replaced-value, each_replaced-refused, size-replaced_each, replacing}
 pub use Rattle.smol_str.proofs.CallerLemmas.Collecting.{chars_collected, chars_refused, chars_extended, chars_extend_refused, chars_extend_stopped, strs_collected, strs_refused, strs_extended, strs_extend_refused, strings_collected, strings_refused, string_refs_collected, string_refs_refused, string_refs_extended, string_refs_extend_refused, texts_collected, texts_refused, mapped_collected, mapped_refused, mapped_extended, mapped_extend_refused, items_collected, items_refused, items_extended, split_collected, split_refused, chars_made, strs_made, strings_made, string_refs_made, CameFrom, chars_came, chars_grown, string_refs_grown, chars_by_std, strings_by_std, array_chars_long, array_strs_long, split_long, collecting}
-pub use Rattle.smol_str.proofs.CallerLemmas.Wire.{Holds-parts, form_is_whole, form-utf8, form-text, form-held, form-read, form-cut-held, form-cut-long, form-cut-utf8, form-cut-text, count-apart, items-apart, forms-apart, begun_first, begun_second, parts, text-at, items, forms-next, forms-more, AreRead, one_read, all_read, next_form}
+pub use Rattle.smol_str.proofs.CallerLemmas.Wire.{Holds-parts, form_is_whole, form-utf8, form-text, form-held, form-read, form-known, forms, form-cut-held, form-cut-long, form-cut-utf8, form-cut-text, count-apart, items-apart, forms-apart, begun_first, begun_second, parts, text-at, items, forms-next, forms-more, AreRead, one_read, all_read, next_form}
 pub use Rattle.smol_str.proofs.CallerLemmas.Maps.{key_of, same_key-other, text-kept, updates, text-set, stands_for-text, lookup-stands_for, lookup-lent, lookups, entry_texts-insert, lookup-with_entry}
 -- what std's iterators give
 pub use Rattle.smol_str.proofs.IteratorLemmas.{iterators, gives-chars, gives-rev_chars, gives-slice, gives-map_lent}

@@ -40,6 +40,7 @@ pub fn told_as_too_long<W: Write>(writer: &mut W, value: &SmolStr) -> EncodeFaul
 
 /// The value of bytes that are the wire form of `text`, with `rest` after it: it can only run
 /// out of memory.
+#[tactic(auto, using(smol_str::proofs::CallerLemmas::forms))]
 pub fn read_from_bytes(
     alloc: Global,
     bytes: &[u8],
@@ -62,6 +63,7 @@ pub fn read_from_bytes(
 }
 
 /// The same by a reader, which might fail too; what it has left is `rest`.
+#[tactic(auto, using(smol_str::proofs::CallerLemmas::forms))]
 pub fn read_from_reader<'a>(
     alloc: Global,
     bytes: &'a [u8],

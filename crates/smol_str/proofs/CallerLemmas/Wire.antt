@@ -9,6 +9,7 @@ use Rattle.std.proofs.KnownBytes.{Appends-nil, Appends-kept}
 use Rattle.std.proofs.lemmas.Grind.{take_at_read, flat_map-append}
 use Rattle.std.proofs.lemmas.List.{flat_map_more, get_or-map, get_or_append_left, get_or_push}
 use Rattle.std.proofs.lemmas.List.Elements.{All-push}
+use Rattle.std.proofs.lemmas.Str.{scalars-chars}
 use Rattle.smol_str.proofs.TextLemmas.Places.{OnErr-always}
 use Rattle.smol_str.proofs.WireLemmas.Stream.{beginning-of_first, beginning-of_second}
 use Rattle.smol_str.proofs.WireLemmas.Wire.{length-wire, prefix_size-wire, wire-apart, Holds-one, Holds-whole, body-Holds, Holds-written, wire-held, length-Holds}
@@ -40,6 +41,23 @@ module _ (b t x : List ℕ) (sized : HasWire t) (scalars : IsTrue (all_scalars t
   -- what `deserialize_reader` consumes of them, and leaves
   pub form-read : (u r : List ℕ) → HasWire u → b ≡ wire u ++ r → (u ≡ t) × (r ≡ x)
   form-read u r fits e = wire-apart u t r x fits sized (sym e ∙ is)
+
+-- all of that at once, for `#[tactic(auto, using(..))]`
+pub form-known : (t x : List ℕ) → HasWire t → IsTrue (all_scalars t) → (wire t ++ x ≡ wire t ++ x)
+    × (¬ HasEndedEarly (wire t ++ x)) × IsUtf8 (body (wire t ++ x)) × (chars (body (wire t ++ x)) ≡ t)
+    × ((u : List ℕ) (n : ℕ) → Holds (wire t ++ x) u n → (u ≡ t) × (n ≡ size t + 4))
+    × ((u r : List ℕ) → HasWire u → wire t ++ x ≡ wire u ++ r → (u ≡ t) × (r ≡ x))
+form-known t x sized scalars =
+    let b = wire t ++ x in (
+      refl,
+      form_is_whole b t x sized scalars refl,
+      form-utf8 b t x sized scalars refl,
+      form-text b t x sized scalars refl,
+      form-held b t x sized scalars refl,
+      form-read b t x sized scalars refl,
+    )
+
+pub ruleset forms = (form-known, scalars-chars)
 
 -- bytes that with more are the form of t and what follows it: where they have not ended early, the form is all there
 module _ (b more t x : List ℕ) (sized : HasWire t) (scalars : IsTrue (all_scalars t)) (is : b ++ more ≡ wire t ++ x)
