@@ -3,10 +3,12 @@
 --     IsJsonText b t    the bytes b are a JSON text, which reads as the string of the text t
 --     IsJsonOf d v      d is the JSON value of v's text, and v keeps it in its place
 --     IsOther d         d is another JSON value than a string
+--     compact_text d    the compact JSON text of d, which is `serde_json`'s word, passed on
 -- JSON values, and which text reads as which, are those of `serde_json`.
 use Rattle.std.specs.Prelude.{◌≡◌, ⊤, ℕ, ◌<◌, List, length, Some, None, encode_utf8_all}
 use Rattle.serde_json.specs.Data as json
 use Rattle.serde_json.specs.Read.{read}
+pub use Rattle.serde_json.specs.Written.{compact_text}
 use Rattle.smol_str.specs.declared.json.JsonFault.{JsonFault}
 use Rattle.smol_str.specs.declared.json.JsonFault.TheVariants.{NotString, Json, OutOfMemory}
 use Rattle.smol_str.specs.Text.{IsResident, place_of}

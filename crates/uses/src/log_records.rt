@@ -2,8 +2,7 @@
 ghost use Rattle.std.specs.Prelude.{◌≡◌, ◌∷◌, [], ◌++◌, length, map, All, codes, IfOk, IfErr, IfSome, OnOk, OnErr};
 ghost use Rattle.std.specs.Io.KnownBytes.{Appends};
 ghost use Rattle.std.specs.String.{string_bytes};
-ghost use Rattle.serde_json.specs.Written.{compact_text};
-ghost use Rattle.smol_str.specs.Json.{json_value};
+ghost use Rattle.smol_str.specs.Json.{compact_text, json_value};
 ghost use Rattle.smol_str.specs.Stream.{Gave, AppendsBeginning};
 ghost use Rattle.uses.specs.declared.log_records.Record.{Record};
 ghost use Rattle.uses.specs.LogRecords.{HasForm, form, forms, texts, AfterRecordFault, AfterNextFault, AfterReadFault};
