@@ -142,17 +142,12 @@ impl SmolStr {
         ensures refused { OnErr result (self.now.place ≡ Place.Heap) }
         ensures not_resident { OnErr result (¬ (IsResident self.now.text)) }
     {
-        match &self.repr {
-            Repr::Inline(text) => Ok(SmolStr {
-                repr: Repr::Inline(text.duplicate()),
-            }),
-            Repr::Static(text) => Ok(SmolStr {
-                repr: Repr::Static(text),
-            }),
-            Repr::Heap(text) => Ok(SmolStr {
-                repr: Repr::Heap(text.clone()?),
-            }),
-        }
+        let repr = match &self.repr {
+            Repr::Heap(text) => Repr::Heap(text.clone()?),
+            Repr::Inline(text) => Repr::Inline(text.duplicate()),
+            Repr::Static(text) => Repr::Static(text),
+        };
+        Ok(SmolStr { repr })
     }
 
     /// The text, as std's `str`.

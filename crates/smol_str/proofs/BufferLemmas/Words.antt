@@ -249,10 +249,10 @@ two-ends r bytes y z s k m a b e h l f g p q =
       take-append-drop m bytes,
     )
 
--- the step of a loop that copies
-pub copy-step : (new old bytes : List ℕ) (at n : ℕ) → AreBytes bytes → at + 8 ≤ length bytes → at + 8 ≤ length old →
-    take at old ≡ take at bytes → n ≡ word 8 bytes at → new ≡ put_at old at (to_le_bytes w64 n) →
-    take (at + 8) new ≡ take (at + 8) bytes
-copy-step new old bytes at n are within long front e put =
-    let eight : to_le_bytes w64 n ≡ take 8 (drop at bytes) = ap (to_le_bytes w64) e ∙ write-eight bytes at are within in
+-- what is copied behind a front that is there
+pub copy-step : (new old bytes : List ℕ) (at k : ℕ) → at + k ≤ length bytes → at + k ≤ length old →
+    take at old ≡ take at bytes → new ≡ put_at old at (take k (drop at bytes)) →
+    take (at + k) new ≡ take (at + k) bytes
+copy-step new old bytes at k within long front put =
+    let all : length (take k (drop at bytes)) ≡ k = length-part k bytes at within in
     grind (arith, common_steps, take-end, length-take-le, take-add)

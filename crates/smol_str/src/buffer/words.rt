@@ -22,9 +22,8 @@ ghost use Rattle.smol_str.specs.Buffer.{packed};
 ghost use Rattle.smol_str.specs.Words.{word, put_at, with_zeros};
 
 use super::{INLINE_CAP, PACKED_LEN, Packed};
-use crate::bytes::ascii::store;
+use crate::bytes::ascii::{load, store};
 use std::cmp::Ordering;
-use std::simd::prelude::*;
 
 /// How many words a packed text is.
 const WORDS: usize = PACKED_LEN / 8;
@@ -51,16 +50,19 @@ pub(super) fn pack(bytes: &[u8]) -> Packed
     buf
 }
 
-/// A copy word by word, each moved as one number. The compiler leaves a copy of the whole block, or of lanes, in
-/// memory, and loads it again at each move; and `copy_from_slice` compares where the two slices lie.
+/// A copy by three registers. Of the whole block, or in a loop, the compiler leaves the copy in memory, and loads it again at
+/// each move; and `copy_from_slice` compares where the two slices lie.
 #[inline(always)]
 pub(super) fn copy_packed(packed: &Packed) -> Packed
     ensures { result ≡ packed.now }
 {
-    let mut buf = [0; PACKED_LEN];
-    for i in 0..WORDS {
-        store_word(&mut buf, 8 * i, read_u64(packed, 8 * i));
+    if PACKED_LEN != 40 {
+        return *packed;
     }
+    let mut buf = [0; PACKED_LEN];
+    copy_at::<8>(&mut buf, packed, 0);
+    copy_at::<16>(&mut buf, packed, 8);
+    copy_at::<16>(&mut buf, packed, 24);
     buf
 }
 
@@ -98,14 +100,13 @@ fn put_word(buf: &mut Packed, start: usize, word: u64)
     buf[start..start + 8].copy_from_slice(&word.to_le_bytes());
 }
 
-/// Overwrites eight bytes by one store. For a word that was loaded as one: of any other the compiler makes its lanes one
-/// by one.
+/// Copies `N` bytes by one load and one store.
 #[inline(always)]
-fn store_word(buf: &mut Packed, start: usize, word: u64)
-    requires { start + 8 ≤ PACKED_LEN }
-    ensures { buf.new ≡ put_at buf.old start (to_le_bytes w64 word) }
+fn copy_at<const N: usize>(buf: &mut Packed, packed: &Packed, at: usize)
+    requires { at + N ≤ PACKED_LEN }
+    ensures { buf.new ≡ put_at buf.old at (take N (drop at packed.now)) }
 {
-    store(buf, start, Simd::<u8, 8>::from_array(word.to_le_bytes()));
+    store(buf, at, load::<N>(packed, at));
 }
 
 /// Eight bytes from `at` on, with zeros past the end.

@@ -154,7 +154,7 @@ fn has_high<const N: usize>(lanes: Simd<u8, N>) -> bool
 
 /// The `N` bytes from an index on.
 #[inline(always)]
-fn load<const N: usize>(bytes: &[u8], at: usize) -> Simd<u8, N>
+pub(crate) fn load<const N: usize>(bytes: &[u8], at: usize) -> Simd<u8, N>
     requires { at + N ≤ length bytes.now }
     ensures lanes { result ≡ take N (drop at bytes.now) }
     ensures long { length result ≡ N }

@@ -1,11 +1,13 @@
-use Rattle.smol_str.proofs.Common.{◌≡◌, ◌*◌, ◌+◌, arith}
+use Rattle.smol_str.proofs.Common.{◌∙◌, sym, arith, take_all, refl}
 use Rattle.smol_str.proofs.BufferLemmas.Words.{copy-step}
 use Rattle.smol_str.proofs.buffer.words.copy_packed.Goals as goal
 
-pub loop-i-preserved : goal.loop-i-preserved
-loop-i-preserved c =
-    let at = 8 * c.loop-i.i in
-    let next : 8 * (c.loop-i.i + 1) ≡ 8 * c.loop-i.i + 8 = omega arith in
-    let step = copy-step _ _ c.args.packed.now at c.read_u64.result c.fits-packed (omega (arith, c.told-packed))
-    (omega (arith, c.loop-i.invariant.long)) c.loop-i.invariant.front c.read_u64.ensures c.store_word.ensures in
-    record { long = c.store_word.array_long; front = rw next step }
+pub returns : goal.returns
+returns c =
+    let bytes = c.args.packed.now in
+    let long = c.told-packed in
+    let whole = c.if-this-ne-PACKED_LEN.false in
+    let first = copy-step _ _ bytes 0 8 (omega (arith, long)) (omega arith) refl c.copy_at.ensures in
+    let second = copy-step _ _ bytes 8 16 (omega (arith, long, whole)) (omega (arith, c.copy_at.array_long, whole)) first c.copy_at-2.ensures in
+    let third = copy-step _ _ bytes 24 16 (omega (arith, long, whole)) (omega (arith, c.copy_at-2.array_long, whole)) second c.copy_at-3.ensures in
+    sym (take_all 40 _ (omega (arith, c.copy_at-3.array_long, whole))) ∙ third ∙ take_all 40 _ (omega (arith, long, whole))

@@ -1,9 +1,9 @@
 use Rattle.smol_str.proofs.Common.{arith, common_steps, put_chunk_is}
-use Rattle.smol_str.proofs.buffer.words.store_word.Goals as goal
+use Rattle.smol_str.proofs.buffer.words.copy_at.Goals as goal
 
 pub returns : goal.returns
-returns c =
-    let bytes = c.to_le_bytes.ensures in
+returns g c =
+    let lanes = c.load.ensures.lanes in
     let put = c.store.ensures in
     let long = c.told-buf in
     let room = c.requires in
