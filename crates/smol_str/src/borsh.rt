@@ -15,7 +15,7 @@ ghost use Rattle.smol_str.specs.WireFaults.{HasReadSize, HasReadBody, AfterBodyF
 
 mod fault;
 
-use crate::buffer::INLINE_CAP;
+use crate::buffer::{INLINE_CAP, InlineBuffer};
 use crate::bytes::zeros;
 use crate::stream::{fill, read_up_to, write_steps};
 use crate::value::SmolStr;
@@ -25,6 +25,9 @@ use std::io::{Read, Write};
 
 /// The most bytes of a body that is read into a buffer on the stack.
 const STACK_BODY: usize = 256;
+
+/// The most bytes of the wire form of a text that lies in its value.
+const SHORT_FORM: usize = 4 + INLINE_CAP;
 
 /// A value that can be written in its wire form.
 ///
@@ -182,6 +185,17 @@ fn size_in(prefix: &[u8; 4]) -> usize
     u32::from_le_bytes(*prefix) as usize
 }
 
+/// A prefix and a whole buffer, so that a short text is written at once.
+#[inline(always)]
+fn short_form(prefix: &[u8; 4], buffer: &InlineBuffer) -> [u8; SHORT_FORM]
+    ensures { result ≡ prefix.now ++ buffer.now }
+{
+    let mut form = zeros::<SHORT_FORM>();
+    form[..4].copy_from_slice(prefix);
+    form[4..].copy_from_slice(buffer);
+    form
+}
+
 /// Reads the length prefix; an early end if fewer than its four bytes are left.
 fn read_size<R: Read>(reader: &mut R) -> Result<usize, DecodeFault>
     ensures ok { IfOk result (HasReadSize (R.remaining reader.old) (R.remaining reader.new)) }
@@ -261,6 +275,10 @@ impl BorshSerialize for SmolStr {
         let Some(prefix) = length_prefix(bytes.len()) else {
             return Err(EncodeFault::TooLong);
         };
+        if let Some(buffer) = self.inline_buffer() {
+            write_steps(writer, &short_form(&prefix, buffer)[..4 + bytes.len()])?;
+            return Ok(());
+        }
         write_steps(writer, &prefix)?;
         write_steps(writer, bytes)?;
         Ok(())

@@ -100,8 +100,9 @@ impl SmolStr {
     pub fn serialize(&self, writer: &mut SlowWriter) -> Result<(), Fault> {
         let mut form = vec![];
         self.0.serialize(&mut form)?;
-        let (prefix, body) = form.split_at(PREFIX);
-        let written = write_steps(writer, prefix).and_then(|()| write_steps(writer, body));
+        // the form of an inline text is written at once
+        let (first, rest) = form.split_at(if self.place() == Place::Inline { form.len() } else { PREFIX });
+        let written = write_steps(writer, first).and_then(|()| write_steps(writer, rest));
         Ok(written.inspect_err(|_| departs(WIRE_FAULT))?)
     }
     pub fn deserialize_reader(alloc: Global, reader: &mut SlowReader) -> Made<Fault> { read_value(alloc, reader, usize::MAX) }

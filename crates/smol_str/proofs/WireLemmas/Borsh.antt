@@ -1,5 +1,5 @@
 -- A wire form in two parts, its size and its text, for the calls that write and read one part after the other.
-use Rattle.smol_str.proofs.Common.{inr, cases_lt, IsUtf8, IsResident, chars, ◌≡◌, ℕ, ◌+◌, ◌<◌, ◌≤◌, ◌^◌, List, ◌++◌, Option, None, Some, IfSome, length, take, refl, sym, ap, ◌∙◌, subst, arith, append_assoc, append-nil, to_le_bytes, from_le_bytes, w32, encode_utf8_all, from_le_bytes-to_le_bytes_4, encodes-chars, take_at, drop_at, length-append, Appends, Consumes, IsAtEnd, Appends-trans, Consumes-trans, Result, err_from_is_err_and, INLINE_CAP, size, place_of, Meaning, HasWire, HasEndedEarly, body, common_steps, rules}
+use Rattle.smol_str.proofs.Common.{inr, cases_lt, IsUtf8, IsResident, chars, ◌≡◌, ℕ, ◌+◌, ◌<◌, ◌≤◌, ◌^◌, List, ◌++◌, Option, None, Some, IfSome, length, take, refl, sym, ap, ◌∙◌, subst, arith, append_assoc, append-nil, to_le_bytes, from_le_bytes, w32, encode_utf8_all, from_le_bytes-to_le_bytes_4, encodes-chars, take_at, drop_at, length-append, Appends, Consumes, IsAtEnd, Appends-trans, Consumes-trans, Result, err_from_is_err_and, INLINE_CAP, size, place_of, Meaning, HasWire, HasEndedEarly, body, common_steps, rules, padded, replicate, ◌-◌}
 use Rattle.std.specs.declared.str.Utf8Error.{Utf8Error}
 use Rattle.std.specs.declared.io.Error.{Error}
 use Rattle.std.specs.Result.{IsErrAnd, IfErr}
@@ -45,6 +45,16 @@ module _ (t prefix bytes : List ℕ) (is : bytes ≡ encode_utf8_all t)
   unfolding wire
   wire-parts = λ i. (said.1 ∙ ap (λ bs. to_le_bytes w32 (length bs)) is) i ++ is i
 
+  -- of a buffer behind the size, as much as the text has
+  pub short-form : (form buffer : List ℕ) → form ≡ prefix ++ buffer → buffer ≡ padded (encode_utf8_all t)
+      → take (4 + length bytes) form ≡ wire t
+  short-form form buffer e p =
+      let zeros : List ℕ = replicate (INLINE_CAP - length bytes) 0 in
+      let four : length prefix ≡ 4 = ap length said.1 in
+      let whole : form ≡ (prefix ++ bytes) ++ zeros = rw (e, p, ← is) (sym (append_assoc prefix bytes zeros)) in
+      let long : length (prefix ++ bytes) ≡ 4 + length bytes = omega (arith, four, length-append prefix bytes) in
+      rw whole (take_at (prefix ++ bytes) zeros (4 + length bytes) long) ∙ wire-parts
+
   pub Appends-parts : (a b c : Option (List ℕ)) → Appends a b prefix → Appends b c bytes → Appends a c (wire t)
   Appends-parts a b c p q = subst (Appends a c) wire-parts (Appends-trans a b c prefix bytes p q)
 
@@ -54,6 +64,12 @@ module _ (t prefix bytes : List ℕ) (is : bytes ≡ encode_utf8_all t)
     AfterEncodeFault-failed : AppendsBeginning a c (prefix ++ bytes)
         → IfErr r (AfterEncodeFault (wire t) (HasWire t) a c)
     AfterEncodeFault-failed p = grind (arith, common_steps, err_from_is_err_and, wire-parts)
+
+    pub failed-in_short : (form buffer : List ℕ) → form ≡ prefix ++ buffer → buffer ≡ padded (encode_utf8_all t)
+        → AppendsBeginning a c (take (4 + length bytes) form) → IfErr r (AfterEncodeFault (wire t) (HasWire t) a c)
+    failed-in_short form buffer e p h =
+        let written : take (4 + length bytes) form ≡ prefix ++ bytes = short-form form buffer e p ∙ sym wire-parts in
+        AfterEncodeFault-failed (rw written at h)
 
     pub failed-in_prefix : AppendsBeginning a c prefix → IfErr r (AfterEncodeFault (wire t) (HasWire t) a c)
     failed-in_prefix p = AfterEncodeFault-failed (beginning-of_first prefix bytes a c p)
