@@ -50,8 +50,8 @@ pub(super) fn pack(bytes: &[u8]) -> Packed
     buf
 }
 
-/// A copy by three registers. Of the whole block, or in a loop, the compiler leaves the copy in memory, and loads it again at
-/// each move; and `copy_from_slice` compares where the two slices lie.
+/// A copy by three registers, where the limit is 39. Of the whole block, or in a loop, the compiler leaves the copy in memory,
+/// and loads it again at each move; and `copy_from_slice` compares where the two slices lie.
 #[inline(always)]
 pub(super) fn copy_packed(packed: &Packed) -> Packed
     ensures { result ≡ packed.now }
