@@ -101,10 +101,8 @@ pub trait ToSmolStr: fmt::Display {
 impl<T: fmt::Display> ToSmolStr for T {
     fn to_smolstr(&self, alloc: Global) -> Result<SmolStr, FormatError> {
         let mut builder = SmolStrBuilder::new(alloc);
-        match builder.write_fmt(self) {
-            Ok(()) => finished(builder),
-            Err(_) => Err(FormatError),
-        }
+        builder.write_fmt(self)?;
+        finished(builder)
     }
 }
 
@@ -114,10 +112,7 @@ pub fn finished(builder: SmolStrBuilder) -> Result<SmolStr, FormatError>
     ensures ok { IfOk result (λ v. IsValueOf builder.text v) }
     ensures refused { OnErr result (¬ (IsResident builder.text)) }
 {
-    match builder.into_value() {
-        Ok(value) => Ok(value),
-        Err(AllocError) => Err(FormatError),
-    }
+    Ok(builder.into_value()?)
 }
 
 /// The value of the printed arguments, as `Result<SmolStr, FormatError>`: `format!` with the allocator

@@ -95,10 +95,7 @@ impl SmolStr {
         ensures fault { IfErr result (AfterFromUtf8Fault bytes.now) }
     {
         match str::from_utf8(bytes) {
-            Ok(text) => match SmolStr::new(alloc, text) {
-                Ok(value) => Ok(value),
-                Err(_) => Err(FromUtf8Fault::OutOfMemory),
-            },
+            Ok(text) => Ok(SmolStr::new(alloc, text)?),
             Err(fault) => Err(FromUtf8Fault::NotUtf8(fault)),
         }
     }
