@@ -56,10 +56,7 @@ impl fmt::Write for SmolStrBuilder {
         ensures unchanged { OnErr result (self.new ≡ self.old) }
         ensures refused { OnErr result ((appended self.old (chars text.now)).kind ≡ OnHeap) }
     {
-        match self.push_str(text) {
-            Ok(()) => Ok(()),
-            Err(_) => Err(fmt::Error),
-        }
+        self.push_str(text).or(Err(fmt::Error))
     }
 }
 

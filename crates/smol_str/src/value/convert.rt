@@ -121,10 +121,7 @@ impl SmolStr {
         ensures back { IfErr result (λ back. back ≡ text) }
         ensures refused { OnErr result (¬ (IsResident (chars (string_bytes text)))) }
     {
-        match SmolStr::new(alloc, text.as_str()) {
-            Ok(value) => Ok(value),
-            Err(_) => Err(text),
-        }
+        SmolStr::new(alloc, text.as_str()).or(Err(text))
     }
 
     /// A value of the text of a boxed `str`; a refusal gives the argument back.
@@ -133,10 +130,7 @@ impl SmolStr {
         ensures back { IfErr result (λ back. back ≡ boxed) }
         ensures refused { OnErr result (¬ (IsResident (chars (boxed_str_bytes boxed)))) }
     {
-        match SmolStr::new(alloc, boxed.as_str()) {
-            Ok(value) => Ok(value),
-            Err(_) => Err(boxed),
-        }
+        SmolStr::new(alloc, boxed.as_str()).or(Err(boxed))
     }
 
     /// A value of a text that is borrowed or owned; a refusal gives the argument back.
@@ -150,10 +144,7 @@ impl SmolStr {
         ensures back { IfErr result (λ back. back ≡ cow.entry) }
         ensures refused { OnErr result (¬ (IsResident (chars (cow_str_bytes cow.entry)))) }
     {
-        match SmolStr::new(alloc, cow.as_str()) {
-            Ok(value) => Ok(value),
-            Err(_) => Err(cow),
-        }
+        SmolStr::new(alloc, cow.as_str()).or(Err(cow))
     }
 
     /// A value of a shared text, which takes no memory: the argument itself is kept where the text
@@ -182,10 +173,7 @@ impl SmolStr {
         if self.is_empty() {
             return Ok(String::new(alloc));
         }
-        match String::from_str(alloc, self.as_str()) {
-            Ok(text) => Ok(text),
-            Err(_) => Err(self),
-        }
+        String::from_str(alloc, self.as_str()).or(Err(self))
     }
 
     /// The text as a shared text: the one that a heap value has, which is never refused, else a new
@@ -200,10 +188,7 @@ impl SmolStr {
             Repr::Heap(text) => Ok(text),
             repr => {
                 let value = SmolStr { repr };
-                match SharedText::from_str(alloc, value.as_str()) {
-                    Ok(text) => Ok(text),
-                    Err(_) => Err(value),
-                }
+                SharedText::from_str(alloc, value.as_str()).or(Err(value))
             }
         }
     }
