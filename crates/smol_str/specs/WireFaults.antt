@@ -1,6 +1,7 @@
 -- What is known after the wire form was written or read, and after each fault.
 --     AfterEncodeFault      of a writer
 --     AfterDecodeFault      of a reader
+--     NeedsMemory           the whole form came, of a text that is not resident
 --     GaveTooFew            the reader gave bytes that end early
 --     GaveSomeOfBody        it gave the size and some of the body
 --     AfterLimitedFault     of a reader of values that have a greatest size
@@ -8,6 +9,7 @@
 -- A reader gives a size first, and then a body of this size.
 --     HasReadSize           the size came
 --     HasReadBody           the body came, and is the text of a value
+--     HasReadLarge          the body came, and is a text that is not resident
 --     AfterBodyFault        it did not, or is no text, or memory was refused
 -- And what other calls' faults become.
 --     of_read_fault         the fault of a reader that was read by chunks
@@ -28,6 +30,7 @@ use Rattle.smol_str.specs.declared.stream.ReadFault.TheVariants.{OutOfMemory as 
 use Rattle.smol_str.specs.declared.value.convert.FromUtf8Fault.{FromUtf8Fault}
 use Rattle.smol_str.specs.declared.value.convert.FromUtf8Fault.TheVariants.{NotUtf8 as BytesNotUtf8, OutOfMemory as NoMemoryForText}
 use Rattle.smol_str.specs.declared.buffer.TheConstants.{INLINE_CAP}
+use Rattle.smol_str.specs.declared.borsh.TheConstants.{STACK_BODY}
 use Rattle.smol_str.specs.Text.{IsResident}
 use Rattle.smol_str.specs.Meaning.{Meaning, IsValueOf}
 use Rattle.smol_str.specs.Faults.{IsUtf8FaultOf}
@@ -52,15 +55,20 @@ abbrev pub GaveSomeOfBody : Option (List ℕ) → Option (List ℕ) → Type 0
 GaveSomeOfBody input left =
     (bytes : List ℕ) × (4 < length bytes) × (length bytes ≤ 4 + prefix_size bytes) × Consumes input left bytes
 
+-- the whole form is there, and its body is a text that is not resident
+abbrev pub NeedsMemory : List ℕ → Type 0
+NeedsMemory b = (¬ (HasEndedEarly b)) × IsUtf8 (body b) × (¬ (IsResident (chars (body b))))
+
 -- ended: the bytes had ended early, and none is left; not UTF-8: the size and the whole body were consumed and no more,
--- and the body is not UTF-8; out of memory: the size that was stated is above INLINE_CAP, and some of the body came; the
--- reader failed before the whole form had come
+-- and the body is not UTF-8; out of memory: the size that was stated is above INLINE_CAP, and some of the body came; if it
+-- is at most STACK_BODY, all of it came, and no more, and it needs memory; the reader failed before the whole form had come
 abbrev pub AfterDecodeFault : Option (List ℕ) → Option (List ℕ) → DecodeFault → Type 0
 AfterDecodeFault input left Ended = IfSome input HasEndedEarly × IsAtEnd left
 AfterDecodeFault input left (NotUtf8 e) =
     IfSome input (λ b. (¬ (HasEndedEarly b)) × IsRefusedBody (body b) e × Consumes input left (take (4 + prefix_size b) b))
 AfterDecodeFault input left OutOfMemory =
-    IfSome input (λ b. (4 ≤ length b) × (INLINE_CAP < prefix_size b)) × GaveSomeOfBody input left
+    IfSome input (λ b. (4 ≤ length b) × (INLINE_CAP < prefix_size b) × (prefix_size b ≤ STACK_BODY →
+    NeedsMemory b × Consumes input left (take (4 + prefix_size b) b))) × GaveSomeOfBody input left
 AfterDecodeFault input left (ReadFailed e) = GaveTooFew input left (λ bytes. ⊤)
 
 -- the size, where all four bytes of it are there, is within the limit
@@ -81,7 +89,7 @@ AfterLimitedFault limit input left (Decode fault) =
 abbrev pub AfterFromWireFault : List ℕ → DecodeFault → Type 0
 AfterFromWireFault b Ended = HasEndedEarly b
 AfterFromWireFault b (NotUtf8 e) = (¬ (HasEndedEarly b)) × IsRefusedBody (body b) e
-AfterFromWireFault b OutOfMemory = (¬ (HasEndedEarly b)) × IsUtf8 (body b) × (¬ (IsResident (chars (body b))))
+AfterFromWireFault b OutOfMemory = NeedsMemory b
 AfterFromWireFault b (ReadFailed e) = ⊥
 
 -- the reader gave four bytes, which state the size n
@@ -103,12 +111,21 @@ pub record HasReadNoText (input left : Option (List ℕ)) (n : ℕ) (e : Utf8Err
   pub refused : IsRefusedBody body e
   pub bytes : Consumes input left body
 
--- after reading a body of n bytes: out of memory comes only of a body above INLINE_CAP, and where some of it came; the
--- reader failed before the whole body had come
+-- the reader gave n bytes, which are a text that is not resident
+pub record HasReadLarge (input left : Option (List ℕ)) (n : ℕ) : Type 0 where
+  pub body : List ℕ
+  pub whole : length body ≡ n
+  pub utf8 : IsUtf8 body
+  pub large : ¬ (IsResident (chars body))
+  pub bytes : Consumes input left body
+
+-- after reading a body of n bytes: out of memory comes only of a body above INLINE_CAP, and where some of it came, or all
+-- of it if it is at most STACK_BODY; the reader failed before the whole body had come
 abbrev pub AfterBodyFault : Option (List ℕ) → Option (List ℕ) → ℕ → DecodeFault → Type 0
 AfterBodyFault input left n Ended = GaveAllBelow input left n
 AfterBodyFault input left n (NotUtf8 e) = HasReadNoText input left n e
-AfterBodyFault input left n OutOfMemory = (INLINE_CAP < n) × GaveUpTo input left n
+AfterBodyFault input left n OutOfMemory =
+    (INLINE_CAP < n) × GaveUpTo input left n × (n ≤ STACK_BODY → HasReadLarge input left n)
 AfterBodyFault input left n (ReadFailed e) = GaveBelow input left n
 
 abbrev pub of_read_fault : ReadFault → DecodeFault

@@ -23,8 +23,8 @@ pub use fault::{DecodeFault, EncodeFault, LimitedFault};
 use std::alloc::Global;
 use std::io::{Read, Write};
 
-/// The most bytes of a body that is read into a buffer on the stack.
-const STACK_BODY: usize = 256;
+/// The most bytes of a body that is read into a buffer on the stack, so that memory is asked for the value alone.
+pub const STACK_BODY: usize = 256;
 
 /// The most bytes of the wire form of a text that lies in its value.
 const SHORT_FORM: usize = 4 + INLINE_CAP;
@@ -232,7 +232,8 @@ fn read_into<R: Read>(
 
 /// Reads a longer body by chunks, and tests UTF-8 when all of it is there.
 fn read_long<R: Read>(alloc: Global, reader: &mut R, size: usize) -> Result<SmolStr, DecodeFault>
-    requires { INLINE_CAP < size }
+    requires inline { INLINE_CAP < size }
+    requires stack { STACK_BODY < size }
     ensures ok { IfOk result (HasReadBody (R.remaining reader.old) (R.remaining reader.new) size) }
     ensures fault { IfErr result
         (AfterBodyFault (R.remaining reader.old) (R.remaining reader.new) size) }
@@ -294,7 +295,8 @@ impl BorshSerialize for SmolStr {
 /// * [`DecodeFault::Ended`]: the bytes have ended early, and all of them are consumed.
 /// * [`DecodeFault::NotUtf8`]: the size and the whole body are consumed, and the rest is unread.
 /// * [`DecodeFault::OutOfMemory`]: only where the stated size is above [`INLINE_CAP`], and some of
-///   the body came. It may come before an early end is seen.
+///   the body came. If the size is at most [`STACK_BODY`], the whole body is consumed, and it is
+///   UTF-8. Of a longer body it may come before an early end is seen.
 /// * [`DecodeFault::Io`]: a `read` failed, perhaps with `Interrupted`, before the whole body had
 ///   come. It may come before every other fault.
 ///

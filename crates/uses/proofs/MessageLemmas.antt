@@ -8,7 +8,9 @@ use Rattle.smol_str.specs.declared.borsh.fault.DecodeFault.{DecodeFault}
 use Rattle.smol_str.specs.declared.borsh.fault.DecodeFault.TheVariants.{Ended, NotUtf8, OutOfMemory, Io}
 use Rattle.smol_str.specs.declared.borsh.fault.LimitedFault.{LimitedFault}
 use Rattle.smol_str.specs.declared.borsh.fault.LimitedFault.TheVariants.{TooLong, Decode}
-use Rattle.smol_str.specs.Wire.{HasWire, wire, prefix_size}
+use Rattle.std.specs.Str.{IsUtf8}
+use Rattle.smol_str.specs.declared.borsh.TheConstants.{STACK_BODY}
+use Rattle.smol_str.specs.Wire.{HasWire, wire, prefix_size, body}
 use Rattle.smol_str.specs.WireFaults.{AfterDecodeFault, AfterLimitedFault}
 use Rattle.smol_str.proofs.WireLemmas.Wire.{length-wire, prefix_size-wire}
 
@@ -54,6 +56,14 @@ pub some_came : (b l : List ℕ) (fault : DecodeFault) → AfterDecodeFault (Som
 some_came b l fault h is =
     let (large, (bytes, four, most, whole)) = subst (AfterDecodeFault (Some b) (Some l)) is h in
     omega (arith, four, ap length whole, length-append bytes l)
+
+-- all of a short message was consumed that there was no memory for
+pub skipped : (b l : List ℕ) (fault : DecodeFault) → AfterDecodeFault (Some b) (Some l) fault → fault ≡ OutOfMemory
+    → prefix_size b ≤ STACK_BODY → IsUtf8 (body b) × (l ≡ drop (4 + prefix_size b) b)
+skipped b l fault h is short =
+    let (large, some) = subst (AfterDecodeFault (Some b) (Some l)) is h in
+    let (needs, consumed) = large.2 short in
+    (needs.1, behind-no_text b l (4 + prefix_size b) consumed)
 
 -- of a size above the limit, the size alone was consumed
 pub size_alone : {T : Type 0} (b l : List ℕ) (limit : ℕ) (r : Result T LimitedFault)

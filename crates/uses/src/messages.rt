@@ -5,11 +5,12 @@ ghost use Rattle.smol_str.specs.Wire.{HasEndedEarly, prefix_size, body};
 
 use smol_str::SmolStr;
 use smol_str::borsh::{
-    BorshDeserialize, DecodeFault, LimitedFault, deserialize_limited, split_wire,
+    BorshDeserialize, DecodeFault, LimitedFault, STACK_BODY, deserialize_limited, split_wire,
 };
 use std::alloc::Global;
 
-/// The next message; `None` for one that is no text, and then the message behind it is the next.
+/// The next message; `None` for one that is no text, and then the message behind it is the next. So it is where there is no
+/// memory for a message of at most [`STACK_BODY`] bytes.
 pub fn next_message(alloc: Global, messages: &mut &[u8]) -> Result<Option<SmolStr>, DecodeFault>
     ensures behind { OnOk result
         (messages.new.now ≡ drop (4 + prefix_size messages.old.now) messages.old.now) }
@@ -18,6 +19,9 @@ pub fn next_message(alloc: Global, messages: &mut &[u8]) -> Result<Option<SmolSt
     ensures ended { IfErr result (λ fault. fault ≡ DecodeFault.Ended → messages.new.now ≡ []) }
     ensures begun { IfErr result (λ fault. fault ≡ DecodeFault.OutOfMemory →
         length messages.new.now + 4 < length messages.old.now) }
+    ensures skipped { IfErr result (λ fault. fault ≡ DecodeFault.OutOfMemory →
+        prefix_size messages.old.now ≤ STACK_BODY → IsUtf8 (body messages.old.now)
+        × (messages.new.now ≡ drop (4 + prefix_size messages.old.now) messages.old.now)) }
 {
     match SmolStr::deserialize_reader(alloc, messages) {
         Ok(value) => Ok(Some(value)),

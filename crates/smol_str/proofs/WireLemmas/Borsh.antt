@@ -12,10 +12,11 @@ use Rattle.smol_str.specs.declared.borsh.fault.LimitedFault.TheVariants.{TooLong
 use Rattle.smol_str.specs.declared.value.convert.FromUtf8Fault.{FromUtf8Fault}
 use Rattle.smol_str.specs.declared.value.convert.FromUtf8Fault.TheVariants.{NotUtf8 as BytesNotUtf8, OutOfMemory as NoMemoryForText}
 use Rattle.smol_str.specs.Faults.{AfterFromUtf8Fault}
+use Rattle.smol_str.specs.declared.borsh.TheConstants.{STACK_BODY}
 use Rattle.smol_str.specs.Wire.{wire, prefix_size}
 use Rattle.std.specs.Prelude.{⊤}
 use Rattle.smol_str.specs.Stream.{AppendsBeginning, GaveAllBelow, GaveBelow, GaveUpTo}
-use Rattle.smol_str.specs.WireFaults.{AfterEncodeFault, IsRefusedBody, AfterDecodeFault, GaveTooFew, GaveSomeOfBody, HasReadBody, AfterBodyFault, StatesAtMost, AfterLimitedFault, AfterFromWireFault, of_utf8_fault}
+use Rattle.smol_str.specs.WireFaults.{AfterEncodeFault, IsRefusedBody, AfterDecodeFault, GaveTooFew, GaveSomeOfBody, HasReadBody, HasReadLarge, NeedsMemory, AfterBodyFault, StatesAtMost, AfterLimitedFault, AfterFromWireFault, of_utf8_fault}
 use Rattle.smol_str.proofs.TextLemmas.Places.{size-chars}
 use Rattle.smol_str.proofs.WireLemmas.Stream.{IfErr-is, beginning-of_first, beginning-of_second, Consumes-full}
 
@@ -35,7 +36,11 @@ pub AfterBodyFault-of_text : (a b : Option (List ℕ)) (n : ℕ) (bytes : List �
 AfterBodyFault-of_text a b n bytes (BytesNotUtf8 e) whole consumed h =
     record { body = bytes; whole = whole; refused = h; bytes = consumed }
 AfterBodyFault-of_text a b n bytes NoMemoryForText whole consumed (utf8, large) =
-    let above = above_cap bytes utf8 large in (omega arith, (bytes, omega arith, omega arith, consumed))
+    let above = above_cap bytes utf8 large in (
+      omega arith,
+      (bytes, omega arith, omega arith, consumed),
+      λ _. record { body = bytes; whole = whole; utf8 = utf8; large = large; bytes = consumed },
+    )
 
 -- ---- writing: the size of a text as it is found, and the text's bytes
 
@@ -168,10 +173,26 @@ module _ (n : ℕ) (fits : n < 2 ^ 32) where
       → (¬ (HasEndedEarly x)) × IsRefusedBody (body x) e × (x ≡ take (4 + prefix_size x) x ++ z)
   refused_at x y bs z e p q l other = grind (arith, common_steps, whole_front, body_front, append_assoc, taken_front)
 
-  long-of_body : (a b : Option (List ℕ)) → Consumes a b (to_le_bytes w32 n) → INLINE_CAP < n
-      → IfSome a (λ b. (4 ≤ length b) × (INLINE_CAP < prefix_size b))
-  long-of_body a b p long =
-      IfSome-begun _ a b _ p (λ r. let says = prefix_size-front r in let size = length_front r in (omega arith, omega arith))
+  -- and then n bytes that are a text for which there was no memory
+  large_at : (x y bs z : List ℕ) → x ≡ to_le_bytes w32 n ++ y → y ≡ bs ++ z → length bs ≡ n → IsUtf8 bs
+      → ¬ (IsResident (chars bs)) → NeedsMemory x × (x ≡ take (4 + prefix_size x) x ++ z)
+  large_at x y bs z p q l utf8 large = grind (arith, common_steps, whole_front, body_front, append_assoc, taken_front)
+
+  long-of_body : (a b c : Option (List ℕ)) → Consumes a b (to_le_bytes w32 n)
+      → (INLINE_CAP < n) × GaveUpTo b c n × (n ≤ STACK_BODY → HasReadLarge b c n)
+      → IfSome a (λ x. (4 ≤ length x) × (INLINE_CAP < prefix_size x) × (prefix_size x ≤ STACK_BODY →
+      NeedsMemory x × Consumes a c (take (4 + prefix_size x) x)))
+  long-of_body None b c p h = tt
+  long-of_body (Some x) None c p h = absurd p
+  long-of_body (Some x) (Some y) None p h = absurd h.1.3
+  long-of_body (Some x) (Some y) (Some z) p h =
+      let says : prefix_size x ≡ n = ap prefix_size p ∙ prefix_size-front y in
+      let long : length x ≡ 4 + length y = ap length p ∙ length_front y in
+      let above = h.0 in (
+        omega arith,
+        omega arith,
+        λ small. let all = h.2 (omega arith) in large_at x y all.body z p all.bytes all.whole all.utf8 all.large,
+      )
 
   pub AfterDecodeFault-of_body : (a b c : Option (List ℕ)) (fault : DecodeFault) → Consumes a b (to_le_bytes w32 n)
       → AfterBodyFault b c n fault → AfterDecodeFault a c fault
@@ -181,7 +202,7 @@ module _ (n : ℕ) (fits : n < 2 ^ 32) where
   AfterDecodeFault-of_body (Some x) (Some y) None (NotUtf8 e) p h = absurd h.bytes
   AfterDecodeFault-of_body (Some x) (Some y) (Some z) (NotUtf8 e) p h =
       refused_at x y h.body z e p h.bytes h.whole h.refused
-  AfterDecodeFault-of_body a b c OutOfMemory p h = (long-of_body a b p h.0, within-of_body a b c p h.1)
+  AfterDecodeFault-of_body a b c OutOfMemory p h = (long-of_body a b c p h, within-of_body a b c p h.1)
   AfterDecodeFault-of_body a b c (Io e) p h = early-of_body (λ bytes. ⊤) (λ r. tt) a b c p h
 
   -- with a limit below the size

@@ -1,4 +1,4 @@
-use Rattle.uses.proofs.MessageLemmas.{behind-value, within, nothing_left, some_came}
+use Rattle.uses.proofs.MessageLemmas.{behind-value, within, nothing_left, some_came, skipped}
 use Rattle.uses.proofs.messages.next_message.Goals as goal
 
 pub returns-in-Ok-clause-behind : goal.returns-in-Ok-clause-behind
@@ -12,4 +12,5 @@ returns-in-Err c =
       within = within _ _ _ after;
       ended = nothing_left _ _ _ after;
       begun = some_came _ _ _ after;
+      skipped = skipped _ _ _ after;
     }
