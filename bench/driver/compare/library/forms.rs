@@ -100,9 +100,8 @@ impl SmolStr {
     pub fn serialize(&self, writer: &mut SlowWriter) -> Result<(), Fault> {
         let mut form = vec![];
         self.0.serialize(&mut form)?;
-        // the form of an inline text is written at once
-        let (first, rest) = form.split_at(if self.place() == Place::Inline { form.len() } else { PREFIX });
-        let written = write_steps(writer, first).and_then(|()| write_steps(writer, rest));
+        let (at_once, rest) = form.split_at(if self.place() == Place::Inline { form.len() } else { PREFIX });
+        let written = write_steps(writer, at_once).and_then(|()| write_steps(writer, rest));
         Ok(written.inspect_err(|_| departs(WIRE_FAULT))?)
     }
     pub fn deserialize_reader(alloc: Global, reader: &mut SlowReader) -> Made<Fault> { read_value(alloc, reader, usize::MAX) }
