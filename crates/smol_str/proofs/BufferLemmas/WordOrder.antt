@@ -113,13 +113,7 @@ behind : (ys : List ℕ) (m n k l : ℕ) → m ≡ length ys + n → k < l →
     slice_cmp nat_cmp (replicate m 0 ++ (k ∷ [])) ((ys ++ replicate n 0) ++ (l ∷ [])) ≡ Less
 behind [] m n k l e h = search (rules, slice_cmp-front, less_head)
 behind (y ∷ ys) zero n k l e h = absurd (omega arith)
-behind (y ∷ ys) (suc m) n k l e h =
-    let xs : List ℕ = replicate m 0 ++ (k ∷ []) in
-    let zs : List ℕ = (ys ++ replicate n 0) ++ (l ∷ []) in
-    elim (cases_lt 0 y) [
-      | inl above ↦ less_head 0 y xs zs above
-      | inr none ↦ same_head 0 y xs zs (omega (arith, none)) (behind ys m n k l (omega (arith, e)) h)
-    ]
+behind (y ∷ ys) (suc m) n k l e h = search (rules, cases_lt, less_head, same_head, behind ys m n k l (omega (arith, e)) h)
 
 order-behind : (xs ys : List ℕ) (m n k l : ℕ) → length xs + m ≡ length ys + n → k + length ys ≡ l + length xs →
     slice_cmp nat_cmp ((xs ++ replicate m 0) ++ (k ∷ []))

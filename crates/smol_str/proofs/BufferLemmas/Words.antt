@@ -52,10 +52,7 @@ word-shift (suc j) k xs at to b h e =
 pub word-below : (k : ℕ) (xs : List ℕ) (at : ℕ) → AreBytes xs → word k xs at < 256 ^ k
 unfolding word
 word-below zero xs at b = omega arith
-word-below (suc k) xs at b =
-    let most : get_or xs (at + k) 0 ≤ 255 = omega (arith, b (at + k)) in
-    let more : 256 ^ k * get_or xs (at + k) 0 ≤ 256 ^ k * 255 = mul-le-mul_left (256 ^ k) most in
-    omega (arith, more, word-below k xs at b, pow-succ' 256 k)
+word-below (suc k) xs at b = grind (arith, mul-le-mul_left, pow-succ', word-below k xs at b)
 
 -- fewer than eight bytes, by two halves
 pub word-halves : (xs : List ℕ) → AreBytes xs → 4 ≤ length xs → length xs < 8 →

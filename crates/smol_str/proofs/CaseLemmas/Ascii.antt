@@ -4,38 +4,7 @@ use Rattle.std.proofs.lemmas.List.Sums.{take_while-cons}
 use Rattle.smol_str.proofs.TextLemmas.Utf8.{Form, one, two, three, four, form, is_one}
 use Rattle.smol_str.proofs.BufferLemmas.Packed.{length-padded, len-bytes, IsPacked-packed, unpacked-packed}
 
-letter-len : (case : AsciiCase) (c : ℕ) → len_utf8 (letter case c) ≡ len_utf8 c
-letter-len Lower c = grind (arith, nat_tests)
-letter-len Upper c = grind (arith, nat_tests)
-
-pub uppercase-lowercase : (c : ℕ) → to_ascii_uppercase (to_ascii_lowercase c) ≡ to_ascii_uppercase c
-uppercase-lowercase c = grind (arith, nat_tests)
-
-pub lowercase_left : (c : ℕ) → ¬ IsAsciiUppercase c → to_ascii_lowercase c ≡ c
-lowercase_left c h = grind (arith, common_steps, lowercase_is, cases_lt)
-
-pub uppercase_left : (c : ℕ) → ¬ IsAsciiLowercase c → to_ascii_uppercase c ≡ c
-uppercase_left c h = grind (arith, common_steps, uppercase_is, cases_lt)
-
--- a letter of the other case is 32 away
-pub lower-capital : (c : ℕ) (t : List ℕ) → IsAsciiUppercase c → lower (c ∷ t) ≡ (c + 32) ∷ lower t
-lower-capital c t h = ap (λ d. d ∷ lower t) ((lowercase_is c).0 h)
-
-pub upper-small : (c : ℕ) (t : List ℕ) → IsAsciiUppercase c → upper ((c + 32) ∷ t) ≡ c ∷ upper t
-upper-small c t h = let one : to_ascii_uppercase (c + 32) ≡ c = grind (arith, nat_tests) in ap (λ d. d ∷ upper t) one
-
--- no letter of the other case is left
-pub lowercase_none : (c : ℕ) → ¬ IsAsciiUppercase (to_ascii_lowercase c)
-lowercase_none c h = grind (arith, nat_tests)
-
-pub uppercase_none : (c : ℕ) → ¬ IsAsciiLowercase (to_ascii_uppercase c)
-uppercase_none c h = grind (arith, nat_tests)
-
 -- what holds of each character holds of the text
-size-map : (f : ℕ → ℕ) → ((c : ℕ) → len_utf8 (f c) ≡ len_utf8 c) → (t : List ℕ) → size (map f t) ≡ size t
-size-map f same [] = refl
-size-map f same (c ∷ t) = search (rules, arith, length-encode, length-append, size-map f same t)
-
 pub map-map : (f g h : ℕ → ℕ) → ((c : ℕ) → f (g c) ≡ h c) → (t : List ℕ) → map f (map g t) ≡ map h t
 map-map f g h same [] = refl
 map-map f g h same (c ∷ t) = λ i. same c i ∷ map-map f g h same t i
@@ -48,9 +17,6 @@ map-unchanged f P same (c ∷ t) h =
 
 pub All-mapped : (f : ℕ → ℕ) (P : ℕ → Type 0) → ((c : ℕ) → P (f c)) → (t : List ℕ) → All P (map f t)
 All-mapped f P each t = All-map P f t (All-from_get_or (λ c. P (f c)) t 0 (λ i _. each (get_or t i 0)))
-
-pub size-converted : (case : AsciiCase) (t : List ℕ) → size (converted case t) ≡ size t
-size-converted case = size-map (letter case) (letter-len case)
 
 -- the front is what comes before the first character past ASCII
 pub front-append : (a r : List ℕ) → IsAsciiText a → BeginsPastAscii r → front (a ++ r) ≡ a
@@ -67,8 +33,7 @@ Parts t a = (r : List ℕ) × (t ≡ a ++ r) × IsAsciiText a × BeginsPastAscii
 
 parts_more : (c : ℕ) (t : List ℕ) → Parts t (front t) → (b : Bool) → is_ascii c ≡ b →
     Parts (c ∷ t) (cond b (c ∷ front t) [])
-parts_more c t (r, whole, low, past) true e =
-    (r, ap (λ s. c ∷ s) whole, All-cons (λ d. d < 0x80) c (front t) (ltb-true c 0x80 e) low, past)
+parts_more c t (r, whole, low, past) true e = search (rules, All-cons, ltb-true)
 parts_more c t parts false e = (c ∷ t, refl, All-nil (λ d. d < 0x80), ltb-false c 0x80 e)
 
 pub front-parts : (t : List ℕ) → Parts t (front t)
@@ -139,22 +104,14 @@ module _ (text : List ℕ) (at : ℕ) (u : IsUtf8 text) (f : IsAsciiFront text a
 
   front-done : front (chars text) ≡ take at text
   front-done =
-      let rest : IsUtf8 (drop at text) = IsUtf8-drop text at u front-boundary_at in
-      let same : encode_utf8_all (chars (drop at text)) ≡ drop at text = encodes-chars (drop at text) rest in
-      let parts : chars text ≡ take at text ++ chars (drop at text) =
-      ap chars (sym (take-append-drop at text))
-      ∙ chars-append (take at text) (drop at text) (IsUtf8-from_ascii (take at text) f.low)
-      ∙ ap (λ cs. cs ++ chars (drop at text)) (chars-IsAscii (take at text) f.low) in
-      let first : get_or (drop at text) 0 0 ≡ get_or text at 0 =
-      get_or-drop at text 0 0 ∙ ap (λ k. get_or text k 0) (omega arith) in
-      let begins : BeginsPastAscii (chars (drop at text)) =
-      begins_past (chars (drop at text))
-      (subst (λ (xs : List ℕ). 0 < length xs → 128 ≤ get_or xs 0 0) (sym same)
-      (λ some. omega (arith, length-drop at text))) in
+      let low = chars-append (take at text) (drop at text) (IsUtf8-from_ascii (take at text) f.low) in
+      let parts = rw (take-append-drop at text, chars-IsAscii (take at text) f.low) at low in
+      let same = encodes-chars (drop at text) (IsUtf8-drop text at u front-boundary_at) in
+      let begins = begins_past (chars (drop at text)) (rw same (λ some. grind (arith, get_or-drop, length-drop))) in
       ap front parts ∙ front-append (take at text) (chars (drop at text)) (All-from_ascii (take at text) f.low) begins
 
   pub front-text : chars (slice_range text 0 at) ≡ front (chars text)
-  front-text = ap chars (from_start text at) ∙ chars-IsAscii (take at text) f.low ∙ sym front-done
+  front-text = rw from_start (chars-IsAscii (take at text) f.low ∙ sym front-done)
 
   pub front-length : at ≡ length (front (chars text))
   front-length = sym (length-take-le at text f.inside) ∙ ap length (sym front-done)
@@ -173,26 +130,21 @@ module _ (f : ℕ → ℕ) (old bytes : List ℕ) (at : ℕ) (h : IsMapping f ol
   pub mapping-more : (n : ℕ) (new v : List ℕ) → at + n ≤ length bytes → v ≡ map f (take n (drop at bytes))
       → new ≡ put_chunk at bytes v → IsMapping f old new (at + n)
   mapping-more n new v room is put =
-      let long : length v ≡ n = ap length is ∙ length-map (take n (drop at bytes)) f
-      ∙ length-take-le n (drop at bytes) (omega (arith, length-drop at bytes)) in
-      let both : length (take at bytes ++ v) ≡ at + n =
-      length-append (take at bytes) v ∙ (λ i. (length-take-le at bytes h.inside) i + long i) in
-      let whole : new ≡ (take at bytes ++ v) ++ drop n (drop at bytes) =
-      put ∙ put_chunk_is at bytes v (omega arith)
-      ∙ ap (λ k. take at bytes ++ (v ++ drop k (drop at bytes))) long
-      ∙ sym (append_assoc (take at bytes) v (drop n (drop at bytes))) in
+      let long : length v ≡ n = rw (is, length-map) (length-take-le n (drop at bytes) (omega (arith, length-drop at bytes))) in
+      let both : length (take at bytes ++ v) ≡ at + n = grind (arith, length-append, length-take-le) in
+      let whole : new ≡ (take at bytes ++ v) ++ drop n (drop at bytes) = grind (arith, put_chunk_is, append_assoc) in
       record {
         inside = omega (arith, ap length whole, length-append (take at bytes ++ v) (drop n (drop at bytes)));
         maps =
-            (λ i. (ap (take (at + n)) whole ∙ take_at (take at bytes ++ v) (drop n (drop at bytes)) (at + n) both) i
-            ++ map f ((ap (drop (at + n)) whole
-            ∙ drop_at (take at bytes ++ v) (drop n (drop at bytes)) (at + n) both) i))
-            ∙ append_assoc (take at bytes) v (map f (drop n (drop at bytes)))
-            ∙ ap (λ w. take at bytes ++ (w ++ map f (drop n (drop at bytes)))) is
-            ∙ ap (λ w. take at bytes ++ w)
-            (sym (map-append f (take n (drop at bytes)) (drop n (drop at bytes)))
-            ∙ ap (map f) (take-append-drop n (drop at bytes)))
-            ∙ h.maps;
+            rw (
+              whole,
+              take_at (take at bytes ++ v) (drop n (drop at bytes)) (at + n) both,
+              drop_at (take at bytes ++ v) (drop n (drop at bytes)) (at + n) both,
+              append_assoc,
+              is,
+              ← map-append,
+              take-append-drop,
+            ) h.maps;
       }
 
   -- the rest of the bytes, all at once
@@ -260,35 +212,31 @@ letter-moves : (case : AsciiCase) → MovesAscii (letter case)
 letter-moves Lower = record { low = lowercase_ascii; others = λ c h. (lowercase_is c).2 (omega arith) }
 letter-moves Upper = record { low = uppercase_ascii; others = λ c h. (uppercase_is c).2 (omega arith) }
 
+pub size-converted : (case : AsciiCase) (t : List ℕ) → size (converted case t) ≡ size t
+size-converted case t =
+    ap length (encodes-map (letter case) (letter-moves case) t) ∙ length-map (encode_utf8_all t) (letter case)
+
 letter-zero : (case : AsciiCase) → letter case 0 ≡ 0
 letter-zero Lower = refl
 letter-zero Upper = refl
-
-pub IsUtf8-converted : (case : AsciiCase) (bs : List ℕ) → IsUtf8 bs → IsUtf8 (converted case bs)
-IsUtf8-converted case bs u = IsUtf8-map (letter case) (letter-moves case) bs u
 
 pub chars-converted : (case : AsciiCase) (bs : List ℕ) → IsUtf8 bs →
     chars (converted case bs) ≡ converted case (chars bs)
 chars-converted case bs u = chars-map (letter case) (letter-moves case) bs u
 
-packed-converted : (case : AsciiCase) (bytes : List ℕ) → length bytes ≤ INLINE_CAP →
-    set (converted case (packed bytes)) INLINE_CAP (length bytes) ≡ packed (converted case bytes)
-packed-converted case bytes h = map-packed (letter case) (letter-zero case) bytes h
-
 module _ (case : AsciiCase) (old buf : List ℕ) (h : IsPacked old) (e : buf ≡ converted case old) where
   whole : set buf INLINE_CAP (get_or old INLINE_CAP 0) ≡ packed (converted case (unpacked old))
-  whole = grind (arith, common_steps, len-bytes, packed-converted)
+  whole = grind (arith, common_steps, len-bytes, map-packed (letter case) (letter-zero case))
 
   within : length (converted case (unpacked old)) ≤ INLINE_CAP
   within = omega (arith, length-map (unpacked old) (letter case))
 
   pub IsPacked-converted : IsPacked (set buf INLINE_CAP (get_or old INLINE_CAP 0))
-  IsPacked-converted = search (rules, IsPacked-packed, IsUtf8-converted, within, whole)
+  IsPacked-converted = search (rules, IsPacked-packed, IsUtf8-map (letter case) (letter-moves case), within, whole)
 
   pub text-converted :
       chars (unpacked (set buf INLINE_CAP (get_or old INLINE_CAP 0))) ≡ converted case (chars (unpacked old))
-  text-converted = ap chars (unpacked-packed _ (converted case (unpacked old)) within whole)
-      ∙ chars-converted case (unpacked old) h.utf8
+  text-converted = search (rules, unpacked-packed, within, whole, chars-converted)
 
 -- what is packed is ASCII exactly where the text is, if the length is
 pub IsAscii-packed : (all : List ℕ) → INLINE_CAP < 128 → IsPacked all → IsAscii all ↔ IsAsciiText (chars (unpacked all))
@@ -304,12 +252,9 @@ IsAscii-packed all small h =
     )
 
 -- a case makes no character ASCII that is not
-ascii_unmapped : (f : ℕ → ℕ) → ((c : ℕ) → f c < 128 → c < 128) → (t : List ℕ) → IsAsciiText (map f t) → IsAsciiText t
-ascii_unmapped f low [] h = All-nil (λ c. c < 128)
-ascii_unmapped f low (c ∷ t) h = grind (arith, common_steps, All-cons, low, All-head, All-tail, ascii_unmapped f low t (All-tail (λ c. c < 128) (f c) (map f t) h))
-
-low_unmoved : (f : ℕ → ℕ) → MovesAscii f → (c : ℕ) → f c < 128 → c < 128
-low_unmoved f m c h = ⊎_elim (λ l. l) (λ g. omega (arith, m.others c g)) (cases_lt c 128)
+low_unmoved : (case : AsciiCase) (c : ℕ) → letter case c < 128 → c < 128
+low_unmoved case c h = ⊎_elim (λ l. l) (λ g. omega (arith, (letter-moves case).others c g)) (cases_lt c 128)
 
 pub ascii-converted : (case : AsciiCase) (t : List ℕ) → IsAsciiText (converted case t) → IsAsciiText t
-ascii-converted case = ascii_unmapped (letter case) (low_unmoved (letter case) (letter-moves case))
+ascii-converted case [] h = All-nil (λ c. c < 128)
+ascii-converted case (c ∷ t) h = search (rules, All-cons, low_unmoved, All-head, All-tail, ascii-converted case t (All-tail (λ c. c < 128) (letter case c) (converted case t) h))

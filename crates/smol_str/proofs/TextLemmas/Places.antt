@@ -74,8 +74,7 @@ place_of-blank t long run = rw (is_short-false t long, (is_blank_run-Decides t).
 
 pub place_of-heap : (t : List ℕ) → ¬ (IsResident t) → place_of t ≡ Heap
 unfolding place_of
-place_of-heap t away =
-    rw (is_short-false t (λ short. away (inl short)), no_test t (λ run. away (inr run)) (is_blank_run t) refl)
+place_of-heap t away = search (rules, is_short-false, no_test)
 
 -- each text has one of the three places, for its own reason
 abbrev PlaceCases : List ℕ → Type 0

@@ -1,5 +1,5 @@
 -- For byte order and self-synchronisation: the four forms of a character's bytes.
-use Rattle.smol_str.proofs.Common.{◌≡◌, ℕ, ◌+◌, ◌/◌, ◌<◌, ◌≤◌, List, [], ◌∷◌, arith, true, false, next, ltb, nat_tests, cases_lt, common_steps, rules}
+use Rattle.smol_str.proofs.Common.{◌≡◌, ℕ, ◌+◌, ◌/◌, ◌<◌, ◌≤◌, List, [], ◌∷◌, arith, true, next, ltb, nat_tests, cases_lt, common_steps, rules}
 use lib.Utf8.{encode}
 
 div4096 : (c : ℕ) → c / 4096 ≡ c / 64 / 64
@@ -33,8 +33,7 @@ is_one c h = let t : ltb c 128 ≡ true = grind (arith, nat_tests) in rw t
 
 pub is_two : (c : ℕ) → 128 ≤ c → c < 2048 → encode c ≡ form2 c
 unfolding encode
-is_two c l h = let t : ltb c 128 ≡ false = grind (arith, nat_tests) in
-    let u : ltb c 2048 ≡ true = grind (arith, nat_tests) in rw (t, u)
+is_two c l h = search (rules, nat_tests)
 
 pub is_three : (c : ℕ) → 2048 ≤ c → c < 65536 → encode c ≡ form3 c
 unfolding encode
