@@ -21,11 +21,10 @@ All-mapped f P each t = All-map P f t (All-from_get_or (λ c. P (f c)) t 0 (λ i
 -- the front is what comes before the first character past ASCII
 pub front-append : (a r : List ℕ) → IsAsciiText a → BeginsPastAscii r → front (a ++ r) ≡ a
 front-append [] [] low past = refl
-front-append [] (d ∷ r) low past = take_while-cons is_ascii d r ∙ ap (λ b. cond b (d ∷ front r) []) (le-ltb d 0x80 past)
+front-append [] (d ∷ r) low past = rw (take_while-cons is_ascii d r, le-ltb d 0x80 past)
 front-append (c ∷ a) r low past =
-    take_while-cons is_ascii c (a ++ r)
-    ∙ ap (λ b. cond b (c ∷ front (a ++ r)) []) (lt-ltb c 0x80 (All-head (λ d. d < 0x80) c a low))
-    ∙ ap (λ s. c ∷ s) (front-append a r (All-tail (λ d. d < 0x80) c a low) past)
+    let small = All-head (λ d. d < 0x80) c a low in
+    rw (take_while-cons is_ascii c (a ++ r), lt-ltb c 0x80 small, front-append a r (All-tail (λ d. d < 0x80) c a low) past)
 
 -- a text is its front and what follows
 abbrev Parts : List ℕ → List ℕ → Type 0
@@ -39,10 +38,6 @@ parts_more c t parts false e = (c ∷ t, refl, All-nil (λ d. d < 0x80), ltb-fal
 pub front-parts : (t : List ℕ) → Parts t (front t)
 front-parts [] = ([], refl, All-nil (λ d. d < 0x80), tt)
 front-parts (c ∷ t) = rw (take_while-cons is_ascii c t) (parts_more c t (front-parts t) (is_ascii c) refl)
-
-pub IsAscii-converted : (case : AsciiCase) (a : List ℕ) → IsAscii a → IsAscii (converted case a)
-IsAscii-converted Lower a h = IsAscii-map to_ascii_lowercase a lowercase_ascii h
-IsAscii-converted Upper a h = IsAscii-map to_ascii_uppercase a uppercase_ascii h
 
 -- a front that is ASCII, and more of it
 pub ascii-more : (bytes : List ℕ) (at n : ℕ) (lanes : List ℕ) → lanes ≡ take n (drop at bytes)
@@ -70,10 +65,8 @@ not-ascii bytes at n high = grind (arith, common_steps, IsAscii-take, IsAscii-dr
 -- bytes are ASCII exactly where their characters are
 pub IsAscii-chars : (bs : List ℕ) → IsUtf8 bs → IsAscii bs ↔ IsAsciiText (chars bs)
 IsAscii-chars bs u = (
-  λ low. subst IsAsciiText (sym (chars-IsAscii bs low)) (All-from_ascii bs low),
-  λ text.
-      let low = IsAscii-from_all (chars bs) text in
-      subst IsAscii (sym (encodes-IsAscii (chars bs) low) ∙ encodes-chars bs u) low,
+  λ low. rw (chars-IsAscii bs low) (All-from_ascii bs low),
+  λ text. let low = IsAscii-from_all (chars bs) text in rw (← encodes-chars bs u, encodes-IsAscii (chars bs) low) low,
 )
 
 pub ascii-told : (b : Bool) (bytes : List ℕ) → MatchBool b (IsAscii bytes) (IsNotAscii bytes)
@@ -93,8 +86,8 @@ begins_past [] h = tt
 begins_past (c ∷ t) h = from_encode_past c (encode_utf8_all t) (form c) (h (omega (arith, length-le-encodes (c ∷ t))))
 
 from_start : (xs : List ℕ) (n : ℕ) → slice_range xs 0 n ≡ take n xs
-from_start [] n = let all : n - 0 ≡ n = omega arith in cc
-from_start (x ∷ xs) n = let all : n - 0 ≡ n = omega arith in ap (λ k. take k (x ∷ xs)) all
+from_start [] n = search (rules, arith)
+from_start (x ∷ xs) n = search (rules, arith)
 
 -- the first bytes are the front, where what follows begins past ASCII
 module _ (text : List ℕ) (at : ℕ) (u : IsUtf8 text) (f : IsAsciiFront text at)
@@ -136,15 +129,7 @@ module _ (f : ℕ → ℕ) (old bytes : List ℕ) (at : ℕ) (h : IsMapping f ol
       record {
         inside = omega (arith, ap length whole, length-append (take at bytes ++ v) (drop n (drop at bytes)));
         maps =
-            rw (
-              whole,
-              take_at (take at bytes ++ v) (drop n (drop at bytes)) (at + n) both,
-              drop_at (take at bytes ++ v) (drop n (drop at bytes)) (at + n) both,
-              append_assoc,
-              is,
-              ← map-append,
-              take-append-drop,
-            ) h.maps;
+            rw (whole, take_at, drop_at, append_assoc, is, ← map-append, take-append-drop) h.maps;
       }
 
   -- the rest of the bytes, all at once
@@ -182,7 +167,7 @@ module _ (f : ℕ → ℕ) (m : MovesAscii f) where
   scalars-map [] h = refl
   scalars-map (c ∷ t) h =
       let p = and_parts (scalar c) (scalars t) h in
-      ap (λ b. b && scalars (map f t)) (scalar-map c p.0) ∙ scalars-map t p.1
+      rw (scalar-map c p.0) (scalars-map t p.1)
 
   module _ (bs : List ℕ) (u : IsUtf8 bs) where
     encodes-mapped : encode_utf8_all (map f (chars bs)) ≡ map f bs
@@ -215,6 +200,9 @@ letter-moves Upper = record { low = uppercase_ascii; others = λ c h. (uppercase
 pub size-converted : (case : AsciiCase) (t : List ℕ) → size (converted case t) ≡ size t
 size-converted case t =
     ap length (encodes-map (letter case) (letter-moves case) t) ∙ length-map (encode_utf8_all t) (letter case)
+
+pub IsAscii-converted : (case : AsciiCase) (a : List ℕ) → IsAscii a → IsAscii (converted case a)
+IsAscii-converted case a h = IsAscii-map (letter case) a (letter-moves case).low h
 
 letter-zero : (case : AsciiCase) → letter case 0 ≡ 0
 letter-zero Lower = refl
