@@ -1,5 +1,6 @@
 -- For `str_ext::case` and `str_ext::full`: the ASCII front of a text and the rest of it, in a case.
-use Rattle.smol_str.proofs.Common.{◌≡◌, ℕ, List, [], ◌++◌, length, take, drop, sym, ap, ◌∙◌, arith, length-append, IsUtf8, IsAscii, IsCharBoundary, chars, encode_utf8_all, take_at, IsUtf8-from_ascii, chars-IsAscii, encodes-IsAscii, IsAscii-from_all, AsciiCase, Lower, Upper, size, IsShort, padded, front, converted, Draft, InBuffer, OnHeap, empty_draft, appended, common_steps, rules, suc, ◌<◌, ◌∷◌, Bool, false, Option, None, Some, flat_map, refl, append-nil, ne_eqb, to_ascii_lowercase, to_ascii_uppercase, chars-encodes, encodes_same, IsAscii-cons, IsAscii-nil, INLINE_CAP, Occurs, lower, upper, lowercased, uppercased, IsAsciiText, HasSigma, letter, letters, full_case, mapped, IsMappedAlone, length-map, map-append, IsUtf8-string_bytes, nat_tests}
+use Rattle.smol_str.proofs.Common.{◌≡◌, ℕ, List, [], ◌++◌, length, take, drop, sym, ap, ◌∙◌, arith, length-append, IsUtf8, IsAscii, IsCharBoundary, chars, encode_utf8_all, take_at, IsUtf8-from_ascii, chars-IsAscii, encodes-IsAscii, IsAscii-from_all, AsciiCase, Lower, Upper, size, IsShort, padded, front, converted, Draft, InBuffer, OnHeap, empty_draft, appended, common_steps, rules, suc, ◌<◌, ◌∷◌, Bool, false, Option, None, Some, flat_map, refl, append-nil, ne_eqb, to_ascii_lowercase, to_ascii_uppercase, chars-encodes, encodes_same, IsAscii-cons, IsAscii-nil, INLINE_CAP, Occurs, lower, upper, lowercased, uppercased, IsAsciiText, HasSigma, letter, letters, full_case, mapped, IsMappedAlone, length-map, map-append, IsUtf8-string_bytes, nat_tests, lowercase_is, uppercase_is}
+use Rattle.smol_str.proofs.CaseLemmas.Letters.{lowercase_moves, uppercase_moves}
 use Rattle.smol_str.proofs.CaseLemmas.Ascii.{front-parts, size-converted, front-append, IsAscii-converted, IsAscii-chars, ascii-converted}
 use Rattle.smol_str.proofs.BuilderLemmas.Push.{appended-heap, new-appended, appended-thrice, appended-first_heap, appended-second_heap}
 use Rattle.smol_str.proofs.TextLemmas.Split.{boundary-parts, chars-drop}
@@ -74,28 +75,12 @@ pub upper_is : (bs : List ℕ) → str_to_uppercase bs ≡ encode_utf8_all (uppe
 unfolding str_to_uppercase
 upper_is bs = refl
 
--- of ASCII text std's mapping is that of ASCII
-ascii_same : (case : AsciiCase) (t : List ℕ) → IsAscii t → full_case case t ≡ converted case t
-ascii_same Lower t low =
-    encodes_same (lowercased t) (lower t)
-    (ap (λ x. encode_utf8_all (lowercased x)) (sym (chars-IsAscii t low)) ∙ sym (lower_is t)
-    ∙ str_to_lowercase-IsAscii t low ∙ sym (encodes-IsAscii (lower t) (IsAscii-converted Lower t low)))
-ascii_same Upper t low =
-    encodes_same (uppercased t) (upper t)
-    (ap (λ x. encode_utf8_all (uppercased x)) (sym (chars-IsAscii t low)) ∙ sym (upper_is t)
-    ∙ str_to_uppercase-IsAscii t low ∙ sym (encodes-IsAscii (upper t) (IsAscii-converted Upper t low)))
-
-pub full-ascii : (case : AsciiCase) (t : List ℕ) → IsAsciiText t → full_case case t ≡ converted case t
-full-ascii case t h = ascii_same case t (IsAscii-from_all t h)
-
-to_lowercase_ascii : (c : ℕ) → c < 128 → to_lowercase c ≡ to_ascii_lowercase c ∷ []
-to_lowercase_ascii c low =
-    let alone : lowercased (c ∷ []) ≡ to_lowercase c ++ [] = rw (ne_eqb c 0x3A3 (omega arith)) refl in
-    sym (append-nil (to_lowercase c)) ∙ sym alone ∙ ascii_same Lower (c ∷ []) (IsAscii-cons c [] low IsAscii-nil)
-
-to_uppercase_ascii : (c : ℕ) → c < 128 → to_uppercase c ≡ to_ascii_uppercase c ∷ []
-to_uppercase_ascii c low =
-    sym (append-nil (to_uppercase c)) ∙ ascii_same Upper (c ∷ []) (IsAscii-cons c [] low IsAscii-nil)
+-- std maps an ASCII character as its case of ASCII does
+letters_ascii : (case : AsciiCase) (c : ℕ) → c < 128 → letters case c ≡ letter case c ∷ []
+letters_ascii Lower c low =
+    let m = lowercase_moves in grind (arith, nat_tests, lowercase_is, m.0, m.1.0, m.1.1.0)
+letters_ascii Upper c low =
+    let m = uppercase_moves in grind (arith, nat_tests, uppercase_is, m.0, m.1.0, m.1.1.0)
 
 -- std's mappings of a whole text begin with its ASCII front in the case
 lowercase_front : (w : Bool) (a r : List ℕ) → IsAscii a
@@ -104,11 +89,11 @@ lowercase_front w [] r h = (w, refl)
 lowercase_front w (c ∷ a) r h =
     let low : c < 128 = h 0 in
     let k = lowercase_front (is_in_word_after w c) a r (λ i. h (suc i)) in
-    (k.0, rw (ne_eqb c 0x3A3 (omega arith), to_lowercase_ascii c low) (ap (λ s. to_ascii_lowercase c ∷ s) k.1))
+    (k.0, rw (ne_eqb c 0x3A3 (omega arith), letters_ascii Lower c low) (ap (λ s. to_ascii_lowercase c ∷ s) k.1))
 
 uppercase_front : (a r : List ℕ) → IsAscii a → uppercased (a ++ r) ≡ upper a ++ uppercased r
 uppercase_front [] r h = refl
-uppercase_front (c ∷ a) r h = λ i. to_uppercase_ascii c (h 0) i ++ uppercase_front a r (λ k. h (suc k)) i
+uppercase_front (c ∷ a) r h = λ i. letters_ascii Upper c (h 0) i ++ uppercase_front a r (λ k. h (suc k)) i
 
 -- without a capital sigma, lower case maps each character by itself
 pub lowercase-alone : (w : Bool) (t : List ℕ) → ¬ HasSigma t → lowercase_chars w t ≡ flat_map to_lowercase t
@@ -122,22 +107,34 @@ pub full-alone : (case : AsciiCase) (t : List ℕ) → IsMappedAlone case t → 
 full-alone Lower t alone = sym (lowercase-alone false t alone)
 full-alone Upper t alone = refl
 
--- the front in the case of ASCII, and then the rest
+-- what follows an ASCII front is mapped behind the front in its case
+front_first : (case : AsciiCase) (a r : List ℕ) → IsAscii a → (s : List ℕ)
+    × (full_case case (a ++ r) ≡ converted case a ++ s) × (IsMappedAlone case r → mapped case r ≡ s)
+front_first Lower a r h =
+    let k = lowercase_front false a r h in (lowercase_chars k.0 r, k.1, λ alone. sym (lowercase-alone k.0 r alone))
+front_first Upper a r h = (uppercased r, uppercase_front a r h, λ _. refl)
+
 pub full-parts : (case : AsciiCase) (t r : List ℕ) → front t ++ r ≡ t → IsMappedAlone case r
     → converted case (front t) ++ mapped case r ≡ full_case case t
-full-parts Lower t r e alone =
-    let k = lowercase_front false (front t) r (IsAscii-front t) in
-    ap (λ s. lower (front t) ++ s) (sym (lowercase-alone k.0 r alone)) ∙ sym k.1 ∙ ap lowercased e
-full-parts Upper t r e alone = sym (uppercase_front (front t) r (IsAscii-front t)) ∙ ap uppercased e
+full-parts case t r e alone =
+    let k = front_first case (front t) r (IsAscii-front t) in
+    ap (λ s. converted case (front t) ++ s) (k.2 alone) ∙ sym k.1 ∙ ap (full_case case) e
 
 pub full-front : (case : AsciiCase) (t : List ℕ) → (r : List ℕ) × (full_case case t ≡ converted case (front t) ++ r)
-full-front Lower t =
+full-front case t =
     let p = front-parts t in
-    let k = lowercase_front false (front t) p.0 (IsAscii-front t) in
-    (lowercase_chars k.0 p.0, ap lowercased p.1 ∙ k.1)
-full-front Upper t =
-    let p = front-parts t in
-    (uppercased p.0, ap uppercased p.1 ∙ uppercase_front (front t) p.0 (IsAscii-front t))
+    let k = front_first case (front t) p.0 (IsAscii-front t) in (k.0, ap (full_case case) p.1 ∙ k.1)
+
+-- no text without characters has a character that is mapped by what stands around it
+pub alone-nil : (case : AsciiCase) → IsMappedAlone case []
+alone-nil Lower = λ o. omega (arith, ap length o.2, length-append o.0 (0x3A3 ∷ o.1))
+alone-nil Upper = tt
+
+-- of ASCII text std's mapping is that of ASCII
+pub full-ascii : (case : AsciiCase) (t : List ℕ) → IsAsciiText t → full_case case t ≡ converted case t
+full-ascii case t h =
+    let k = front_first case t [] (IsAscii-from_all t h) in
+    rw (append-nil, ← k.2 (alone-nil case), append-nil) at k.1
 
 -- an ASCII text is its own front
 pub front-whole : (t : List ℕ) → IsAsciiText t → front t ≡ t
@@ -165,11 +162,6 @@ letters-listed s a b c p q r = search (rules, arith)
 
 pub mapped-append : (case : AsciiCase) (a b : List ℕ) → mapped case (a ++ b) ≡ mapped case a ++ mapped case b
 mapped-append case a b = flat_map-append (letters case) a b
-
--- no text without characters has a character that is mapped by what stands around it
-pub alone-nil : (case : AsciiCase) → IsMappedAlone case []
-alone-nil Lower = λ o. omega (arith, ap length o.2, length-append o.0 (0x3A3 ∷ o.1))
-alone-nil Upper = tt
 
 sigma : chars (0xCE ∷ 0xA3 ∷ []) ≡ 0x3A3 ∷ []
 unfolding lib.Utf8.encode
