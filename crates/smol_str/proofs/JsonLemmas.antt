@@ -28,8 +28,7 @@ IsJsonOf-IsValueOf t v h = record { text = ap json_value (sym h.text); place = h
 
 -- the string of a text that is not resident: so is each text of which it is the string
 pub not_resident : (d : json.Data) (s : List ℕ) → d ≡ json_value s → ¬ (IsResident s) → AfterValueFault d OutOfMemory
-not_resident d s is long =
-    ((s, is), λ t same. λ resident. long (subst IsResident (json_value-same t s (sym same ∙ is)) resident))
+not_resident d s is long = search (rules, json_value-same)
 
 -- no bytes are no JSON text
 read-nil : read [] ≡ None

@@ -1,5 +1,5 @@
 -- For `str_ext::ascii`: each of one ASCII character replaced by another, byte for byte.
-use Rattle.smol_str.proofs.Common.{◌≡◌, ℕ, zero, suc, ◌+◌, ◌<◌, ◌≤◌, List, [], ◌∷◌, ◌++◌, Bool, true, false, nat_eq, length, get_or, take, refl, sym, ap, ◌∙◌, arith, append-nil, length-append, ne_eqb, if◌then◌else◌, IsUtf8, chars, encode_utf8_all, encode, Decides-eqb, length-map, take_at, encodes-chars, length-le-encodes, INLINE_CAP, IsShort, no_limit, subst, IsFirstAfter, replaced, replaced_all, each_with, each_replaced, not_from_Decides, rules}
+use Rattle.smol_str.proofs.Common.{◌≡◌, ℕ, zero, suc, ◌+◌, ◌<◌, ◌≤◌, List, [], ◌∷◌, ◌++◌, Bool, true, false, nat_eq, length, get_or, take, refl, sym, ap, ◌∙◌, arith, append-nil, length-append, ne_eqb, if◌then◌else◌, IsUtf8, chars, encode_utf8_all, encode, Decides-eqb, length-map, take_at, encodes-chars, length-le-encodes, INLINE_CAP, IsShort, no_limit, subst, IsFirstAfter, replaced, replaced_all, each_with, each_replaced, not_from_Decides, rules, common_steps}
 use Rattle.smol_str.proofs.CaseLemmas.Ascii.{MovesAscii, IsUtf8-map, chars-map, size-mapped}
 use Rattle.smol_str.proofs.TextLemmas.Places.{OnErr-always, size-chars}
 use Rattle.smol_str.proofs.TextLemmas.Utf8.{Form, one, two, three, four, form}
@@ -50,23 +50,15 @@ swapped-kept : (x c : ℕ) (w t : List ℕ) (n : ℕ) → ¬ (c ≡ x) → swapp
 swapped-kept x c w t n differs = search (rules, replaced-passed, head_same)
 
 swapped-taken : (x c : ℕ) (w t : List ℕ) (n : ℕ) → c ≡ x → swapped x w (c ∷ t) (suc n) ≡ w ++ swapped x w t n
-swapped-taken x c w t n same =
-    let first : IsFirstAfter (x ∷ []) [] = λ o. omega (arith, ap length o.2, length-append o.0 (x ∷ o.1)) in
-    let more : n + 1 ≡ suc n = omega arith in
-    subst (λ k. swapped x w (c ∷ t) k ≡ w ++ swapped x w t n) more
-    (replaced-matched (c ∷ t) (x ∷ []) w [] t n (ap (λ d. d ∷ t) same) first)
+swapped-taken x c w t n same = grind (arith, common_steps, length-append, replaced-matched)
 
 each-swapped : (x : ℕ) (w t : List ℕ) (n : ℕ) → length t ≤ n → each_with x w t ≡ swapped x w t n
 each-swapped x w [] n h = sym (swapped-nil x w n)
 each-swapped x w (c ∷ t) zero h = absurd (omega arith)
 each-swapped x w (c ∷ t) (suc n) h =
-    first (nat_eq c x) refl (each-swapped x w t n (omega arith)) (each-swapped x w t (suc n) (omega arith))
-  where
-    first : (b : Bool) → nat_eq c x ≡ b → each_with x w t ≡ swapped x w t n
-        → each_with x w t ≡ swapped x w t (suc n) → each_with x w (c ∷ t) ≡ swapped x w (c ∷ t) (suc n)
-    first true e less all = rw e (ap (λ s. w ++ s) less ∙ sym (swapped-taken x c w t n ((Decides-eqb c x).0 e)))
-    first false e less all =
-        rw e (ap (λ s. c ∷ s) all ∙ sym (swapped-kept x c w t (suc n) (not_from_Decides _ (Decides-eqb c x) e)))
+    let less = each-swapped x w t n (omega arith) in
+    let all = each-swapped x w t (suc n) (omega arith) in
+    search (rules, less, all, swapped-taken, Decides-eqb, swapped-kept, not_from_Decides)
 
 -- a text for one character, character by character; and one character for one is a map
 pub replaced_all-each : (t : List ℕ) (x : ℕ) (w : List ℕ) → replaced_all t (x ∷ []) w ≡ each_with x w t
@@ -74,21 +66,14 @@ replaced_all-each t x w = sym (each-swapped x w t (no_limit t) (omega arith))
 
 each_with-one : (x y : ℕ) (t : List ℕ) → each_with x (y ∷ []) t ≡ each_replaced x y t
 each_with-one x y [] = refl
-each_with-one x y (c ∷ t) = by (nat_eq c x) (each_with-one x y t)
-  where
-    by : (b : Bool) → each_with x (y ∷ []) t ≡ each_replaced x y t
-        → (if b then y ∷ [] else c ∷ []) ++ each_with x (y ∷ []) t ≡ (if b then y else c) ∷ each_replaced x y t
-    by true h = ap (λ s. y ∷ s) h
-    by false h = ap (λ s. c ∷ s) h
+each_with-one x y (c ∷ t) = search (rules, each_with-one x y t)
 
 pub replaced_all-character : (t : List ℕ) (x y : ℕ) → replaced_all t (x ∷ []) (y ∷ []) ≡ each_replaced x y t
 replaced_all-character t x y = replaced_all-each t x (y ∷ []) ∙ each_with-one x y t
 
 pub each-replaced : (x y : ℕ) (bs : List ℕ) (n : ℕ) → IsUtf8 bs → length bs ≤ n
     → each_replaced x y (chars bs) ≡ replaced (chars bs) (x ∷ []) (y ∷ []) n
-each-replaced x y bs n u h =
-    let few = length-le-encodes (chars bs) in
-    sym (each_with-one x y (chars bs)) ∙ each-swapped x (y ∷ []) (chars bs) n (omega (arith, few, size-chars bs u))
+each-replaced x y bs n u h = search (rules, length-le-encodes, each_with-one, each-swapped, size-chars)
 
 -- a text of one byte is one ASCII character
 pub record IsOneByte (bs : List ℕ) : Type 0 where

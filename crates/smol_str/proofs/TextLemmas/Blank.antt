@@ -1,5 +1,5 @@
 -- For `blank_slice` and the places: the constant's slices, and the test for a run.
-use Rattle.smol_str.proofs.Common.{◌≡◌, ℕ, zero, suc, ◌+◌, ◌-◌, ◌<◌, ◌≤◌, List, [], ◌∷◌, ◌++◌, length, take, drop, replicate, get_or, refl, ◌∙◌, ap, Bool, true, false, ◌==◌, arith, length-append, list_all, IsAscii, IsAscii-append, drop-append-le, drop-replicate, take-replicate, nat_tests, take-append-add, drop-append_seam, blank_run, leading_newlines, all_spaces, IsBlankRun, and_parts, common_steps, ◌⊎◌, inl, inr}
+use Rattle.smol_str.proofs.Common.{◌≡◌, ℕ, zero, suc, ◌+◌, ◌-◌, ◌<◌, ◌≤◌, List, [], ◌∷◌, ◌++◌, length, take, drop, replicate, get_or, refl, ◌∙◌, ap, Bool, true, false, ◌==◌, arith, length-append, list_all, IsAscii, IsAscii-append, drop-append-le, drop-replicate, take-replicate, nat_tests, take-append-add, drop-append_seam, blank_run, leading_newlines, all_spaces, IsBlankRun, and_parts, common_steps, ◌⊎◌, rules}
 use Rattle.std.proofs.Math.ListN.{length-replicate}
 use Rattle.smol_str.specs.declared.value.blank.TheConstants.{BLANK_NEWLINES, BLANK_SPACES}
 
@@ -46,8 +46,7 @@ all_same-replicate k (suc n) h = rw h (all_same-replicate k n h)
 pub leading_newlines-blank_run : (a b : ℕ) → leading_newlines (blank_run a b) ≡ a
 leading_newlines-blank_run zero zero = refl
 leading_newlines-blank_run zero (suc b) = refl
-leading_newlines-blank_run (suc a) b =
-    let e : leading_newlines (blank_run a b) ≡ a = leading_newlines-blank_run a b in omega (arith, e)
+leading_newlines-blank_run (suc a) b = omega (arith, leading_newlines-blank_run a b)
 
 from_tests_step : (x : ℕ) (xs : List ℕ) (b : Bool) → (x == 10) ≡ b →
     (all_spaces (drop (leading_newlines xs) xs) ≡ true →
@@ -112,9 +111,4 @@ reads-run t r = blank_run-from_tests t (Passes-from_IsBlankRun t r).rest
 
 -- a run begins with one of the two
 pub first-blank : (x : ℕ) (xs : List ℕ) → IsBlankRun (x ∷ xs) → (x ≡ 10) ⊎ (x ≡ 32)
-first-blank x xs r = begins r.newlines r.spaces (ap (λ t. get_or t 0 10) r.reads)
-  where
-    begins : (a b : ℕ) → x ≡ get_or (blank_run a b) 0 10 → (x ≡ 10) ⊎ (x ≡ 32)
-    begins zero zero e = inl e
-    begins zero (suc b) e = inr e
-    begins (suc a) b e = inl e
+first-blank x xs r = search rules
