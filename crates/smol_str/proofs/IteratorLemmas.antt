@@ -1,6 +1,6 @@
 -- What std's iterators give as lists of texts: characters from the end of a text, an array by value, a text split at
 -- another.
-use Rattle.std.proofs.Common.{◌≡◌, ◌<◌, ◌==◌, ℕ, Bool, true, false, Bor, List, [], ◌∷◌, ◌++◌, length, map, take, drop, reverse, flat_map, Option, None, Some, refl, sym, ap, ◌∙◌, subst, arith, append-nil}
+use Rattle.std.proofs.Common.{◌≡◌, ◌<◌, ◌==◌, ℕ, Bool, true, false, Bor, List, [], ◌∷◌, ◌++◌, length, map, take, drop, reverse, flat_map, Option, None, Some, refl, sym, ap, ◌∙◌, subst, arith, append-nil, rules}
 use Rattle.std.specs.Str.{IsUtf8, chars, all_scalars, encode_utf8_all}
 use Rattle.std.specs.Str.Lines.{lines}
 use Rattle.std.specs.Str.Pattern.{FindsChar}
@@ -112,16 +112,11 @@ module _ {S A : Type 0} {steps : S → Option (Bor A) → S → Type 0} {t : S} 
 
 rev_copied-none : {A : Type 0} (s t : _) → rev_steps (copied_steps (iter_steps_back {A = A})) s None t
     → length (reverse (iter_rest (copied_source (rev_source s)))) ≡ 0
-rev_copied-none s t (None, p, e) = length-reverse _ ∙ p.0
-rev_copied-none s t (Some y, p, e) = absurd (cc)
+rev_copied-none s t h = search (rules, length-reverse)
 
 rev_copied-some : {A : Type 0} (s : _) (x : A) (t : _) → rev_steps (copied_steps iter_steps_back) s (Some x) t
     → reverse (iter_rest (copied_source (rev_source s))) ≡ x ∷ reverse (iter_rest (copied_source (rev_source t)))
-rev_copied-some s x t (None, p, e) = absurd (cc)
-rev_copied-some s x t (Some y, p, e) =
-    let rest = iter_rest (copied_source (rev_source t)) in
-    let same : y.now ≡ x = cc in
-    ap reverse p ∙ reverse-append rest (y.now ∷ []) ∙ ap (λ z. z ∷ reverse rest) same
+rev_copied-some s x t h = search (rules, reverse-append)
 
 pub gives-rev_copied : {A : Type 0} {s : _} {steps : Rev (Copied (Iter A)) → Option A → Rev (Copied (Iter A)) → Type 0}
     (xs : List A) → ((s : _) (o : _) (t : _) → steps s o t → rev_steps (copied_steps iter_steps_back) s o t)

@@ -51,28 +51,20 @@ put-packed : (old bytes : List ℕ) → length old + length bytes ≤ INLINE_CAP
 put-packed old bytes h = grind (arith, common_steps, length-append, length-padded, append_assoc, front-packed, drop-packed, set_at)
 
 -- after a text was appended: its bytes behind the others, and then the length
-append-packed : (n : ℕ) (old mid bytes : List ℕ) → IsPacked old → n ≡ get_or old INLINE_CAP 0 →
-    n + length bytes ≤ INLINE_CAP → mid ≡ put_at old n bytes →
-    (length (unpacked old ++ bytes) ≤ INLINE_CAP) ×
-    (set mid INLINE_CAP (n + length bytes) ≡ packed (unpacked old ++ bytes))
-append-packed n old mid bytes h e room put = grind (arith, common_steps, len-bytes, length-append, put-packed)
+module _ (old mid bytes : List ℕ) (h : IsPacked old) (u : IsUtf8 bytes)
+    (room : get_or old INLINE_CAP 0 + length bytes ≤ INLINE_CAP) (put : mid ≡ put_at old (get_or old INLINE_CAP 0) bytes) where
+  within : length (unpacked old ++ bytes) ≤ INLINE_CAP
+  within = rw (length-append, ← len-bytes old h) room
 
-pub IsPacked-append : (old mid bytes : List ℕ) → IsPacked old → IsUtf8 bytes →
-    get_or old INLINE_CAP 0 + length bytes ≤ INLINE_CAP →
-    mid ≡ put_at old (get_or old INLINE_CAP 0) bytes →
-    IsPacked (set mid INLINE_CAP (get_or old INLINE_CAP 0 + length bytes))
-IsPacked-append old mid bytes h u room put =
-    let all = append-packed (get_or old INLINE_CAP 0) old mid bytes h refl room put in
-    IsPacked-packed _ (unpacked old ++ bytes) (IsUtf8-append (unpacked old) bytes h.utf8 u) all.0 all.1
+  appended : set mid INLINE_CAP (get_or old INLINE_CAP 0 + length bytes) ≡ packed (unpacked old ++ bytes)
+  appended = grind (arith, common_steps, len-bytes, length-append, put-packed)
 
-pub view-append : (old mid bytes : List ℕ) → IsPacked old → IsUtf8 bytes →
-    get_or old INLINE_CAP 0 + length bytes ≤ INLINE_CAP →
-    mid ≡ put_at old (get_or old INLINE_CAP 0) bytes →
-    chars (unpacked (set mid INLINE_CAP (get_or old INLINE_CAP 0 + length bytes))) ≡ chars
-    (unpacked old) ++ chars bytes
-view-append old mid bytes h u room put =
-    let all = append-packed (get_or old INLINE_CAP 0) old mid bytes h refl room put in
-    ap chars (unpacked-packed _ (unpacked old ++ bytes) all.0 all.1) ∙ chars-append (unpacked old) bytes h.utf8
+  pub IsPacked-append : IsPacked (set mid INLINE_CAP (get_or old INLINE_CAP 0 + length bytes))
+  IsPacked-append = search (rules, IsPacked-packed, IsUtf8-append, within, appended)
+
+  pub view-append :
+      chars (unpacked (set mid INLINE_CAP (get_or old INLINE_CAP 0 + length bytes))) ≡ chars (unpacked old) ++ chars bytes
+  view-append = ap chars (unpacked-packed _ (unpacked old ++ bytes) within appended) ∙ chars-append (unpacked old) bytes h.utf8
 
 -- the whole buffer
 pub buffer-padded : (all : List ℕ) → IsPacked all →

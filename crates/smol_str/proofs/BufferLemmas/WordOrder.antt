@@ -74,22 +74,17 @@ order-step : (xs ys x y : List ℕ) (at : ℕ) → x ≡ take 8 (drop at xs) →
     ordering_then (nat_cmp (from_be_bytes w64 x) (from_be_bytes w64 y))
     (slice_cmp nat_cmp (drop (at + 8) xs) (drop (at + 8) ys))
 order-step xs ys x y at e f h k l m =
-    let parts : slice_cmp nat_cmp (take 8 (drop at xs) ++ drop 8 (drop at xs))
-    (take 8 (drop at ys) ++ drop 8 (drop at ys)) ≡ slice_cmp nat_cmp (drop at xs) (drop at ys) =
-    rw (take-append-drop 8 (drop at xs), take-append-drop 8 (drop at ys)) in
-    let long : length (take 8 (drop at xs)) ≡ 8 = length-part 8 xs at l in
-    let wide : length (take 8 (drop at ys)) ≡ 8 = length-part 8 ys at m in
-    sym parts
-    ∙ big-order (take 8 (drop at xs)) (take 8 (drop at ys)) (drop 8 (drop at xs)) (drop 8 (drop at ys))
-    (long ∙ sym wide) (bytes-part 8 xs at h) (bytes-part 8 ys at k)
-    ∙ rw (
+    let long = length-part 8 xs at l in
+    let wide = length-part 8 ys at m in
+    let order = big-order _ _ (drop 8 (drop at xs)) (drop 8 (drop at ys)) (long ∙ sym wide) (bytes-part 8 xs at h) (bytes-part 8 ys at k) in
+    rw (
       e,
       f,
       big-eight (take 8 (drop at xs)) long,
       big-eight (take 8 (drop at ys)) wide,
-      drop-drop 8 at xs,
-      drop-drop 8 at ys,
-    )
+      ← drop-drop 8 at xs,
+      ← drop-drop 8 at ys,
+    ) (rw (take-append-drop 8 (drop at xs), take-append-drop 8 (drop at ys)) at order)
 
 then-differ : (a b : ℕ) (o : Ordering) → ¬ (a ≡ b) → ordering_then (nat_cmp a b) o ≡ nat_cmp a b
 then-differ a b o other = grind (arith, common_steps, cases_order, nat_cmp-less, nat_cmp-greater)

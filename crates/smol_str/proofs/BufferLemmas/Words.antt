@@ -13,9 +13,7 @@ word-first : (k : ℕ) (xs : List ℕ) (at : ℕ) → word (suc k) xs at ≡ get
 unfolding word
 word-first zero xs at = let e : at + 0 ≡ at = omega arith in rw e (omega arith)
 word-first (suc k) xs at =
-    let e : at + suc k ≡ (at + 1) + k = omega arith in
-    let rest = word-first k xs at in
-    rw (e, pow-succ' 256 k) (omega (arith, rest))
+    let e : at + suc k ≡ (at + 1) + k = omega arith in rw (e, pow-succ' 256 k) (omega (arith, word-first k xs at))
 
 -- past the end
 word-past : (k : ℕ) (xs : List ℕ) (at : ℕ) → length xs ≤ at + k → word (suc k) xs at ≡ word k xs at
@@ -121,17 +119,14 @@ pack-step new old bytes at n b h within long front e put = grind (arith, common_
 pub all-with_zeros : (buf bytes : List ℕ) → length buf ≡ INLINE_CAP + 1 → length bytes ≤ INLINE_CAP →
     take (INLINE_CAP + 1) buf ≡ take (INLINE_CAP + 1) (with_zeros bytes) → buf ≡ with_zeros bytes
 all-with_zeros buf bytes long h e =
-    sym (take_all (INLINE_CAP + 1) buf (omega (arith, long))) ∙ e
-    ∙ take_all (INLINE_CAP + 1) (with_zeros bytes) (omega (arith, length-with_zeros bytes h))
+    let size = length-with_zeros bytes h in
+    rw (take_all (INLINE_CAP + 1) buf (omega arith), take_all (INLINE_CAP + 1) (with_zeros bytes) (omega arith)) at e
 
 pub pack-end : (buf bytes : List ℕ) → length bytes ≤ INLINE_CAP → buf ≡ with_zeros bytes →
     set buf INLINE_CAP (length bytes) ≡ packed bytes
 pack-end buf bytes h all =
-    let n : ℕ = INLINE_CAP - length bytes in
-    let more : INLINE_CAP + 1 - length bytes ≡ n + 1 = omega (arith, h) in
-    let last : with_zeros bytes ≡ padded bytes ++ (0 ∷ []) =
-    ap (λ m. bytes ++ replicate m 0) more ∙ ap (λ t. bytes ++ t) (sym (replicate_more n 0))
-    ∙ sym (append_assoc bytes (replicate n 0) (0 ∷ [])) in
+    let more : INLINE_CAP + 1 - length bytes ≡ (INLINE_CAP - length bytes) + 1 = omega (arith, h) in
+    let last : with_zeros bytes ≡ padded bytes ++ (0 ∷ []) = rw (more, ← replicate_more, append_assoc) in
     rw (all, last) (set_at (padded bytes) 0 [] (length bytes) INLINE_CAP (length-padded bytes h))
 
 -- at most eight bytes, by one word over zeros
@@ -154,18 +149,16 @@ one-word buf bytes n b h e put =
 same-word : (xs ys : List ℕ) (at : ℕ) → take (at + 8) xs ≡ take (at + 8) ys →
     (take at xs ≡ take at ys) × (word 8 xs at ≡ word 8 ys at)
 same-word xs ys at e =
-    let here : take 8 (drop at xs) ≡ take 8 (drop at ys) =
-    sym (drop-take at 8 xs) ∙ ap (drop at) e ∙ drop-take at 8 ys in (
-      (sym (take-take at (at + 8) xs (omega arith)) ∙ ap (take at) e ∙ take-take at (at + 8) ys (omega arith)),
-      (sym (read-eight xs at) ∙ ap (from_le_bytes w64) here ∙ read-eight ys at),
+    let here : take 8 (drop at xs) ≡ take 8 (drop at ys) = cc (drop-take at 8 xs, drop-take at 8 ys) in (
+      cc (take-take at (at + 8) xs (omega arith), take-take at (at + 8) ys (omega arith)),
+      cc (read-eight xs at, read-eight ys at),
     )
 
 pub more-same : (xs ys : List ℕ) (at : ℕ) → AreBytes xs → AreBytes ys → at + 8 ≤ length xs → at + 8 ≤ length ys →
     take at xs ≡ take at ys → word 8 xs at ≡ word 8 ys at → take (at + 8) xs ≡ take (at + 8) ys
 more-same xs ys at b c h k front same =
-    let here : take 8 (drop at xs) ≡ take 8 (drop at ys) = sym (write-eight xs at b h) ∙ ap (to_le_bytes w64) same
-    ∙ write-eight ys at c k in
-    take-add at 8 xs ∙ rw (front, here) (sym (take-add at 8 ys))
+    let here : take 8 (drop at xs) ≡ take 8 (drop at ys) = cc (write-eight xs at b h, write-eight ys at c k) in
+    rw (take-add at 8 xs, take-add at 8 ys, front, here)
 
 -- the step of a loop that compares
 pub same-step : (xs ys : List ℕ) (at : ℕ) → AreBytes xs → AreBytes ys → at + 8 ≤ length xs → at + 8 ≤ length ys →
@@ -177,11 +170,9 @@ same-step xs ys at b c h k = grind (arith, common_steps, Decides-and, bytes_deci
 pub same-last : (xs ys : List ℕ) (at last : ℕ) → AreBytes xs → AreBytes ys → length xs ≡ length ys →
     last + 8 ≡ length xs → last ≤ at → take at xs ≡ take at ys → word 8 xs last ≡ word 8 ys last → xs ≡ ys
 same-last xs ys at last b c long all so_far front same =
-    let before : take last xs ≡ take last ys =
-    sym (take-take last at xs so_far) ∙ ap (take last) front ∙ take-take last at ys so_far in
-    sym (take_all (last + 8) xs (omega (arith, all)))
-    ∙ more-same xs ys last b c (omega (arith, all)) (omega (arith, all, long)) before same
-    ∙ take_all (last + 8) ys (omega (arith, all, long))
+    let before : take last xs ≡ take last ys = cc (take-take last at xs so_far, take-take last at ys so_far) in
+    let whole = more-same xs ys last b c (omega (arith, all)) (omega (arith, all, long)) before same in
+    rw (take_all (last + 8) xs (omega (arith, all)), take_all (last + 8) ys (omega (arith, all, long))) at whole
 
 -- what a comparison finds
 pub same_from : (found : Bool) (xs ys : List ℕ) → (found ≡ true → xs ≡ ys) → (xs ≡ ys → found ≡ true) →

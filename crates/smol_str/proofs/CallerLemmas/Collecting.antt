@@ -1,5 +1,5 @@
 -- Collecting and extending from an iterator that gives a list.
-use Rattle.smol_str.proofs.Common.{◌≡◌, ℕ, ◌<◌, ◌≤◌, ◌++◌, String, Global, Bor, true, Option, Result, Ok, Err, IfOk, OnOk, OnErr, subst, List, [], length, take, drop, map, refl, sym, ap, ◌∙◌, arith, chars, IsUtf8, YieldsList, chars-encodes, take-append-drop, INLINE_CAP, size, IsShort, Meaning, IsValueOf, Draft, OnHeap, appended, joined, joined_strs, joined_strings, joined_string_refs, str_text, string_text, replaced_all, cut, no_limit, map-id, items_from_drains, None, place_of}
+use Rattle.smol_str.proofs.Common.{◌≡◌, ℕ, ◌<◌, ◌≤◌, ◌++◌, String, Global, Bor, true, Option, Result, Ok, Err, IfOk, OnOk, OnErr, subst, List, [], length, take, drop, map, refl, sym, ap, ◌∙◌, arith, chars, IsUtf8, YieldsList, chars-encodes, take-append-drop, INLINE_CAP, size, IsShort, Meaning, IsValueOf, Draft, OnHeap, appended, joined, joined_strs, joined_strings, joined_string_refs, str_text, string_text, replaced_all, cut, no_limit, map-id, items_from_drains, None, place_of, rules}
 use Rattle.std.specs.Iterator.{Yields, DrainsIf}
 use Rattle.std.specs.Array.Iter.{array_steps, array_into_iter_items}
 use Rattle.std.specs.declared.array.IntoIter.{IntoIter}
@@ -31,8 +31,7 @@ module _ {S A B : Type 0} {steps : S → Option A → S → Type 0} {s : S} {v :
     -- refused only where its text is not short
     refused : {T E : Type 0} (r : Result T E) → OnErr r (Outgrown texts steps s) → YieldsList steps v s all
         → OnErr r (¬ (IsShort (whole all)))
-    refused (Ok x) out gives = tt
-    refused (Err e) out gives = not_short-outgrown texts whole is parts out gives
+    refused r out gives = search (rules, not_short-outgrown)
 
     -- a builder with its text at the end
     extended : {T E : Type 0} (r : Result T E) (old new : Draft) → OnOk r (AppendedAll texts steps s old new)
@@ -45,8 +44,7 @@ module _ {S A B : Type 0} {steps : S → Option A → S → Type 0} {s : S} {v :
     -- refused only where that builder would be on the heap
     extend_refused : {T E : Type 0} (r : Result T E) (old new : Draft) → OnErr r (StoppedAt texts steps s old new)
         → YieldsList steps v s all → OnErr r ((appended old (whole all)).kind ≡ OnHeap)
-    extend_refused (Ok x) old new stopped gives = tt
-    extend_refused (Err e) old new stopped gives = heap-stopped texts whole is parts old new stopped gives
+    extend_refused r old new stopped gives = search (rules, heap-stopped)
 
     -- and the builder has the text of a front at its end then
     extend_stopped : {T E : Type 0} (r : Result T E) (old new : Draft) → OnErr r (StoppedAt texts steps s old new)
@@ -61,8 +59,7 @@ module _ {S A B : Type 0} {steps : S → Option A → S → Type 0} {s : S} {v :
   made : {E : Type 0} (r : Result Meaning E)
       → IfOk r (λ y. (xs : List A) × DrainsIf steps (Unit {0}) s xs × IsValueOf (texts xs) y)
       → YieldsList steps v s all → IfOk r (λ y. IsValueOf (whole all) y)
-  made (Ok y) (xs, d, h) gives = subst (λ t. IsValueOf t y) (drained xs d gives) h
-  made (Err e) h gives = tt
+  made r h gives = search (rules, drained)
 
 -- the same of each kind of item: of characters,
 same : (xs : List ℕ) → xs ≡ map (λ c. c) xs

@@ -30,8 +30,7 @@ pub ruleset updates = (text-kept, same_key-other)
 pub text-set : (b : Bool) (v : Meaning) (old : Option Meaning)
     → option_map (λ (w : Meaning). w.text) (if b then Some v else old)
     ≡ (if b then Some v.text else option_map (λ (w : Meaning). w.text) old)
-text-set true v old = refl
-text-set false v old = refl
+text-set b v old = search rules
 
 -- a `&str` stands for the keys of its text
 pub stands_for-text : (bs : List ℕ) (key : Meaning) → IsUtf8 bs → stands_for bs key ≡ bytes_eq (chars bs) key.text
@@ -41,15 +40,7 @@ stands_for-text bs key u = search (rules, arith, encodes-chars, encodes_same)
 pub lookup-stands_for : {V W : Type 0} (g : V → W) (bs : List ℕ) (es : List (Meaning × V)) → IsUtf8 bs
     → option_map g (lookup (stands_for bs) es) ≡ lookup (bytes_eq (chars bs)) (entry_texts g es)
 lookup-stands_for g bs [] u = refl
-lookup-stands_for g bs (e ∷ es) u =
-    ap (λ b. option_map g (cond b (Some e.1) (lookup (stands_for bs) es))) (stands_for-text bs e.0 u)
-    ∙ by (bytes_eq (chars bs) e.0.text) (lookup-stands_for g bs es u)
-  where
-    by : (b : Bool) → option_map g (lookup (stands_for bs) es) ≡ lookup (bytes_eq (chars bs)) (entry_texts g es)
-        → option_map g (cond b (Some e.1) (lookup (stands_for bs) es))
-        ≡ cond b (Some (g e.1)) (lookup (bytes_eq (chars bs)) (entry_texts g es))
-    by true h = refl
-    by false h = h
+lookup-stands_for g bs (e ∷ es) u = search (rules, stands_for-text, lookup-stands_for g bs es u)
 
 -- and so is what such a look-up lends
 pub lookup-lent : {V W : Type 0} (g : V → W) (r : Option (Bor V)) (bs : List ℕ) (es : List (Meaning × V)) → IsUtf8 bs
@@ -77,41 +68,16 @@ module _ {V W : Type 0} (g : V → W) (insert : List (Meaning × V) → Meaning 
   pub entry_texts-insert : (es : List (Meaning × V)) (k : Meaning) (v : V)
       → entry_texts g (insert es k v) ≡ with_entry (entry_texts g es) k.text (g v)
   entry_texts-insert [] k v = ap (entry_texts g) (last k v)
-  entry_texts-insert (e ∷ es) k v =
-      ap (entry_texts g) (place e es k v) ∙ by (same_key k e.0) (entry_texts-insert es k v)
-    where
-      by : (b : Bool) → entry_texts g (insert es k v) ≡ with_entry (entry_texts g es) k.text (g v)
-          → entry_texts g (if b then (e.0, v) ∷ es else e ∷ insert es k v)
-          ≡ (if b then (e.0.text, g v) ∷ entry_texts g es else (e.0.text, g e.1) ∷ with_entry (entry_texts g es) k.text (g v))
-      by true h = refl
-      by false h = ap (λ rest. (e.0.text, g e.1) ∷ rest) h
+  entry_texts-insert (e ∷ es) k v = search (rules, entry_texts-insert es k v)
 
 -- an entry that is set is found at its text, and leaves what is found at others
 module _ {V : Type 0} (key t : List ℕ) (v : V) where
   -- by the tests: t is this entry's text, and so is the key, and the key is t
   found : (a b c : Bool) (w : V) (rest : Option V) → (a ≡ true → b ≡ c) → (a ≡ false → b ≡ true → c ≡ false)
       → (if a then cond b (Some v) rest else cond b (Some w) (cond c (Some v) rest)) ≡ cond c (Some v) (cond b (Some w) rest)
-  found true true c w rest same apart = ap (λ c. cond c (Some v) (Some w)) (same refl)
-  found true false c w rest same apart = rw (← same refl) refl
-  found false true c w rest same apart = rw (apart refl refl) refl
-  found false false c w rest same apart = refl
+  found a b c w rest same apart = search rules
 
   pub lookup-with_entry : (es : List (List ℕ × V))
       → lookup (bytes_eq key) (with_entry es t v) ≡ cond (bytes_eq key t) (Some v) (lookup (bytes_eq key) es)
   lookup-with_entry [] = refl
-  lookup-with_entry (e ∷ es) = by (bytes_eq t e.0) refl (lookup-with_entry es)
-    where
-      by : (a : Bool) → bytes_eq t e.0 ≡ a
-          → lookup (bytes_eq key) (with_entry es t v) ≡ cond (bytes_eq key t) (Some v) (lookup (bytes_eq key) es)
-          → lookup (bytes_eq key) (if a then (e.0, v) ∷ es else e ∷ with_entry es t v)
-          ≡ cond (bytes_eq key t) (Some v) (lookup (bytes_eq key) (e ∷ es))
-      by true is h =
-          let same = ap (bytes_eq key) (sym ((bytes_eq-Decides t e.0).0 is)) in
-          found true (bytes_eq key e.0) (bytes_eq key t) e.1 (lookup (bytes_eq key) es) (λ _. same) (λ no. cc)
-      by false is h =
-          let apart = λ (x : bytes_eq key e.0 ≡ true) (y : bytes_eq key t ≡ true).
-          let both = sym ((bytes_eq-Decides key t).0 y) ∙ (bytes_eq-Decides key e.0).0 x in
-          false≢true (sym is ∙ (bytes_eq-Decides t e.0).1 both) in
-          ap (λ rest. cond (bytes_eq key e.0) (Some e.1) rest) h
-          ∙ found false (bytes_eq key e.0) (bytes_eq key t) e.1 (lookup (bytes_eq key) es) (λ no. cc)
-          (λ _ x. false_from_ne_true _ (apart x))
+  lookup-with_entry (e ∷ es) = search (rules, bytes_eq-Decides, found, false≢true, false_from_ne_true, lookup-with_entry es)

@@ -65,8 +65,7 @@ alone c ascii = chars-IsAscii (c ∷ []) (IsAscii-cons c [] ascii IsAscii-nil)
 
 pub replaced-each_with : (t : List ℕ) (x : ℕ) (bs : List ℕ) → x < 128 → IsAscii bs
     → replaced_all t (chars (x ∷ [])) (chars bs) ≡ each_with x bs t
-replaced-each_with t x bs low ascii =
-    (λ i. replaced_all t (alone x low i) (chars-IsAscii bs ascii i)) ∙ replaced_all-each t x bs
+replaced-each_with t x bs low ascii = search (rules, alone, chars-IsAscii, replaced_all-each)
 
 module _ (x y : ℕ) (low : x < 128) (small : y < 128) where
   replaced_each : (t : List ℕ) → replaced_all t (chars (x ∷ [])) (chars (y ∷ [])) ≡ each_replaced x y t
@@ -95,9 +94,6 @@ pub ruleset replacing = (each_replaced-value, each_replaced-refused, size-replac
 -- a value whose text has the bytes of t, where they are those that its contract says
 pub printed-value : {E : Type 0} (r : Result Meaning E) (t : List ℕ) → IfOk r (λ v. encode_utf8_all v.text ≡ encode_utf8_all t)
     → IfOk r (λ v. v.place ≡ place_of v.text) → IfOk r (λ v. IsValueOf t v)
-printed-value (Ok v) t same place =
-    let is = encodes_same v.text t same in
-    record { text = is; place = place ∙ ap place_of is }
-printed-value (Err e) t same place = tt
+printed-value r t same place = search (rules, encodes_same)
 
 pub ruleset prints = (printed-value, encodes-append, encode_ascii)

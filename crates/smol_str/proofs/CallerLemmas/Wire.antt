@@ -170,9 +170,7 @@ module _ (bytes : List ℕ) (count : ℕ) (ts : List (List ℕ)) (rest : List �
 -- whatever the fault of a text that was not written: a beginning of its form was
 pub begun : (held holds : Option (List ℕ)) (t : List ℕ) (fault : EncodeFault)
     → AfterEncodeFault (wire t) (HasWire t) held holds fault → AppendsBeginning held holds (wire t)
-begun held holds t TooLong h =
-    ([], wire t, refl, omega (arith, length-wire t), Appends-kept held held holds [] (Appends-nil held) h.1)
-begun held holds t (Io e) h = h.1
+begun held holds t fault h = search (rules, length-wire, Appends-kept, Appends-nil)
 
 module _ {T E : Type 0} (r : Result T E) (held holds : Option (List ℕ)) (t bytes : List ℕ) where
   -- and so of it and what would have come behind it
@@ -184,8 +182,7 @@ module _ {T E : Type 0} (r : Result T E) (held holds : Option (List ℕ)) (t byt
   pub begun_second : ((middle : Option (List ℕ)) × (fault : EncodeFault) × Appends held middle bytes
       × AfterEncodeFault (wire t) (HasWire t) middle holds fault)
       → OnErr r (AppendsBeginning held holds (bytes ++ wire t))
-  begun_second (middle, fault, wrote, h) =
-      OnErr-always r _ (beginning-of_second bytes (wire t) held middle holds wrote (begun middle holds t fault h))
+  begun_second (middle, fault, wrote, h) = search (rules, OnErr-always, beginning-of_second, begun)
 
 -- a form of two parts, written and read
 pub ruleset parts = (append_assoc, begun_first, begun_second)

@@ -77,10 +77,8 @@ upper_is bs = refl
 
 -- std maps an ASCII character as its case of ASCII does
 letters_ascii : (case : AsciiCase) (c : ℕ) → c < 128 → letters case c ≡ letter case c ∷ []
-letters_ascii Lower c low =
-    let m = lowercase_moves in grind (arith, nat_tests, lowercase_is, m.0, m.1.0, m.1.1.0)
-letters_ascii Upper c low =
-    let m = uppercase_moves in grind (arith, nat_tests, uppercase_is, m.0, m.1.0, m.1.1.0)
+letters_ascii Lower c low = search (rules, lowercase_moves, nat_tests, lowercase_is)
+letters_ascii Upper c low = search (rules, uppercase_moves, nat_tests, uppercase_is)
 
 -- std's mappings of a whole text begin with its ASCII front in the case
 lowercase_front : (w : Bool) (a r : List ℕ) → IsAscii a
@@ -104,8 +102,7 @@ lowercase-alone w (c ∷ t) none =
 
 -- a text of which each character is mapped by itself
 pub full-alone : (case : AsciiCase) (t : List ℕ) → IsMappedAlone case t → mapped case t ≡ full_case case t
-full-alone Lower t alone = sym (lowercase-alone false t alone)
-full-alone Upper t alone = refl
+full-alone case t alone = search (rules, lowercase-alone)
 
 -- what follows an ASCII front is mapped behind the front in its case
 front_first : (case : AsciiCase) (a r : List ℕ) → IsAscii a → (s : List ℕ)
@@ -142,8 +139,7 @@ front-whole t h = ap front (sym (append-nil t)) ∙ front-append t [] h tt
 
 -- the rest of an ASCII text is empty
 pub rest-none : (t r : List ℕ) → front t ++ r ≡ t → IsAsciiText t → r ≡ []
-rest-none t [] e h = refl
-rest-none t (c ∷ r) e h = grind (arith, common_steps, front-whole, length-append)
+rest-none t r e h = grind (arith, common_steps, front-whole, length-append)
 
 -- an ASCII text whose full case outgrows the buffer is not short
 pub full-long : (case : AsciiCase) (t : List ℕ) → ¬ (IsShort (full_case case t)) → ¬ (IsAsciiText t × IsShort t)
@@ -172,8 +168,7 @@ pub alone-lower : (case : AsciiCase) (t : List ℕ) → case ≡ Lower → ¬ Oc
 alone-lower case t is none = search (rules, arith, sigma)
 
 pub none-found : (r : Option ℕ) (b : Bool) → b ≡ is_some r → b ≡ false → r ≡ None
-none-found None b e f = refl
-none-found (Some x) b e f = absurd (cc)
+none-found r b e f = search rules
 
 -- the short way: the front in a new builder, and then the rest, mapped character by character
 module _ (case : AsciiCase) (t r : List ℕ) (e : front t ++ r ≡ t) (alone : IsMappedAlone case r) (b d : Draft)

@@ -1,5 +1,5 @@
 -- For the lanes of `kernel`: side by side they give what a map over the bytes gives.
-use Rattle.smol_str.proofs.Common.{◌≡◌, ◌↔◌, ℕ, ◌+◌, ◌-◌, ◌*◌, ◌%◌, ◌^◌, ◌≤◌, ◌<◌, List, [], ◌∷◌, Bool, true, false, cond, leb, ltb, length, map, replicate, refl, sym, ap, ◌∙◌, arith, w8, bit_and, nat_eq, not, eqb-true, zip2, sel_l, mask_l, top, Each1, to_ascii_lowercase, to_ascii_uppercase, leb-true, leb-false, ltb-true, ltb-false, lowercase_is, uppercase_is, mask_l-mod, tops_compared, length-map, common_steps, suc, IsAscii, IsAscii-nil, IsAscii-cons}
+use Rattle.smol_str.proofs.Common.{◌≡◌, ◌↔◌, ℕ, ◌+◌, ◌-◌, ◌*◌, ◌%◌, ◌^◌, ◌≤◌, ◌<◌, List, [], ◌∷◌, Bool, true, false, cond, leb, ltb, length, map, replicate, refl, sym, ap, ◌∙◌, arith, w8, bit_and, nat_eq, not, eqb-true, zip2, sel_l, mask_l, top, Each1, to_ascii_lowercase, to_ascii_uppercase, leb-true, leb-false, ltb-true, ltb-false, lowercase_is, uppercase_is, mask_l-mod, tops_compared, length-map, common_steps, suc, IsAscii, IsAscii-nil, IsAscii-cons, rules}
 
 abbrev pub at_most_mask : ℕ → ℕ → ℕ
 at_most_mask a b = cond (leb a b) 255 0
@@ -18,10 +18,7 @@ module _ (a z : ℕ) (shift : ℕ → ℕ → ℕ) (f : ℕ → ℕ)
     (above : (x : ℕ) → z < x → f x ≡ x) where
   one_lane : (x : ℕ) (p q : Bool) → x < 256 → leb a x ≡ p → leb x z ≡ q
       → cond (top 7 (bit_and (cond p 255 0) (cond q 255 0))) (shift x 32) x ≡ f x
-  one_lane x true true small e g = inside x small (leb-true a x e) (leb-true x z g)
-  one_lane x true false small e g = sym (above x (leb-false x z g))
-  one_lane x false true small e g = sym (below x (leb-false a x e))
-  one_lane x false false small e g = sym (below x (leb-false a x e))
+  one_lane x p q small e g = search (rules, leb-true, leb-false)
 
   all_lanes : (xs : List ℕ) → Each1 (λ x. x < 256) xs
       → sel_l (map (top 7) (zip2 bit_and (zip2 at_most_mask (replicate (length xs) a) xs)
@@ -55,8 +52,7 @@ high_bitmask v n long small =
     ∙ mask_l-mod (map (ltb 127) v) 64 (omega (arith, length-map v (ltb 127)))
 
 mask_step : (b : Bool) (x : ℕ) (m : ℕ) → ltb 127 x ≡ b → cond b 1 0 + 2 * m ≡ 0 → (x < 128) × (m ≡ 0)
-mask_step true x m f e = absurd (omega arith)
-mask_step false x m f e = let h : x ≤ 127 = ltb-false 127 x f in (omega arith, omega arith)
+mask_step b x m f e = search (rules, ltb-false)
 
 low_from_mask : (xs : List ℕ) → mask_l (map (ltb 127) xs) ≡ 0 → IsAscii xs
 low_from_mask [] e = IsAscii-nil
@@ -64,12 +60,10 @@ low_from_mask (x ∷ xs) e = let h = mask_step (ltb 127 x) x (mask_l (map (ltb 1
     IsAscii-cons x xs h.0 (low_from_mask xs h.1)
 
 no_bit : (n : ℕ) (b : Bool) → nat_eq n 0 ≡ b → not b ≡ false → n ≡ 0
-no_bit n true e f = eqb-true n 0 e
-no_bit n false e f = absurd (cc)
+no_bit n b e f = search (rules, eqb-true)
 
 low_step : (b : Bool) (x m : ℕ) → ltb 127 x ≡ b → x < 128 → m ≡ 0 → cond b 1 0 + 2 * m ≡ 0
-low_step true x m f low e = absurd (omega (arith, ltb-true 127 x f))
-low_step false x m f low e = omega arith
+low_step b x m f low e = search (rules, ltb-true)
 
 mask_from_low : (xs : List ℕ) → IsAscii xs → mask_l (map (ltb 127) xs) ≡ 0
 mask_from_low [] low = refl

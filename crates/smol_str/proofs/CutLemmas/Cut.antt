@@ -239,8 +239,7 @@ concat_spell (suc n) (c ∷ t) = ap (λ s. c ∷ s) (concat_spell n t)
 
 -- one more piece of one character in front
 spelled_more : (c : ℕ) (xs : List (List ℕ)) → All One (but_last xs) → All One (but_last ((c ∷ []) ∷ xs))
-spelled_more c [] h = All-nil One
-spelled_more c (x ∷ xs) h = All-cons One (c ∷ []) (but_last (x ∷ xs)) refl h
+spelled_more c xs h = search (rules, All-nil, All-cons)
 
 spelled_spell : (n : ℕ) (t : List ℕ) → All One (but_last (spell n t))
 spelled_spell zero t = All-nil One
@@ -248,9 +247,7 @@ spelled_spell (suc n) [] = All-nil One
 spelled_spell (suc n) (c ∷ t) = spelled_more c (spell n t) (spelled_spell n t)
 
 pub IsCutBetween-cut : (n : ℕ) (t : List ℕ) → IsCutBetween t n (cut_between n t)
-IsCutBetween-cut zero t = search (rules, arith, append-nil)
-IsCutBetween-cut (suc n) t = search (rules, arith, length_spell, concat_spell, spelled_spell)
+IsCutBetween-cut n t = search (rules, append-nil, length_spell, concat_spell, spelled_spell)
 
 pub IsCut-cut : (t p : List ℕ) (n : ℕ) → IsCut t p n (cut t p n)
-IsCut-cut t [] n = IsCutBetween-cut n t
-IsCut-cut t (c ∷ p) n = IsCutAt-cut n (c ∷ p) t (omega arith)
+IsCut-cut t p n = search (rules, IsCutBetween-cut, IsCutAt-cut)

@@ -12,8 +12,7 @@ use Rattle.std.proofs.lemmas.Str.{IsUtf8-take}
 -- one byte is found as a needle of one byte
 pub one_byte : (hay nd : List ℕ) → length nd ≡ 1 → (r : Option ℕ) → IsFirstByte (is_byte (get_or nd 0 0)) hay r
     → FindsNeedle hay nd 0 r
-one_byte hay nd one None f = λ k low high o. f k low (omega arith) (byte-OccursAt hay nd one k o)
-one_byte hay nd one (Some at) f = grind (arith, common_steps, byte-OccursAt, OccursAt-byte)
+one_byte hay nd one r f = grind (arith, common_steps, byte-OccursAt, OccursAt-byte)
 
 -- characters that stand have bytes that stand
 chars_stand : (b p a r : List ℕ) → b ≡ a ++ (p ++ r) → OccursAt (encode_utf8_all b) (encode_utf8_all p) (size a)
@@ -189,11 +188,7 @@ module _ (bs nd : List ℕ) (i : ℕ) (u : IsUtf8 bs) (v : IsUtf8 nd) (some : 0 
     match = IsNextMatch-found bs nd i k u v some f before rest reads long
 
     pub is_first : (j : ℕ) → j ≡ i + k → IsFirstAfter (chars nd) (chars (take (j - i) (drop i bs)))
-    is_first j e =
-        let front = size-append before match.before in
-        let skipped = chars-take (drop i bs) match.before (chars nd ++ match.after) (j - i)
-        (IsUtf8-drop bs i u from_here) match.reads (omega (arith, front, match.index, long)) in
-        subst (IsFirstAfter (chars nd)) (sym skipped) match.first
+    is_first j e = search (rules, size-append, match, chars-take, IsUtf8-drop, from_here, reads, long)
 
     pub parts : (j : ℕ) → j ≡ i + k
         → chars bs ≡ chars (take j bs) ++ (chars nd ++ chars (drop (j + length nd) bs))

@@ -1,20 +1,17 @@
 -- For the laws of replacement: what replacing makes of a text.
-use Rattle.smol_str.proofs.Common.{◌≡◌, ℕ, ◌+◌, ◌-◌, ◌<◌, ◌≤◌, zero, suc, min, List, [], ◌∷◌, ◌++◌, Option, Some, None, false, option_map, unwrap_or, length, refl, sym, ap, ◌∙◌, arith, length-append, append-nil, ⊎_elim, cases_lt, nat_eq, concat, starts_with, Occurs, IsFirstAfter, joined_by, IsCutAt, IsCut, first_match, cut, cut_at, cut_between, no_limit, match_count, replaced, replaced_all, rules}
+use Rattle.smol_str.proofs.Common.{◌≡◌, ℕ, ◌+◌, ◌-◌, ◌<◌, ◌≤◌, zero, suc, min, List, [], ◌∷◌, ◌++◌, Option, Some, None, false, option_map, unwrap_or, length, refl, sym, ap, ◌∙◌, arith, length-append, append-nil, ⊎_elim, cases_lt, nat_eq, concat, starts_with, Occurs, IsFirstAfter, joined_by, IsCutAt, IsCut, first_match, cut, cut_at, cut_between, no_limit, match_count, replaced, replaced_all, rules, common_steps}
 use Rattle.std.proofs.lemmas.List.Concat.{concat_is}
 use Rattle.smol_str.proofs.CutLemmas.Cut.{joined_one, joined_more, IsCut-cut, IsCutAt-cut, IsCutBetween-cut, IsCut-unique, IsCutAt-step, IsCutAt-unmatched, starts_with-nowhere}
 
 joined_front : (p q : List ℕ) (pieces : List (List ℕ)) → 1 ≤ length pieces
     → joined_by p (q ∷ pieces) ≡ q ++ (p ++ joined_by p pieces)
-joined_front p q [] l = absurd (omega arith)
-joined_front p q (r ∷ rs) l = joined_more p q r rs
+joined_front p q pieces l = search (rules, joined_more)
 
 pub replaced-none : (t p w : List ℕ) → replaced t p w 0 ≡ t
-replaced-none t [] w = joined_one w t
-replaced-none t (c ∷ p) w = joined_one w t
+replaced-none t p w = search (rules, joined_one)
 
 joined_nothing : (pieces : List (List ℕ)) → joined_by [] pieces ≡ concat pieces
-joined_nothing [] = refl
-joined_nothing (q ∷ qs) = ap (λ s. q ++ s) (sym (concat_is qs))
+joined_nothing pieces = search (rules, concat_is)
 
 pub replaced-itself : (t p : List ℕ) (n : ℕ) → replaced t p p n ≡ t
 replaced-itself t [] n = joined_nothing (cut_between n t) ∙ (IsCutBetween-cut n t).joined
@@ -66,13 +63,11 @@ taken n p t o = unwrap_or (option_map (λ m. m.0 ∷ cut_at n p m.1) o) (t ∷ [
 kept_piece : (n c : ℕ) (p w t : List ℕ) (o : Option (List ℕ × List ℕ)) →
     joined_by w (taken n p (c ∷ t) (option_map (λ (m : List ℕ × List ℕ). (c ∷ m.0, m.1)) o))
     ≡ c ∷ joined_by w (taken n p t o)
-kept_piece n c p w t None = refl
-kept_piece n c p w t (Some m) = refl
+kept_piece n c p w t o = search rules
 
 kept_at : (n c : ℕ) (p w t : List ℕ) → starts_with nat_eq (c ∷ t) p ≡ false →
     joined_by w (cut_at n p (c ∷ t)) ≡ c ∷ joined_by w (cut_at n p t)
-kept_at zero c p w t e = refl
-kept_at (suc n) c p w t e = rw e (kept_piece n c p w t (first_match p t))
+kept_at n c p w t e = search (rules, kept_piece)
 
 pub replaced-passed : (c : ℕ) (t p w : List ℕ) (n : ℕ) → ((r : List ℕ) → ¬ (c ∷ t ≡ p ++ r)) →
     replaced (c ∷ t) p w n ≡ c ∷ replaced t p w n
@@ -102,8 +97,7 @@ count_at t (c ∷ p) n xs some is h below =
     (cases_lt (length xs) (n + 1))
 
 some_whole : (t p : List ℕ) → 1 ≤ length (cut t p (no_limit t))
-some_whole t [] = omega (arith, (IsCutBetween-cut (no_limit t) t).count)
-some_whole t (c ∷ p) = (IsCutAt-cut (no_limit t) (c ∷ p) t (omega arith)).some
+some_whole t p = search (rules, IsCutBetween-cut, IsCutAt-cut)
 
 count_below : (t p : List ℕ) (n : ℕ) → n < match_count t p → length (cut t p n) ≡ n + 1
 count_below t [] n below = omega (arith, (IsCutBetween-cut n t).count, (IsCutBetween-cut (no_limit t) t).count)
@@ -135,12 +129,10 @@ match_count-limit t p = omega (arith, length-cut t p (no_limit t))
 
 -- the empty pattern, a character at a time
 taken_between : (c : ℕ) (t w : List ℕ) (n : ℕ) → replaced (c ∷ t) [] w (suc n) ≡ w ++ (c ∷ replaced t [] w n)
-taken_between c t w zero = search (rules, arith, joined_more, joined_one)
-taken_between c t w (suc m) = search (rules, joined_more)
+taken_between c t w n = grind (arith, common_steps, joined_more, joined_one)
 
 taken_end : (w : List ℕ) (n : ℕ) → replaced [] [] w (suc n) ≡ w
-taken_end w zero = joined_more w [] [] [] ∙ append-nil w
-taken_end w (suc n) = joined_more w [] [] [] ∙ append-nil w
+taken_end w n = search (rules, joined_more, append-nil)
 
 pub replaced-between : (c : ℕ) (t w : List ℕ) (n : ℕ) → replaced (c ∷ t) [] w (n + 1) ≡ w ++ (c ∷ replaced t [] w n)
 replaced-between c t w n = search (rules, taken_between)

@@ -30,8 +30,7 @@ replacing-unmatched t p w n m b i h none = search (rules, arith, replaced-none, 
 pub replacing-found : (bs nd w : List ℕ) (n m : ℕ) (b : Draft) (i k : ℕ) (rest needle : List ℕ)
     (h : IsReplacing (chars bs) (chars nd) w n m b i) → IsUtf8 bs → IsUtf8 nd → 0 < length nd → rest ≡ drop i bs
     → needle ≡ nd → FindsNeedle rest needle 0 (Some k) → IsNextMatch h.done h.rest (chars nd) (i + k)
-replacing-found bs nd w n m b i k rest needle h u v some e f found =
-    IsNextMatch-found bs nd i k u v some (rw (e, f) at found) h.done h.rest h.parts h.at
+replacing-found bs nd w n m b i k rest needle h u v some e f found = search (rules, IsNextMatch-found)
 
 -- or there is none
 pub replacing-none : (bs nd w : List ℕ) (n m : ℕ) (b : Draft) (i : ℕ) (rest needle : List ℕ)

@@ -30,10 +30,7 @@ record LeadAndRest (c : ℕ) : Type 0 where
   follows : Follows rest
 
 lead_and_rest-form : (c : ℕ) → Form c → LeadAndRest c
-lead_and_rest-form c (one a e) = record { lead = c; rest = []; reads = e; leads = inl a; follows = tt }
-lead_and_rest-form c (two a b e) = search (rules, arith)
-lead_and_rest-form c (three a b e) = search (rules, arith)
-lead_and_rest-form c (four a e) = search (rules, arith)
+lead_and_rest-form c f = search rules
 
 lead_and_rest : (c : ℕ) → LeadAndRest c
 lead_and_rest c = lead_and_rest-form c (form c)

@@ -24,8 +24,7 @@ use Rattle.smol_str.proofs.WireLemmas.Stream.{IfErr-is, beginning-of_first, begi
 
 pub AfterFromWireFault-of_text : (b : List ℕ) (e : FromUtf8Fault) → ¬ HasEndedEarly b → AfterFromUtf8Fault (body b) e
     → AfterFromWireFault b (of_utf8_fault e)
-AfterFromWireFault-of_text b (BytesNotUtf8 e) whole h = (whole, h)
-AfterFromWireFault-of_text b NoMemoryForText whole (utf8, large) = (whole, utf8, large)
+AfterFromWireFault-of_text b e whole h = search rules
 
 -- a text that is not resident has more than INLINE_CAP bytes
 above_cap : (bytes : List ℕ) → IsUtf8 bytes → ¬ (IsResident (chars bytes)) → INLINE_CAP < length bytes
@@ -33,14 +32,7 @@ above_cap bytes u large = grind (arith, common_steps, size-chars, cases_lt)
 
 pub AfterBodyFault-of_text : (a b : Option (List ℕ)) (n : ℕ) (bytes : List ℕ) (e : FromUtf8Fault)
     → length bytes ≡ n → Consumes a b bytes → AfterFromUtf8Fault bytes e → AfterBodyFault a b n (of_utf8_fault e)
-AfterBodyFault-of_text a b n bytes (BytesNotUtf8 e) whole consumed h =
-    record { body = bytes; whole = whole; refused = h; bytes = consumed }
-AfterBodyFault-of_text a b n bytes NoMemoryForText whole consumed (utf8, large) =
-    let above = above_cap bytes utf8 large in (
-      omega arith,
-      (bytes, omega arith, omega arith, consumed),
-      λ _. record { body = bytes; whole = whole; utf8 = utf8; large = large; bytes = consumed },
-    )
+AfterBodyFault-of_text a b n bytes e whole consumed h = search (rules, above_cap)
 
 -- ---- writing: the size of a text as it is found, and the text's bytes
 
@@ -53,12 +45,7 @@ module _ (t prefix bytes : List ℕ) (is : bytes ≡ encode_utf8_all t)
   -- of a buffer behind the size, as much as the text has
   pub short-form : (form buffer : List ℕ) → form ≡ prefix ++ buffer → buffer ≡ padded (encode_utf8_all t)
       → take (4 + length bytes) form ≡ wire t
-  short-form form buffer e p =
-      let zeros : List ℕ = replicate (INLINE_CAP - length bytes) 0 in
-      let four : length prefix ≡ 4 = ap length said.1 in
-      let whole : form ≡ (prefix ++ bytes) ++ zeros = rw (e, p, ← is) (sym (append_assoc prefix bytes zeros)) in
-      let long : length (prefix ++ bytes) ≡ 4 + length bytes = omega (arith, four, length-append prefix bytes) in
-      rw whole (take_at (prefix ++ bytes) zeros (4 + length bytes) long) ∙ wire-parts
+  short-form form buffer e p = search (rules, append_assoc, length-append, take_at, wire-parts)
 
   pub Appends-parts : (a b c : Option (List ℕ)) → Appends a b prefix → Appends b c bytes → Appends a c (wire t)
   Appends-parts a b c p q = subst (Appends a c) wire-parts (Appends-trans a b c prefix bytes p q)
@@ -72,9 +59,7 @@ module _ (t prefix bytes : List ℕ) (is : bytes ≡ encode_utf8_all t)
 
     pub failed-in_short : (form buffer : List ℕ) → form ≡ prefix ++ buffer → buffer ≡ padded (encode_utf8_all t)
         → AppendsBeginning a c (take (4 + length bytes) form) → IfErr r (AfterEncodeFault (wire t) (HasWire t) a c)
-    failed-in_short form buffer e p h =
-        let written : take (4 + length bytes) form ≡ prefix ++ bytes = short-form form buffer e p ∙ sym wire-parts in
-        AfterEncodeFault-failed (rw written at h)
+    failed-in_short form buffer e p h = search (rules, short-form, wire-parts, AfterEncodeFault-failed)
 
     pub failed-in_prefix : AppendsBeginning a c prefix → IfErr r (AfterEncodeFault (wire t) (HasWire t) a c)
     failed-in_prefix p = AfterEncodeFault-failed (beginning-of_first prefix bytes a c p)
@@ -96,9 +81,7 @@ prefix_size_of_bytes b prefix n e is = sym (is ∙ ap (from_le_bytes w32) e)
 -- what is so of all that begins with some bytes is so of what a reader had, which gave them
 IfSome-begun : (P : List ℕ → Type 0) (a b : Option (List ℕ)) (bytes : List ℕ) → Consumes a b bytes
     → ((r : List ℕ) → P (bytes ++ r)) → IfSome a P
-IfSome-begun P None b bytes p h = tt
-IfSome-begun P (Some x) None bytes p h = absurd p
-IfSome-begun P (Some x) (Some y) bytes p h = subst P (sym p) (h y)
+IfSome-begun P a b bytes p h = search rules
 
 module _ (n : ℕ) (fits : n < 2 ^ 32) where
   -- bytes that begin with the size n
@@ -139,78 +122,51 @@ module _ (n : ℕ) (fits : n < 2 ^ 32) where
   -- and then fewer bytes
   ended-of_body : (a b c : Option (List ℕ)) → Consumes a b (to_le_bytes w32 n) → GaveAllBelow b c n
       → IfSome a HasEndedEarly × IsAtEnd c
-  ended-of_body None b c p q = (tt, q.3)
-  ended-of_body (Some x) None c p q = absurd p
-  ended-of_body (Some x) (Some y) None p q = absurd q.2
-  ended-of_body (Some x) (Some y) (Some z) p q = search (rules, append-nil, prefix_size-front, length_front)
+  ended-of_body a b c p q = search (rules, append-nil, prefix_size-front, length_front)
 
   -- and then fewer bytes, with others left
   pub early-of_body : (P : List ℕ → Type 0) → ((r : List ℕ) → P (to_le_bytes w32 n ++ r)) → (a b c : Option (List ℕ))
       → Consumes a b (to_le_bytes w32 n) → GaveBelow b c n → GaveTooFew a c P
-  early-of_body P holds a b c p (bs, short, consumed) =
-      let says = prefix_size-front bs in
-      let long = length_front bs in (
-        to_le_bytes w32 n ++ bs,
-        inr (omega arith),
-        holds bs,
-        Consumes-trans a b c (to_le_bytes w32 n) bs p consumed,
-      )
+  early-of_body P holds a b c p (bs, short, consumed) = (
+    to_le_bytes w32 n ++ bs,
+    inr (omega (arith, prefix_size-front bs, length_front bs)),
+    holds bs,
+    Consumes-trans a b c (to_le_bytes w32 n) bs p consumed,
+  )
 
   -- and then some bytes, n of them at the most
   within-of_body : (a b c : Option (List ℕ)) → Consumes a b (to_le_bytes w32 n) → GaveUpTo b c n → GaveSomeOfBody a c
-  within-of_body a b c p (bs, some, most, consumed) =
-      let says = prefix_size-front bs in
-      let long = length_front bs in (
-        to_le_bytes w32 n ++ bs,
-        omega arith,
-        omega arith,
-        Consumes-trans a b c (to_le_bytes w32 n) bs p consumed,
-      )
+  within-of_body a b c p (bs, some, most, consumed) = (
+    to_le_bytes w32 n ++ bs,
+    omega (arith, prefix_size-front bs, length_front bs),
+    omega (arith, prefix_size-front bs, length_front bs),
+    Consumes-trans a b c (to_le_bytes w32 n) bs p consumed,
+  )
 
   -- and then n bytes that are no text
-  refused_at : (x y bs z : List ℕ) (e : Utf8Error) → x ≡ to_le_bytes w32 n ++ y → y ≡ bs ++ z → length bs ≡ n
-      → IsRefusedBody bs e
-      → (¬ (HasEndedEarly x)) × IsRefusedBody (body x) e × (x ≡ take (4 + prefix_size x) x ++ z)
-  refused_at x y bs z e p q l other = grind (arith, common_steps, whole_front, body_front, append_assoc, taken_front)
+  refused-of_body : (a b c : Option (List ℕ)) (e : Utf8Error) → Consumes a b (to_le_bytes w32 n)
+      → AfterBodyFault b c n (NotUtf8 e) → AfterDecodeFault a c (NotUtf8 e)
+  refused-of_body a b c e p h = grind (arith, common_steps, whole_front, body_front, append_assoc, taken_front)
 
   -- and then n bytes that are a text for which there was no memory
-  large_at : (x y bs z : List ℕ) → x ≡ to_le_bytes w32 n ++ y → y ≡ bs ++ z → length bs ≡ n → IsUtf8 bs
-      → ¬ (IsResident (chars bs)) → NeedsMemory x × (x ≡ take (4 + prefix_size x) x ++ z)
-  large_at x y bs z p q l utf8 large = grind (arith, common_steps, whole_front, body_front, append_assoc, taken_front)
-
   long-of_body : (a b c : Option (List ℕ)) → Consumes a b (to_le_bytes w32 n)
       → (INLINE_CAP < n) × GaveUpTo b c n × (n ≤ STACK_BODY → HasReadLarge b c n)
       → IfSome a (λ x. (4 ≤ length x) × (INLINE_CAP < prefix_size x) × (prefix_size x ≤ STACK_BODY →
       NeedsMemory x × Consumes a c (take (4 + prefix_size x) x)))
-  long-of_body None b c p h = tt
-  long-of_body (Some x) None c p h = absurd p
-  long-of_body (Some x) (Some y) None p h = absurd h.1.3
-  long-of_body (Some x) (Some y) (Some z) p h =
-      let says : prefix_size x ≡ n = ap prefix_size p ∙ prefix_size-front y in
-      let long : length x ≡ 4 + length y = ap length p ∙ length_front y in
-      let above = h.0 in (
-        omega arith,
-        omega arith,
-        λ small. let all = h.2 (omega arith) in large_at x y all.body z p all.bytes all.whole all.utf8 all.large,
-      )
+  long-of_body a b c p h =
+      grind (arith, common_steps, prefix_size-front, length_front, whole_front, body_front, append_assoc, taken_front)
 
   pub AfterDecodeFault-of_body : (a b c : Option (List ℕ)) (fault : DecodeFault) → Consumes a b (to_le_bytes w32 n)
       → AfterBodyFault b c n fault → AfterDecodeFault a c fault
   AfterDecodeFault-of_body a b c Ended p h = ended-of_body a b c p h
-  AfterDecodeFault-of_body None b c (NotUtf8 e) p h = tt
-  AfterDecodeFault-of_body (Some x) None c (NotUtf8 e) p h = absurd p
-  AfterDecodeFault-of_body (Some x) (Some y) None (NotUtf8 e) p h = absurd h.bytes
-  AfterDecodeFault-of_body (Some x) (Some y) (Some z) (NotUtf8 e) p h =
-      refused_at x y h.body z e p h.bytes h.whole h.refused
+  AfterDecodeFault-of_body a b c (NotUtf8 e) p h = refused-of_body a b c e p h
   AfterDecodeFault-of_body a b c OutOfMemory p h = (long-of_body a b c p h, within-of_body a b c p h.1)
   AfterDecodeFault-of_body a b c (Io e) p h = early-of_body (λ bytes. ⊤) (λ r. tt) a b c p h
 
   -- with a limit below the size
   pub AfterLimitedFault-above : (a b : Option (List ℕ)) (limit : ℕ) → Consumes a b (to_le_bytes w32 n) → limit < n
       → AfterLimitedFault limit a b TooLong
-  AfterLimitedFault-above None b limit p h = tt
-  AfterLimitedFault-above (Some x) None limit p h = absurd p
-  AfterLimitedFault-above (Some x) (Some y) limit p h = search (rules, arith, prefix_size-front, length_front, take_at)
+  AfterLimitedFault-above a b limit p h = search (rules, prefix_size-front, length_front, take_at)
 
   -- and with one that is not
   states_within : (a b : Option (List ℕ)) (limit : ℕ) → Consumes a b (to_le_bytes w32 n) → n ≤ limit
@@ -220,8 +176,7 @@ module _ (n : ℕ) (fits : n < 2 ^ 32) where
   AfterLimitedFault-of_fault : (a b c : Option (List ℕ)) (limit : ℕ) (fault : DecodeFault)
       → Consumes a b (to_le_bytes w32 n) → n ≤ limit → AfterBodyFault b c n fault → AfterLimitedFault limit a c (Decode fault)
   AfterLimitedFault-of_fault a b c limit (Io e) p l h = search (rules, arith, early-of_body, prefix_size-front)
-  AfterLimitedFault-of_fault a b c limit fault p l h =
-      (AfterDecodeFault-of_body a b c fault p h, states_within a b limit p l)
+  AfterLimitedFault-of_fault a b c limit fault p l h = search (rules, AfterDecodeFault-of_body, states_within)
 
   pub AfterLimitedFault-of_body : {T : Type 0} (r : Result T LimitedFault) (a b c : Option (List ℕ)) (limit : ℕ)
       (fault : DecodeFault) → IsErrAnd r (λ f. f ≡ Decode fault) → Consumes a b (to_le_bytes w32 n) → n ≤ limit
