@@ -9,13 +9,26 @@ use Rattle.smol_str.proofs.CutLemmas.Replace.{replaced-none, replaced-matched, r
 use Rattle.smol_str.proofs.CutLemmas.Cut.{IsCut-cut, IsCut-unique}
 use Rattle.smol_str.proofs.TextLemmas.Split.{boundary-parts, chars-drop, chars-middle}
 
-pub replacing-boundary : (bs p w : List ℕ) (n m : ℕ) (b : Draft) (i : ℕ) → IsReplacing (chars bs) p w n m b i
-    → IsUtf8 bs → IsCharBoundary bs i
-replacing-boundary bs p w n m b i h u = boundary-parts bs h.done h.rest i u h.parts h.at
+first_char : (b : List ℕ) (r : Option ℕ) → r ≡ slice_get b 0 → MatchOption r (b ≡ []) (λ c. (s : List ℕ) × (b ≡ c ∷ s))
+first_char [] r e = rw e refl
+first_char (c ∷ s) r e = rw e (s, refl)
 
-pub replacing-inside : (bs p w : List ℕ) (n m : ℕ) (b : Draft) (i : ℕ) → IsReplacing (chars bs) p w n m b i
-    → IsUtf8 bs → i ≤ length bs
-replacing-inside bs p w n m b i h u = omega (arith, size-chars bs u, ap size h.parts, size-append h.done h.rest)
+-- in the text bs, with its first i bytes done
+module _ (bs p w : List ℕ) (n m : ℕ) (b : Draft) (i : ℕ) (h : IsReplacing (chars bs) p w n m b i) (u : IsUtf8 bs) where
+  pub replacing-boundary : IsCharBoundary bs i
+  replacing-boundary = boundary-parts bs h.done h.rest i u h.parts h.at
+
+  pub replacing-inside : i ≤ length bs
+  replacing-inside = omega (arith, size-chars bs u, ap size h.parts, size-append h.done h.rest)
+
+  -- the next character of the rest, or none
+  pub next-char : (rest : List ℕ) (r : Option ℕ) → rest ≡ drop i bs → r ≡ slice_get (chars rest) 0
+      → MatchOption r (h.rest ≡ []) (λ c. (s : List ℕ) × (h.rest ≡ c ∷ s))
+  next-char rest r e is = grind (arith, common_steps, first_char, chars-drop)
+
+  pub taken-inside : (c : ℕ) (r : List ℕ) → h.rest ≡ c ∷ r → i + len_utf8 c ≤ length bs
+  taken-inside c r reads =
+      omega (arith, ap size h.parts, size-append h.done h.rest, size-chars bs u, ap size reads, length-append (encode c) (encode_utf8_all r), length-encode c)
 
 -- nothing is replaced in a text without a match
 pub replacing-nothing : (t p w : List ℕ) (n : ℕ) (b : Draft) → b ≡ empty_draft InBuffer → ¬ Occurs p t → IsReplacing t p w n 0 b 0
@@ -143,21 +156,6 @@ module _ (t w : List ℕ) (n m l : ℕ) (b : Draft) (i : ℕ) (h : IsReplacing t
   pub before-refused : (rest : List ℕ) → h.rest ≡ rest → (appended b w).kind ≡ OnHeap → ¬ (IsShort (replaced t [] w n))
   before-refused [] e heap = end-refused e heap
   before-refused (c ∷ r) e heap = taken-refused c r e (appended-heap b w (c ∷ []) heap)
-
--- the next character of the rest, or none
-first_char : (b : List ℕ) (r : Option ℕ) → r ≡ slice_get b 0 → MatchOption r (b ≡ []) (λ c. (s : List ℕ) × (b ≡ c ∷ s))
-first_char [] r e = rw e refl
-first_char (c ∷ s) r e = rw e (s, refl)
-
-pub next-char : (bs p w : List ℕ) (n m : ℕ) (b : Draft) (i : ℕ) (rest : List ℕ) (r : Option ℕ)
-    (h : IsReplacing (chars bs) p w n m b i) → IsUtf8 bs → rest ≡ drop i bs → r ≡ slice_get (chars rest) 0
-    → MatchOption r (h.rest ≡ []) (λ c. (s : List ℕ) × (h.rest ≡ c ∷ s))
-next-char bs p w n m b i rest r h u e is = grind (arith, common_steps, first_char, chars-drop)
-
-pub taken-inside : (bs p w : List ℕ) (n m : ℕ) (b : Draft) (i : ℕ) (h : IsReplacing (chars bs) p w n m b i) (c : ℕ)
-    (r : List ℕ) → h.rest ≡ c ∷ r → IsUtf8 bs → i + len_utf8 c ≤ length bs
-taken-inside bs p w n m b i h c r reads u =
-    omega (arith, size-chars bs u, ap size h.parts, size-append h.done h.rest, ap size reads, length-append (encode c) (encode_utf8_all r), length-encode c)
 
 pub chars-empty : (bs : List ℕ) → length bs ≡ 0 → chars bs ≡ []
 chars-empty bs e = ap chars (nil_from_length bs e) ∙ chars-nil

@@ -1,5 +1,5 @@
 -- For `blank_slice` and the places: the constant's slices, and the test for a run.
-use Rattle.smol_str.proofs.Common.{◌≡◌, ℕ, zero, suc, ◌+◌, ◌-◌, ◌<◌, ◌≤◌, List, [], ◌∷◌, ◌++◌, length, take, drop, replicate, get_or, refl, ◌∙◌, ap, Bool, true, false, ◌==◌, arith, length-append, list_all, IsAscii, IsAscii-append, drop-append-le, drop-replicate, take-replicate, nat_tests, take-append-add, drop-append_seam, blank_run, leading_newlines, all_spaces, IsBlankRun, and_parts, common_steps, ◌⊎◌, rules}
+use Rattle.smol_str.proofs.Common.{◌≡◌, ℕ, zero, suc, ◌+◌, ◌-◌, ◌<◌, ◌≤◌, List, [], ◌∷◌, ◌++◌, length, take, drop, replicate, get_or, refl, ◌∙◌, ap, Bool, true, false, ◌==◌, arith, length-append, list_all, IsAscii, IsAscii-append, drop-append-le, drop-replicate, take-replicate, nat_tests, take-append-add, drop_at, blank_run, leading_newlines, all_spaces, IsBlankRun, and_parts, common_steps, ◌⊎◌, rules}
 use Rattle.std.proofs.Math.ListN.{length-replicate}
 use Rattle.smol_str.specs.declared.value.blank.TheConstants.{BLANK_NEWLINES, BLANK_SPACES}
 
@@ -17,17 +17,11 @@ IsAscii-blank_run a b = grind (arith, common_steps, IsAscii-append, get_or-same)
 -- the shorter run inside a longer one
 pub slice-blank_run : (n m a b : ℕ) → a ≤ n → b ≤ m → take (a + b) (drop (n - a) (blank_run n m)) ≡ blank_run a b
 slice-blank_run n m a b la lb =
-    let newlines : List ℕ = replicate n 10 in
-    let front : n - a ≤ length newlines = rw (length-replicate {A = ℕ} n 10) (omega arith) in
+    let front : n - a ≤ length (replicate {A = ℕ} n 10) = rw (length-replicate {A = ℕ} n 10) (omega arith) in
     let left : n - (n - a) ≡ a = omega arith in
-    let short : List ℕ = replicate a 10 in
-    let taken : take (length short + b) (short ++ replicate m 32) ≡ short ++ take b (replicate m 32) =
-    take-append-add short (replicate m 32) b in
-    let kept : take (a + b) (short ++ replicate m 32) ≡ short ++ take b (replicate m 32) =
-    rw (length-replicate {A = ℕ} a 10) at taken in
-    let spaces : take b (replicate {A = ℕ} m 32) ≡ replicate b 32 = take-replicate {X = ℕ} b m 32 lb in
+    let taken = take-append-add {A = ℕ} (replicate a 10) (replicate m 32) b in
     rw (drop-append-le (n - a) (replicate n 10) (replicate m 32) front, drop-replicate {X = ℕ} (n - a) n 10, left)
-    (kept ∙ ap (λ s. short ++ s) spaces)
+    (rw (length-replicate {A = ℕ} a 10, take-replicate {X = ℕ} b m 32 lb) at taken)
 
 same_char : (x k : ℕ) → (x == k) ≡ true → x ≡ k
 same_char x k h = grind (arith, nat_tests)
@@ -36,7 +30,7 @@ same_char x k h = grind (arith, nat_tests)
 all_same : (k : ℕ) (xs : List ℕ) → list_all (λ c. c == k) xs ≡ true → xs ≡ replicate (length xs) k
 all_same k [] h = refl
 all_same k (x ∷ xs) h =
-    let p : ((x == k) ≡ true) × (list_all (λ c. c == k) xs ≡ true) = and_parts (x == k) (list_all (λ c. c == k) xs) h in
+    let p = and_parts (x == k) (list_all (λ c. c == k) xs) h in
     rw (same_char x k p.0) (ap (λ t. k ∷ t) (all_same k xs p.1))
 
 all_same-replicate : (k n : ℕ) → (k == k) ≡ true → list_all (λ c. c == k) (replicate n k) ≡ true
@@ -56,14 +50,9 @@ from_tests_step : (x : ℕ) (xs : List ℕ) (b : Bool) → (x == 10) ≡ b →
 from_tests_step x xs true e rest h =
     let k : 1 + leading_newlines xs ≡ suc (leading_newlines xs) = omega arith in
     let d : suc (length xs) - suc (leading_newlines xs) ≡ length xs - leading_newlines xs = omega arith in
-    let tail : xs ≡ blank_run (leading_newlines xs) (length xs - leading_newlines xs) = rest (rw (e, k) at h) in
-    let all : x ∷ xs ≡ 10 ∷ blank_run (leading_newlines xs) (length xs - leading_newlines xs) =
-    rw (same_char x 10 e) (ap (λ t. 10 ∷ t) tail) in
-    rw (e, k, d) all
+    rw (e, k, d) (rw (same_char x 10 e) (ap (λ t. 10 ∷ t) (rest (rw (e, k) at h))))
 from_tests_step x xs false e rest h =
-    let all : x ∷ xs ≡ replicate (length (x ∷ xs)) 32 = all_same 32 (x ∷ xs) (rw e at h) in
-    let k : suc (length xs) - 0 ≡ suc (length xs) = omega arith in
-    rw (e, k) all
+    let k : suc (length xs) - 0 ≡ suc (length xs) = omega arith in rw (e, k) (all_same 32 (x ∷ xs) (rw e at h))
 
 -- newlines in front, and spaces behind them
 pub blank_run-from_tests : (t : List ℕ) → all_spaces (drop (leading_newlines t) t) ≡ true →
@@ -91,15 +80,12 @@ pub record Passes (t : List ℕ) : Type 0 where
 
 passes_at : (a b : ℕ) → a ≤ BLANK_NEWLINES → b ≤ BLANK_SPACES → Passes (blank_run a b)
 passes_at a b la lb =
-    let n : leading_newlines (blank_run a b) ≡ a = leading_newlines-blank_run a b in
-    let l : length (blank_run a b) ≡ a + b = length-blank_run a b in
-    let newlines : List ℕ = replicate a 10 in
-    let d : drop (length newlines) (newlines ++ replicate b 32) ≡ replicate b 32 =
-    drop-append_seam newlines (replicate b 32) in
+    let n = leading_newlines-blank_run a b in
     record {
       newlines = omega (arith, n);
-      spaces = omega (arith, n, l);
-      rest = rw n (rw (rw (length-replicate {A = ℕ} a 10) at d) (all_same-replicate 32 b refl));
+      spaces = omega (arith, n, length-blank_run a b);
+      rest =
+          rw (n, drop_at {A = ℕ} (replicate a 10) (replicate b 32) a (length-replicate a 10)) (all_same-replicate 32 b refl);
     }
 
 pub Passes-from_IsBlankRun : (t : List ℕ) → IsBlankRun t → Passes t

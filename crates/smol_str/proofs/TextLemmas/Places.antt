@@ -94,18 +94,10 @@ pub inline-short : (t : List ℕ) → place_of t ≡ Inline → IsShort t
 inline-short t inline = grind (arith, common_steps, place-cases)
 
 pub static-blank : (t : List ℕ) → place_of t ≡ Static → (¬ (IsShort t)) × IsBlankRun t
-static-blank t static =
-    elim (place-cases t) [
-      | inl h ↦ (let e = h.1 in absurd (cc))
-      | inr g ↦ elim g [ inl h ↦ (h.0, h.1) | inr h ↦ (let e = h.1 in absurd (cc)) ]
-    ]
+static-blank t static = let cases = place-cases t in search rules
 
 pub heap-not_resident : (t : List ℕ) → place_of t ≡ Heap → ¬ (IsResident t)
-heap-not_resident t heap =
-    elim (place-cases t) [
-      | inl h ↦ (let e = h.1 in absurd (cc))
-      | inr g ↦ elim g [ inl h ↦ (let e = h.2 in absurd (cc)) | inr h ↦ h.0 ]
-    ]
+heap-not_resident t heap = let cases = place-cases t in search rules
 
 -- two texts are equal exactly where their bytes are
 pub bytes_eq-texts : (s t : List ℕ) → pointwise nat_eq (encode_utf8_all s) (encode_utf8_all t) ≡ pointwise nat_eq s t

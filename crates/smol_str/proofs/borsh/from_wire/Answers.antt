@@ -1,4 +1,4 @@
-use Rattle.smol_str.proofs.Common.{◌≡◌, ◌<◌, ◌^◌, IsTrue, length, arith, sym, ap, ◌∙◌, subst, encode_utf8_all, all_scalars, encodes-chars, scalars-chars, All-from_get_or, Holds}
+use Rattle.smol_str.proofs.Common.{◌≡◌, ◌<◌, ◌^◌, IsTrue, length, arith, sym, ap, ◌∙◌, subst, encode_utf8_all, all_scalars, encodes-chars, scalars-chars, All-from_get_or, Holds, rules}
 use Rattle.smol_str.proofs.WireLemmas.Wire.{Holds-stated}
 use Rattle.smol_str.proofs.WireLemmas.Stream.{IfErr-is}
 use Rattle.smol_str.proofs.WireLemmas.Borsh.{AfterFromWireFault-of_text}
@@ -18,7 +18,4 @@ returns-clause-ok c =
     (Holds-stated b _ bytes c.in-Some.ensures.0 (sym c.in-Some.ensures.1 ∙ is) scalars)
 
 pub returns-in_err-value-clause-fault : goal.returns-in_err-value-clause-fault
-returns-in_err-value-clause-fault c =
-    IfErr-is _ _ _ c.from_residual.ensures.1
-    (AfterFromWireFault-of_text _ c.in_err-value.field-0.0 c.in-Some.ensures.0
-    (subst (λ found. AfterFromUtf8Fault found c.in_err-value.field-0.0) c.in-Some.ensures.1 c.in_err-value.ensures.fault))
+returns-in_err-value-clause-fault c = search (rules, IfErr-is, AfterFromWireFault-of_text)

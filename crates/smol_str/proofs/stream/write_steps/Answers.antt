@@ -1,12 +1,10 @@
-use Rattle.smol_str.proofs.Common.{◌≡◌, ℕ, ◌-◌, List, ◌++◌, length, take, drop, sym, ap, ◌∙◌, append_assoc, take-append-drop, take_rest, arith, common_steps, Appends-trans}
+use Rattle.smol_str.proofs.Common.{◌≡◌, ℕ, ◌-◌, List, ◌++◌, length, take, drop, sym, ap, ◌∙◌, append_assoc, take-append-drop, take_rest, arith, common_steps, Appends-trans, rules}
 use Rattle.smol_str.proofs.stream.write_steps.Goals as goal
 
 -- what a step takes from the front of the rest goes over to what is done
 moves_front : (all done rest : List ℕ) (n : ℕ) → all ≡ done ++ rest
     → all ≡ (done ++ take n rest) ++ take (length rest - n) (drop n rest)
-moves_front all done rest n e =
-    e ∙ ap (λ l. done ++ l) (sym (take-append-drop n rest)) ∙ sym (append_assoc done (take n rest) (drop n rest))
-    ∙ ap (λ l. (done ++ take n rest) ++ l) (sym (take_rest rest n))
+moves_front all done rest n e = search (rules, take-append-drop, append_assoc, take_rest)
 
 pub loop-rest-preserved : goal.loop-rest-preserved
 loop-rest-preserved g c =

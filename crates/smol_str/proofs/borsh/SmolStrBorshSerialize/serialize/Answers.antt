@@ -1,4 +1,4 @@
-use Rattle.smol_str.proofs.Common.{◌∙◌}
+use Rattle.smol_str.proofs.Common.{◌∙◌, rules}
 use Rattle.smol_str.proofs.WireLemmas.Borsh.{failed-in_short, failed-in_prefix, failed-in_bytes, short-form}
 use Rattle.smol_str.proofs.borsh.SmolStrBorshSerialize.serialize.Goals as goal
 
@@ -8,10 +8,7 @@ returns-in_err-write_steps-clause-fault g c =
     c.from_residual.ensures.1 _ _ c.short_form.ensures c.in-Some-inline_buffer.ensures.buffer c.in_err-write_steps.ensures.beginning
 
 pub returns-in-Some-inline_buffer-clause-ok : goal.returns-in-Some-inline_buffer-clause-ok
-returns-in-Some-inline_buffer-clause-ok g c =
-    let form = short-form _ _ _ (c.as_bytes-bytes.ensures.value ∙ c.as_str.ensures.bytes) c.in-Some.ensures _ _
-    c.short_form.ensures c.in-Some-inline_buffer.ensures.buffer in
-    rw form at c.in_ok-write_steps.ensures.ok
+returns-in-Some-inline_buffer-clause-ok g c = search (rules, short-form)
 
 pub returns-in_err-write_steps-2-clause-fault : goal.returns-in_err-write_steps-2-clause-fault
 returns-in_err-write_steps-2-clause-fault g c =

@@ -1,10 +1,9 @@
-use Rattle.smol_str.proofs.Common.{◌++◌, ◌∙◌, ap, chars, arith}
+use Rattle.smol_str.proofs.Common.{◌++◌, ◌∙◌, ap, chars, arith, rules}
 use Rattle.smol_str.proofs.BufferLemmas.Packed.{len-size, IsPacked-append, view-append}
 use Rattle.smol_str.proofs.buffer.InlineText.push_str.Goals as goal
 
 pub write_at-requires : goal.write_at-requires
-write_at-requires c =
-    omega (arith, len-size _ _ c.self.invariant c.self.view_is, c.as_bytes.ensures.len, c.requires)
+write_at-requires c = search (rules, len-size)
 
 pub invariant_of-self : goal.invariant_of-self
 invariant_of-self c =

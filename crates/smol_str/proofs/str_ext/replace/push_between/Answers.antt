@@ -16,7 +16,7 @@ range_from-requires c = λ _. replacing-boundary _ _ _ _ _ _ _ c.loop-passed.inv
 pub returns-in_default-clause-ok : goal.returns-in_default-clause-ok
 returns-in_default-clause-ok c =
     let h = c.loop-passed.invariant in
-    let none = next-char _ _ _ _ _ _ _ c.chars.result.rest.now None h c.utf8.text (search rules) c.in_default.ensures.steps.2 in
+    let none = next-char _ _ _ _ _ _ _ h c.utf8.text c.chars.result.rest.now None (search rules) c.in_default.ensures.steps.2 in
     taken-end _ _ _ _ (c.args.count - (c.loop-passed.passed + 1)) _ _ h (omega arith) none
     _ c.in_ok-push_str.ensures.ok
 
@@ -24,7 +24,7 @@ pub returns-in_err-push-clause-refused : goal.returns-in_err-push-clause-refused
 returns-in_err-push-clause-refused c =
     let h = c.loop-passed.invariant in
     let character = c.in-Some.character in
-    let next = next-char _ _ _ _ _ _ _ c.chars.result.rest.now (Some character) h c.utf8.text (search rules) c.in-Some.ensures.steps.2 in
+    let next = next-char _ _ _ _ _ _ _ h c.utf8.text c.chars.result.rest.now (Some character) (search rules) c.in-Some.ensures.steps.2 in
     OnErr-always c.from_residual-in_err-push.result _
     (taken-refused _ _ _ _ (c.args.count - (c.loop-passed.passed + 1)) _ _ h (omega arith)
     character next.0 next.1
@@ -32,18 +32,13 @@ returns-in_err-push-clause-refused c =
     c.in_ok-push_str.ensures.ok c.in_err-push.ensures.refused))
 
 pub overflow_add-index : goal.overflow_add-index
-overflow_add-index c =
-    let h = c.loop-passed.invariant in
-    let character = c.in-Some.character in
-    let next = next-char _ _ _ _ _ _ _ c.chars.result.rest.now (Some character) h c.utf8.text (search rules) c.in-Some.ensures.steps.2 in
-    let inside = taken-inside _ _ _ _ _ _ _ h character next.0 next.1 c.utf8.text in
-    omega arith
+overflow_add-index c = search (rules, next-char, taken-inside)
 
 pub loop-passed-preserved : goal.loop-passed-preserved
 loop-passed-preserved c =
     let h = c.loop-passed.invariant in
     let character = c.in-Some.character in
-    let next = next-char _ _ _ _ _ _ _ c.chars.result.rest.now (Some character) h c.utf8.text (search rules) c.in-Some.ensures.steps.2 in
+    let next = next-char _ _ _ _ _ _ _ h c.utf8.text c.chars.result.rest.now (Some character) (search rules) c.in-Some.ensures.steps.2 in
     let more = taken-step _ _ _ _ (c.args.count - (c.loop-passed.passed + 1)) _ _ h
     (omega arith) character next.0 next.1 _
     (appended-both c.loop-passed.builder c.push_str.new.self c.push.new.self (chars c.args.to.now) (character ∷ [])

@@ -1,4 +1,4 @@
-use Rattle.smol_str.proofs.Common.{◌+◌, ◌-◌, chars, arith}
+use Rattle.smol_str.proofs.Common.{◌+◌, ◌-◌, chars, arith, common_steps}
 use Rattle.smol_str.proofs.TextLemmas.Places.{OnErr-always}
 use Rattle.smol_str.proofs.BuilderLemmas.Push.{appended-heap}
 use Rattle.smol_str.proofs.CutLemmas.Replacing.{replacing-boundary, replacing-inside, replacing-found, replacing-none, appended-both, second-heap, match-boundary, match-end, match-piece, match-step, match-refused}
@@ -13,12 +13,7 @@ returns-in_default-clause-ok c =
     c.requires.search c.in_default.ensures
 
 pub overflow_add-found : goal.overflow_add-found
-overflow_add-found c =
-    let h = c.loop-taken.invariant in
-    let k = replacing-found _ _ _ _ _ _ _ _ _ _ h c.utf8.text c.utf8.from c.requires.some c.bytes_from.ensures
-    c.requires.search c.in-Some.ensures in
-    let inside = match-end _ _ _ _ _ _ _ _ h k c.utf8.text c.utf8.from in
-    omega arith
+overflow_add-found c = grind (arith, common_steps, replacing-found, match-end)
 
 pub range-requires-clause-start_boundary : goal.range-requires-clause-start_boundary
 range-requires-clause-start_boundary c = λ _. replacing-boundary _ _ _ _ _ _ _ c.loop-taken.invariant c.utf8.text
@@ -52,12 +47,7 @@ returns-in_err-push_str-2-clause-refused c =
     c.in_err-push_str-2.ensures.refused))
 
 pub overflow_add-index : goal.overflow_add-index
-overflow_add-index c =
-    let h = c.loop-taken.invariant in
-    let k = replacing-found _ _ _ _ _ _ _ _ _ _ h c.utf8.text c.utf8.from c.requires.some c.bytes_from.ensures
-    c.requires.search c.in-Some.ensures in
-    let inside = match-end _ _ _ _ _ _ _ _ h k c.utf8.text c.utf8.from in
-    omega arith
+overflow_add-index c = grind (arith, common_steps, replacing-found, match-end)
 
 pub loop-taken-preserved : goal.loop-taken-preserved
 loop-taken-preserved c =

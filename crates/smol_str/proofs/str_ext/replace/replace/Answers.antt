@@ -4,12 +4,10 @@ use Rattle.smol_str.proofs.CutLemmas.Replacing.{rest-whole}
 use Rattle.smol_str.proofs.str_ext.replace.replace.Goals as goal
 
 pub replace_byte-requires-clause-ascii_from : goal.replace_byte-requires-clause-ascii_from
-replace_byte-requires-clause-ascii_from c =
-    rw c.as_bytes.ensures.value ((one-byte c.args.from.now c.utf8.from c.if-from-eq1.true).low)
+replace_byte-requires-clause-ascii_from c = search (rules, one-byte)
 
 pub replace_byte-requires-clause-ascii_to : goal.replace_byte-requires-clause-ascii_to
-replace_byte-requires-clause-ascii_to c =
-    rw c.as_bytes-then-count-text.ensures.value ((one-byte c.args.to.now c.utf8.to c.if-to-eq1.true).low)
+replace_byte-requires-clause-ascii_to c = search (rules, one-byte)
 
 pub returns-then-count-text : goal.returns-then-count-text
 returns-then-count-text c = search (rules, one-byte, each-replaced) fits 60
