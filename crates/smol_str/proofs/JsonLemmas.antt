@@ -36,25 +36,20 @@ unfolding serde_json_on_literals
 read-nil = refl
 
 some_bytes : (bs : List ℕ) (d : json.Data) → read bs ≡ Some d → 0 < length bs
-some_bytes [] d e = let none = read-nil in absurd cc
-some_bytes (b ∷ bs) d e = omega arith
+some_bytes bs d e = grind (arith, common_steps, read-nil)
 
 -- a fault of the value that bytes read as
 AfterJsonFault-of_value : (bs : List ℕ) (d : json.Data) (fault : JsonFault) → read bs ≡ Some d → AfterValueFault d fault
     → AfterJsonFault bs fault
-AfterJsonFault-of_value bs d NotString e h = (d, e, h)
-AfterJsonFault-of_value bs d (Json x) e h = absurd h
-AfterJsonFault-of_value bs d OutOfMemory e h = some_bytes bs d e
+AfterJsonFault-of_value bs d fault e h = search (rules, some_bytes)
 
 pub AfterJsonFault-read : {T : Type 0} (r : Result T JsonFault) (bs : List ℕ) (d : json.Data) → read bs ≡ Some d
     → IfErr r (AfterValueFault d) → IfErr r (AfterJsonFault bs)
-AfterJsonFault-read (Ok v) bs d e h = tt
-AfterJsonFault-read (Err fault) bs d e h = AfterJsonFault-of_value bs d fault e h
+AfterJsonFault-read r bs d e h = search (rules, AfterJsonFault-of_value)
 
 pub IsJsonText-read : {E : Type 0} (r : Result Meaning E) (bs : List ℕ) (d : json.Data) → read bs ≡ Some d
     → IfOk r (IsJsonOf d) → IfOk r (λ v. IsJsonText bs v.text)
-IsJsonText-read (Ok v) bs d e h = e ∙ ap Some h.text
-IsJsonText-read (Err fault) bs d e h = tt
+IsJsonText-read r bs d e h = search rules
 
 pub ruleset read_texts = (IsJsonText-read, AfterJsonFault-read)
 

@@ -47,9 +47,7 @@ digits x y p b c h k =
     ]
 
 then-assoc : (a b c : Ordering) → ordering_then a (ordering_then b c) ≡ ordering_then (ordering_then a b) c
-then-assoc Less b c = refl
-then-assoc Equal b c = refl
-then-assoc Greater b c = refl
+then-assoc a b c = search rules
 
 big-order : (xs ys s t : List ℕ) → length xs ≡ length ys → AreBytes xs → AreBytes ys →
     slice_cmp nat_cmp (xs ++ s) (ys ++ t) ≡ ordering_then (nat_cmp (big xs) (big ys)) (slice_cmp nat_cmp s t)
@@ -106,9 +104,8 @@ order-same xs ys at a b h k l m e f same =
 -- the length behind a text decides where the texts are equal up to zeros
 behind : (ys : List ℕ) (m n k l : ℕ) → m ≡ length ys + n → k < l →
     slice_cmp nat_cmp (replicate m 0 ++ (k ∷ [])) ((ys ++ replicate n 0) ++ (l ∷ [])) ≡ Less
-behind [] m n k l e h = search (rules, slice_cmp-front, less_head)
-behind (y ∷ ys) zero n k l e h = absurd (omega arith)
 behind (y ∷ ys) (suc m) n k l e h = search (rules, cases_lt, less_head, same_head, behind ys m n k l (omega (arith, e)) h)
+behind ys m n k l e h = search (rules, slice_cmp-front, less_head)
 
 order-behind : (xs ys : List ℕ) (m n k l : ℕ) → length xs + m ≡ length ys + n → k + length ys ≡ l + length xs →
     slice_cmp nat_cmp ((xs ++ replicate m 0) ++ (k ∷ []))

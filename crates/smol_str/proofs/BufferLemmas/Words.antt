@@ -181,20 +181,7 @@ same_from found xs ys same found_so = same_from_decides found (pointwise nat_eq 
 
 -- a character's bytes
 bytes-form : (c : ℕ) → c < 1114112 → Form c → AreBytes (encode c)
-bytes-form c h (one a e) zero = rw e (omega arith)
-bytes-form c h (one a e) (suc i) = rw e (omega arith)
-bytes-form c h (two a b e) zero = rw e (omega arith)
-bytes-form c h (two a b e) (suc zero) = rw e (omega arith)
-bytes-form c h (two a b e) (suc (suc i)) = rw e (omega arith)
-bytes-form c h (three a b e) zero = rw e (omega arith)
-bytes-form c h (three a b e) (suc zero) = rw e (omega arith)
-bytes-form c h (three a b e) (suc (suc zero)) = rw e (omega arith)
-bytes-form c h (three a b e) (suc (suc (suc i))) = rw e (omega arith)
-bytes-form c h (four a e) zero = rw e (omega arith)
-bytes-form c h (four a e) (suc zero) = rw e (omega arith)
-bytes-form c h (four a e) (suc (suc zero)) = rw e (omega arith)
-bytes-form c h (four a e) (suc (suc (suc zero))) = rw e (omega arith)
-bytes-form c h (four a e) (suc (suc (suc (suc i)))) = rw e (omega arith)
+bytes-form c h f i = search rules
 
 pub bytes-encode : (c : ℕ) → c < 1114112 → AreBytes (encode c)
 bytes-encode c h i = bytes-form c h (form c) i

@@ -71,23 +71,17 @@ IsAscii-chars bs u = (
 
 pub ascii-told : (b : Bool) (bytes : List ℕ) → MatchBool b (IsAscii bytes) (IsNotAscii bytes)
     → IsAscii bytes → IsTrue b
-ascii-told true bytes told ascii = refl
-ascii-told false bytes told ascii = absurd (omega (arith, ascii told.0))
+ascii-told b bytes told ascii = search rules
 
 -- a character whose bytes begin past ASCII
 from_encode_past : (c : ℕ) (bs : List ℕ) → Form c → 128 ≤ get_or (encode c ++ bs) 0 0 → 128 ≤ c
-from_encode_past c bs (one h e) l = subst (λ (xs : List ℕ). 128 ≤ get_or (xs ++ bs) 0 0) e l
-from_encode_past c bs (two l h e) k = l
-from_encode_past c bs (three l h e) k = omega arith
-from_encode_past c bs (four l e) k = omega arith
+from_encode_past c bs f h = search rules
 
 begins_past : (t : List ℕ) → (0 < length (encode_utf8_all t) → 128 ≤ get_or (encode_utf8_all t) 0 0) → BeginsPastAscii t
-begins_past [] h = tt
-begins_past (c ∷ t) h = from_encode_past c (encode_utf8_all t) (form c) (h (omega (arith, length-le-encodes (c ∷ t))))
+begins_past t h = search (rules, from_encode_past, form, length-le-encodes)
 
 from_start : (xs : List ℕ) (n : ℕ) → slice_range xs 0 n ≡ take n xs
-from_start [] n = search (rules, arith)
-from_start (x ∷ xs) n = search (rules, arith)
+from_start xs n = search rules
 
 -- the first bytes are the front, where what follows begins past ASCII
 module _ (text : List ℕ) (at : ℕ) (u : IsUtf8 text) (f : IsAsciiFront text at)
@@ -151,10 +145,7 @@ scalar_below y small = grind (arith, nat_tests)
 
 module _ (f : ℕ → ℕ) (m : MovesAscii f) where
   encode-map : (c : ℕ) → Form c → encode (f c) ≡ map f (encode c)
-  encode-map c (one h e) = is_one (f c) (m.low c h) ∙ ap (map f) (sym e)
-  encode-map c (two l h e) = search (rules, arith)
-  encode-map c (three l h e) = search (rules, arith)
-  encode-map c (four l e) = search (rules, arith)
+  encode-map c h = search (rules, is_one)
 
   encodes-map : (t : List ℕ) → encode_utf8_all (map f t) ≡ map f (encode_utf8_all t)
   encodes-map [] = refl
@@ -194,8 +185,7 @@ map-packed f e bytes h = grind (arith, common_steps, map-append, map-zeros, set_
 -- ---- case
 
 letter-moves : (case : AsciiCase) → MovesAscii (letter case)
-letter-moves Lower = record { low = lowercase_ascii; others = λ c h. (lowercase_is c).2 (omega arith) }
-letter-moves Upper = record { low = uppercase_ascii; others = λ c h. (uppercase_is c).2 (omega arith) }
+letter-moves case = search (rules, lowercase_ascii, lowercase_is, uppercase_ascii, uppercase_is)
 
 pub size-converted : (case : AsciiCase) (t : List ℕ) → size (converted case t) ≡ size t
 size-converted case t =
@@ -205,8 +195,7 @@ pub IsAscii-converted : (case : AsciiCase) (a : List ℕ) → IsAscii a → IsAs
 IsAscii-converted case a h = IsAscii-map (letter case) a (letter-moves case).low h
 
 letter-zero : (case : AsciiCase) → letter case 0 ≡ 0
-letter-zero Lower = refl
-letter-zero Upper = refl
+letter-zero case = search rules
 
 pub chars-converted : (case : AsciiCase) (bs : List ℕ) → IsUtf8 bs →
     chars (converted case bs) ≡ converted case (chars bs)

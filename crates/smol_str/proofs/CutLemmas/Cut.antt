@@ -160,8 +160,6 @@ first_step : (p : List ℕ) (c : ℕ) (t : List ℕ) → 0 < length p → (b : B
     (o : Option (List ℕ × List ℕ))
     → MatchOption o (¬ Occurs p t) (First p t) →
     MatchOption (found_here p c t b o) (¬ Occurs p (c ∷ t)) (First p (c ∷ t))
-first_step p c t some true e o h = (starts_with-true p (c ∷ t) e, too_long p some)
-first_step p c t some false e None h = search (rules, arith, starts_with-false, occurs_cases)
 first_step p c t some false e (Some m) h = (
   ap (λ s. c ∷ s) h.0,
   λ o. ⊎_elim
@@ -171,6 +169,7 @@ first_step p c t some false e (Some m) h = (
       h.1
       (occurs_cases p c (m.0 ++ but_last p) o.0 o.1 o.2),
 )
+first_step p c t some b e o h = search (rules, starts_with-true, starts_with-false, occurs_cases, too_long)
 
 pub first_found : (p t : List ℕ) → 0 < length p → MatchOption (first_match p t) (¬ Occurs p t) (First p t)
 first_found p [] some = λ o. omega (arith, ap length o.2, length-append o.0 (p ++ o.1), length-append p o.1)

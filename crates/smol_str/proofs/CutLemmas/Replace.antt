@@ -19,9 +19,8 @@ replaced-itself t (c ∷ p) n = (IsCutAt-cut n (c ∷ p) t (omega arith)).joined
 
 -- each piece but one has a match behind it
 few_pieces : (p : List ℕ) (pieces : List (List ℕ)) → 0 < length p → length pieces ≤ length (joined_by p pieces) + 1
-few_pieces p [] some = omega arith
-few_pieces p (q ∷ []) some = omega arith
 few_pieces p (q ∷ r ∷ rs) some = search (rules, arith, joined_more, length-append, few_pieces p (r ∷ rs) some)
+few_pieces p pieces some = search rules
 
 raised_at : (t p : List ℕ) (m n : ℕ) (pieces : List (List ℕ)) → length pieces < m + 1 → length pieces - 1 ≤ n →
     IsCutAt t p m pieces → IsCutAt t p n pieces

@@ -47,22 +47,7 @@ digits4 k c d xs ys h = grind (arith, common_steps, split64, digits3, same_head,
 -- the bytes of the lower character come first
 less_forms : (c d : ℕ) (xs ys : List ℕ) → c < d → Form c → Form d →
     slice_cmp nat_cmp (encode c ++ xs) (encode d ++ ys) ≡ Less
-less_forms c d xs ys h (one a e) (one b f) = rw (e, f) (less_head c d xs ys h)
-less_forms c d xs ys h (one a e) (two b b' f) = rw (e, f) (less_head c (192 + d / 64) xs (next d ∷ ys) (omega arith))
-less_forms c d xs ys h (one a e) (three b b' f) = search (rules, arith, less_head)
-less_forms c d xs ys h (one a e) (four b f) = search (rules, arith, less_head)
-less_forms c d xs ys h (two a a' e) (one b f) = absurd (omega arith)
-less_forms c d xs ys h (two a a' e) (two b b' f) = rw (e, f) (digits2 192 c d xs ys h)
-less_forms c d xs ys h (two a a' e) (three b b' f) = search (rules, arith, less_head)
-less_forms c d xs ys h (two a a' e) (four b f) = search (rules, less_head)
-less_forms c d xs ys h (three a a' e) (one b f) = absurd (omega arith)
-less_forms c d xs ys h (three a a' e) (two b b' f) = absurd (omega arith)
-less_forms c d xs ys h (three a a' e) (three b b' f) = rw (e, f) (digits3 224 c d xs ys h)
-less_forms c d xs ys h (three a a' e) (four b f) = search (rules, less_head)
-less_forms c d xs ys h (four a e) (one b f) = absurd (omega arith)
-less_forms c d xs ys h (four a e) (two b b' f) = absurd (omega arith)
-less_forms c d xs ys h (four a e) (three b b' f) = absurd (omega arith)
-less_forms c d xs ys h (four a e) (four b f) = rw (e, f) (digits4 240 c d xs ys h)
+less_forms c d xs ys h f g = search (rules, less_head, digits2, digits3, digits4)
 
 encode-less : (c d : ℕ) (xs ys : List ℕ) → c < d → slice_cmp nat_cmp (encode c ++ xs) (encode d ++ ys) ≡ Less
 encode-less c d xs ys h = less_forms c d xs ys h (form c) (form d)
@@ -70,10 +55,7 @@ encode-less c d xs ys h = less_forms c d xs ys h (form c) (form d)
 -- a character has a byte
 some_bytes : (c : ℕ) (xs : List ℕ) → Form c →
     (slice_cmp nat_cmp [] (encode c ++ xs) ≡ Less) × (slice_cmp nat_cmp (encode c ++ xs) [] ≡ Greater)
-some_bytes c xs (one a e) = (rw e, rw e)
-some_bytes c xs (two a b e) = (rw e, rw e)
-some_bytes c xs (three a b e) = (rw e, rw e)
-some_bytes c xs (four a e) = (rw e, rw e)
+some_bytes c xs f = grind (arith, common_steps)
 
 pub order-texts : (s t : List ℕ) → slice_cmp nat_cmp (encodes s) (encodes t) ≡ slice_cmp nat_cmp s t
 order-texts [] [] = refl

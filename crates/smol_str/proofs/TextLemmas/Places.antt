@@ -41,8 +41,7 @@ IsBlankRun-bytes bs u r =
 
 -- no text is resident that is longer than the buffer, and whose bytes are no blank run
 pub not_resident : (bs : List ℕ) → IsUtf8 bs → INLINE_CAP < length bs → ¬ (IsBlankRun bs) → ¬ (IsResident (chars bs))
-not_resident bs u long other (inl short) = let s = size-chars bs u in omega (arith, s, short)
-not_resident bs u long other (inr run) = other (IsBlankRun-bytes bs u run)
+not_resident bs u long other resident = search (rules, size-chars, IsBlankRun-bytes)
 
 -- the test for a blank run
 le_test : (a b : ℕ) → Decides (nat_le a b) (a ≤ b)
@@ -65,8 +64,7 @@ unfolding place_of
 place_of-short t h = rw (is_short-true t h)
 
 no_test : (t : List ℕ) → ¬ (IsBlankRun t) → (b : Bool) → is_blank_run t ≡ b → b ≡ false
-no_test t h true e = absurd (h ((is_blank_run-Decides t).0 e))
-no_test t h false e = refl
+no_test t h b e = search (rules, is_blank_run-Decides)
 
 pub place_of-blank : (t : List ℕ) → ¬ (IsShort t) → IsBlankRun t → place_of t ≡ Static
 unfolding place_of
@@ -82,9 +80,8 @@ PlaceCases t = (IsShort t × (place_of t ≡ Inline)) ⊎ (((¬ (IsShort t)) × 
     ⊎ ((¬ (IsResident t)) × (place_of t ≡ Heap)))
 
 cases_by_tests : (t : List ℕ) (a b : Bool) → is_short t ≡ a → is_blank_run t ≡ b → PlaceCases t
-cases_by_tests t true b e f = let short : IsShort t = grind (arith, nat_tests) in inl (short, place_of-short t short)
-cases_by_tests t false true e f = search (rules, is_blank_run-Decides, is_short-true, place_of-blank)
-cases_by_tests t false false e f = grind (arith, common_steps, is_short-true, is_blank_run-Decides, place_of-heap)
+cases_by_tests t a b e f =
+    search (rules, nat_tests, place_of-short, is_blank_run-Decides, is_short-true, place_of-blank, place_of-heap)
 
 place-cases : (t : List ℕ) → PlaceCases t
 place-cases t = cases_by_tests t (is_short t) (is_blank_run t) refl refl
@@ -124,13 +121,11 @@ chars-one c bs u e = chars-of (c ∷ []) bs u (e ∙ sym (append-nil (encode_utf
 
 -- what holds anyway holds of an `Err`
 pub OnErr-always : {T E : Type 0} (r : Result T E) (P : Type 0) → P → OnErr r P
-OnErr-always (Ok x) P h = tt
-OnErr-always (Err e) P h = h
+OnErr-always r P h = search rules
 
 -- a fact for `Ok`, from the test
 pub OnOk-if : {T E : Type 0} (r : Result T E) (P : Type 0) → (is_ok r ≡ true → P) → OnOk r P
-OnOk-if (Ok x) P h = h refl
-OnOk-if (Err e) P h = tt
+OnOk-if r P h = search rules
 
 -- the bytes of a character
 pub short_encode : (c : ℕ) → length (encode_utf8 c) ≤ INLINE_CAP
