@@ -18,8 +18,7 @@ use Rattle.smol_tokens_core.specs.declared.fault.RunFault.{RunFault}
 use Rattle.smol_tokens_core.specs.declared.fault.RunFault.TheVariants.{NotUtf8, OutOfMemory, Full, Io}
 
 Keeps-itself : (known : Option (List ℕ)) → Keeps known known
-Keeps-itself None = tt
-Keeps-itself (Some bytes) = refl
+Keeps-itself known = search rules
 
 -- nothing was written
 abbrev unwritten : Option (List ℕ) → Option (List ℕ) → Option (List ℕ) → Streams
@@ -28,48 +27,24 @@ unwritten input left held = record { input = input; left = left; held = held; ho
 -- the input was not read to its end
 pub after-reading : (mode : Mode) (limit : ℕ) (input left held : Option (List ℕ)) (fault : ReadFault)
     → AfterReadFault limit input left fault → AfterFault mode (unwritten input left held) (of_read_fault fault)
-after-reading mode limit input left held reading.OutOfMemory (bytes, some, within, consumed) =
-    (Keeps-itself held, inl (bytes, some, consumed))
-after-reading mode limit input left held (reading.Io e) (bytes, short, consumed) =
-    inl (Keeps-itself held, (bytes, consumed))
+after-reading mode limit input left held fault h = search (rules, Keeps-itself)
 
 -- the whole input came, is a text, and there is no report on it: nothing was written
 pub after-no_report : (mode : Mode) (input left held : Option (List ℕ)) (bytes : List ℕ) (fault : RunFault)
     → IsAtEnd left → IfSome input (λ all. bytes ≡ all) → IsUtf8 bytes → HasNoReport mode (chars bytes) fault
     → AfterFault mode (unwritten input left held) fault
-after-no_report mode input left held bytes NotUtf8 end whole utf8 none = absurd none
-after-no_report mode input left held bytes OutOfMemory end whole utf8 none = (
-  Keeps-itself held,
-  inr (
-    end,
-    IfSome_then input whole (λ all same. subst (λ all. IsUtf8 all × WantsMemory mode (chars all)) same (utf8, none)),
-  ),
-)
-after-no_report mode input left held bytes Full end whole utf8 none = (
-  none.0,
-  end,
-  IfSome_then input whole
-      (λ all same. subst (λ all. IsUtf8 all × HasALineTooOften (chars all)) same (utf8, none.1)),
-  Keeps-itself held,
-)
-after-no_report mode input left held bytes (Io e) end whole utf8 none = absurd none
+after-no_report mode input left held bytes fault end whole utf8 none = search (rules, Keeps-itself, IfSome_then)
 
 -- the whole input came and is no text: nothing was written
 pub after-not_utf8 : (mode : Mode) (input left held : Option (List ℕ)) (bytes : List ℕ) → IsAtEnd left
     → IfSome input (λ all. bytes ≡ all) → ¬ (IsUtf8 bytes) → AfterFault mode (unwritten input left held) NotUtf8
-after-not_utf8 mode input left held bytes end whole none = (
-  end,
-  IfSome_then input whole (λ all same. subst (λ all. ¬ (IsUtf8 all)) same none),
-  Keeps-itself held,
-)
+after-not_utf8 mode input left held bytes end whole none = search (rules, IfSome_then, Keeps-itself)
 
 -- what holds of the bytes of the report holds of those that were written
 pub whole-report : (mode : Mode) (input : Option (List ℕ)) (bytes out : List ℕ) (P : List ℕ → Type 0)
     → IfSome input (λ all. bytes ≡ all) → IsUtf8 bytes → out ≡ encode_utf8_all (report mode (chars bytes)) → P out
     → IfSome input (λ all. IsUtf8 all × P (encode_utf8_all (report mode (chars all))))
-whole-report mode input bytes out P whole utf8 is written =
-    let R : List ℕ → Type 0 = λ all. IsUtf8 all × P (encode_utf8_all (report mode (chars all))) in
-    IfSome_then input whole (λ all same. subst R same (utf8, subst P is written))
+whole-report mode input bytes out P whole utf8 is written = search (rules, IfSome_then)
 
 -- memory was refused
 pub no_report-refused : {T : Type 0} (r : Result T RunFault) (mode : Mode) (t : List ℕ)
@@ -78,5 +53,4 @@ no_report-refused r mode t refused wants = search (rules, arith, err_from_is_err
 
 -- what holds anyway
 pub OnErr-from : {T E : Type 0} (P : Type 0) (r : Result T E) → P → OnErr r P
-OnErr-from P (Ok v) h = tt
-OnErr-from P (Err e) h = h
+OnErr-from P r h = search rules

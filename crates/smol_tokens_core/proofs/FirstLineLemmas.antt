@@ -1,5 +1,6 @@
 -- For `first_line`: cutting a text at its first newline.
-use Rattle.std.proofs.Common.{◌≡◌, ℕ, ◌<◌, ◌+◌, List, [], ◌∷◌, ◌++◌, length, take, drop, sym, ap, ◌∙◌, arith, encode_utf8_all, false, refl, append_assoc, append-nil}
+use Rattle.std.proofs.lemmas.Grind.{common_steps}
+use Rattle.std.proofs.Common.{◌≡◌, ℕ, ◌<◌, ◌+◌, List, [], ◌∷◌, ◌++◌, length, take, drop, sym, ap, ◌∙◌, arith, encode_utf8_all, false, refl, append_assoc, append-nil, rules}
 use Rattle.std.proofs.lemmas.Bool.{ne_eqb}
 use Rattle.std.proofs.lemmas.List.Elements.{All-nil, All-cons}
 use Rattle.std.specs.Prelude.{All}
@@ -19,8 +20,7 @@ none_newline (c ∷ cs) none =
     (none_newline cs (λ o. none (c ∷ o.0, o.1, ap (λ x. c ∷ x) o.2)))
 
 one_line : (cs : List ℕ) → ¬ Occurs newline cs → 0 < length (encode_utf8_all cs) → lines cs ≡ cs ∷ []
-one_line [] none some = absurd (omega arith)
-one_line (c ∷ cs) none some = lines-last (c ∷ cs) (none_newline (c ∷ cs) none)
+one_line cs none some = search (rules, lines-last, none_newline)
 
 -- the bytes of a newline
 pub chars-newline : chars newline ≡ newline
@@ -50,5 +50,4 @@ lines-split bs front back i u at is_front is_back =
     (lines-first a r (none_newline a (λ o. at.first (rw (append-nil a) o))))
 
 pub lines-none : (bs : List ℕ) → length bs ≡ 0 → lines (chars bs) ≡ []
-lines-none [] none = rw chars-nil lines-nil
-lines-none (b ∷ bs) none = absurd (omega arith)
+lines-none bs none = grind (arith, common_steps, chars-nil, lines-nil)

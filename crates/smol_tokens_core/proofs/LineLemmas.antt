@@ -14,8 +14,7 @@ use Rattle.smol_tokens_core.proofs.PieceLemmas.{lines-pieces, joined-pieces, lin
 -- a piece in front of others is no last one
 before : (q : List ℕ) (pieces : List (List ℕ)) → 0 < length pieces
     → without_empty_last (q ∷ pieces) ≡ q ∷ without_empty_last pieces
-before q [] some = absurd (omega arith)
-before q (r ∷ rs) some = refl
+before q pieces some = search rules
 
 -- what stands before the first newline is the first line
 pub lines-first : (q t : List ℕ) → All (λ c. is_newline c ≡ false) q → lines (q ++ 10 ∷ t) ≡ q ∷ lines t
@@ -33,17 +32,13 @@ pub lines-ended : (qs : List (List ℕ)) (q : List ℕ) → All HasNoNewline qs 
     → lines (ended qs ++ q) ≡ qs ++ without_empty_last (q ∷ [])
 lines-ended [] q h k = lines-last q (none_newline q k)
 lines-ended (r ∷ rs) q h k =
-    ap lines (append_assoc (r ++ newline) (ended rs) q ∙ append_assoc r newline (ended rs ++ q))
-    ∙ lines-first r (ended rs ++ q) (none_newline r (All-head HasNoNewline r rs h))
-    ∙ ap (λ s. r ∷ s) (lines-ended rs q (All-tail HasNoNewline r rs h) k)
+    search (rules, append_assoc, lines-first, none_newline, All-head, All-tail, lines-ended rs q (All-tail HasNoNewline r rs h) k)
 
 -- no line has a newline
 no_newline_step : (c : ℕ) (qs : List (List ℕ)) → (b : Bool) → (c == 10) ≡ b → All HasNoNewline qs
     → All HasNoNewline (cond b ([] ∷ qs) (onto_first c qs))
 no_newline_step c qs true e h = All-cons HasNoNewline [] qs (All-nil (λ c. c ≢ 10)) h
-no_newline_step c [] false e h =
-    All-cons HasNoNewline (c ∷ []) []
-    (All-cons (λ c. c ≢ 10) c [] (eqb-false c 10 e) (All-nil (λ c. c ≢ 10))) (All-nil HasNoNewline)
+no_newline_step c [] false e h = search (rules, All-cons, eqb-false, All-nil)
 no_newline_step c (q ∷ qs) false e h =
     All-cons HasNoNewline (c ∷ q) qs
     (All-cons (λ c. c ≢ 10) c q (eqb-false c 10 e) (All-head HasNoNewline q qs h)) (All-tail HasNoNewline q qs h)
@@ -64,8 +59,7 @@ joined_kept : (p : List ℕ) (qs : List (List ℕ)) → GivesBack p (without_emp
 joined_kept p [] = inl refl
 joined_kept p ([] ∷ []) = inl refl
 joined_kept p ((c ∷ q) ∷ []) = inl refl
-joined_kept p (q ∷ [] ∷ []) =
-    inr (ap (λ s. s ++ p) (append-nil q) ∙ ap (λ s. q ++ s) (sym (append-nil (p ++ []) ∙ append-nil p)))
+joined_kept p (q ∷ [] ∷ []) = search (rules, append-nil)
 joined_kept p (q ∷ (c ∷ r) ∷ []) = inl refl
 joined_kept p (q ∷ r ∷ s ∷ ss) = joined_step p q r (s ∷ ss) (without_empty_last (s ∷ ss)) (joined_kept p (r ∷ s ∷ ss))
 

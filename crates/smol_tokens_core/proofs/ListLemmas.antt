@@ -1,5 +1,5 @@
 -- For the lemmas of first sights and of tallies: filters, and lists of items with a number each.
-use Rattle.std.proofs.Common.{◌≡◌, ℕ, List, [], ◌∷◌, Bool, true, false, cond, map, refl, ap, sym, ◌∙◌, ⊎_elim}
+use Rattle.std.proofs.Common.{◌≡◌, ℕ, List, [], ◌∷◌, Bool, true, false, cond, map, refl, ap, sym, ◌∙◌, ⊎_elim, rules}
 use Rattle.std.specs.Prelude.{filter, All}
 use Rattle.std.proofs.lemmas.Bool.{cases_Bool}
 use Rattle.std.proofs.lemmas.List.Elements.{filter_passes, All-nil, All-cons, All-head, All-tail}
@@ -18,26 +18,14 @@ filter_no p x xs e = ap (λ b. cond b (x ∷ filter p xs) (filter p xs)) e
 -- where each item passes, all stay
 pub filter_all : {X : Type 0} (p : X → Bool) (xs : List X) → All (λ x. p x ≡ true) xs → filter p xs ≡ xs
 filter_all p [] h = refl
-filter_all p (x ∷ xs) h =
-    filter_yes p x xs (All-head (λ x. p x ≡ true) x xs h)
-    ∙ ap (λ s. x ∷ s) (filter_all p xs (All-tail (λ x. p x ≡ true) x xs h))
+filter_all p (x ∷ xs) h = search (rules, filter_yes, All-head, All-tail, filter_all p xs (All-tail (λ x. p x ≡ true) x xs h))
 
 pub filter_twice : {X : Type 0} (p : X → Bool) (xs : List X) → filter p (filter p xs) ≡ filter p xs
 filter_twice p xs = filter_all p (filter p xs) (filter_passes p xs)
 
 pub filter_swap : {X : Type 0} (p q : X → Bool) (xs : List X) → filter p (filter q xs) ≡ filter q (filter p xs)
 filter_swap p q [] = refl
-filter_swap p q (x ∷ xs) =
-    by_test (p x)
-    (λ e. by_test (q x)
-    (λ f. ap (filter p) (filter_yes q x xs f) ∙ filter_yes p x (filter q xs) e ∙ ap (λ s. x ∷ s) (filter_swap p q xs)
-    ∙ sym (filter_yes q x (filter p xs) f) ∙ ap (filter q) (sym (filter_yes p x xs e)))
-    (λ f. ap (filter p) (filter_no q x xs f) ∙ filter_swap p q xs
-    ∙ sym (filter_no q x (filter p xs) f) ∙ ap (filter q) (sym (filter_yes p x xs e))))
-    (λ e. by_test (q x)
-    (λ f. ap (filter p) (filter_yes q x xs f) ∙ filter_no p x (filter q xs) e
-    ∙ filter_swap p q xs ∙ ap (filter q) (sym (filter_no p x xs e)))
-    (λ f. ap (filter p) (filter_no q x xs f) ∙ filter_swap p q xs ∙ ap (filter q) (sym (filter_no p x xs e))))
+filter_swap p q (x ∷ xs) = search (rules, by_test, filter_yes, filter_no, filter_swap p q xs)
 
 -- each item with its number
 abbrev pub paired : {X : Type 0} → (X → ℕ) → List X → List (X × ℕ)
@@ -53,16 +41,9 @@ All-paired f (x ∷ xs) = All-cons (λ e. e.1 ≡ f e.0) (x, f x) (paired f xs) 
 
 pub paired_agree : {X : Type 0} (f g : X → ℕ) (xs : List X) → All (λ x. f x ≡ g x) xs → paired f xs ≡ paired g xs
 paired_agree f g [] h = refl
-paired_agree f g (x ∷ xs) h =
-    ap (λ n. (x, n) ∷ paired f xs) (All-head (λ x. f x ≡ g x) x xs h)
-    ∙ ap (λ s. (x, g x) ∷ s) (paired_agree f g xs (All-tail (λ x. f x ≡ g x) x xs h))
+paired_agree f g (x ∷ xs) h = search (rules, All-head, All-tail, paired_agree f g xs (All-tail (λ x. f x ≡ g x) x xs h))
 
 pub paired-filter : {X : Type 0} (f : X → ℕ) (p : X → Bool) (xs : List X)
     → paired f (filter p xs) ≡ filter (λ e. p e.0) (paired f xs)
 paired-filter f p [] = refl
-paired-filter f p (x ∷ xs) =
-    by_test (p x)
-    (λ e. ap (paired f) (filter_yes p x xs e) ∙ ap (λ s. (x, f x) ∷ s) (paired-filter f p xs)
-    ∙ sym (filter_yes (λ e. p e.0) (x, f x) (paired f xs) e))
-    (λ e. ap (paired f) (filter_no p x xs e) ∙ paired-filter f p xs
-    ∙ sym (filter_no (λ e. p e.0) (x, f x) (paired f xs) e))
+paired-filter f p (x ∷ xs) = search (rules, by_test, filter_yes, filter_no, paired-filter f p xs)

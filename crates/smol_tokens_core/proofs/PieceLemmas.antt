@@ -79,11 +79,7 @@ lines-IsCut t pieces h = lines-pieces t ∙ ap without_empty_last (sym (IsCut-pi
 from_tail : (c : ℕ) (pieces : List (List ℕ)) → 1 ≤ length pieces → (b : Bool)
     → without_empty_last (cond b ([] ∷ pieces) (onto_first c pieces))
     ≡ cond b ([] ∷ without_empty_last pieces) (onto_first c (without_empty_last pieces))
-from_tail c [] l b = absurd (omega arith)
-from_tail c (q ∷ rs) l true = refl
-from_tail c ([] ∷ []) l false = refl
-from_tail c ((d ∷ q) ∷ []) l false = refl
-from_tail c (q ∷ r ∷ rs) l false = refl
+from_tail c pieces l b = search rules
 
 pub lines-nil : lines [] ≡ []
 lines-nil = lines-pieces []

@@ -17,9 +17,7 @@ use Rattle.smol_tokens_core.specs.Report.{place_word, report_line, value_line, c
 
 encodes-place_word : (place : Place) → encode_utf8_all (place_word place) ≡ place_word place
 unfolding lib.Utf8.encode
-encodes-place_word Inline = refl
-encodes-place_word Static = refl
-encodes-place_word Heap = refl
+encodes-place_word place = search rules
 
 encodes-decimal : (n : ℕ) → n < 2 ^ 64 → encode_utf8_all (decimal n) ≡ decimal n
 encodes-decimal n small = encodes-IsAscii (decimal n) (IsAscii-decimal n small)

@@ -51,13 +51,7 @@ All-without t us = search (rules, arith, All-weaker, by_same, false≢true, filt
 sights_without : (x : List ℕ) (ys : List (List ℕ)) → first_sights (without x ys) ≡ without x (first_sights ys)
 sights_without x [] = refl
 sights_without x (y ∷ ys) =
-    by_same x y
-    (λ e. ap first_sights (without_here x y ys e) ∙ sights_without x ys ∙ sym (without_twice x (first_sights ys))
-    ∙ ap (λ z. without x (without z (first_sights ys))) (same_from x y e)
-    ∙ sym (without_here x y (without y (first_sights ys)) e))
-    (λ e. ap first_sights (without_other x y ys e) ∙ ap (λ s. y ∷ without y s) (sights_without x ys)
-    ∙ ap (λ s. y ∷ s) (without_swap y x (first_sights ys))
-    ∙ sym (without_other x y (without y (first_sights ys)) e))
+    search (rules, by_same, without_here, without_twice, same_from, without_other, without_swap, sights_without x ys)
 
 -- first sights of first sights and more
 pub sights_again : (xs ys : List (List ℕ)) → first_sights (first_sights xs ++ ys) ≡ first_sights (xs ++ ys)
@@ -88,6 +82,4 @@ new_after (t ∷ ts) vs = without t (new_after ts vs)
 pub sights-append : (ts us : List (List ℕ))
     → first_sights (ts ++ us) ≡ first_sights ts ++ new_after ts (first_sights us)
 sights-append [] us = refl
-sights-append (t ∷ ts) us =
-    ap (λ s. t ∷ without t s) (sights-append ts us)
-    ∙ ap (λ s. t ∷ s) (without-append t (first_sights ts) (new_after ts (first_sights us)))
+sights-append (t ∷ ts) us = search (rules, without-append, sights-append ts us)

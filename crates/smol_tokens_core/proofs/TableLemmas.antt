@@ -48,18 +48,13 @@ new_kept t (e ∷ es) h = filter_yes (λ e. not (is_same t e.0)) e es (ap not h.
 
 new_put : (t : List ℕ) (es : List (List ℕ × ℕ)) (v : ℕ) → IsNew t es → insert_entry is_same es t v ≡ es ++ (t, v) ∷ []
 new_put t [] v h = refl
-new_put t (e ∷ es) v h =
-    ap (λ b. cond b ((e.0, v) ∷ es) (e ∷ insert_entry is_same es t v)) h.0 ∙ ap (λ s. e ∷ s) (new_put t es v h.1)
+new_put t (e ∷ es) v h = search (rules, new_put t es v h.1)
 
 -- an entry for another token leaves a token new
 put_kept : (k t : List ℕ) (es : List (List ℕ × ℕ)) (v : ℕ) → is_same k t ≡ false → IsNew k es
     → IsNew k (insert_entry is_same es t v)
 put_kept k t [] v d h = (d, tt)
-put_kept k t (e ∷ es) v d h =
-    let Put : Bool → Type 0 = λ b. IsNew k (cond b ((e.0, v) ∷ es) (e ∷ insert_entry is_same es t v)) in
-    by_same t e.0
-    (λ x. subst Put (sym x) (h.0, h.1))
-    (λ x. subst Put (sym x) (h.0, put_kept k t es v d h.1))
+put_kept k t (e ∷ es) v d h = search (rules, by_same, put_kept k t es v d h.1)
 
 drop_last : (t k : List ℕ) (es : List (List ℕ × ℕ)) (v : ℕ) → k ≡ t → IsNew k es
     → without_token k (es ++ (t, v) ∷ []) ≡ es
@@ -73,56 +68,22 @@ had t es = unwrap_or (lookup (is_same t) es) 0
 stepped : (t : List ℕ) (n : ℕ) (e : List ℕ × ℕ) (es : List (List ℕ × ℕ)) (b : Bool) → is_same t e.0 ≡ b
     → insert_entry is_same (e ∷ es) t (had t (e ∷ es) + n)
     ≡ cond b ((e.0, e.1 + n) ∷ es) (e ∷ insert_entry is_same es t (had t es + n))
-stepped t n e es true x =
-    ap (λ b. cond b ((e.0, unwrap_or (cond b (Some e.1) (lookup (is_same t) es)) 0 + n) ∷ es)
-    (e ∷ insert_entry is_same es t (unwrap_or (cond b (Some e.1) (lookup (is_same t) es)) 0 + n))) x
-stepped t n e es false x =
-    ap (λ b. cond b ((e.0, unwrap_or (cond b (Some e.1) (lookup (is_same t) es)) 0 + n) ∷ es)
-    (e ∷ insert_entry is_same es t (unwrap_or (cond b (Some e.1) (lookup (is_same t) es)) 0 + n))) x
+stepped t n e es b x = search rules
 
 -- what a table is after one more entry
 put : (es : List (List ℕ × ℕ)) (t : List ℕ) (n : ℕ) → IsTable es
     → tally (es ++ (t, n) ∷ []) ≡ insert_entry is_same es t (had t es + n)
-put [] t n h =
-    let sum : times_of t ((t, n) ∷ []) ≡ 0 + n = omega (arith, times_here t (t, n) [] (is_same_itself t)) in
-    ap (λ m. (t, m) ∷ []) sum
+put [] t n h = search (rules, times_here, is_same_itself)
 put (e ∷ es) t n h =
-    by_same t e.0
-    (λ x.
-    let same : e.0 ≡ t = sym (same_from t e.0 x) in
-    let rest : without_token e.0 (tally (es ++ (t, n) ∷ [])) ≡ es =
-    ap (without_token e.0)
-    (put es t n h.1 ∙ new_put t es (had t es + n) (subst (λ k. IsNew k es) same h.0))
-    ∙ drop_last t e.0 es (had t es + n) same h.0 in
-    let here : times_of e.0 ((t, n) ∷ []) ≡ n + 0 =
-    times_here e.0 (t, n) [] (ap (λ k. is_same k t) same ∙ is_same_itself t) in
-    let sum : times_of e.0 (es ++ (t, n) ∷ []) ≡ n =
-    omega (arith, times-append e.0 es ((t, n) ∷ []), new_times e.0 es h.0, here) in
-    tally-cons e (es ++ (t, n) ∷ []) ∙ (λ i. (e.0, e.1 + sum i) ∷ rest i) ∙ sym (stepped t n e es true x))
-    (λ x.
-    let d : is_same e.0 t ≡ false = other_way t e.0 x in
-    let rest : without_token e.0 (tally (es ++ (t, n) ∷ [])) ≡ insert_entry is_same es t (had t es + n) =
-    ap (without_token e.0) (put es t n h.1)
-    ∙ new_kept e.0 (insert_entry is_same es t (had t es + n)) (put_kept e.0 t es (had t es + n) d h.0) in
-    let sum : e.1 + times_of e.0 (es ++ (t, n) ∷ []) ≡ e.1 =
-    omega (arith, times-append e.0 es ((t, n) ∷ []), new_times e.0 es h.0, times_other e.0 (t, n) [] d) in
-    tally-cons e (es ++ (t, n) ∷ []) ∙ (λ i. (e.0, sum i) ∷ rest i) ∙ sym (stepped t n e es false x))
+    search (rules, by_same, same_from, without_token, new_put, drop_last, times_here, is_same_itself, times-append, new_times, tally-cons, stepped, other_way, new_kept, put_kept, times_other, put es t n h.1)
 
 kept : (es : List (List ℕ × ℕ)) → IsTable es → tally es ≡ es
 kept [] h = refl
-kept (e ∷ es) h =
-    let sum : e.1 + times_of e.0 es ≡ e.1 = omega (arith, new_times e.0 es h.0) in
-    tally-cons e es ∙ (λ i. (e.0, sum i) ∷ without_token e.0 (kept es h.1 i)) ∙ ap (λ s. e ∷ s) (new_kept e.0 es h.0)
+kept (e ∷ es) h = search (rules, new_times, tally-cons, without_token, new_kept, kept es h.1)
 
 found : (t : List ℕ) (es : List (List ℕ × ℕ)) → IsTable es → had t es ≡ times_of t es
 found t [] h = refl
-found t (e ∷ es) h =
-    by_same t e.0
-    (λ x.
-    let none : times_of t es ≡ 0 = new_times t es (subst (λ k. IsNew k es) (sym (same_from t e.0 x)) h.0) in
-    ap (λ b. unwrap_or (cond b (Some e.1) (lookup (is_same t) es)) 0) x ∙ omega (arith, none, times_here t e es x))
-    (λ x. ap (λ b. unwrap_or (cond b (Some e.1) (lookup (is_same t) es)) 0) x ∙ found t es h.1
-    ∙ sym (times_other t e es x))
+found t (e ∷ es) h = search (rules, by_same, new_times, same_from, times_here, times_other, found t es h.1)
 
 pub tally-table : (es : List (List ℕ × ℕ)) → AllPairs (λ s u. s ≢ u) (tokens es) → tally es ≡ es
 tally-table es h = kept es (table_from es h)

@@ -32,11 +32,7 @@ times_other t e es h = omega (arith, times-cons t e es ∙ ap (λ b. cond b e.1 
 -- texts with a number each, without one text
 none_left : (f : List ℕ → ℕ) (t : List ℕ) (us : List (List ℕ)) → times_of t (paired f (without t us)) ≡ 0
 none_left f t [] = refl
-none_left f t (u ∷ us) =
-    by_same t u
-    (λ e. ap (λ s. times_of t (paired f s)) (without_here t u us e) ∙ none_left f t us)
-    (λ e. ap (λ s. times_of t (paired f s)) (without_other t u us e)
-    ∙ times_other t (u, f u) (paired f (without t us)) e ∙ none_left f t us)
+none_left f t (u ∷ us) = search (rules, by_same, paired, without_here, without_other, times_other, none_left f t us)
 
 others_left : (f : List ℕ → ℕ) (t k : List ℕ) (us : List (List ℕ)) → is_same t k ≡ false
     → times_of t (paired f (without k us)) ≡ times_of t (paired f us)
@@ -82,8 +78,7 @@ tokens_tally es = firsts-paired (λ u. times_of u es) (first_sights (tokens es))
 
 -- a tally of a tally and more
 pub tally-again : (es fs : List (List ℕ × ℕ)) → tally (tally es ++ fs) ≡ tally (es ++ fs)
-tally-again es fs =
-    search (rules, arith, times-append, times_of-tally, map-append, tokens_tally, sights_again, paired_agree, paired)
+tally-again es fs = search (rules, times-append, times_of-tally, map-append, tokens_tally, sights_again, paired_agree, paired)
 
 -- no token stands twice
 pub once-tally : (es : List (List ℕ × ℕ)) → AllPairs (λ s t. s ≢ t) (tokens (tally es))

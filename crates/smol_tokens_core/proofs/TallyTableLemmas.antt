@@ -24,8 +24,7 @@ lookup-by_text t (e ∷ es) = ap (cond (is_same t e.0.text) (Some e.1)) (lookup-
 insert_case : (b : Bool) (e : Meaning × ℕ) (es fs : List (Meaning × ℕ)) (n : ℕ) (gs : List (List ℕ × ℕ)) →
     by_text fs ≡ gs →
     by_text (cond b ((e.0, n) ∷ es) (e ∷ fs)) ≡ cond b ((e.0.text, n) ∷ by_text es) ((e.0.text, e.1) ∷ gs)
-insert_case true e es fs n gs h = refl
-insert_case false e es fs n gs h = ap (λ xs. (e.0.text, e.1) ∷ xs) h
+insert_case b e es fs n gs h = search rules
 
 -- an insert of a value is one of its text
 pub insert-by_text : (es : List (Meaning × ℕ)) (token : Meaning) (n : ℕ) →
@@ -50,15 +49,13 @@ HasEachOnce-tally pairs more is = rw is (once-tally pairs)
 
 found_case : (b : Bool) (t : List ℕ) (n : ℕ) (e : List ℕ × ℕ) (es fs : List (List ℕ × ℕ)) → is_same t e.0 ≡ b →
     lookup (is_same t) fs ≡ Some n → lookup (is_same t) (cond b ((e.0, n) ∷ es) (e ∷ fs)) ≡ Some n
-found_case true t n e es fs same h = ap (λ b. cond b (Some n) (lookup (is_same t) es)) same
-found_case false t n e es fs same h = ap (λ b. cond b (Some e.1) (lookup (is_same t) fs)) same ∙ h
+found_case b t n e es fs same h = search rules
 
 -- what was inserted is found
 pub lookup-insert : (pairs : List (List ℕ × ℕ)) (t : List ℕ) (n : ℕ) →
     lookup (is_same t) (insert_entry is_same pairs t n) ≡ Some n
 lookup-insert [] t n = ap (λ b. cond b (Some n) (lookup (is_same t) [])) ((bytes_eq-Decides t t).1 refl)
-lookup-insert (e ∷ es) t n =
-    found_case (is_same t e.0) t n e es (insert_entry is_same es t n) refl (lookup-insert es t n)
+lookup-insert (e ∷ es) t n = search (rules, found_case, lookup-insert es t n)
 
 -- by the text of a value, whatever its place
 abbrev pub is_text_of : Meaning → Meaning → Bool

@@ -1,4 +1,5 @@
 -- For `tally_lines`: lines counted one after another, and what a count that is full says of all lines.
+use Rattle.std.proofs.lemmas.Grind.{common_steps}
 use Rattle.std.proofs.Common.{◌≡◌, ℕ, ◌+◌, ◌<◌, ◌≤◌, ◌^◌, length, List, [], ◌∷◌, ◌++◌, cond, map, All, ⊎_elim, unwrap_or}
 use Rattle.std.proofs.Common.{refl, sym, ap, ◌∙◌, arith, rules}
 use Rattle.std.specs.Prelude.{count_by}
@@ -19,10 +20,7 @@ use Rattle.smol_tokens_core.proofs.TallyLemmas.{times_of-tally, counts-tally, ta
 pub times_of-seen_once : (t : List ℕ) (texts : List (List ℕ))
     → times_of t (seen_once texts) ≡ count_by (is_same t) texts
 times_of-seen_once t [] = refl
-times_of-seen_once t (u ∷ us) =
-    sum_by-cons (λ pair. cond (is_same t pair.0) pair.1 0) (u, 1) (seen_once us)
-    ∙ ap (λ n. cond (is_same t u) 1 0 + n) (times_of-seen_once t us)
-    ∙ sym (sum_by-cons (λ v. cond (is_same t v) 1 0) u us)
+times_of-seen_once t (u ∷ us) = search (rules, sum_by-cons, times_of-seen_once t us)
 
 -- one text more
 pub tally-seen : {A : Type 0} (f : A → List ℕ) (seen : List A) (x : A) (t : List ℕ) (old new : List (List ℕ × ℕ))
@@ -47,10 +45,7 @@ some_text (c ∷ cs) seen left rest line is next = omega arith
 -- and so is one whose lines have a count
 pub some_counts : (t : List ℕ) (counts : List (List ℕ × ℕ)) → counts ≡ tally (seen_once (lines t)) → 0 < length counts
     → 0 < length t
-some_counts [] counts is some =
-    let none : length counts ≡ 0 = ap length (is ∙ ap (λ l. tally (seen_once l)) lines-nil) in
-    absurd (omega (arith, none, some))
-some_counts (c ∷ cs) counts is some = omega arith
+some_counts text counts is some = grind (arith, common_steps, lines-nil)
 
 -- the lines so far with the one that was not counted are a front of the lines
 pub no_report-add : (t line : List ℕ) (seen rest left : List (List ℕ)) (old : List (List ℕ × ℕ))
@@ -73,9 +68,8 @@ no_report-add t line seen rest left old so_far is next full =
 lookup-below : (n : ℕ) (line : List ℕ) (es : List (List ℕ × ℕ)) → 0 < n → All (λ e. e.1 < n) es
     → unwrap_or (lookup (is_same line) es) 0 < n
 lookup-below n line [] some fit = some
-lookup-below n line (e ∷ es) some fit = by_same line e.0
-    (λ here. rw here (All-head (λ e. e.1 < n) e es fit))
-    (λ other. rw other (lookup-below n line es some (All-tail (λ e. e.1 < n) e es fit)))
+lookup-below n line (e ∷ es) some fit =
+    search (rules, by_same, All-head, All-tail, lookup-below n line es some (All-tail (λ e. e.1 < n) e es fit))
 
 pub no_line_too_often : (t : List ℕ) → All (λ e. e.1 < 2 ^ 64) (tally (seen_once (lines t))) → ¬ HasALineTooOften t
 no_line_too_often t fit = λ h.
