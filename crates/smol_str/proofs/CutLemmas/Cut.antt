@@ -41,15 +41,11 @@ One r = length r ≡ 1
 -- a text that begins with p, and goes on to a later match
 occurs_before : (p q x y : List ℕ) → 0 < length p → 0 < length q → p ++ x ≡ q ++ (p ++ y) → Occurs p (q ++ but_last p)
 occurs_before p q x y some more e =
-    let long : length p ≤ length (q ++ but_last p) = omega (arith, length-append q (but_last p), length_but_last p) in
-    let reads : take (length p) (q ++ but_last p) ≡ p =
-    sym (take-append-le (length p) (q ++ but_last p) (last_part p ++ y) long)
-    ∙ ap (take (length p)) (sym (e ∙ append-last_part p q y)) ∙ take_at p x (length p) refl in (
-      [],
-      drop (length p) (q ++ but_last p),
-      sym (take-append-drop (length p) (q ++ but_last p))
-          ∙ ap (λ s. s ++ drop (length p) (q ++ but_last p)) reads,
-    )
+    let s : List ℕ = q ++ but_last p in
+    let long : length p ≤ length s = omega (arith, length-append q (but_last p), length_but_last p) in
+    let reads : take (length p) s ≡ p =
+    cc (take-append-le (length p) s (last_part p ++ y) long, append-last_part p q y, take_at p x (length p) refl) in
+    ([], drop (length p) s, rw reads at (sym (take-append-drop (length p) s)))
 
 -- there is one first match
 pub one_first : (p q q' x y : List ℕ) → 0 < length p → q ++ (p ++ x) ≡ q' ++ (p ++ y) → IsFirstAfter p q →
@@ -99,19 +95,17 @@ IsCutAt-unique (q ∷ r ∷ rs) [] t p n some h k = absurd (omega arith)
 IsCutAt-unique (q ∷ r ∷ rs) (q' ∷ []) t p n some h k = search (rules, arith, joined_one, joined_more)
 IsCutAt-unique (q ∷ r ∷ rs) (q' ∷ r' ∷ rs') t p n some h k =
     let whole : q ++ (p ++ joined_by p (r ∷ rs)) ≡ q' ++ (p ++ joined_by p (r' ∷ rs')) =
-    sym (joined_more p q r rs) ∙ h.joined ∙ sym k.joined ∙ joined_more p q' r' rs' in
+    cc (joined_more p q r rs, joined_more p q' r' rs', h.joined, k.joined) in
     let same : q ≡ q' =
     one_first p q q' (joined_by p (r ∷ rs)) (joined_by p (r' ∷ rs')) some whole
     (All-head (IsFirstAfter p) q (but_last (r ∷ rs)) h.first)
     (All-head (IsFirstAfter p) q' (but_last (r' ∷ rs')) k.first) in
     let left : joined_by p (r' ∷ rs') ≡ joined_by p (r ∷ rs) =
-    append_cancel_left p (joined_by p (r' ∷ rs')) (joined_by p (r ∷ rs))
-    (append_cancel_left q (p ++ joined_by p (r' ∷ rs')) (p ++ joined_by p (r ∷ rs))
-    (ap (λ s. s ++ (p ++ joined_by p (r' ∷ rs'))) same ∙ sym whole)) in
+    append_cancel_left p _ _ (append_cancel_left q (p ++ joined_by p (r' ∷ rs')) (p ++ joined_by p (r ∷ rs)) (cc)) in
     let more : r ∷ rs ≡ r' ∷ rs' =
     IsCutAt-unique (r ∷ rs) (r' ∷ rs') (joined_by p (r ∷ rs)) p (n - 1) some (rest_cut t p n q r rs h)
-    (subst (λ (s : List ℕ). IsCutAt s p (n - 1) (r' ∷ rs')) left (rest_cut t p n q' r' rs' k)) in
-    ap (λ s. s ∷ r ∷ rs) same ∙ ap (λ s. q' ∷ s) more
+    (rw left at (rest_cut t p n q' r' rs' k)) in
+    cc
 
 -- a first match in front of a cut
 pub IsCutAt-step : (t p q r : List ℕ) (n : ℕ) (pieces : List (List ℕ)) → t ≡ q ++ (p ++ r) → IsFirstAfter p q →
@@ -198,16 +192,13 @@ one_spelling (x ∷ []) (y ∷ []) l h k e = ap (λ s. s ∷ []) (sym (append-ni
 one_spelling (x ∷ []) (y ∷ z ∷ ys) l h k e = absurd (omega arith)
 one_spelling (x ∷ w ∷ xs) (y ∷ []) l h k e = absurd (omega arith)
 one_spelling (x ∷ w ∷ xs) (y ∷ z ∷ ys) l h k e =
-    let n : length x ≡ length y = All-head One x (but_last (w ∷ xs)) h ∙ sym (All-head One y (but_last (z ∷ ys)) k) in
+    let n : length x ≡ length y = cc (All-head One x (but_last (w ∷ xs)) h, All-head One y (but_last (z ∷ ys)) k) in
     let same : x ≡ y =
-    sym (take_at x (concat (w ∷ xs)) (length x) refl) ∙ ap (take (length x)) e
-    ∙ take_at y (concat (z ∷ ys)) (length x) (sym n) in
-    let left : concat (w ∷ xs) ≡ concat (z ∷ ys) =
-    append_cancel_left x (concat (w ∷ xs)) (concat (z ∷ ys)) (e ∙ ap (λ s. s ++ concat (z ∷ ys)) (sym same)) in
-    ap (λ s. s ∷ w ∷ xs) same
-    ∙ ap (λ s. y ∷ s)
-    (one_spelling (w ∷ xs) (z ∷ ys) (omega arith) (All-tail One x (but_last (w ∷ xs)) h)
-    (All-tail One y (but_last (z ∷ ys)) k) left)
+    cc (take_at x (concat (w ∷ xs)) (length x) refl, take_at y (concat (z ∷ ys)) (length x) (sym n)) in
+    let left : concat (w ∷ xs) ≡ concat (z ∷ ys) = append_cancel_left x (concat (w ∷ xs)) (concat (z ∷ ys)) (cc) in
+    let rest = one_spelling (w ∷ xs) (z ∷ ys) (omega arith) (All-tail One x (but_last (w ∷ xs)) h)
+    (All-tail One y (but_last (z ∷ ys)) k) left in
+    cc
 
 one_between_at : (m : ℕ) (xs ys : List (List ℕ)) (t : List ℕ) → length xs ≡ m + 1 → length ys ≡ m + 1 →
     concat xs ≡ t → concat ys ≡ t → (0 < m → IsSpelled xs) → (0 < m → IsSpelled ys) → xs ≡ ys

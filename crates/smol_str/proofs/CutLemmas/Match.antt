@@ -34,13 +34,10 @@ earlier b p q r e some o =
       length_but_last p,
     ) in
     let whole : b ≡ u ++ (p ++ (v ++ (last_part p ++ r))) =
-    e ∙ append-last_part p q r ∙ ap (λ w. w ++ (last_part p ++ r)) o.2 ∙ append_assoc u (p ++ v) (last_part p ++ r)
-    ∙ ap (λ w. u ++ w) (append_assoc p v (last_part p ++ r)) in
+    cc (append-last_part p q r, o.2, append_assoc u (p ++ v) (last_part p ++ r), append_assoc p v (last_part p ++ r)) in
     let begins : take (length u) q ≡ u =
-    sym (take-append-le (length u) q (but_last p) (omega arith)) ∙ ap (take (length u)) o.2
-    ∙ take_at u (p ++ v) (length u) refl in
-    let two : q ≡ u ++ drop (length u) q = sym (take-append-drop (length u) q)
-    ∙ ap (λ w. w ++ drop (length u) q) begins in (
+    cc (take-append-le (length u) q (but_last p) (omega arith), o.2, take_at u (p ++ v) (length u) refl) in
+    let two = rw begins at (sym (take-append-drop (length u) q)) in (
       (u, v ++ (last_part p ++ r), whole),
       omega (
         arith,
@@ -64,8 +61,7 @@ module _ (a b p : List ℕ) (i : ℕ) where
       let bs = encode_utf8_all b in
       let nd = encode_utf8_all p in
       let y = drop (k + length nd) bs in
-      let reads : bs ≡ take k bs ++ (nd ++ y) = sym (take-append-drop k bs)
-      ∙ ap (λ xs. take k bs ++ xs) (OccursAt-split bs nd k f.1) in
+      let reads : bs ≡ take k bs ++ (nd ++ y) = cc (take-append-drop k bs, OccursAt-split bs nd k f.1) in
       let h = StandsBetween-bytes b p (take k bs) y some reads in
       let long : size h.0 ≡ k = ap length h.3 ∙ length-take-le k bs (omega arith) in
       record {
@@ -152,10 +148,9 @@ module _ (bs nd : List ℕ) (u : IsUtf8 bs) (v : IsUtf8 nd) (some : 0 < length n
   found-boundaries i k inside f =
       let rest = drop i bs in
       let y = drop (k + length nd) rest in
-      let found : rest ≡ take k rest ++ (nd ++ y) = sym (take-append-drop k rest)
-      ∙ ap (λ xs. take k rest ++ xs) (OccursAt-split rest nd k f.1) in
-      let reads : bs ≡ (take i bs ++ take k rest) ++ (nd ++ y) = sym (take-append-drop i bs)
-      ∙ ap (λ xs. take i bs ++ xs) found ∙ sym (append_assoc (take i bs) (take k rest) (nd ++ y)) in
+      let found : rest ≡ take k rest ++ (nd ++ y) = cc (take-append-drop k rest, OccursAt-split rest nd k f.1) in
+      let reads : bs ≡ (take i bs ++ take k rest) ++ (nd ++ y) =
+      cc (take-append-drop i bs, found, append_assoc (take i bs) (take k rest) (nd ++ y)) in
       let fits = f.1.fits in
       boundaries (take i bs ++ take k rest) y reads (i + k)
       (omega (arith, length-append (take i bs) (take k rest), length-take-le i bs inside, length-take-le k rest (omega (arith, fits))))
@@ -195,10 +190,9 @@ module _ (bs nd : List ℕ) (i : ℕ) (u : IsUtf8 bs) (v : IsUtf8 nd) (some : 0 
     parts j e =
         let a = before ++ match.before in
         let p = chars nd in
-        let whole : chars bs ≡ a ++ (p ++ match.after) =
-        reads ∙ ap (λ t. before ++ t) match.reads ∙ sym (append_assoc before match.before (p ++ match.after)) in
+        let whole : chars bs ≡ a ++ (p ++ match.after) = cc (reads, match.reads, append_assoc before match.before (p ++ match.after)) in
         let behind : chars bs ≡ (a ++ p) ++ match.after = whole ∙ sym (append_assoc a p match.after) in
         let first = chars-take bs a (p ++ match.after) j u whole (match.index ∙ sym e) in
         let last = chars-drop bs (a ++ p) match.after (j + length nd) u behind
         (omega (arith, size-append a p, size-chars nd v, match.index)) in
-        whole ∙ (λ n. sym first n ++ (p ++ sym last n))
+        rw (first, last) whole

@@ -19,14 +19,12 @@ prefix_size-wire t x h = search (rules, wire-append, take_at, from_le_bytes-to_l
 
 pub wire-apart : (s t x y : List ℕ) → HasWire s → HasWire t → wire s ++ x ≡ wire t ++ y → (s ≡ t) × (x ≡ y)
 wire-apart s t x y h k e =
-    let sizes : size s ≡ size t = sym (prefix_size-wire s x h) ∙ ap prefix_size e ∙ prefix_size-wire t y k in
+    let sizes : size s ≡ size t = cc (prefix_size-wire s x h, prefix_size-wire t y k) in
     let rest : encode_utf8_all s ++ x ≡ encode_utf8_all t ++ y =
-    append_cancel_left (to_le_bytes w32 (size s)) (encode_utf8_all s ++ x) (encode_utf8_all t ++ y)
-    (sym (wire-append s x) ∙ e ∙ wire-append t y ∙ ap (λ n. to_le_bytes w32 n ++ (encode_utf8_all t ++ y)) (sym sizes)) in
+    append_cancel_left (to_le_bytes w32 (size s)) _ _ (cc (wire-append s x, wire-append t y)) in
     let bytes : encode_utf8_all s ≡ encode_utf8_all t =
-    sym (take_at (encode_utf8_all s) x (size s) refl) ∙ ap (take (size s)) rest
-    ∙ take_at (encode_utf8_all t) y (size s) (sym sizes) in
-    (encodes_same s t bytes, append_cancel_left (encode_utf8_all s) x y (rest ∙ ap (λ b. b ++ y) (sym bytes)))
+    cc (take_at (encode_utf8_all s) x (size s) refl, take_at (encode_utf8_all t) y (size s) (sym sizes)) in
+    (encodes_same s t bytes, append_cancel_left (encode_utf8_all s) x y (cc))
 
 -- what is held, and what follows it
 pub wire-held : (b t : List ℕ) (n : ℕ) → Holds b t n → b ≡ wire t ++ drop n b

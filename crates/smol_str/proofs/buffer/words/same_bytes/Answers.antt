@@ -32,7 +32,7 @@ returns c =
     let first = c.same_two-2.ensures.0 c.if-not-same_two.false in
     let eight = more-same xs ys 0 xb yb (omega (arith, some)) (omega (arith, some, long)) refl first.0 in
     let front = more-same xs ys 8 xb yb (omega (arith, some)) (omega (arith, some, long)) eight first.1 in
-    let before : take at xs ≡ take at ys = sym (take-take at 16 xs near) ∙ ap (take at) front ∙ take-take at 16 ys near in
+    let before : take at xs ≡ take at ys = cc (take-take at 16 xs near, take-take at 16 ys near) in
     same_from c.same_two-3.result xs ys
     (λ found.
     let words = c.same_two-3.ensures.0 found in
