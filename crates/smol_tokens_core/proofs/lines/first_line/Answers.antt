@@ -15,6 +15,4 @@ returns-in-Some-clause-cut c =
     (rw chars-newline at at) (search rules) (search rules)
 
 pub returns-in-None-clause-cut : goal.returns-in-None-clause-cut
-returns-in-None-clause-cut c =
-    let none = (c.in-None.ensures.none [] (chars c.args.text.now) refl refl).0 refl in
-    rw (chars-nil, lines-nil) (lines-one c.args.text.now c.utf8.text (search rules) (rw chars-newline at none))
+returns-in-None-clause-cut c = search (rules, chars-nil, lines-nil, lines-one, chars-newline)

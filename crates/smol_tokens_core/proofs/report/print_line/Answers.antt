@@ -4,7 +4,4 @@ use Rattle.smol_tokens_core.proofs.ReportLemmas.{encodes-report_line}
 use Rattle.smol_tokens_core.proofs.report.print_line.Goals as goal
 
 pub returns : goal.returns
-returns c =
-    let v = c.args.value.now in
-    let small : size v.text < 2 ^ 64 = omega arith in
-    rw (encodes-report_line v.place (size v.text) v.text small) (search rules)
+returns c = search (rules, encodes-report_line)

@@ -1,4 +1,4 @@
-use Rattle.std.proofs.Common.{inr}
+use Rattle.std.proofs.Common.{inr, rules}
 use Rattle.std.specs.Io.KnownBytes.{Appends}
 use Rattle.std.proofs.lemmas.Result.{err_from_is_err_and}
 use Rattle.smol_str.specs.Stream.{AppendsBeginning}
@@ -6,17 +6,10 @@ use Rattle.smol_tokens_core.proofs.FaultLemmas.{after-reading, after-not_utf8, a
 use Rattle.smol_tokens_core.proofs.run.run.Goals as goal
 
 pub returns-in_err-input-clause-fault : goal.returns-in_err-input-clause-fault
-returns-in_err-input-clause-fault g c =
-    let refused = err_from_is_err_and c.from_residual.result c.from_residual.ensures.1 in
-    rw (refused.1, refused.2)
-    (after-reading c.args.mode _ (g.R.Read.remaining c.args.reader.now) (g.R.Read.remaining c.read_all.new.reader)
-    (g.W.Write.contents c.args.writer.now) c.in_err-input.field-0.0 c.in_err-input.ensures.fault)
+returns-in_err-input-clause-fault g c = search (rules, err_from_is_err_and, after-reading)
 
 pub returns-in_default-clause-fault : goal.returns-in_default-clause-fault
-returns-in_default-clause-fault g c =
-    after-not_utf8 c.args.mode (g.R.Read.remaining c.args.reader.now) (g.R.Read.remaining c.read_all.new.reader)
-    (g.W.Write.contents c.args.writer.now) c.in_ok-input.input.items c.in_ok-input.ensures.end
-    c.in_ok-input.ensures.whole (rw c.as_slice.ensures.value at c.in_default.ensures.cases.0)
+returns-in_default-clause-fault g c = search (rules, after-not_utf8)
 
 pub returns-in_err-report-clause-fault : goal.returns-in_err-report-clause-fault
 returns-in_err-report-clause-fault g c =
@@ -28,25 +21,7 @@ returns-in_err-report-clause-fault g c =
     c.in_ok-input.ensures.whole text.1 (rw text.0 at c.in_err-report.ensures.fault))
 
 pub returns-in_err-write_steps-clause-fault : goal.returns-in_err-write_steps-clause-fault
-returns-in_err-write_steps-clause-fault g c =
-    let failed = err_from_is_err_and c.from_residual-in_err-write_steps.result
-    c.from_residual-in_err-write_steps.ensures.1 in
-    let holds = AppendsBeginning (g.W.Write.contents c.args.writer.now) (g.W.Write.contents c.write_steps.new.writer) in
-    let wrote = rw c.as_bytes.ensures.value at c.in_err-write_steps.ensures.beginning in
-    let text = rw c.as_slice.ensures.value at c.in-Ok.ensures.cases in
-    rw (failed.1, failed.2)
-    (inr (
-      c.in_ok-input.ensures.end,
-      whole-report c.args.mode _ c.in_ok-input.input.items _ holds c.in_ok-input.ensures.whole text.1
-          (rw text.0 at c.in_ok-report.ensures.ok) wrote,
-    ))
+returns-in_err-write_steps-clause-fault g c = search (rules, err_from_is_err_and, whole-report)
 
 pub returns-clause-ok : goal.returns-clause-ok
-returns-clause-ok g c =
-    let holds = Appends (g.W.Write.contents c.args.writer.now) (g.W.Write.contents c.write_steps.new.writer) in
-    let wrote = rw c.as_bytes.ensures.value at c.in_ok-write_steps.ensures.ok in
-    let text = rw c.as_slice.ensures.value at c.in-Ok.ensures.cases in (
-      c.in_ok-input.ensures.end,
-      whole-report c.args.mode _ c.in_ok-input.input.items _ holds c.in_ok-input.ensures.whole text.1
-          (rw text.0 at c.in_ok-report.ensures.ok) wrote,
-    )
+returns-clause-ok g c = search (rules, whole-report)

@@ -1,16 +1,12 @@
-use Rattle.std.proofs.Common.{map, refl, inr, ◌∙◌}
+use Rattle.std.proofs.lemmas.Grind.{common_steps}
+use Rattle.std.proofs.Common.{map, refl, inr, ◌∙◌, arith}
 use Rattle.std.specs.Str.{chars}
 use Rattle.smol_tokens_core.proofs.FaultLemmas.{no_report-refused}
 use Rattle.smol_tokens_core.proofs.TokenLemmas.{tally-seen, lines-seen, some_text, no_report-add}
 use Rattle.smol_tokens_core.proofs.tokens.tally_lines.Goals as goal
 
 pub loop-line-preserved-in-Counted : goal.loop-line-preserved-in-Counted
-loop-line-preserved-in-Counted g c =
-    let counted = rw c.in-Counted.is at c.add_again.ensures in (
-      tally-seen (λ line. chars line.now) c.loop-line.yielded c.in-Some.line _ _ _ c.loop-line.invariant.0 refl counted.0,
-      lines-seen (λ line. chars line.now) c.loop-line.yielded c.in-Some.line _ _ _ c.loop-line.invariant.1
-          c.in-Some.ensures.steps,
-    )
+loop-line-preserved-in-Counted g c = grind (arith, common_steps, tally-seen, lines-seen)
 
 pub returns-in-Full-clause-fault : goal.returns-in-Full-clause-fault
 returns-in-Full-clause-fault g c =
