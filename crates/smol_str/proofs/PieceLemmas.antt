@@ -50,9 +50,7 @@ joined-nothing (q ∷ r ∷ rs) = ap (λ x. q ++ x) (joined-nothing (r ∷ rs)) 
 module _ (w nd : List ℕ) (u : IsUtf8 w) (v : IsUtf8 nd) (some : 0 < length nd) where
   -- characters that stand have bytes that stand
   there : (a r : List ℕ) → chars w ≡ a ++ (chars nd ++ r) → drop (size a) w ≡ nd ++ encode_utf8_all r
-  there a r e =
-      drop-parts w a (chars nd ++ r) (size a) u e refl ∙ encodes-append (chars nd) r
-      ∙ ap (λ x. x ++ encode_utf8_all r) (encodes-chars nd v)
+  there a r e = cc (drop-parts w a (chars nd ++ r) (size a) u e refl, encodes-append (chars nd) r, encodes-chars nd v)
 
   within : (a r : List ℕ) → chars w ≡ a ++ (chars nd ++ r) → size a ≤ length w
   within a r e = omega (arith, ap length (there a r e), length-append nd (encode_utf8_all r), length-drop (size a) w)
@@ -75,8 +73,7 @@ module _ (w nd : List ℕ) (u : IsUtf8 w) (v : IsUtf8 nd) (some : 0 < length nd)
       let p = chars nd in
       let long = some_char nd v some in
       let bytes : encode_utf8_all (chars w) ≡ take i w ++ (encode_utf8_all p ++ drop j w) =
-      encodes-chars w u ∙ sym (take-append-drop i w)
-      ∙ ap (λ x. take i w ++ x) (at.split ∙ ap (λ x. x ++ drop j w) (sym (encodes-chars nd v))) in
+      cc (encodes-chars w u, take-append-drop i w, at.split, encodes-chars nd v) in
       let h = StandsBetween-bytes (chars w) p (take i w) (drop j w) long bytes in
       let fits : i ≤ length w =
       omega (arith, ap length at.split, length-append nd (drop j w), length-drop i w) in
@@ -106,17 +103,15 @@ module _ (w nd x rest : List ℕ) (live : Bool) (u : IsUtf8 w) (v : IsUtf8 nd) (
       → (live ≡ true → IsUtf8 rest) × (pieces nd true w ≡ chars x ∷ pieces nd live rest)
   one_piece None none (e, f) = (
     (λ more. cc),
-    cut_none (chars w) (chars nd) (some_char nd v some) (lacking w nd u v some none)
-        ∙ (λ i. chars (sym e i) ∷ pieces nd (sym f i) rest),
+    rw (e, f) (cut_none (chars w) (chars nd) (some_char nd v some) (lacking w nd u v some none)),
   )
   one_piece (Some q) found said =
       let at = found.1 in
       let h = first_match w nd u v some q.0 q.1 found.0 at in
       let m = said (omega (arith, at.ends)) in (
         (λ more. subst IsUtf8 (sym m.2) h.utf8),
-        cut_first (chars w) (chars nd) h.front h.rest (some_char nd v some) h.reads h.first
-            ∙ (λ i. sym h.before i ∷ cut (sym h.after i) (chars nd) (no_limit (sym h.after i)))
-            ∙ (λ i. chars (sym m.0 i) ∷ pieces nd (sym m.1 i) (sym m.2 i)),
+        rw (m.0, m.1, m.2, h.before, h.after)
+        (cut_first (chars w) (chars nd) h.front h.rest (some_char nd v some) h.reads h.first),
       )
 
 -- a text that is split at another

@@ -41,10 +41,8 @@ drop-packed : (old : List ℕ) (m : ℕ) → length old + m ≤ INLINE_CAP →
 unfolding behind
 drop-packed old m h =
     let left : (INLINE_CAP - length old) - m ≡ INLINE_CAP - (length old + m) = omega arith in
-    sym (drop-drop m (length old) (packed old))
-    ∙ ap (drop m) (ap (drop (length old)) (packed-behind old) ∙ drop_at old (behind old) (length old) refl)
-    ∙ drop-append-le m _ (length old ∷ []) (omega (arith, length-replicate {A = ℕ} (INLINE_CAP - length old) 0))
-    ∙ ap (λ t. t ++ (length old ∷ [])) (drop-replicate m (INLINE_CAP - length old) 0 ∙ ap (λ n. replicate n 0) left)
+    let zeros = drop-append-le m (replicate {A = ℕ} (INLINE_CAP - length old) 0) (length old ∷ []) (omega (arith, length-replicate {A = ℕ} (INLINE_CAP - length old) 0)) in
+    cc (drop-drop m (length old) (packed old), packed-behind old, drop_at old (behind old) (length old) refl, zeros, drop-replicate {X = ℕ} m (INLINE_CAP - length old) 0)
 
 put-packed : (old bytes : List ℕ) → length old + length bytes ≤ INLINE_CAP →
     set (put_at (packed old) (length old) bytes) INLINE_CAP (length old + length bytes) ≡ packed (old ++ bytes)
@@ -70,9 +68,8 @@ module _ (old mid bytes : List ℕ) (h : IsPacked old) (u : IsUtf8 bytes)
 pub buffer-padded : (all : List ℕ) → IsPacked all →
     take INLINE_CAP all ≡ padded (encode_utf8_all (chars (unpacked all)))
 buffer-padded all h =
-    ap (take INLINE_CAP) h.reads
-    ∙ take_at (padded (unpacked all)) (length (unpacked all) ∷ []) INLINE_CAP (length-padded (unpacked all) h.within)
-    ∙ ap padded (sym (encodes-chars (unpacked all) h.utf8))
+    let front = take_at (padded (unpacked all)) (length (unpacked all) ∷ []) INLINE_CAP (length-padded (unpacked all) h.within) in
+    cc (h.reads, front, encodes-chars (unpacked all) h.utf8)
 
 -- two short texts are equal exactly where all that is packed is
 pub same-texts : (xs ys : List ℕ) → IsPacked xs → IsPacked ys →
@@ -89,7 +86,7 @@ pub padded-same : (s t : List ℕ) → size s ≡ size t → padded (encode_utf8
 padded-same s t e h =
     let left = take_at (encode_utf8_all s) (replicate (INLINE_CAP - size s) 0) (size s) refl in
     let right = take_at (encode_utf8_all t) (replicate (INLINE_CAP - size t) 0) (size s) (sym e) in
-    encodes_same s t (sym left ∙ ap (take (size s)) h ∙ right)
+    encodes_same s t (cc)
 
 pub HaveOneBuffer-same : (s t : List ℕ) → (s ≡ t) ↔ HaveOneBuffer s t
 HaveOneBuffer-same s t = search (rules, arith, padded-same)

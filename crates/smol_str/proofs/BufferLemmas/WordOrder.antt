@@ -130,4 +130,4 @@ order-packed xs ys h k =
     let bytes : slice_cmp nat_cmp (packed s) (packed t) ≡ slice_cmp nat_cmp s t =
     order-behind s t m n (length s) (length t) (omega (arith, h.within, k.within)) (omega arith) in
     let texts = rw (encodes-chars s h.utf8, encodes-chars t k.utf8) at (order-texts (chars s) (chars t)) in
-    ap (λ r. slice_cmp nat_cmp r ys) h.reads ∙ ap (slice_cmp nat_cmp (packed s)) k.reads ∙ bytes ∙ texts
+    cc (h.reads, k.reads, texts)

@@ -139,11 +139,8 @@ one-word buf bytes n b h e put =
     let split : length bytes + (8 - length bytes) ≡ 8 = omega (arith, h) in
     let left : m - (8 - length bytes) ≡ INLINE_CAP + 1 - 8 = omega (arith, h) in
     let rest : drop 8 (with_zeros bytes) ≡ drop 8 zeros =
-    ap (λ k. drop k (with_zeros bytes)) (sym split) ∙ drop-append-add bytes (replicate m 0) (8 - length bytes)
-    ∙ drop-replicate (8 - length bytes) m 0 ∙ ap (λ k. replicate k 0) left
-    ∙ sym (drop-replicate 8 (INLINE_CAP + 1) 0) in
-    put ∙ ap (λ t. t ++ drop 8 zeros) eight ∙ ap (λ t. take 8 (with_zeros bytes) ++ t) (sym rest)
-    ∙ take-append-drop 8 (with_zeros bytes)
+    cc (drop-append-add bytes (replicate m 0) (8 - length bytes), drop-replicate {X = ℕ} (8 - length bytes) m 0, drop-replicate {X = ℕ} 8 (INLINE_CAP + 1) 0) in
+    cc (take-append-drop 8 (with_zeros bytes))
 
 -- one word of two lists
 same-word : (xs ys : List ℕ) (at : ℕ) → take (at + 8) xs ≡ take (at + 8) ys →
@@ -188,8 +185,7 @@ bytes-encode c h i = bytes-form c h (form c) i
 
 -- the first k bytes and the last, which may overlap, are all
 drop-end : (xs ys zs : List ℕ) (n m : ℕ) → length xs ≡ n → length ys ≡ m → drop (n + m) (xs ++ (ys ++ zs)) ≡ zs
-drop-end xs ys zs n m e f = sym (drop-drop m n (xs ++ (ys ++ zs))) ∙ ap (drop m) (drop_at xs (ys ++ zs) n e)
-    ∙ drop_at ys zs m f
+drop-end xs ys zs n m e f = cc (drop-drop m n (xs ++ (ys ++ zs)), drop_at xs (ys ++ zs) n e, drop_at ys zs m f)
 
 front-end : (r bytes : List ℕ) (s k m : ℕ) → length bytes ≡ m + k → m ≤ k → s ≤ length r →
     take (s + m) (take s r ++ (take k bytes ++ drop k (drop s r))) ≡ take s r ++ take m bytes
@@ -202,9 +198,8 @@ back-end r bytes s k m e l =
     let part : length (take k bytes) ≡ k = length-take-le k bytes (omega (arith, e)) in
     let turn : (s + m) + k ≡ (s + k) + m = omega arith in
     let all : s + (k + m) ≡ s + length bytes = omega (arith, e) in
-    drop-drop k (s + m) w ∙ ap (λ n. drop n w) turn ∙ sym (drop-drop m (s + k) w)
-    ∙ ap (drop m) (drop-end (take s r) (take k bytes) (drop k (drop s r)) s k (length-take-le s r l) part)
-    ∙ drop-drop m k (drop s r) ∙ drop-drop (k + m) s r ∙ ap (λ n. drop n r) all
+    let read = drop-end (take s r) (take k bytes) (drop k (drop s r)) s k (length-take-le s r l) part in
+    cc (drop-drop k (s + m) w, drop-drop m (s + k) w, read, drop-drop m k (drop s r), drop-drop (k + m) s r)
 
 pub two-ends : (r bytes y z : List ℕ) (s k m a b : ℕ) → length bytes ≡ m + k → m ≤ k → s ≤ length r →
     y ≡ take k bytes → z ≡ drop m bytes → a ≡ k → b ≡ k →
@@ -228,6 +223,4 @@ two-ends r bytes y z s k m a b e h l f g p q =
 pub copy-step : (new old bytes : List ℕ) (at k : ℕ) → at + k ≤ length bytes → at + k ≤ length old →
     take at old ≡ take at bytes → new ≡ put_at old at (take k (drop at bytes)) →
     take (at + k) new ≡ take (at + k) bytes
-copy-step new old bytes at k within long front put =
-    let all : length (take k (drop at bytes)) ≡ k = length-part k bytes at within in
-    grind (arith, common_steps, take-end, length-take-le, take-add)
+copy-step new old bytes at k within long front put = search (rules, length-part, take-end, length-take-le, take-add)

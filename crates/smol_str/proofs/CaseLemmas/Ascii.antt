@@ -13,7 +13,7 @@ pub map-unchanged : (f : ℕ → ℕ) (P : ℕ → Type 0) → ((c : ℕ) → ¬
     → All (λ c. ¬ P c) t → map f t ≡ t
 map-unchanged f P same [] h = refl
 map-unchanged f P same (c ∷ t) h =
-    λ i. same c (All-head (λ d. ¬ P d) c t h) i ∷ map-unchanged f P same t (All-tail (λ d. ¬ P d) c t h) i
+    search (rules, All-head, map-unchanged f P same t (All-tail (λ d. ¬ P d) c t h))
 
 pub All-mapped : (f : ℕ → ℕ) (P : ℕ → Type 0) → ((c : ℕ) → P (f c)) → (t : List ℕ) → All P (map f t)
 All-mapped f P each t = All-map P f t (All-from_get_or (λ c. P (f c)) t 0 (λ i _. each (get_or t i 0)))
@@ -188,8 +188,7 @@ letter-moves : (case : AsciiCase) → MovesAscii (letter case)
 letter-moves case = search (rules, lowercase_ascii, lowercase_is, uppercase_ascii, uppercase_is)
 
 pub size-converted : (case : AsciiCase) (t : List ℕ) → size (converted case t) ≡ size t
-size-converted case t =
-    ap length (encodes-map (letter case) (letter-moves case) t) ∙ length-map (encode_utf8_all t) (letter case)
+size-converted case t = search (rules, encodes-map, letter-moves, length-map)
 
 pub IsAscii-converted : (case : AsciiCase) (a : List ℕ) → IsAscii a → IsAscii (converted case a)
 IsAscii-converted case a h = IsAscii-map (letter case) a (letter-moves case).low h

@@ -46,8 +46,7 @@ module _ (bs : List ℕ) (index : ℕ) (u : IsUtf8 bs) (e : index ≡ length (fr
   pub front-rest : front (chars bs) ++ chars (drop index bs) ≡ chars bs
   front-rest =
       let h = front-parts (chars bs) in
-      ap (λ r. front (chars bs) ++ r)
-      (chars-drop bs (front (chars bs)) h.0 index u h.1 (size-front (chars bs) ∙ sym e)) ∙ sym h.1
+      rw (chars-drop bs (front (chars bs)) h.0 index u h.1 (size-front (chars bs) ∙ sym e)) (sym h.1)
 
 -- the front and the rest of a text, in a case
 pub converted-parts : (case : AsciiCase) (t r : List ℕ) → front t ++ r ≡ t

@@ -71,7 +71,7 @@ module _ (t p w : List ℕ) (n m l : ℕ) (b : Draft) (i : ℕ) (h : IsReplacing
   more-text = append_assoc b.text x (replaced r p w l) ∙ ap (λ y. b.text ++ y) (sym made) ∙ h.text
 
   more-appended : (d : Draft) → d ≡ appended b x → d ≡ appended (empty_draft InBuffer) (b.text ++ x)
-  more-appended d e = e ∙ ap (λ y. appended y x) h.draft ∙ appended-twice (empty_draft InBuffer) b.text x
+  more-appended d e = cc (h.draft, appended-twice (empty_draft InBuffer) b.text x)
 
   replacing-more : (d : Draft) → d ≡ appended b x → IsReplacing t p w n l d (i + size q)
   replacing-more d e =
@@ -79,10 +79,10 @@ module _ (t p w : List ℕ) (n m l : ℕ) (b : Draft) (i : ℕ) (h : IsReplacing
       record {
         done = h.done ++ q;
         rest = r;
-        parts = h.parts ∙ ap (λ y. h.done ++ y) reads ∙ sym (append_assoc h.done q r);
+        parts = cc (h.parts, append_assoc h.done q r);
         at = omega (arith, size-append h.done q);
-        draft = more-appended d e ∙ ap (appended (empty_draft InBuffer)) (sym now);
-        text = ap (λ y. y ++ replaced r p w l) now ∙ more-text;
+        draft = cc (more-appended d e);
+        text = cc (more-text);
       }
 
   replacing-refused : (appended b x).kind ≡ OnHeap → ¬ (IsShort (replaced t p w n))
@@ -169,9 +169,8 @@ module _ (bs p w : List ℕ) (n : ℕ) (b : Draft) (i : ℕ) (h : IsReplacing (c
   rest-whole d e =
       let x = chars (drop i bs) in
       let reads = sym (append-nil h.rest) in
-      more-appended (chars bs) p w n 0 0 b i h h.rest [] x reads rest-made d e
-      ∙ ap (appended (empty_draft InBuffer)) (sym (ap (λ y. (b.text ++ x) ++ y) (replaced-none [] p w) ∙ append-nil (b.text ++ x))
-      ∙ more-text (chars bs) p w n 0 0 b i h h.rest [] x reads rest-made)
+      let now = more-appended (chars bs) p w n 0 0 b i h h.rest [] x reads rest-made d e in
+      cc (now, more-text (chars bs) p w n 0 0 b i h h.rest [] x reads rest-made, replaced-none [] p w, append-nil (b.text ++ x))
 
   pub rest-refused : (appended b (chars (drop i bs))).kind ≡ OnHeap → ¬ (IsShort (replaced (chars bs) p w n))
   rest-refused =

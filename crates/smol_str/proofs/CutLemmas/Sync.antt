@@ -54,22 +54,14 @@ StandsBetween-bytes (c ∷ cs) (k ∷ ks) [] y some e = let h = starts_with-enco
 StandsBetween-bytes (c ∷ cs) (k ∷ ks) (d ∷ x) y some e =
     let f = lead_and_rest c in
     let g = lead_and_rest k in
-    let v = g.rest ++ (encodes ks ++ y) in
     let needle : encodes (k ∷ ks) ++ y ≡ g.lead ∷ (g.rest ++ (encodes ks ++ y)) =
-    append_assoc (encode k) (encodes ks) y ∙ ap (λ z. z ++ (encodes ks ++ y)) g.reads in
-    let whole : f.lead ∷ (f.rest ++ encodes cs) ≡ d ∷ (x ++ (g.lead ∷ (g.rest ++ (encodes ks ++ y)))) =
-    ap (λ z. z ++ encodes cs) (sym f.reads) ∙ e ∙ ap (λ z. d ∷ (x ++ z)) needle in
+    cc (append_assoc (encode k) (encodes ks) y, g.reads) in
+    let whole : f.lead ∷ (f.rest ++ encodes cs) ≡ d ∷ (x ++ (g.lead ∷ (g.rest ++ (encodes ks ++ y)))) = cc (f.reads) in
+    let first = head_same f.lead d (f.rest ++ encodes cs) (x ++ (g.lead ∷ (g.rest ++ (encodes ks ++ y)))) whole in
     let h = follows-apart f.rest (encodes cs) x g.lead (g.rest ++ (encodes ks ++ y)) f.follows g.leads
     (tail_same f.lead d (f.rest ++ encodes cs) (x ++ (g.lead ∷ (g.rest ++ (encodes ks ++ y)))) whole) in
-    let r = StandsBetween-bytes cs (k ∷ ks) h.0 y some (h.2 ∙ ap (λ z. h.0 ++ z) (sym needle)) in (
-      c ∷ r.0,
-      r.1,
-      ap (λ z. c ∷ z) r.2,
-      ap (λ z. z ++ encodes r.0) f.reads ∙ ap (λ z. f.lead ∷ (f.rest ++ z)) r.3 ∙ ap (λ z. f.lead ∷ z) (sym h.1)
-          ∙ ap (λ z. z ∷ x)
-          (head_same f.lead d (f.rest ++ encodes cs) (x ++ (g.lead ∷ (g.rest ++ (encodes ks ++ y)))) whole),
-      r.4,
-    )
+    let r = StandsBetween-bytes cs (k ∷ ks) h.0 y some (cc (h.2)) in
+    (c ∷ r.0, r.1, ap (λ z. c ∷ z) r.2, cc (f.reads, r.3, h.1, first), r.4)
 
 pub StandsAt-bytes : (t p x y : List ℕ) → 0 < length p → encodes t ≡ x ++ (encodes p ++ y) → StandsAt p t (length x)
 StandsAt-bytes t p x y some e = let h = StandsBetween-bytes t p x y some e in (h.0, h.1, h.2, ap length h.3)

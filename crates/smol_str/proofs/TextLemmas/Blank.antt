@@ -80,13 +80,7 @@ pub record Passes (t : List ℕ) : Type 0 where
 
 passes_at : (a b : ℕ) → a ≤ BLANK_NEWLINES → b ≤ BLANK_SPACES → Passes (blank_run a b)
 passes_at a b la lb =
-    let n = leading_newlines-blank_run a b in
-    record {
-      newlines = omega (arith, n);
-      spaces = omega (arith, n, length-blank_run a b);
-      rest =
-          rw (n, drop_at {A = ℕ} (replicate a 10) (replicate b 32) a (length-replicate a 10)) (all_same-replicate 32 b refl);
-    }
+    search (rules, leading_newlines-blank_run, length-blank_run, drop_at, length-append, length-replicate, all_same-replicate)
 
 pub Passes-from_IsBlankRun : (t : List ℕ) → IsBlankRun t → Passes t
 Passes-from_IsBlankRun t r = rw r.reads (passes_at r.newlines r.spaces r.few_newlines r.few_spaces)
