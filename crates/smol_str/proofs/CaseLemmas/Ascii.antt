@@ -47,10 +47,8 @@ ascii-more bytes at n lanes is low front = grind (arith, common_steps, take-add,
 pub ascii-all : (bytes : List ℕ) (at k : ℕ) → k ≡ length bytes - at → IsAscii (take at bytes)
     → IsAscii (take k (drop at bytes)) → IsAscii bytes
 ascii-all bytes at k e front rest =
-    let long : length (drop at bytes) ≤ k = omega (arith, length-drop at bytes) in
-    let all : take k (drop at bytes) ≡ drop at bytes = take_all k (drop at bytes) long in
-    subst IsAscii (take-append-drop at bytes)
-    (IsAscii-append (take at bytes) (drop at bytes) front (subst IsAscii all rest))
+    let all = take_all k (drop at bytes) (omega (arith, length-drop at bytes)) in
+    rw (take-append-drop at bytes) at (IsAscii-append (take at bytes) (drop at bytes) front (rw all at rest))
 
 -- a part of the bytes is not ASCII
 pub high-lanes : (bytes : List ℕ) (at n : ℕ) (lanes : List ℕ) → lanes ≡ take n (drop at bytes)

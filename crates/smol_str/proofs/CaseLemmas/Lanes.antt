@@ -1,5 +1,5 @@
 -- For the lanes of `kernel`: side by side they give what a map over the bytes gives.
-use Rattle.smol_str.proofs.Common.{◌≡◌, ◌↔◌, ℕ, ◌+◌, ◌-◌, ◌*◌, ◌%◌, ◌^◌, ◌≤◌, ◌<◌, List, [], ◌∷◌, Bool, true, false, cond, leb, ltb, length, map, replicate, refl, sym, ap, ◌∙◌, arith, w8, bit_and, nat_eq, not, eqb-true, zip2, sel_l, mask_l, top, Each1, to_ascii_lowercase, to_ascii_uppercase, leb-true, leb-false, ltb-true, ltb-false, lowercase_is, uppercase_is, mask_l-mod, tops_compared, length-map, common_steps, suc, IsAscii, IsAscii-nil, IsAscii-cons, rules}
+use Rattle.smol_str.proofs.Common.{◌≡◌, ◌↔◌, ℕ, ◌+◌, ◌-◌, ◌*◌, ◌%◌, ◌^◌, ◌≤◌, ◌<◌, List, [], ◌∷◌, Bool, true, false, cond, leb, ltb, length, map, replicate, refl, sym, ap, ◌∙◌, arith, w8, bit_and, nat_eq, not, eqb-true, zip2, sel_l, mask_l, top, Each1, to_ascii_lowercase, to_ascii_uppercase, leb-true, leb-false, ltb-true, ltb-false, lowercase_is, uppercase_is, mask_l-mod, tops_compared, length-map, common_steps, suc, IsAscii, IsAscii-nil, IsAscii-cons, rules, nat_tests}
 
 abbrev pub at_most_mask : ℕ → ℕ → ℕ
 at_most_mask a b = cond (leb a b) 255 0
@@ -59,9 +59,6 @@ low_from_mask [] e = IsAscii-nil
 low_from_mask (x ∷ xs) e = let h = mask_step (ltb 127 x) x (mask_l (map (ltb 127) xs)) refl e in
     IsAscii-cons x xs h.0 (low_from_mask xs h.1)
 
-no_bit : (n : ℕ) (b : Bool) → nat_eq n 0 ≡ b → not b ≡ false → n ≡ 0
-no_bit n b e f = search (rules, eqb-true)
-
 low_step : (b : Bool) (x m : ℕ) → ltb 127 x ≡ b → x < 128 → m ≡ 0 → cond b 1 0 + 2 * m ≡ 0
 low_step b x m f low e = search (rules, ltb-true)
 
@@ -69,10 +66,7 @@ mask_from_low : (xs : List ℕ) → IsAscii xs → mask_l (map (ltb 127) xs) ≡
 mask_from_low [] low = refl
 mask_from_low (x ∷ xs) low = low_step (ltb 127 x) x _ refl (low 0) (mask_from_low xs (λ i. low (suc i)))
 
-none_set : (n : ℕ) → n ≡ 0 → not (nat_eq n 0) ≡ false
-none_set n e = rw e
-
 -- no bit is set exactly where each lane is ASCII
 pub low-lanes : (v : List ℕ) (n : ℕ) → length v ≡ n → n ≤ 64
     → (not (nat_eq (mask_l (map (top 7) (zip2 below_mask (replicate n 127) v)) % 2 ^ 64) 0) ≡ false) ↔ IsAscii v
-low-lanes v n long small = grind (arith, common_steps, high_bitmask, low_from_mask, no_bit, none_set, mask_from_low)
+low-lanes v n long small = grind (arith, common_steps, high_bitmask, low_from_mask, nat_tests, mask_from_low)

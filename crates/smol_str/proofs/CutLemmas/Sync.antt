@@ -61,7 +61,7 @@ StandsBetween-bytes (c ∷ cs) (k ∷ ks) (d ∷ x) y some e =
     let h = follows-apart f.rest (encodes cs) x g.lead (g.rest ++ (encodes ks ++ y)) f.follows g.leads
     (tail_same f.lead d (f.rest ++ encodes cs) (x ++ (g.lead ∷ (g.rest ++ (encodes ks ++ y)))) whole) in
     let r = StandsBetween-bytes cs (k ∷ ks) h.0 y some (cc (h.2)) in
-    (c ∷ r.0, r.1, ap (λ z. c ∷ z) r.2, cc (f.reads, r.3, h.1, first), r.4)
+    (c ∷ r.0, r.1, cc (r.2), cc (f.reads, r.3, h.1, first), r.4)
 
 pub StandsAt-bytes : (t p x y : List ℕ) → 0 < length p → encodes t ≡ x ++ (encodes p ++ y) → StandsAt p t (length x)
 StandsAt-bytes t p x y some e = let h = StandsBetween-bytes t p x y some e in (h.0, h.1, h.2, ap length h.3)

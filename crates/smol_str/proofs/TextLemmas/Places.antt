@@ -29,14 +29,12 @@ IsBlankRun-chars bs r = rw (run_at bs r.newlines r.spaces r.reads) r
 pub IsBlankRun-bytes : (bs : List ℕ) → IsUtf8 bs → IsBlankRun (chars bs) → IsBlankRun bs
 IsBlankRun-bytes bs u r =
     let plain = encodes-IsAscii (blank_run r.newlines r.spaces) (IsAscii-blank_run r.newlines r.spaces) in
-    let e : bs ≡ blank_run r.newlines r.spaces = sym (encodes-chars bs u) ∙ ap encode_utf8_all r.reads ∙ plain in
     record {
       newlines = r.newlines;
       spaces = r.spaces;
       few_newlines = r.few_newlines;
-      few_spaces =
-          r.few_spaces;
-      reads = e;
+      few_spaces = r.few_spaces;
+      reads = cc (encodes-chars bs u, r.reads, plain);
     }
 
 -- no text is resident that is longer than the buffer, and whose bytes are no blank run

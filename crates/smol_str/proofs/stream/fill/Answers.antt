@@ -7,8 +7,7 @@ use Rattle.smol_str.proofs.stream.fill.Goals as goal
 take_split : (a b : ℕ) (old new : List ℕ) → a ≤ b → take a new ≡ take a old
     → take a old ++ slice_range new a b ≡ take b new
 take_split a b old new h front =
-    let same : a + (b - a) ≡ b = omega arith in
-    ap (λ l. l ++ slice_range new a b) (sym front) ∙ sym (take-add a (b - a) new) ∙ ap (λ n. take n new) same
+    let same : a + (b - a) ≡ b = omega arith in cc (take-add a (b - a) new)
 
 slice_range-put_mid : (a k n : ℕ) (xs ys : List ℕ) → a ≤ length xs → n ≤ length ys
     → slice_range (put_mid a k xs ys) a (a + n) ≡ take n ys
