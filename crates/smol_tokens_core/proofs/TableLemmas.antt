@@ -94,5 +94,5 @@ lookup-tally es t = found t (tally es) (table_from (tally es) (once-tally es)) �
 pub tally-added : (es : List (List ℕ × ℕ)) (t : List ℕ) (n : ℕ)
     → tally (es ++ (t, n) ∷ []) ≡ insert_entry is_same (tally es) t (times_of t es + n)
 tally-added es t n =
-    sym (tally-again es ((t, n) ∷ [])) ∙ put (tally es) t n (table_from (tally es) (once-tally es))
-    ∙ ap (λ m. insert_entry is_same (tally es) t (m + n)) (lookup-tally es t)
+    let made = put (tally es) t n (table_from (tally es) (once-tally es)) in
+    cc (tally-again es ((t, n) ∷ []), made, lookup-tally es t)

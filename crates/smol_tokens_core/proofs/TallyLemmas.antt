@@ -89,8 +89,7 @@ pub tokens-longer : (es fs : List (List ℕ × ℕ))
     → (more : List (List ℕ)) × (tokens (tally (es ++ fs)) ≡ tokens (tally es) ++ more)
 tokens-longer es fs = (
   new_after (tokens es) (first_sights (tokens fs)),
-  tokens_tally (es ++ fs) ∙ ap first_sights (map-append (λ e. e.0) es fs) ∙ sights-append (tokens es) (tokens fs)
-      ∙ ap (λ s. s ++ new_after (tokens es) (first_sights (tokens fs))) (sym (tokens_tally es)),
+  cc (tokens_tally (es ++ fs), map-append (λ e. e.0) es fs, sights-append (tokens es) (tokens fs), tokens_tally es),
 )
 
 -- the entries of other tokens

@@ -36,8 +36,7 @@ insert-by_text (e ∷ es) token n = insert_case (is_same token.text e.0.text) e 
 -- of a list that has each text once, a look-up finds the sum of its times
 pub lookup-once : (t : List ℕ) (pairs : List (List ℕ × ℕ)) → HasEachOnce pairs →
     unwrap_or (lookup (is_same t) pairs) 0 ≡ times_of t pairs
-lookup-once t pairs once =
-    ap (λ es. unwrap_or (lookup (is_same t) es) 0) (sym (tally-table pairs once)) ∙ lookup-tally pairs t
+lookup-once t pairs once = cc (tally-table pairs once, lookup-tally pairs t)
 
 -- one insert takes up one pair more
 pub insert-once : (pairs : List (List ℕ × ℕ)) (t : List ℕ) (times n : ℕ) → HasEachOnce pairs →
@@ -88,9 +87,7 @@ pub found-times : (pairs : List (List ℕ × ℕ)) (es : List (Meaning × ℕ)) 
     → by_text es ≡ pairs → HasEachOnce pairs → lookup (is_text_of token) es ≡ found
     → unwrap_or found 0 ≡ times_of token.text pairs
 found-times pairs es token found is once looked_up =
-    ap (λ o. unwrap_or o 0)
-    (sym looked_up ∙ lookup-by_text token.text es ∙ ap (lookup (is_same token.text)) is)
-    ∙ lookup-once token.text pairs once
+    cc (lookup-by_text token.text es, lookup-once token.text pairs once)
 
 -- a token that goes in with its new count
 pub added : (pairs : List (List ℕ × ℕ)) (es new : List (Meaning × ℕ)) (token : Meaning) (times n : ℕ)
