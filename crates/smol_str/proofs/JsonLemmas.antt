@@ -1,5 +1,5 @@
 -- JSON strings, for module `json`.
-use Rattle.smol_str.proofs.Common.{String, Global, string_bytes, rules, ◌≡◌, ℕ, ◌<◌, List, [], ◌∷◌, length, None, Some, Result, Ok, Err, refl, sym, ap, subst, ◌∙◌, IsResident, chars, encodes-chars, encodes_same, IsUtf8-string_bytes, place_of, Meaning, IsValueOf, common_steps, arith}
+use Rattle.smol_str.proofs.Common.{String, Global, string_bytes, rules, ◌≡◌, ℕ, ◌<◌, List, [], length, None, Some, Result, refl, sym, ap, ◌∙◌, IsResident, chars, encodes-chars, encodes_same, IsUtf8-string_bytes, place_of, Meaning, IsValueOf, common_steps, arith}
 use Rattle.std.specs.Result.{IfOk, IfErr}
 use Rattle.serde_json.specs.Data as json
 use Rattle.serde_json.specs.Read.{read}
@@ -7,7 +7,7 @@ use Rattle.serde_json.specs.View.{view}
 use Rattle.serde_json.proofs.OnLiterals.{serde_json_on_literals}
 use Rattle.serde_json.specs.declared.value.Value as value
 use Rattle.smol_str.specs.declared.json.JsonFault.{JsonFault}
-use Rattle.smol_str.specs.declared.json.JsonFault.TheVariants.{NotString, Json, OutOfMemory}
+use Rattle.smol_str.specs.declared.json.JsonFault.TheVariants.{OutOfMemory}
 use Rattle.smol_str.specs.Json.{json_value, IsJsonText, IsJsonOf, AfterValueFault, AfterJsonFault}
 use Rattle.smol_str.proofs.WireLemmas.Stream.{IfErr-is}
 

@@ -111,7 +111,7 @@ module _ (w nd x rest : List ℕ) (live : Bool) (u : IsUtf8 w) (v : IsUtf8 nd) (
       let m = said (omega (arith, at.ends)) in (
         (λ more. subst IsUtf8 (sym m.2) h.utf8),
         rw (m.0, m.1, m.2, h.before, h.after)
-        (cut_first (chars w) (chars nd) h.front h.rest (some_char nd v some) h.reads h.first),
+            (cut_first (chars w) (chars nd) h.front h.rest (some_char nd v some) h.reads h.first),
       )
 
 -- a text that is split at another

@@ -3,7 +3,7 @@ use Rattle.smol_str.proofs.Common.{◌≡◌, ℕ, zero, suc, ◌+◌, ◌-◌, 
 use Rattle.std.proofs.Math.Nat.{div-div-eq-div-mul, pow-succ', mul-le-mul_left}
 use Rattle.smol_str.specs.Words.{word}
 use Rattle.smol_str.proofs.BufferLemmas.Packed.{length-padded}
-use Rattle.smol_str.proofs.TextLemmas.Utf8.{Form, one, two, three, four, form}
+use Rattle.smol_str.proofs.TextLemmas.Utf8.{Form, form}
 
 abbrev pub AreBytes : List ℕ → Type 0
 AreBytes xs = (i : ℕ) → get_or xs i 0 < 256
@@ -207,17 +207,9 @@ pub two-ends : (r bytes y z : List ℕ) (s k m a b : ℕ) → length bytes ≡ m
     (z ++ drop b (drop (s + m) (take s r ++ (y ++ drop a (drop s r))))) ≡ put_at r s bytes
 two-ends r bytes y z s k m a b e h l f g p q =
     let after : List ℕ = drop (s + length bytes) r in
-    rw (
-      f,
-      g,
-      p,
-      q,
-      front-end r bytes s k m e h l,
-      back-end r bytes s k m e l,
-      append_assoc (take s r) (take m bytes) (drop m bytes ++ after),
-      ← append_assoc (take m bytes) (drop m bytes) after,
-      take-append-drop m bytes,
-    )
+    let apart = append_assoc (take s r) (take m bytes) (drop m bytes ++ after) in
+    let whole = append_assoc (take m bytes) (drop m bytes) after in
+    cc (front-end r bytes s k m e h l, back-end r bytes s k m e l, apart, whole, take-append-drop m bytes)
 
 -- what is copied behind a front that is there
 pub copy-step : (new old bytes : List ℕ) (at k : ℕ) → at + k ≤ length bytes → at + k ≤ length old →

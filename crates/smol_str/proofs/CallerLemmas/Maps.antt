@@ -1,5 +1,5 @@
 -- Maps with values as keys, at texts.
-use Rattle.smol_str.proofs.Common.{◌≡◌, ℕ, Bor, Option, None, Some, List, [], ◌∷◌, Bool, true, false, cond, false≢true, refl, sym, ap, ◌∙◌, arith, IsUtf8, bytes_eq, chars, encodes-chars, encodes_same, false_from_ne_true, option_map, if◌then◌else◌, Meaning, rules}
+use Rattle.smol_str.proofs.Common.{◌≡◌, ℕ, Bor, Option, None, Some, List, [], ◌∷◌, Bool, true, false, cond, false≢true, refl, ap, ◌∙◌, arith, IsUtf8, bytes_eq, chars, encodes-chars, encodes_same, false_from_ne_true, option_map, if◌then◌else◌, Meaning, rules}
 use Rattle.std.specs.Map.{lookup, KeepsOthers}
 use Rattle.std.specs.Option.{option_copied}
 use Rattle.std.proofs.lemmas.Slice.Eq.{bytes_eq-Decides}

@@ -1,7 +1,7 @@
 -- For ASCII case, in texts, bytes and short texts as they are packed; and for what else maps ASCII characters alone.
 use Rattle.smol_str.proofs.Common.{◌≡◌, ℕ, ◌+◌, ◌<◌, List, [], ◌∷◌, ◌++◌, Bool, true, false, cond, map, refl, ap, ◌∙◌, arith, length-append, All, to_ascii_lowercase, to_ascii_uppercase, is_ascii, len_utf8, IsAsciiUppercase, IsAsciiLowercase, encode_utf8_all, encode, lt-ltb, le-ltb, ltb-true, ltb-false, cases_lt, nat_tests, length-encode, All-head, All-tail, size, lower, upper, front, IsAsciiText, BeginsPastAscii, lowercase_is, uppercase_is, All-map, All-from_get_or, get_or, common_steps, rules, ◌↔◌, IsTrue, MatchBool, zero, suc, ◌-◌, ◌≤◌, length, take, drop, sym, subst, take-add, length-take-le, length-drop, take-append-drop, IsUtf8, IsCharBoundary, IsAscii, IsNotAscii, chars, slice_range, map-append, take_all, length-map, IsAscii-append, IsAscii-take, IsAscii-drop, IsUtf8-from_ascii, IsUtf8-drop, IsCharBoundary-from_take, chars-append, chars-IsAscii, encodes-chars, IsAscii-map, lowercase_ascii, uppercase_ascii, AsciiCase, Lower, Upper, converted, IsAsciiFront, IsAscii-from_all, encodes-IsAscii, append_assoc, append-nil, ◌&&◌, set, replicate, put_chunk, put_chunk_is, scalar, scalars, take_at, drop_at, drop_all, set_at, chars-encodes, scalars-chars, INLINE_CAP, IsPacked, packed, padded, unpacked, and_parts, All-replicate, IsAscii-push, IsAscii-more, ⊎_elim, letter, length-le-encodes, get_or-drop, All-nil, All-cons, All-from_ascii}
 use Rattle.std.proofs.lemmas.List.Sums.{take_while-cons}
-use Rattle.smol_str.proofs.TextLemmas.Utf8.{Form, one, two, three, four, form, is_one}
+use Rattle.smol_str.proofs.TextLemmas.Utf8.{Form, form, is_one}
 use Rattle.smol_str.proofs.BufferLemmas.Packed.{length-padded, len-bytes, IsPacked-packed, unpacked-packed}
 
 -- what holds of each character holds of the text

@@ -7,11 +7,9 @@ use Rattle.smol_str.proofs.TextLemmas.Split.{boundary-parts, chars-drop}
 use Rattle.std.specs.Option.{option_to_list, is_some}
 use Rattle.std.specs.declared.char.ToLowercase.{CaseChanged}
 use Rattle.std.specs.Char.Iter.{case_mapping_first, case_mapping_second, case_mapping_third, case_mapping_chars}
-use Rattle.std.specs.Char.Unicode.ToUppercase.{to_uppercase}
 use Rattle.std.specs.Char.Unicode.ToLowercase.{to_lowercase}
 use Rattle.std.specs.StrCase.Upper.{str_to_uppercase}
 use Rattle.std.specs.StrCase.Lower.{lowercase_chars, is_in_word_after, str_to_lowercase}
-use Rattle.std.proofs.StrCases.{str_to_uppercase-IsAscii, str_to_lowercase-IsAscii}
 use Rattle.std.proofs.lemmas.Grind.{flat_map-append}
 use Rattle.smol_str.proofs.TextLemmas.Places.{OnErr-always, size-chars, chars-of}
 use Rattle.smol_str.proofs.BuilderLemmas.Draft.{OnHeap-long, appended-twice}

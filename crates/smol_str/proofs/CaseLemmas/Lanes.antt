@@ -1,5 +1,5 @@
 -- For the lanes of `kernel`: side by side they give what a map over the bytes gives.
-use Rattle.smol_str.proofs.Common.{◌≡◌, ◌↔◌, ℕ, ◌+◌, ◌-◌, ◌*◌, ◌%◌, ◌^◌, ◌≤◌, ◌<◌, List, [], ◌∷◌, Bool, true, false, cond, leb, ltb, length, map, replicate, refl, sym, ap, ◌∙◌, arith, w8, bit_and, nat_eq, not, eqb-true, zip2, sel_l, mask_l, top, Each1, to_ascii_lowercase, to_ascii_uppercase, leb-true, leb-false, ltb-true, ltb-false, lowercase_is, uppercase_is, mask_l-mod, tops_compared, length-map, common_steps, suc, IsAscii, IsAscii-nil, IsAscii-cons, rules, nat_tests}
+use Rattle.smol_str.proofs.Common.{◌≡◌, ◌↔◌, ℕ, ◌+◌, ◌-◌, ◌*◌, ◌%◌, ◌^◌, ◌≤◌, ◌<◌, List, [], ◌∷◌, Bool, false, cond, leb, ltb, length, map, replicate, refl, sym, ap, ◌∙◌, arith, w8, bit_and, nat_eq, not, zip2, sel_l, mask_l, top, Each1, to_ascii_lowercase, to_ascii_uppercase, leb-true, leb-false, ltb-true, ltb-false, lowercase_is, uppercase_is, mask_l-mod, tops_compared, length-map, common_steps, suc, IsAscii, IsAscii-nil, IsAscii-cons, rules, nat_tests}
 
 abbrev pub at_most_mask : ℕ → ℕ → ℕ
 at_most_mask a b = cond (leb a b) 255 0

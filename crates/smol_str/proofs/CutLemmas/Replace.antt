@@ -1,5 +1,5 @@
 -- For the laws of replacement: what replacing makes of a text.
-use Rattle.smol_str.proofs.Common.{◌≡◌, ℕ, ◌+◌, ◌-◌, ◌<◌, ◌≤◌, zero, suc, min, List, [], ◌∷◌, ◌++◌, Option, Some, None, false, option_map, unwrap_or, length, refl, sym, ap, ◌∙◌, arith, length-append, append-nil, ⊎_elim, cases_lt, nat_eq, concat, starts_with, Occurs, IsFirstAfter, joined_by, IsCutAt, IsCut, first_match, cut, cut_at, cut_between, no_limit, match_count, replaced, replaced_all, rules, common_steps}
+use Rattle.smol_str.proofs.Common.{◌≡◌, ℕ, ◌+◌, ◌-◌, ◌<◌, ◌≤◌, suc, min, List, [], ◌∷◌, ◌++◌, Option, false, option_map, unwrap_or, length, refl, ap, ◌∙◌, arith, length-append, append-nil, ⊎_elim, cases_lt, nat_eq, concat, starts_with, Occurs, IsFirstAfter, joined_by, IsCutAt, IsCut, cut, cut_at, cut_between, no_limit, match_count, replaced, replaced_all, rules, common_steps}
 use Rattle.std.proofs.lemmas.List.Concat.{concat_is}
 use Rattle.smol_str.proofs.CutLemmas.Cut.{joined_one, joined_more, IsCut-cut, IsCutAt-cut, IsCutBetween-cut, IsCut-unique, IsCutAt-step, IsCutAt-unmatched, starts_with-nowhere}
 

@@ -1,8 +1,8 @@
 -- For the law of self-synchronisation: where the bytes of a text that is not empty stand in the bytes of a text,
 -- its characters stand. It holds of every two lists of numbers.
-use Rattle.smol_str.proofs.Common.{◌≡◌, ℕ, ◌≤◌, ◌<◌, List, [], ◌∷◌, ◌++◌, ◌⊎◌, inl, length, refl, sym, ap, ◌∙◌, arith, append_assoc, encode, encodes, cons_from_encodes, encodes-append, StandsAt, rules}
+use Rattle.smol_str.proofs.Common.{◌≡◌, ℕ, ◌≤◌, ◌<◌, List, [], ◌∷◌, ◌++◌, ◌⊎◌, length, refl, ap, ◌∙◌, arith, append_assoc, encode, encodes, cons_from_encodes, encodes-append, StandsAt, rules}
 use Rattle.smol_str.proofs.TextLemmas.Lists.{head_same, tail_same}
-use Rattle.smol_str.proofs.TextLemmas.Utf8.{Form, one, two, three, four, form}
+use Rattle.smol_str.proofs.TextLemmas.Utf8.{Form, form}
 
 -- the bytes begin with those of p: then the text begins with p
 pub starts_with-encodes : (z p y : List ℕ) → encodes z ≡ encodes p ++ y → (r : List ℕ) × (z ≡ p ++ r) × (encodes r ≡ y)

@@ -1,5 +1,5 @@
 -- For `blank_slice` and the places: the constant's slices, and the test for a run.
-use Rattle.smol_str.proofs.Common.{◌≡◌, ℕ, zero, suc, ◌+◌, ◌-◌, ◌<◌, ◌≤◌, List, [], ◌∷◌, ◌++◌, length, take, drop, replicate, get_or, refl, ◌∙◌, ap, Bool, true, false, ◌==◌, arith, length-append, list_all, IsAscii, IsAscii-append, drop-append-le, drop-replicate, take-replicate, nat_tests, take-append-add, drop_at, blank_run, leading_newlines, all_spaces, IsBlankRun, and_parts, common_steps, ◌⊎◌, rules}
+use Rattle.smol_str.proofs.Common.{◌≡◌, ℕ, zero, suc, ◌+◌, ◌-◌, ◌<◌, ◌≤◌, List, [], ◌∷◌, length, take, drop, replicate, get_or, refl, ap, Bool, true, false, ◌==◌, arith, length-append, list_all, IsAscii, IsAscii-append, drop-append-le, drop-replicate, take-replicate, nat_tests, take-append-add, drop_at, blank_run, leading_newlines, all_spaces, IsBlankRun, and_parts, common_steps, ◌⊎◌, rules}
 use Rattle.std.proofs.Math.ListN.{length-replicate}
 use Rattle.smol_str.specs.declared.value.blank.TheConstants.{BLANK_NEWLINES, BLANK_SPACES}
 

@@ -1,6 +1,6 @@
 -- For comparisons and the law of byte order: the order of texts is the order of their bytes.
 use Rattle.smol_str.proofs.Common.{◌≡◌, ℕ, ◌+◌, ◌/◌, ◌%◌, ◌<◌, List, [], ◌∷◌, ◌++◌, refl, ◌∙◌, ap, arith, ◌⊎◌, inl, inr, encode, encodes, next, slice_cmp, nat_list_cmp_total, nat_cmp, ordering_reverse, nat_tests, cases_order, cases_lt, common_steps, rules}
-use Rattle.smol_str.proofs.TextLemmas.Utf8.{Form, one, two, three, four, form}
+use Rattle.smol_str.proofs.TextLemmas.Utf8.{Form, form}
 use Rattle.std.specs.declared.cmp.Ordering.TheVariants.{Less, Equal, Greater}
 
 pub nat_cmp-less : (a b : ℕ) → a < b → nat_cmp a b ≡ Less

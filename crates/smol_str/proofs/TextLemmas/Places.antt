@@ -1,5 +1,5 @@
 -- For makers, conversions and comparisons: texts, their bytes and their places.
-use Rattle.smol_str.proofs.Common.{◌≡◌, ◌↔◌, ℕ, ◌+◌, ◌<◌, ◌≤◌, inl, inr, List, [], ◌∷◌, ◌++◌, length, encode_utf8, encode_utf8_all, length-append, length-le-encodes, Bool, true, false, nat_le, nat_eq, Result, Ok, Err, OnOk, OnErr, is_ok, refl, sym, ◌∙◌, ap, arith, chars, IsUtf8, pointwise, bytes_decides, encodes-chars, chars-IsAscii, encodes-IsAscii, encodes_same, encodes-append, chars_from_encodes, length-encode, len_utf8_bounds, IsUtf8-string_bytes, append-nil, nat_tests, Decides-and, Decides-like, same_from_decides, INLINE_CAP, size, is_short, IsShort, IsBlankRun, IsResident, blank_run, ◌⊎◌, common_steps, rules}
+use Rattle.smol_str.proofs.Common.{◌≡◌, ◌↔◌, ℕ, ◌+◌, ◌<◌, ◌≤◌, List, [], ◌∷◌, ◌++◌, length, encode_utf8, encode_utf8_all, length-append, length-le-encodes, Bool, true, false, nat_le, nat_eq, Result, OnOk, OnErr, is_ok, refl, sym, ◌∙◌, ap, arith, chars, IsUtf8, pointwise, bytes_decides, encodes-chars, chars-IsAscii, encodes-IsAscii, encodes_same, encodes-append, chars_from_encodes, length-encode, len_utf8_bounds, IsUtf8-string_bytes, append-nil, nat_tests, Decides-and, Decides-like, same_from_decides, INLINE_CAP, size, is_short, IsShort, IsBlankRun, IsResident, blank_run, ◌⊎◌, common_steps, rules}
 use Rattle.std.specs.Bool.{Decides}
 use Rattle.smol_str.specs.Shared.{SharedText, shared_bytes}
 use Rattle.smol_str.specs.declared.value.place.Place.TheVariants.{Inline, Static, Heap}

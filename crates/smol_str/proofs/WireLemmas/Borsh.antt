@@ -1,5 +1,5 @@
 -- A wire form in two parts, its size and its text, for the calls that write and read one part after the other.
-use Rattle.smol_str.proofs.Common.{inr, cases_lt, IsUtf8, IsResident, chars, ◌≡◌, ℕ, ◌+◌, ◌<◌, ◌≤◌, ◌^◌, List, ◌++◌, Option, None, Some, IfSome, length, take, refl, sym, ap, ◌∙◌, subst, arith, append_assoc, append-nil, to_le_bytes, from_le_bytes, w32, encode_utf8_all, from_le_bytes-to_le_bytes_4, encodes-chars, take_at, drop_at, length-append, Appends, Consumes, IsAtEnd, Appends-trans, Consumes-trans, Result, err_from_is_err_and, INLINE_CAP, size, place_of, Meaning, HasWire, HasEndedEarly, body, common_steps, rules, padded, replicate, ◌-◌}
+use Rattle.smol_str.proofs.Common.{inr, cases_lt, IsUtf8, IsResident, chars, ◌≡◌, ℕ, ◌+◌, ◌<◌, ◌≤◌, ◌^◌, List, ◌++◌, Option, IfSome, length, take, refl, sym, ap, ◌∙◌, subst, arith, append_assoc, append-nil, to_le_bytes, from_le_bytes, w32, encode_utf8_all, from_le_bytes-to_le_bytes_4, encodes-chars, take_at, drop_at, length-append, Appends, Consumes, IsAtEnd, Appends-trans, Consumes-trans, Result, err_from_is_err_and, INLINE_CAP, size, place_of, Meaning, HasWire, HasEndedEarly, body, common_steps, rules, padded}
 use Rattle.std.specs.declared.str.Utf8Error.{Utf8Error}
 use Rattle.std.specs.declared.io.Error.{Error}
 use Rattle.std.specs.Result.{IsErrAnd, IfErr}
@@ -10,13 +10,12 @@ use Rattle.smol_str.specs.declared.borsh.fault.DecodeFault.TheVariants.{Ended, N
 use Rattle.smol_str.specs.declared.borsh.fault.LimitedFault.{LimitedFault}
 use Rattle.smol_str.specs.declared.borsh.fault.LimitedFault.TheVariants.{TooLong, Decode}
 use Rattle.smol_str.specs.declared.value.convert.FromUtf8Fault.{FromUtf8Fault}
-use Rattle.smol_str.specs.declared.value.convert.FromUtf8Fault.TheVariants.{NotUtf8 as BytesNotUtf8, OutOfMemory as NoMemoryForText}
 use Rattle.smol_str.specs.Faults.{AfterFromUtf8Fault}
 use Rattle.smol_str.specs.declared.borsh.TheConstants.{STACK_BODY}
 use Rattle.smol_str.specs.Wire.{wire, prefix_size}
 use Rattle.std.specs.Prelude.{⊤}
 use Rattle.smol_str.specs.Stream.{AppendsBeginning, GaveAllBelow, GaveBelow, GaveUpTo}
-use Rattle.smol_str.specs.WireFaults.{AfterEncodeFault, IsRefusedBody, AfterDecodeFault, GaveTooFew, GaveSomeOfBody, HasReadBody, HasReadLarge, NeedsMemory, AfterBodyFault, StatesAtMost, AfterLimitedFault, AfterFromWireFault, of_utf8_fault}
+use Rattle.smol_str.specs.WireFaults.{AfterEncodeFault, AfterDecodeFault, GaveTooFew, GaveSomeOfBody, HasReadBody, HasReadLarge, NeedsMemory, AfterBodyFault, StatesAtMost, AfterLimitedFault, AfterFromWireFault, of_utf8_fault}
 use Rattle.smol_str.proofs.TextLemmas.Places.{size-chars}
 use Rattle.smol_str.proofs.WireLemmas.Stream.{IfErr-is, beginning-of_first, beginning-of_second, Consumes-full}
 

@@ -41,8 +41,7 @@ module _ (a b c : Option (List ℕ)) (kept : Keeps b c) where
 pub GaveBelow-after : (a b c : Option (List ℕ)) (bytes : List ℕ) (room n : ℕ) → Consumes a b bytes → GaveBelow b c room
     → length bytes + room ≤ n → GaveBelow a c n
 GaveBelow-after a b c bytes room n consumed (more, short, then) within =
-    let long = length-append bytes more in
-    (bytes ++ more, omega arith, Consumes-trans a b c bytes more consumed then)
+    (bytes ++ more, omega (arith, length-append bytes more), Consumes-trans a b c bytes more consumed then)
 
 -- a reader that gave some bytes, and then some more
 pub GaveUpTo-after : (a b c : Option (List ℕ)) (bytes more : List ℕ) (n : ℕ) → Consumes a b bytes

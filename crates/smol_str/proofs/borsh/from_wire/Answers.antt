@@ -2,7 +2,6 @@ use Rattle.smol_str.proofs.Common.{◌≡◌, ◌<◌, ◌^◌, IsTrue, length, 
 use Rattle.smol_str.proofs.WireLemmas.Wire.{Holds-stated}
 use Rattle.smol_str.proofs.WireLemmas.Stream.{IfErr-is}
 use Rattle.smol_str.proofs.WireLemmas.Borsh.{AfterFromWireFault-of_text}
-use Rattle.smol_str.specs.Faults.{AfterFromUtf8Fault}
 use Rattle.smol_str.proofs.borsh.from_wire.Goals as goal
 
 pub returns-clause-ok : goal.returns-clause-ok

@@ -1,4 +1,4 @@
-use Rattle.smol_str.proofs.Common.{◌≡◌, ℕ, ◌-◌, List, ◌++◌, length, take, drop, sym, ap, ◌∙◌, append_assoc, take-append-drop, take_rest, arith, common_steps, Appends-trans, rules}
+use Rattle.smol_str.proofs.Common.{◌≡◌, ℕ, ◌-◌, List, ◌++◌, length, take, drop, append_assoc, take-append-drop, take_rest, arith, common_steps, Appends-trans, rules}
 use Rattle.smol_str.proofs.stream.write_steps.Goals as goal
 
 -- what a step takes from the front of the rest goes over to what is done

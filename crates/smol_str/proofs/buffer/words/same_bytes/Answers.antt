@@ -1,4 +1,4 @@
-use Rattle.smol_str.proofs.Common.{◌≡◌, ◌≤◌, ◌+◌, ◌-◌, length, take, take-take, ap, sym, ◌∙◌, arith, refl, rules}
+use Rattle.smol_str.proofs.Common.{◌≡◌, ◌≤◌, ◌+◌, ◌-◌, length, take, take-take, ap, arith, refl, rules}
 use Rattle.smol_str.specs.Words.{word}
 use Rattle.smol_str.proofs.BufferLemmas.Words.{AreBytes, same-last, same_from, more-same}
 use Rattle.smol_str.proofs.buffer.words.same_bytes.Goals as goal
