@@ -10,7 +10,6 @@ use Rattle.std.proofs.lemmas.List.Concat.{flat_map-append}
 use Rattle.std.proofs.lemmas.Str.{encodes-append, encodes-IsAscii}
 use Rattle.std.proofs.lemmas.Fmt.{IsAscii-decimal}
 use Rattle.smol_str.specs.declared.value.place.Place.{Place}
-use Rattle.smol_str.specs.declared.value.place.Place.TheVariants.{Inline, Static, Heap}
 use Rattle.smol_str.specs.Text.{size}
 use Rattle.smol_str.specs.Meaning.{Meaning, IsValueOf}
 use Rattle.smol_tokens_core.specs.Report.{place_word, report_line, value_line, count_line}

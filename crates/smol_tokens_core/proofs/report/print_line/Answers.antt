@@ -1,5 +1,4 @@
-use Rattle.std.proofs.Common.{rules, arith, ◌<◌, ◌^◌}
-use Rattle.smol_str.specs.Text.{size}
+use Rattle.std.proofs.Common.{rules}
 use Rattle.smol_tokens_core.proofs.ReportLemmas.{encodes-report_line}
 use Rattle.smol_tokens_core.proofs.report.print_line.Goals as goal
 

@@ -1,7 +1,5 @@
-use Rattle.std.proofs.Common.{inr, rules}
-use Rattle.std.specs.Io.KnownBytes.{Appends}
+use Rattle.std.proofs.Common.{rules}
 use Rattle.std.proofs.lemmas.Result.{err_from_is_err_and}
-use Rattle.smol_str.specs.Stream.{AppendsBeginning}
 use Rattle.smol_tokens_core.proofs.FaultLemmas.{after-reading, after-not_utf8, after-no_report, whole-report}
 use Rattle.smol_tokens_core.proofs.run.run.Goals as goal
 

@@ -1,5 +1,4 @@
-use Rattle.std.proofs.Common.{inr, rules}
-use Rattle.std.specs.Str.{chars}
+use Rattle.std.proofs.Common.{rules}
 use Rattle.smol_tokens_core.proofs.FaultLemmas.{no_report-refused}
 use Rattle.smol_tokens_core.proofs.TokenLemmas.{some_counts}
 use Rattle.smol_tokens_core.proofs.tokens.count_lines.Goals as goal

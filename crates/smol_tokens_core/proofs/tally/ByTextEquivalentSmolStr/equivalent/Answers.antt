@@ -1,7 +1,5 @@
-use Rattle.std.proofs.Common.{◌∙◌, sym, rules}
+use Rattle.std.proofs.Common.{rules}
 use Rattle.std.proofs.lemmas.Bool.Decides.{same_from_decides}
-use Rattle.std.specs.Cmp.Lexicographic.{bytes_decides}
-use Rattle.std.specs.Str.{chars, IsUtf8}
 use Rattle.smol_str.proofs.CallerLemmas.{stands_for-text}
 use Rattle.smol_tokens_core.proofs.tally.ByTextEquivalentSmolStr.equivalent.Goals as goal
 
