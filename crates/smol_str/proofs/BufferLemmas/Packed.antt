@@ -41,8 +41,10 @@ drop-packed : (old : List ℕ) (m : ℕ) → length old + m ≤ INLINE_CAP →
 unfolding behind
 drop-packed old m h =
     let left : (INLINE_CAP - length old) - m ≡ INLINE_CAP - (length old + m) = omega arith in
-    let zeros = drop-append-le m (replicate {A = ℕ} (INLINE_CAP - length old) 0) (length old ∷ []) (omega (arith, length-replicate {A = ℕ} (INLINE_CAP - length old) 0)) in
-    cc (drop-drop m (length old) (packed old), packed-behind old, drop_at old (behind old) (length old) refl, zeros, drop-replicate {X = ℕ} m (INLINE_CAP - length old) 0)
+    let n : ℕ = INLINE_CAP - length old in
+    let zeros = drop-append-le m (replicate {A = ℕ} n 0) (length old ∷ []) (omega (arith, length-replicate {A = ℕ} n 0)) in
+    let fewer = drop-replicate {X = ℕ} m n 0 in
+    cc (drop-drop m (length old) (packed old), packed-behind old, drop_at old (behind old) (length old) refl, zeros, fewer)
 
 put-packed : (old bytes : List ℕ) → length old + length bytes ≤ INLINE_CAP →
     set (put_at (packed old) (length old) bytes) INLINE_CAP (length old + length bytes) ≡ packed (old ++ bytes)

@@ -74,7 +74,8 @@ order-step : (xs ys x y : List ℕ) (at : ℕ) → x ≡ take 8 (drop at xs) →
 order-step xs ys x y at e f h k l m =
     let long = length-part 8 xs at l in
     let wide = length-part 8 ys at m in
-    let order = big-order _ _ (drop 8 (drop at xs)) (drop 8 (drop at ys)) (long ∙ sym wide) (bytes-part 8 xs at h) (bytes-part 8 ys at k) in
+    let order = big-order _ _ (drop 8 (drop at xs)) (drop 8 (drop at ys)) (long ∙ sym wide) (bytes-part 8 xs at h)
+    (bytes-part 8 ys at k) in
     rw (
       e,
       f,

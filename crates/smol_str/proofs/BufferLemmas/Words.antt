@@ -139,7 +139,8 @@ one-word buf bytes n b h e put =
     let split : length bytes + (8 - length bytes) ≡ 8 = omega (arith, h) in
     let left : m - (8 - length bytes) ≡ INLINE_CAP + 1 - 8 = omega (arith, h) in
     let rest : drop 8 (with_zeros bytes) ≡ drop 8 zeros =
-    cc (drop-append-add bytes (replicate m 0) (8 - length bytes), drop-replicate {X = ℕ} (8 - length bytes) m 0, drop-replicate {X = ℕ} 8 (INLINE_CAP + 1) 0) in
+    let behind = drop-append-add bytes (replicate m 0) (8 - length bytes) in
+    cc (behind, drop-replicate {X = ℕ} (8 - length bytes) m 0, drop-replicate {X = ℕ} 8 (INLINE_CAP + 1) 0) in
     cc (take-append-drop 8 (with_zeros bytes))
 
 -- one word of two lists

@@ -231,4 +231,6 @@ low_unmoved case c h = ⊎_elim (λ l. l) (λ g. omega (arith, (letter-moves cas
 
 pub ascii-converted : (case : AsciiCase) (t : List ℕ) → IsAsciiText (converted case t) → IsAsciiText t
 ascii-converted case [] h = All-nil (λ c. c < 128)
-ascii-converted case (c ∷ t) h = search (rules, All-cons, low_unmoved, All-head, All-tail, ascii-converted case t (All-tail (λ c. c < 128) (letter case c) (converted case t) h))
+ascii-converted case (c ∷ t) h =
+    let rest = ascii-converted case t (All-tail (λ c. c < 128) (letter case c) (converted case t) h) in
+    search (rules, All-cons, low_unmoved, All-head, rest)

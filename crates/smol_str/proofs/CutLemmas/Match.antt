@@ -190,7 +190,8 @@ module _ (bs nd : List ℕ) (i : ℕ) (u : IsUtf8 bs) (v : IsUtf8 nd) (some : 0 
     parts j e =
         let a = before ++ match.before in
         let p = chars nd in
-        let whole : chars bs ≡ a ++ (p ++ match.after) = cc (reads, match.reads, append_assoc before match.before (p ++ match.after)) in
+        let whole : chars bs ≡ a ++ (p ++ match.after) =
+        cc (reads, match.reads, append_assoc before match.before (p ++ match.after)) in
         let behind : chars bs ≡ (a ++ p) ++ match.after = whole ∙ sym (append_assoc a p match.after) in
         let first = chars-take bs a (p ++ match.after) j u whole (match.index ∙ sym e) in
         let last = chars-drop bs (a ++ p) match.after (j + length nd) u behind

@@ -28,7 +28,8 @@ module _ (bs p w : List ℕ) (n m : ℕ) (b : Draft) (i : ℕ) (h : IsReplacing 
 
   pub taken-inside : (c : ℕ) (r : List ℕ) → h.rest ≡ c ∷ r → i + len_utf8 c ≤ length bs
   taken-inside c r reads =
-      omega (arith, ap size h.parts, size-append h.done h.rest, size-chars bs u, ap size reads, length-append (encode c) (encode_utf8_all r), length-encode c)
+      let one = length-append (encode c) (encode_utf8_all r) in
+      omega (arith, ap size h.parts, size-append h.done h.rest, size-chars bs u, ap size reads, one, length-encode c)
 
 -- nothing is replaced in a text without a match
 pub replacing-nothing : (t p w : List ℕ) (n : ℕ) (b : Draft) → b ≡ empty_draft InBuffer → ¬ Occurs p t → IsReplacing t p w n 0 b 0

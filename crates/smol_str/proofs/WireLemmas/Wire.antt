@@ -48,7 +48,8 @@ pub body-Holds : (b t : List ℕ) (n : ℕ) → Holds b t n → body b ≡ encod
 body-Holds b t n h =
     let says : prefix_size b ≡ size t = ap prefix_size (wire-held b t n h) ∙ prefix_size-wire t (drop n b) h.sized in
     let back : drop 4 b ≡ encode_utf8_all t ++ drop n b =
-    cc (wire-held b t n h, wire-append t (drop n b), drop_at (to_le_bytes w32 (size t)) (encode_utf8_all t ++ drop n b) 4 (four (size t))) in
+    let behind = drop_at (to_le_bytes w32 (size t)) (encode_utf8_all t ++ drop n b) 4 (four (size t)) in
+    cc (wire-held b t n h, wire-append t (drop n b), behind) in
     (λ i. take (says i) (back i)) ∙ take_at (encode_utf8_all t) (drop n b) (size t) refl
 
 -- a form, and what follows it
