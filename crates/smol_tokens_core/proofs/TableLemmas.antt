@@ -70,12 +70,15 @@ stepped : (t : List ℕ) (n : ℕ) (e : List ℕ × ℕ) (es : List (List ℕ ×
     ≡ cond b ((e.0, e.1 + n) ∷ es) (e ∷ insert_entry is_same es t (had t es + n))
 stepped t n e es b x = search rules
 
+-- how often a token stands in a table, by whether the first entry is its own
+ruleset times = (by_same, same_from, other_way, is_same_itself, times_here, times_other, times-append, new_times)
+
 -- what a table is after one more entry
 put : (es : List (List ℕ × ℕ)) (t : List ℕ) (n : ℕ) → IsTable es
     → tally (es ++ (t, n) ∷ []) ≡ insert_entry is_same es t (had t es + n)
 put [] t n h = search (rules, times_here, is_same_itself)
 put (e ∷ es) t n h =
-    search (rules, by_same, same_from, without_token, new_put, drop_last, times_here, is_same_itself, times-append, new_times, tally-cons, stepped, other_way, new_kept, put_kept, times_other, put es t n h.1)
+    search (rules, times, without_token, new_put, drop_last, tally-cons, stepped, new_kept, put_kept, put es t n h.1)
 
 kept : (es : List (List ℕ × ℕ)) → IsTable es → tally es ≡ es
 kept [] h = refl
@@ -83,7 +86,7 @@ kept (e ∷ es) h = search (rules, new_times, tally-cons, without_token, new_kep
 
 found : (t : List ℕ) (es : List (List ℕ × ℕ)) → IsTable es → had t es ≡ times_of t es
 found t [] h = refl
-found t (e ∷ es) h = search (rules, by_same, new_times, same_from, times_here, times_other, found t es h.1)
+found t (e ∷ es) h = search (rules, times, found t es h.1)
 
 pub tally-table : (es : List (List ℕ × ℕ)) → AllPairs (λ s u. s ≢ u) (tokens es) → tally es ≡ es
 tally-table es h = kept es (table_from es h)
