@@ -4,3 +4,4 @@ pub mod Match
 pub mod Replace
 pub mod Replacing
 pub mod Bytes
+pub mod Near

@@ -1,0 +1,21 @@
+use Rattle.smol_str.proofs.Common.{arith}
+use Rattle.memchr.proofs.lemmas.FindLemmas.{Nowhere-then}
+use Rattle.smol_str.proofs.bytes.search.first_index.Goals as goal
+
+pub loop-at-init : goal.loop-at-init
+loop-at-init c = (omega arith, λ k low high. absurd (omega arith))
+
+pub returns-in-Some : goal.returns-in-Some
+returns-in-Some c =
+    let found = c.in-Some.ensures.0 in (
+      record {
+        low = omega arith;
+        high = omega (arith, found.high, c.if-bytes-at-ge-LANES.true);
+        before = Nowhere-then c.loop-at.invariant.1 found.before;
+      },
+      c.in-Some.ensures.1,
+    )
+
+pub loop-at-preserved : goal.loop-at-preserved
+loop-at-preserved c =
+    (omega (arith, c.if-bytes-at-ge-LANES.true), Nowhere-then c.loop-at.invariant.1 c.in_default.ensures)
