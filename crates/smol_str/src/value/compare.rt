@@ -26,7 +26,10 @@ impl SmolStr {
     pub fn eq_str(&self, other: &str) -> bool
         ensures { IsTrue result ↔ (self.now.text ≡ chars other.now) }
     {
-        same_text(self.as_str(), other)
+        match &self.repr {
+            Repr::Inline(text) => same_text(text.as_str(), other),
+            _ => self.as_str() == other,
+        }
     }
 
     /// Whether the texts are equal; it stands for `==` with a `String`, either way round.
