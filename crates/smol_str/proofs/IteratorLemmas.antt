@@ -1,7 +1,7 @@
 -- What std's iterators give as lists of texts: characters from the end of a text, an array by value, a text split at
 -- another.
 use Rattle.std.proofs.Common.{◌≡◌, ◌<◌, ◌==◌, ℕ, Bool, true, false, Bor, List, [], ◌∷◌, ◌++◌, length, map, take, drop, reverse, flat_map, Option, None, Some, refl, sym, ap, ◌∙◌, subst, arith, append-nil, rules}
-use Rattle.std.specs.Str.{IsUtf8, chars, all_scalars, encode_utf8_all}
+use Rattle.std.specs.Str.{IsUtf8, chars, encode_utf8_all}
 use Rattle.std.specs.Str.Lines.{lines}
 use Rattle.std.specs.Str.Pattern.{FindsChar}
 use Rattle.std.specs.Char.{encode_utf8}
@@ -32,20 +32,19 @@ use Rattle.smol_str.proofs.CutLemmas.Sync.{StandsBetween-bytes}
 -- an array that is handed over
 pub YieldsList-from_array : {A : Type 0} {n : ℕ} {s : IntoIter A n} (xs : List A) → array_into_iter_items s ≡ xs →
     YieldsList array_steps (λ x. x) s xs
-YieldsList-from_array {A} {n} {s} xs e =
-    let all = YieldsList-from_shown array_steps (λ x. x) array_into_iter_items (λ s t h. h.0) (λ s x t h. h) s in
-    subst (λ ys. YieldsList array_steps (λ x. x) s ys) e all
+YieldsList-from_array {s = s} xs e =
+    rw (← e) (YieldsList-from_shown array_steps (λ x. x) array_into_iter_items (λ s t h. h.0) (λ s x t h. h) s)
 
 -- the last character of a text comes off its end
 last_off : (bs ds : List ℕ) (c : ℕ) → IsUtf8 bs → bs ≡ ds ++ encode_utf8 c → IsUtf8 ds × (chars bs ≡ chars ds ++ c ∷ [])
 last_off bs ds c u e =
     let one : encode_utf8_all (c ∷ []) ++ [] ≡ encode_utf8 c = append-nil _ ∙ append-nil _ in
-    let h = StandsBetween-bytes (chars bs) (c ∷ []) ds [] (omega arith) (encodes-chars bs u ∙ e ∙ ap (λ x. ds ++ x) (sym one)) in
+    let h = StandsBetween-bytes (chars bs) (c ∷ []) ds [] (omega arith) (cc (encodes-chars bs u, one)) in
     let none : h.1 ≡ [] = nil_from_length h.1 (omega (arith, ap length h.4, length-le-encodes h.1)) in
-    let parts : chars bs ≡ h.0 ++ c ∷ [] = h.2 ∙ ap (λ x. h.0 ++ c ∷ x) none in
-    let front = scalars_parts h.0 (c ∷ []) (ap all_scalars (sym parts) ∙ scalars-chars bs u) in
+    let parts : chars bs ≡ h.0 ++ c ∷ [] = cc (h.2, none) in
+    let front = scalars_parts h.0 (c ∷ []) (cc (parts, scalars-chars bs u)) in
     let utf8 : IsUtf8 ds = (h.0, (front.0, h.3)) in
-    (utf8, parts ∙ ap (λ x. x ++ c ∷ []) (chars_from_encodes h.0 ds utf8 h.3))
+    (utf8, cc (parts, chars_from_encodes h.0 ds utf8 h.3))
 
 -- the characters of a text, last first
 pub YieldsList-from_rev_chars : {s : _} (bs : List ℕ) → IsUtf8 bs → chars_rest (rev_source s) ≡ bs
@@ -53,10 +52,10 @@ pub YieldsList-from_rev_chars : {s : _} (bs : List ℕ) → IsUtf8 bs → chars_
 YieldsList-from_rev_chars {s} bs u e =
     let rest = λ (t : _). chars_rest (rev_source t) in
     let all = YieldsList-from_shown_while (rev_steps chars_steps_back) (λ c. c) (λ t. reverse (chars (rest t))) (λ t. IsUtf8 (rest t))
-    (λ t u h k. ap (λ x. length (reverse (chars x))) (nil_from_length (rest t) k.0) ∙ ap (λ x. length (reverse x)) chars-nil)
+    (λ t u h k. cc (nil_from_length (rest t) k.0, chars-nil))
     (λ t c u h k.
     let off = last_off (rest t) (rest u) c h k in
-    (off.0, ap reverse off.1 ∙ reverse-append (chars (rest u)) (c ∷ []))) s (subst IsUtf8 (sym e) u) in
+    (off.0, cc (off.1, reverse-append (chars (rest u)) (c ∷ [])))) s (rw e u) in
     subst (λ b. YieldsList (rev_steps chars_steps_back) (λ c. c) s (reverse (chars b))) e all
 
 -- ---- std's lemmas in forms that `grind` finds at a caller's goal: no λ stands in what they show but that by which items
@@ -93,7 +92,7 @@ pub gives-rev_chars : {s t : _} (bs : List ℕ) → IsUtf8 bs → rev_source s �
 gives-rev_chars bs u e f = YieldsList-from_rev_chars bs u (ap chars_rest e ∙ f)
 
 pub gives-lines : {s : _} (all : List (List ℕ)) → all ≡ lines (lines_rest s) → YieldsList lines_steps (λ x. x.now) s all
-gives-lines {s} all e = subst (YieldsList lines_steps (λ x. x.now) s) (sym e) (YieldsList-from_lines (lines_rest s) refl)
+gives-lines {s} all e = rw e (YieldsList-from_lines (lines_rest s) refl)
 
 -- a text that is split at an ASCII character
 pub gives-split_char : {s : _} {steps : Split ℕ → Option (Bor (List ℕ)) → Split ℕ → Type 0} (test : ℕ → Bool) (c : ℕ)

@@ -39,13 +39,9 @@ some_bytes : (bs : List ℕ) (d : json.Data) → read bs ≡ Some d → 0 < leng
 some_bytes bs d e = grind (arith, common_steps, read-nil)
 
 -- a fault of the value that bytes read as
-AfterJsonFault-of_value : (bs : List ℕ) (d : json.Data) (fault : JsonFault) → read bs ≡ Some d → AfterValueFault d fault
-    → AfterJsonFault bs fault
-AfterJsonFault-of_value bs d fault e h = search (rules, some_bytes)
-
 pub AfterJsonFault-read : {T : Type 0} (r : Result T JsonFault) (bs : List ℕ) (d : json.Data) → read bs ≡ Some d
     → IfErr r (AfterValueFault d) → IfErr r (AfterJsonFault bs)
-AfterJsonFault-read r bs d e h = search (rules, AfterJsonFault-of_value)
+AfterJsonFault-read r bs d e h = search (rules, some_bytes)
 
 pub IsJsonText-read : {E : Type 0} (r : Result Meaning E) (bs : List ℕ) (d : json.Data) → read bs ≡ Some d
     → IfOk r (IsJsonOf d) → IfOk r (λ v. IsJsonText bs v.text)

@@ -1,6 +1,6 @@
 -- What `split` of a text at another text gives: the pieces of the cut.
 use Rattle.std.proofs.Common.{◌≡◌, ℕ, ◌+◌, ◌<◌, ◌≤◌, Bool, true, false, cond, List, [], ◌∷◌, ◌++◌, length, take, drop, Bor, Option, Some, None, MatchOption, refl, sym, ap, ◌∙◌, subst, arith, length-append, append-nil, take-append-drop, length-take-le}
-use Rattle.std.specs.Str.{IsUtf8, chars, all_scalars, encode_utf8_all}
+use Rattle.std.specs.Str.{IsUtf8, chars, encode_utf8_all}
 use Rattle.std.specs.Str.Pattern.{FindsText, LacksTextAt, HasTextAt}
 use Rattle.std.specs.Str.Iter.{split_steps, split_text, split_has_more, split_pattern}
 use Rattle.std.specs.List.{flat_map}
@@ -25,13 +25,7 @@ cut_first : (t p q r : List ℕ) → 0 < length p → t ≡ q ++ (p ++ r) → Is
 cut_first t [] q r some e first = absurd (omega arith)
 cut_first t (c ∷ p) q r some e first =
     let few : match_count r (c ∷ p) ≤ length t =
-    omega (
-      arith,
-      match_count-limit r (c ∷ p),
-      ap length e,
-      length-append q ((c ∷ p) ++ r),
-      length-append (c ∷ p) r,
-    ) in
+    omega (arith, match_count-limit r (c ∷ p), ap length e, length-append q ((c ∷ p) ++ r), length-append (c ∷ p) r) in
     IsCut-unique t (c ∷ p) (length t + 1) _ _ (IsCut-cut t (c ∷ p) (length t + 1))
     (IsCutAt-step t (c ∷ p) q r (length t) _ e first (whole_cut r (c ∷ p) (length t) few))
 
@@ -43,8 +37,8 @@ cut_none t (c ∷ p) some none =
 -- pieces with nothing between them
 pub joined-nothing : (pieces : List (List ℕ)) → flat_map (λ q. q) pieces ≡ joined_by [] pieces
 joined-nothing [] = refl
-joined-nothing (q ∷ []) = append-nil q ∙ sym (joined_one [] q)
-joined-nothing (q ∷ r ∷ rs) = ap (λ x. q ++ x) (joined-nothing (r ∷ rs)) ∙ sym (joined_more [] q r rs)
+joined-nothing (q ∷ []) = cc (append-nil q, joined_one [] q)
+joined-nothing (q ∷ r ∷ rs) = cc (joined-nothing (r ∷ rs), joined_more [] q r rs)
 
 -- in the text w, the text nd, which is not empty
 module _ (w nd : List ℕ) (u : IsUtf8 w) (v : IsUtf8 nd) (some : 0 < length nd) where
@@ -75,10 +69,9 @@ module _ (w nd : List ℕ) (u : IsUtf8 w) (v : IsUtf8 nd) (some : 0 < length nd)
       let bytes : encode_utf8_all (chars w) ≡ take i w ++ (encode_utf8_all p ++ drop j w) =
       cc (encodes-chars w u, take-append-drop i w, at.split, encodes-chars nd v) in
       let h = StandsBetween-bytes (chars w) p (take i w) (drop j w) long bytes in
-      let fits : i ≤ length w =
-      omega (arith, ap length at.split, length-append nd (drop j w), length-drop i w) in
-      let place : size h.0 ≡ i = ap length h.3 ∙ length-take-le i w fits in
-      let s = scalars_parts h.0 (p ++ h.1) (ap all_scalars (sym h.2) ∙ scalars-chars w u) in
+      let fits : i ≤ length w = omega (arith, ap length at.split, length-append nd (drop j w), length-drop i w) in
+      let place : size h.0 ≡ i = cc (h.3, length-take-le i w fits) in
+      let s = scalars_parts h.0 (p ++ h.1) (cc (h.2, scalars-chars w u)) in
       let z = scalars_parts p h.1 s.1 in
       record {
         front = h.0;
@@ -87,8 +80,8 @@ module _ (w nd : List ℕ) (u : IsUtf8 w) (v : IsUtf8 nd) (some : 0 < length nd)
         first = λ o.
             let x = earlier (chars w) p h.0 h.1 h.2 long o in
             none (size x.0.0) (omega (arith, x.1)) (encode_utf8_all x.0.1) (there x.0.0 x.0.1 x.0.2);
-        before = ap chars (sym h.3) ∙ chars-encodes h.0 s.0;
-        after = ap chars (sym h.4) ∙ chars-encodes h.1 z.1;
+        before = cc (h.3, chars-encodes h.0 s.0);
+        after = cc (h.4, chars-encodes h.1 z.1);
         utf8 = (h.1, (z.1, h.4));
       }
 
@@ -101,18 +94,13 @@ module _ (w nd x rest : List ℕ) (live : Bool) (u : IsUtf8 w) (v : IsUtf8 nd) (
   one_piece : (o : Option (ℕ × ℕ)) → FindsText nd w o → MatchOption o ((x ≡ w) × (live ≡ false))
       (λ q. 0 < q.1 → (x ≡ take q.0 w) × (live ≡ true) × (rest ≡ drop q.1 w))
       → (live ≡ true → IsUtf8 rest) × (pieces nd true w ≡ chars x ∷ pieces nd live rest)
-  one_piece None none (e, f) = (
-    (λ more. cc),
-    rw (e, f) (cut_none (chars w) (chars nd) (some_char nd v some) (lacking w nd u v some none)),
-  )
+  one_piece None none (e, f) =
+      ((λ more. cc), rw (e, f) (cut_none (chars w) (chars nd) (some_char nd v some) (lacking w nd u v some none)))
   one_piece (Some q) found said =
-      let at = found.1 in
-      let h = first_match w nd u v some q.0 q.1 found.0 at in
-      let m = said (omega (arith, at.ends)) in (
-        (λ more. subst IsUtf8 (sym m.2) h.utf8),
-        rw (m.0, m.1, m.2, h.before, h.after)
-            (cut_first (chars w) (chars nd) h.front h.rest (some_char nd v some) h.reads h.first),
-      )
+      let h = first_match w nd u v some q.0 q.1 found.0 found.1 in
+      let m = said (omega (arith, found.1.ends)) in
+      let first = cut_first (chars w) (chars nd) h.front h.rest (some_char nd v some) h.reads h.first in
+      ((λ more. rw m.2 h.utf8), rw (m.0, m.1, m.2, h.before, h.after) first)
 
 -- a text that is split at another
 pub gives-split : {s : _} {steps : Split (Bor (List ℕ)) → Option (Bor (List ℕ)) → Split (Bor (List ℕ)) → Type 0}

@@ -1,5 +1,6 @@
 //! A short text in a buffer of its own.
-ghost use Rattle.std.specs.Prelude.{◌≡◌, ◌↔◌, IsTrue, ◌+◌, ◌≤◌, [], ◌∷◌, ◌++◌, length, encode_utf8_all};
+ghost use Rattle.std.specs.Prelude.{◌≡◌, ◌↔◌, IsTrue, ◌+◌, ◌≤◌, ℕ, List, [], ◌∷◌, ◌++◌, length, OnSome, encode_utf8_all};
+ghost use Rattle.std.specs.Iterator.{IsFinite, YieldsThen};
 ghost use Rattle.std.specs.Str.{chars, all_scalars};
 ghost use Rattle.std.specs.Ordering.{nat_cmp};
 ghost use Rattle.std.specs.Cmp.Lexicographic.{slice_cmp};
@@ -14,7 +15,7 @@ use crate::bytes::ascii::{AsciiCase, convert_all, is_all_ascii};
 use std::cmp::Ordering;
 use std::marker::Model;
 pub(crate) use words::same_text;
-use words::{copy_packed, order_words, pack, pack_char, same_words, write_at};
+use words::{copy_packed, order_words, pack, pack_char, same_words, write_ascii, write_at};
 
 /// The most bytes of a text that lies in the value itself.
 pub const INLINE_CAP: usize = 39;
@@ -177,5 +178,21 @@ impl InlineText {
         let len = self.packed[INLINE_CAP] as usize;
         write_at(&mut self.packed, len, text.as_bytes());
         self.packed[INLINE_CAP] = (len + text.len()) as u8;
+    }
+
+    /// Appends the characters of an iterator while they are ASCII and there is room, and returns the first other one.
+    #[inline(always)]
+    pub(crate) fn extend_ascii<I: Iterator<Item = char>>(&mut self, iter: &mut I) -> Option<char>
+        requires can { I.can_next iter.old }
+        requires ends { IsFinite (I.remaining iter.old) }
+        ensures drew { (items : List ℕ) × YieldsThen I.next_gives iter.old items result iter.new
+            × (self.new ≡ self.old ++ items) }
+        ensures short { IsShort self.new }
+        ensures more { OnSome result (I.can_next iter.new × IsFinite (I.remaining iter.new)) }
+    {
+        let len = self.packed[INLINE_CAP] as usize;
+        let (len, other) = write_ascii(&mut self.packed, len, iter);
+        self.packed[INLINE_CAP] = len as u8;
+        other
     }
 }

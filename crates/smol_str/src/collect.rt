@@ -2,7 +2,7 @@
 //!
 //! Collecting is extending an empty builder and finishing it. The items are drawn one at a time and
 //! nothing is gathered first, and size hints are not read: they reserve nothing and decide nothing.
-ghost use Rattle.std.specs.Prelude.{◌≡◌, ℕ, List, [], IfOk, OnOk, OnErr};
+ghost use Rattle.std.specs.Prelude.{◌≡◌, ◌⊎◌, ℕ, List, [], ◌∷◌, IfOk, OnOk, OnErr};
 ghost use Rattle.std.proofs.Common.{refl};
 ghost use Rattle.std.specs.Iterator.{IsFinite};
 ghost use Rattle.smol_str.specs.Text.{IsResident};
@@ -141,7 +141,9 @@ impl SmolStr {
         ensures ok { IfOk result (Collected (λ items. items) I.next_gives iter A.meaning) }
         ensures refused { OnErr result (Outgrown (λ items. items) I.next_gives iter) }
     {
-        collect(alloc, iter)
+        let mut builder = alloc.builder();
+        builder.extend_chars(iter)?;
+        A::value_of(builder)
     }
 
     /// A value of the texts, one after another: [`SmolStr::from_chars`] of `&str`s.
@@ -203,25 +205,6 @@ impl SmolStr {
 }
 
 impl SmolStrBuilder {
-    /// Appends the characters, in order.
-    ///
-    /// A refusal is [`AllocError`]: the characters before the refused one stay appended, and the
-    /// iterator is dropped. `builder.extend(iter)` does the same.
-    ///
-    /// ```
-    /// let mut builder = SmolStrBuilder::new(alloc);
-    /// builder.extend_chars("abc".chars().rev())?;
-    /// assert_eq!(rt; builder.as_str(), "cba");
-    /// ```
-    pub fn extend_chars<I: Iterator<Item = char>>(&mut self, iter: I) -> Result<(), AllocError>
-        requires can { I.can_next iter }
-        requires ends { IsFinite (I.remaining iter) }
-        ensures ok { OnOk result (AppendedAll (λ items. items) I.next_gives iter self.old self.new) }
-        ensures stopped { OnErr result (StoppedAt (λ items. items) I.next_gives iter self.old self.new) }
-    {
-        append_all(self, iter)
-    }
-
     /// Appends the texts, in order: [`SmolStrBuilder::extend_chars`] of `&str`s.
     ///
     /// ```

@@ -44,8 +44,8 @@ lines-split bs front back i u at is_front is_back =
     let r = at.after in
     let is_a : chars (take i bs) ≡ a = chars-take bs a (10 ∷ r) i u at.reads at.index in
     let behind : chars bs ≡ (a ++ newline) ++ r = at.reads ∙ sym (append_assoc a newline r) in
-    let long = size-append a newline in
-    let is_r : chars (drop (i + 1) bs) ≡ r = chars-drop bs (a ++ newline) r (i + 1) u behind (long ∙ ap (λ n. size a + n) one_byte ∙ ap (λ n. n + 1) at.index) in
+    let is_r : chars (drop (i + 1) bs) ≡ r =
+    chars-drop bs (a ++ newline) r (i + 1) u behind (omega (arith, size-append a newline, one_byte, at.index)) in
     rw (is_front, is_back, is_a, is_r, at.reads)
     (lines-first a r (none_newline a (λ o. at.first (rw (append-nil a) o))))
 

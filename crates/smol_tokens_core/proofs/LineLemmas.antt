@@ -57,10 +57,8 @@ joined_step p q r rs ss h = search (rules, arith, joined_more, append_assoc)
 
 joined_kept : (p : List ℕ) (qs : List (List ℕ)) → GivesBack p (without_empty_last qs) (joined_by p qs)
 joined_kept p [] = inl refl
-joined_kept p ([] ∷ []) = inl refl
-joined_kept p ((c ∷ q) ∷ []) = inl refl
-joined_kept p (q ∷ [] ∷ []) = search (rules, append-nil)
-joined_kept p (q ∷ (c ∷ r) ∷ []) = inl refl
+joined_kept p (q ∷ []) = search rules
+joined_kept p (q ∷ r ∷ []) = search (rules, append-nil)
 joined_kept p (q ∷ r ∷ s ∷ ss) = joined_step p q r (s ∷ ss) (without_empty_last (s ∷ ss)) (joined_kept p (r ∷ s ∷ ss))
 
 pub joined-lines : (t : List ℕ) → (joined_by newline (lines t) ≡ t) ⊎ (joined_by newline (lines t) ++ newline ≡ t)

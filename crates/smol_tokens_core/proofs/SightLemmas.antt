@@ -57,13 +57,10 @@ sights_without x (y ∷ ys) =
 pub sights_again : (xs ys : List (List ℕ)) → first_sights (first_sights xs ++ ys) ≡ first_sights (xs ++ ys)
 sights_again [] ys = refl
 sights_again (x ∷ xs) ys =
-    let inner : without x (without x (first_sights xs) ++ ys) ≡ without x (first_sights xs ++ ys) =
-    without-append x (without x (first_sights xs)) ys
-    ∙ ap (λ s. s ++ without x ys) (without_twice x (first_sights xs))
-    ∙ sym (without-append x (first_sights xs) ys) in
-    ap (λ s. x ∷ s)
-    (sym (sights_without x (without x (first_sights xs) ++ ys)) ∙ ap first_sights inner
-    ∙ sights_without x (first_sights xs ++ ys) ∙ ap (without x) (sights_again xs ys))
+    let front = first_sights xs in
+    let inner : without x (without x front ++ ys) ≡ without x (front ++ ys) =
+    cc (without-append x (without x front) ys, without_twice x front, without-append x front ys) in
+    cc (sights_without x (without x front ++ ys), inner, sights_without x (front ++ ys), sights_again xs ys)
 
 -- no text stands twice
 pub sights_once : (ts : List (List ℕ)) → AllPairs (λ s t. s ≢ t) (first_sights ts)

@@ -39,11 +39,13 @@ others_left : (f : List ℕ → ℕ) (t k : List ℕ) (us : List (List ℕ)) →
 others_left f t k [] h = refl
 others_left f t k (u ∷ us) h =
     by_same k u
-    (λ e. ap (λ s. times_of t (paired f s)) (without_here k u us e) ∙ others_left f t k us h
-    ∙ sym (times_other t (u, f u) (paired f us) (ap (is_same t) (sym (same_from k u e)) ∙ h)))
-    (λ e. ap (λ s. times_of t (paired f s)) (without_other k u us e)
-    ∙ times-cons t (u, f u) (paired f (without k us))
-    ∙ ap (λ n. worth t (u, f u) + n) (others_left f t k us h) ∙ sym (times-cons t (u, f u) (paired f us)))
+    (λ e. cc (without_here k u us e, others_left f t k us h, times_other t (u, f u) (paired f us) (cc (same_from k u e))))
+    (λ e. cc (
+      without_other k u us e,
+      times-cons t (u, f u) (paired f (without k us)),
+      others_left f t k us h,
+      times-cons t (u, f u) (paired f us),
+    ))
 
 -- of a text that was seen the number is counted once, and another has none
 counted : (f : List ℕ → ℕ) (t : List ℕ) (es : List (List ℕ × ℕ))
@@ -51,20 +53,23 @@ counted : (f : List ℕ → ℕ) (t : List ℕ) (es : List (List ℕ × ℕ))
     ⊎ ((times_of t (paired f (first_sights (tokens es))) ≡ 0) × (times_of t es ≡ 0))
 counted f t [] = inr (refl, refl)
 counted f t (e ∷ es) =
+    let left = first_sights (tokens es) in
     by_same t e.0
     (λ h. inl (omega (
       arith,
-      times_here t (e.0, f e.0) (paired f (without e.0 (first_sights (tokens es)))) h,
-      ap (λ z. times_of t (paired f (without z (first_sights (tokens es))))) (same_from t e.0 h),
-      none_left f t (first_sights (tokens es)),
+      times_here t (e.0, f e.0) (paired f (without e.0 left)) h,
+      ap (λ z. times_of t (paired f (without z left))) (same_from t e.0 h),
+      none_left f t left,
       ap f (same_from t e.0 h),
     )))
-    (λ h.
-    let left : times_of t (paired f (first_sights (tokens (e ∷ es))))
-    ≡ times_of t (paired f (first_sights (tokens es))) =
-    times_other t (e.0, f e.0) (paired f (without e.0 (first_sights (tokens es)))) h
-    ∙ others_left f t e.0 (first_sights (tokens es)) h in
-    ⊎_elim (λ x. inl (left ∙ x)) (λ x. inr (left ∙ x.0, times_other t e es h ∙ x.1)) (counted f t es))
+    (λ h. search (
+      rules,
+      paired,
+      counted f t es,
+      times_other t (e.0, f e.0) (paired f (without e.0 left)) h,
+      others_left f t e.0 left h,
+      times_other t e es h,
+    ))
 
 -- the count of a token in a tally is the sum of its times
 pub times_of-tally : (t : List ℕ) (es : List (List ℕ × ℕ)) → times_of t (tally es) ≡ times_of t es

@@ -1,6 +1,6 @@
 -- For `Tally`: a table by values, seen as pairs of texts and counts.
 use Rattle.std.proofs.Common.{◌≡◌, ℕ, ◌+◌, List, [], ◌∷◌, ◌++◌, Bool, cond, Option, Some, unwrap_or, arith, rules}
-use Rattle.std.proofs.Common.{refl, sym, ap, ◌∙◌}
+use Rattle.std.proofs.Common.{refl, ap, ◌∙◌}
 use Rattle.std.specs.Map.{lookup, set_value}
 use Rattle.std.specs.Str.{chars, IsUtf8}
 use Rattle.std.proofs.lemmas.Slice.Eq.{bytes_eq-Decides}
@@ -72,15 +72,7 @@ by_bytes bs u = λ i key. stands_for-text bs key u i
 set_there : (es : List (Meaning × ℕ)) (token : Meaning) (n m : ℕ) → lookup (is_text_of token) es ≡ Some n
     → set_value (is_text_of token) es m ≡ insert_entry is_text_of es token m
 set_there [] token n m there = absurd (cc there)
-set_there (e ∷ es) token n m there =
-    let here = (e.0, m) ∷ es in
-    let set = e ∷ set_value (is_text_of token) es m in
-    let put = e ∷ insert_entry is_text_of es token m in
-    by_test (is_text_of token e.0)
-    (λ x. ap (λ b. cond b here set) x ∙ sym (ap (λ b. cond b here put) x))
-    (λ x.
-    let later = sym (ap (λ b. cond b (Some e.1) (lookup (is_text_of token) es)) x) ∙ there in
-    ap (λ b. cond b here set) x ∙ ap (λ s. e ∷ s) (set_there es token n m later) ∙ sym (ap (λ b. cond b here put) x))
+set_there (e ∷ es) token n m there = search (rules, by_test, set_there es token n m)
 
 -- what a look-up in a table finds is how often the token was counted
 pub found-times : (pairs : List (List ℕ × ℕ)) (es : List (Meaning × ℕ)) (token : Meaning) (found : Option ℕ)
@@ -104,8 +96,7 @@ pub counted-again : (pairs : List (List ℕ × ℕ)) (es new : List (Meaning × 
     × (lookup (is_same token.text) (by_text new) ≡ Some more)
 counted-again pairs es new token times n more is once there sum after =
     added pairs es new token times more is once
-    (sum ∙ ap (λ before. before + times) (found-times pairs es token (Some n) is once there))
-    (after ∙ set_there es token n more there)
+    (cc (sum, found-times pairs es token (Some n) is once there)) (after ∙ set_there es token n more there)
 
 -- nothing changes where the old count is written
 pub same-count : (pairs : List (List ℕ × ℕ)) (es new : List (Meaning × ℕ)) (token : Meaning) (n : ℕ)

@@ -36,10 +36,7 @@ lines-seen f seen x all left rest is next = search (rules, arith, map-append, ap
 pub some_text : (t : List ℕ) (seen left rest : List (List ℕ)) (line : List ℕ) → lines t ≡ seen ++ left
     → left ≡ line ∷ rest → 0 < length t
 some_text [] seen left rest line is next =
-    let none : 0 ≡ length (seen ++ left) = ap length (sym lines-nil ∙ is) in
-    let some = ap length next in
-    let both = length-append seen left in
-    absurd (omega (arith, none, some, both))
+    absurd (omega (arith, ap length (sym lines-nil ∙ is), ap length next, length-append seen left))
 some_text (c ∷ cs) seen left rest line is next = omega arith
 
 -- and so is one whose lines have a count
@@ -53,13 +50,13 @@ pub no_report-add : (t line : List ℕ) (seen rest left : List (List ℕ)) (old 
     → HasALineTooOften t
 no_report-add t line seen rest left old so_far is next full =
     let before : times_of line old ≡ count_by (is_same line) seen =
-    ap (times_of line) so_far ∙ times_of-tally line (seen_once seen) ∙ times_of-seen_once line seen in
+    cc (so_far, times_of-tally line (seen_once seen), times_of-seen_once line seen) in
     let worth : List ℕ → ℕ = λ u. cond (is_same line u) 1 0 in
     let first : count_by (is_same line) (line ∷ rest) ≡ 1 + count_by (is_same line) rest =
     sum_by-cons worth line rest ∙ ap (λ b. cond b 1 0 + count_by (is_same line) rest) (is_same_itself line) in
     let whole : count_by (is_same line) (lines t)
     ≡ count_by (is_same line) seen + count_by (is_same line) (line ∷ rest) =
-    ap (count_by (is_same line)) (is ∙ ap (λ us. seen ++ us) next) ∙ sum_by-append worth seen (line ∷ rest) in
+    cc (is, next, sum_by-append worth seen (line ∷ rest)) in
     (line, omega (arith, before, first, whole))
 
 -- ---- the counts of all lines are `u64`s, exactly where no line stands too often

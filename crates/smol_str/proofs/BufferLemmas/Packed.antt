@@ -51,20 +51,24 @@ put-packed : (old bytes : List ℕ) → length old + length bytes ≤ INLINE_CAP
 put-packed old bytes h = grind (arith, common_steps, length-append, length-padded, append_assoc, front-packed, drop-packed, set_at)
 
 -- after a text was appended: its bytes behind the others, and then the length
-module _ (old mid bytes : List ℕ) (h : IsPacked old) (u : IsUtf8 bytes)
-    (room : get_or old INLINE_CAP 0 + length bytes ≤ INLINE_CAP) (put : mid ≡ put_at old (get_or old INLINE_CAP 0) bytes) where
+module _ (n : ℕ) (old mid bytes t : List ℕ) (h : IsPacked old) (e : chars (unpacked old) ≡ t) (is : n ≡ size t)
+    (u : IsUtf8 bytes) (room : n + length bytes ≤ INLINE_CAP) (put : mid ≡ put_at old n bytes) where
+  at : n ≡ length (unpacked old)
+  at = is ∙ sym (len-size old t h e) ∙ len-bytes old h
+
   within : length (unpacked old ++ bytes) ≤ INLINE_CAP
-  within = rw (length-append, ← len-bytes old h) room
+  within = rw (length-append, ← at) room
 
-  appended : set mid INLINE_CAP (get_or old INLINE_CAP 0 + length bytes) ≡ packed (unpacked old ++ bytes)
-  appended = grind (arith, common_steps, len-bytes, length-append, put-packed)
+  appended : set mid INLINE_CAP (n + length bytes) ≡ packed (unpacked old ++ bytes)
+  appended = grind (arith, common_steps, at, length-append, put-packed)
 
-  pub IsPacked-append : IsPacked (set mid INLINE_CAP (get_or old INLINE_CAP 0 + length bytes))
+  pub IsPacked-append : IsPacked (set mid INLINE_CAP (n + length bytes))
   IsPacked-append = search (rules, IsPacked-packed, IsUtf8-append, within, appended)
 
-  pub view-append :
-      chars (unpacked (set mid INLINE_CAP (get_or old INLINE_CAP 0 + length bytes))) ≡ chars (unpacked old) ++ chars bytes
-  view-append = ap chars (unpacked-packed _ (unpacked old ++ bytes) within appended) ∙ chars-append (unpacked old) bytes h.utf8
+  pub view-append : chars (unpacked (set mid INLINE_CAP (n + length bytes))) ≡ t ++ chars bytes
+  view-append =
+      ap chars (unpacked-packed _ (unpacked old ++ bytes) within appended) ∙ chars-append (unpacked old) bytes h.utf8
+      ∙ ap (λ x. x ++ chars bytes) e
 
 -- the whole buffer
 pub buffer-padded : (all : List ℕ) → IsPacked all →

@@ -53,8 +53,6 @@ big-order : (xs ys s t : List ℕ) → length xs ≡ length ys → AreBytes xs �
     slice_cmp nat_cmp (xs ++ s) (ys ++ t) ≡ ordering_then (nat_cmp (big xs) (big ys)) (slice_cmp nat_cmp s t)
 unfolding big
 big-order [] [] s t e h k = refl
-big-order [] (y ∷ ys) s t e h k = absurd (omega arith)
-big-order (x ∷ xs) [] s t e h k = absurd (omega arith)
 big-order (x ∷ xs) (y ∷ ys) s t e h k =
     let long : length xs ≡ length ys = omega arith in
     let bx : AreBytes xs = λ i. h (suc i) in
@@ -64,6 +62,7 @@ big-order (x ∷ xs) (y ∷ ys) s t e h k =
     let first = digits x y (256 ^ length ys) (big xs) (big ys) (rw (← power) (big-below xs bx)) (big-below ys by) in
     rw (big-order xs ys s t long bx by, then-assoc (nat_cmp x y) (nat_cmp (big xs) (big ys)) last, power)
     (ap (λ o. ordering_then o last) first)
+big-order xs ys s t e h k = absurd (omega arith)
 
 -- the step of a loop over words
 order-step : (xs ys x y : List ℕ) (at : ℕ) → x ≡ take 8 (drop at xs) → y ≡ take 8 (drop at ys) → AreBytes xs →

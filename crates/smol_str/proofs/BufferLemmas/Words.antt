@@ -3,7 +3,7 @@ use Rattle.smol_str.proofs.Common.{◌≡◌, ℕ, zero, suc, ◌+◌, ◌-◌, 
 use Rattle.std.proofs.Math.Nat.{div-div-eq-div-mul, pow-succ', mul-le-mul_left}
 use Rattle.smol_str.specs.Words.{word}
 use Rattle.smol_str.proofs.BufferLemmas.Packed.{length-padded}
-use Rattle.smol_str.proofs.TextLemmas.Utf8.{Form, form}
+use Rattle.smol_str.proofs.TextLemmas.Utf8.{form}
 
 abbrev pub AreBytes : List ℕ → Type 0
 AreBytes xs = (i : ℕ) → get_or xs i 0 < 256
@@ -28,8 +28,8 @@ word-none (suc k) xs at h = word-past k xs at (omega (arith, h)) ∙ word-none k
 pub word-few : (m k : ℕ) (xs : List ℕ) → length xs ≤ k → word (m + k) xs 0 ≡ word k xs 0
 unfolding word
 word-few zero k xs h = let e : 0 + k ≡ k = omega arith in ap (λ n. word n xs 0) e
-word-few (suc m) k xs h = let e : suc m + k ≡ suc (m + k) = omega arith in ap (λ n. word n xs 0) e
-    ∙ word-past (m + k) xs 0 (omega (arith, h)) ∙ word-few m k xs h
+word-few (suc m) k xs h =
+    let e : suc m + k ≡ suc (m + k) = omega arith in cc (e, word-past (m + k) xs 0 (omega (arith, h)), word-few m k xs h)
 
 -- without its lowest bytes
 shift_once : (x m p : ℕ) → x < 256 → (x + 256 * m) / (256 * p) ≡ m / p
@@ -42,8 +42,7 @@ pub word-shift : (j k : ℕ) (xs : List ℕ) (at to : ℕ) → AreBytes xs → l
     word k xs at / 2 ^ (8 * j) ≡ word k xs to
 word-shift zero k xs at to b h e = let f : to ≡ at = omega arith in rw f (omega arith)
 word-shift (suc j) k xs at to b h e =
-    let first : word k xs at ≡ get_or xs at 0 + 256 * word k xs (at + 1) = sym (word-past k xs at h)
-    ∙ word-first k xs at in
+    let first : word k xs at ≡ get_or xs at 0 + 256 * word k xs (at + 1) = cc (word-past k xs at h, word-first k xs at) in
     rw (first, power_more j) (shift_once (get_or xs at 0) (word k xs (at + 1)) (2 ^ (8 * j)) (b at))
     ∙ word-shift j k xs (at + 1) to b (omega (arith, h)) (omega (arith, e))
 
@@ -83,11 +82,9 @@ write-eight xs at b h = search (rules, le_bytes_8, length-part, bytes-part, read
 
 -- bytes with zeros behind them
 get_or-zeros : (xs : List ℕ) (m k : ℕ) → get_or (xs ++ replicate m 0) k 0 ≡ get_or xs k 0
-get_or-zeros [] zero k = refl
-get_or-zeros [] (suc m) zero = refl
 get_or-zeros [] (suc m) (suc k) = get_or-zeros [] m k
-get_or-zeros (x ∷ xs) m zero = refl
 get_or-zeros (x ∷ xs) m (suc k) = get_or-zeros xs m k
+get_or-zeros xs m k = refl
 
 length-with_zeros : (bytes : List ℕ) → length bytes ≤ INLINE_CAP → length (with_zeros bytes) ≡ INLINE_CAP + 1
 length-with_zeros bytes h = omega (arith, length-append {A = ℕ}, length-replicate {A = ℕ} (INLINE_CAP + 1 - length bytes) 0)
@@ -178,11 +175,8 @@ pub same_from : (found : Bool) (xs ys : List ℕ) → (found ≡ true → xs ≡
 same_from found xs ys same found_so = same_from_decides found (pointwise nat_eq xs ys) (same, found_so) (bytes_decides xs ys)
 
 -- a character's bytes
-bytes-form : (c : ℕ) → c < 1114112 → Form c → AreBytes (encode c)
-bytes-form c h f i = search rules
-
 pub bytes-encode : (c : ℕ) → c < 1114112 → AreBytes (encode c)
-bytes-encode c h i = bytes-form c h (form c) i
+bytes-encode c h i = search (rules, form)
 
 -- the first k bytes and the last, which may overlap, are all
 drop-end : (xs ys zs : List ℕ) (n m : ℕ) → length xs ≡ n → length ys ≡ m → drop (n + m) (xs ++ (ys ++ zs)) ≡ zs

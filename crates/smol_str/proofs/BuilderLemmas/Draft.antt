@@ -1,5 +1,5 @@
 -- For the builder: its text and kind, before and after an append.
-use Rattle.smol_str.proofs.Common.{◌≡◌, ℕ, ◌-◌, ◌<◌, ◌≤◌, List, [], ◌++◌, length, append-nil, Bool, true, false, ◌&&◌, nat_le, cond, refl, append_assoc, arith, ◌⊎◌, inl, inr, chars, IsUtf8, nat_tests, INLINE_CAP, size, is_short, IsShort, Draft, Kind, InBuffer, OnHeap, kind_with, kind_for, appended, empty_draft, common_steps, rules}
+use Rattle.smol_str.proofs.Common.{◌≡◌, ℕ, ◌-◌, ◌<◌, ◌≤◌, List, [], ◌++◌, length, append-nil, Bool, false, nat_le, cond, refl, append_assoc, arith, ◌⊎◌, chars, IsUtf8, nat_tests, INLINE_CAP, size, is_short, IsShort, Draft, Kind, InBuffer, OnHeap, kind_with, kind_for, appended, empty_draft, common_steps, rules}
 use Rattle.smol_str.proofs.TextLemmas.Places.{size-append, size-chars, is_short-true, is_short-false, IsShort-front}
 
 -- the bytes fit in the room that is left, or they do not
@@ -22,8 +22,7 @@ kind_for-large n h = let e : nat_le n INLINE_CAP ≡ false = grind (arith, nat_t
 
 large_or_long : (fits : Bool) (t : List ℕ) → kind_with (cond fits InBuffer OnHeap) t ≡ OnHeap
     → (fits ≡ false) ⊎ (¬ (IsShort t))
-large_or_long true t heap = inr (λ short. let stays = kind_with-short t short in cc)
-large_or_long false t heap = inl refl
+large_or_long fits t heap = search (rules, kind_with-short)
 
 -- a builder is on the heap for its capacity or for its text
 pub why_heap : (n : ℕ) (t : List ℕ) → kind_with (kind_for n) t ≡ OnHeap → (INLINE_CAP < n) ⊎ (¬ (IsShort t))
@@ -31,8 +30,7 @@ why_heap n t heap = grind (arith, common_steps, large_or_long, nat_le)
 
 kind_by_test : (s t : List ℕ) (b : Bool) → is_short s ≡ b →
     kind_with (cond b InBuffer OnHeap) (s ++ t) ≡ kind_with InBuffer (s ++ t)
-kind_by_test s t true e = refl
-kind_by_test s t false e = search (rules, kind_with-long, is_short-true, IsShort-front)
+kind_by_test s t b e = search (rules, kind_with-long, is_short-true, IsShort-front)
 
 kind_with-twice : (k : Kind) (s t : List ℕ) → kind_with (kind_with k s) (s ++ t) ≡ kind_with k (s ++ t)
 kind_with-twice OnHeap s t = refl
@@ -42,13 +40,9 @@ kind_with-twice InBuffer s t = kind_by_test s t (is_short s) refl
 pub appended-twice : (b : Draft) (t u : List ℕ) → appended (appended b t) u ≡ appended b (t ++ u)
 appended-twice b t u = search (rules, arith, append_assoc, kind_with-twice)
 
-kind_with-same : (k : Kind) (t : List ℕ) → (k ≡ InBuffer → IsShort t) → kind_with k t ≡ k
-kind_with-same InBuffer t short = kind_with-short t (short refl)
-kind_with-same OnHeap t short = refl
-
 -- appending nothing changes nothing; the premise is the clause `short` of a builder's `as_str`
 pub appended-nothing : (b : Draft) → (b.kind ≡ InBuffer → IsShort b.text) → appended b [] ≡ b
-appended-nothing b short = search (rules, arith, append-nil, kind_with-same)
+appended-nothing b short = search (rules, arith, append-nil, kind_with-short)
 
 -- a new builder leaves its buffer only for a text that is not short
 pub OnHeap-long : (t : List ℕ) → (appended (empty_draft InBuffer) t).kind ≡ OnHeap → ¬ (IsShort t)

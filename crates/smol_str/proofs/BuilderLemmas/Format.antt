@@ -1,5 +1,5 @@
 -- For `write_fmt`: pieces of a print, appended one after another.
-use Rattle.smol_str.proofs.Common.{◌≡◌, List, ℕ, [], ◌∷◌, ◌++◌, encode_utf8_all, sym, ap, ◌∙◌, append-nil, concat, FoldsTo, chars, IsUtf8, encodes-append, encodes-chars, chars-nil, chars-append, IsUtf8-nil, IsUtf8-append, Draft, appended, common_steps, arith}
+use Rattle.smol_str.proofs.Common.{◌≡◌, List, ℕ, [], ◌∷◌, ◌++◌, encode_utf8_all, append-nil, concat, FoldsTo, chars, IsUtf8, encodes-append, encodes-chars, chars-nil, chars-append, IsUtf8-nil, IsUtf8-append, Draft, appended, common_steps, arith}
 use Rattle.std.specs.Fmt.{WritesInCalls}
 use Rattle.smol_str.proofs.BuilderLemmas.Draft.{appended-twice}
 
@@ -10,20 +10,18 @@ Takes s bs t = IsUtf8 bs × (t ≡ appended s (chars bs))
 -- the builder after the pieces is that after all of them at once
 pieces : (s : Draft) (parts : List (List ℕ)) (t : Draft) → appended s [] ≡ s → FoldsTo Takes s parts t
     → IsUtf8 (concat parts) × (t ≡ appended s (chars (concat parts)))
-pieces s [] t whole run = (IsUtf8-nil, sym run ∙ sym whole ∙ ap (appended s) (sym chars-nil))
+pieces s [] t whole run = (IsUtf8-nil, cc (chars-nil))
 pieces s (p ∷ ps) t whole (j, took, run) =
     let u = chars p in
-    let same : appended j [] ≡ j =
-    ap (λ b. appended b []) took.1 ∙ appended-twice s u [] ∙ ap (appended s) (append-nil u) ∙ sym took.1 in
+    let same : appended j [] ≡ j = cc (took.1, appended-twice s u [], append-nil u) in
     let rest = pieces j ps t same run in (
       IsUtf8-append p (concat ps) took.0 rest.0,
-      rest.1 ∙ ap (λ b. appended b (chars (concat ps))) took.1 ∙ appended-twice s u (chars (concat ps))
-          ∙ ap (appended s) (sym (chars-append p (concat ps) took.0)),
+      cc (rest.1, took.1, appended-twice s u (chars (concat ps)), chars-append p (concat ps) took.0),
     )
 
 module _ (s : Draft) (bs : List ℕ) (t : Draft) (whole : appended s [] ≡ s) (w : WritesInCalls Takes s bs t) where
   pub printed-text : t ≡ appended s (chars bs)
-  printed-text = (pieces s w.parts t whole w.calls).1 ∙ ap (λ xs. appended s (chars xs)) w.whole
+  printed-text = cc ((pieces s w.parts t whole w.calls).1, w.whole)
 
   pub printed-bytes : encode_utf8_all t.text ≡ encode_utf8_all s.text ++ bs
   printed-bytes = grind (arith, common_steps, pieces, encodes-append, encodes-chars)

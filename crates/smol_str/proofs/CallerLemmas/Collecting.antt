@@ -1,5 +1,5 @@
 -- Collecting and extending from an iterator that gives a list.
-use Rattle.smol_str.proofs.Common.{◌≡◌, ℕ, ◌<◌, ◌≤◌, ◌++◌, String, Global, Bor, true, Option, Result, Ok, Err, IfOk, OnOk, OnErr, subst, List, [], length, take, drop, map, refl, sym, ap, ◌∙◌, arith, chars, IsUtf8, YieldsList, chars-encodes, take-append-drop, INLINE_CAP, size, IsShort, Meaning, IsValueOf, Draft, OnHeap, appended, joined, joined_strs, joined_strings, joined_string_refs, str_text, string_text, replaced_all, cut, no_limit, map-id, items_from_drains, None, place_of, rules}
+use Rattle.smol_str.proofs.Common.{◌≡◌, ℕ, ◌<◌, ◌++◌, String, Global, Bor, true, Option, Result, Ok, Err, IfOk, OnOk, OnErr, subst, List, [], length, take, drop, map, refl, sym, ap, ◌∙◌, arith, chars, IsUtf8, YieldsList, chars-encodes, take-append-drop, INLINE_CAP, size, IsShort, Meaning, IsValueOf, Draft, OnHeap, appended, joined, joined_strs, joined_strings, joined_string_refs, str_text, string_text, replaced_all, cut, no_limit, map-id, items_from_drains, None, place_of, rules}
 use Rattle.std.specs.Iterator.{Yields, DrainsIf}
 use Rattle.std.specs.Array.Iter.{array_steps, array_into_iter_items}
 use Rattle.std.specs.declared.array.IntoIter.{IntoIter}
@@ -24,8 +24,7 @@ module _ {S A B : Type 0} {steps : S → Option A → S → Type 0} {s : S} {v :
         → ((y : Meaning) → m y ≡ y) → YieldsList steps v s all → IfOk r (λ y. IsValueOf (whole all) y)
     unfolding Collected
     collected m (Ok y) (p, from, end, made) same gives =
-        subst (IsValueOf (whole all)) (same y)
-        (subst (λ t. IsValueOf t (m y)) (text-whole texts whole is parts p from gives end) made)
+        rw (same y) at (rw (text-whole texts whole is parts p from gives end) at made)
     collected m (Err e) made same gives = tt
 
     -- refused only where its text is not short
@@ -38,7 +37,7 @@ module _ {S A B : Type 0} {steps : S → Option A → S → Type 0} {s : S} {v :
         → YieldsList steps v s all → OnOk r (new ≡ appended old (whole all))
     unfolding AppendedAll
     extended (Ok x) old new (p, from, end, now) gives =
-        now ∙ ap (appended old) (text-whole texts whole is parts p from gives end)
+        cc (now, text-whole texts whole is parts p from gives end)
     extended (Err e) old new now gives = tt
 
     -- refused only where that builder would be on the heap
@@ -171,10 +170,7 @@ came v all xs (S, steps, s, t, u, runs, ends, gives) = items_from_drains xs (t, 
 pub chars_came : {E : Type 0} (r : Result Meaning E) (all : List ℕ)
     → ((xs : List ℕ) × CameFrom (λ c. c) all xs × IfOk r (λ y. y.text ≡ xs) × IfOk r (λ y. y.place ≡ place_of xs))
     → IfOk r (λ y. IsValueOf all y)
-chars_came (Err e) all h = tt
-chars_came (Ok y) all (xs, from, text, place) =
-    let is = same xs ∙ came (λ c. c) all xs from in
-    record { text = text ∙ is; place = place ∙ ap place_of is }
+chars_came r all (xs, from, text, place) = let is = same xs ∙ came (λ c. c) all xs from in search rules
 
 pub chars_grown : {E : Type 0} (r : Result (Unit {0}) E) (old new : Draft) (all : List ℕ)
     → ((xs : List ℕ) × CameFrom (λ c. c) all xs × (new ≡ appended old xs)) → OnOk r (new ≡ appended old all)
@@ -194,7 +190,7 @@ pub ruleset strings_by_std = (gives-slice, string_refs_grown)
 
 -- the `&str`s themselves, whose texts a closure or a copy gives,
 lent : (xs : List (Bor (List ℕ))) → joined_strs xs ≡ joined str_text (map (λ x. x) xs)
-lent xs = sym (joined-strs xs) ∙ ap (joined str_text) (sym (map-id xs))
+lent xs = cc (joined-strs xs, map-id xs)
 
 module _ {S E : Type 0} {steps : S → Option (Bor (List ℕ)) → S → Type 0} {s : S} {all : List (Bor (List ℕ))} where
   pub items_collected : (m : Meaning → Meaning) (r : Result Meaning E) → IfOk r (Collected joined_strs steps s m)
@@ -212,7 +208,7 @@ module _ {S E : Type 0} {steps : S → Option (Bor (List ℕ)) → S → Type 0}
 
 -- or whose texts are those of a list,
 of_texts : (xs : List (Bor (List ℕ))) → joined_strs xs ≡ joined (λ t. t) (map (λ x. chars x.now) xs)
-of_texts xs = sym (joined-strs xs) ∙ sym (flat_map-map (λ t. t) str_text xs)
+of_texts xs = cc (joined-strs xs, flat_map-map (λ t. t) str_text xs)
 
 module _ {S E : Type 0} {steps : S → Option (Bor (List ℕ)) → S → Type 0} {s : S} where
   module _ {all : List (List ℕ)} (t : List ℕ) (one : joined (λ q. q) all ≡ t) where

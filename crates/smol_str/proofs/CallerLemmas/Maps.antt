@@ -1,5 +1,5 @@
 -- Maps with values as keys, at texts.
-use Rattle.smol_str.proofs.Common.{◌≡◌, ℕ, Bor, Option, None, Some, List, [], ◌∷◌, Bool, true, false, cond, false≢true, refl, ap, ◌∙◌, arith, IsUtf8, bytes_eq, chars, encodes-chars, encodes_same, false_from_ne_true, option_map, if◌then◌else◌, Meaning, rules}
+use Rattle.smol_str.proofs.Common.{◌≡◌, ℕ, Bor, Option, Some, List, [], ◌∷◌, Bool, true, false, cond, false≢true, refl, ap, arith, IsUtf8, bytes_eq, chars, encodes-chars, encodes_same, false_from_ne_true, option_map, if◌then◌else◌, Meaning, rules}
 use Rattle.std.specs.Map.{lookup, KeepsOthers}
 use Rattle.std.specs.Option.{option_copied}
 use Rattle.std.proofs.lemmas.Slice.Eq.{bytes_eq-Decides}
@@ -46,11 +46,8 @@ lookup-stands_for g bs (e ∷ es) u = search (rules, stands_for-text, lookup-sta
 pub lookup-lent : {V W : Type 0} (g : V → W) (r : Option (Bor V)) (bs : List ℕ) (es : List (Meaning × V)) → IsUtf8 bs
     → option_copied r ≡ lookup (stands_for bs) es
     → option_map (λ v. g v.now) r ≡ lookup (bytes_eq (chars bs)) (entry_texts g es)
-lookup-lent g r bs es u found = copied r ∙ ap (option_map g) found ∙ lookup-stands_for g bs es u
-  where
-    copied : (r : Option (Bor _)) → option_map (λ v. g v.now) r ≡ option_map g (option_copied r)
-    copied None = refl
-    copied (Some v) = refl
+lookup-lent g r bs es u found = let copied : option_map (λ v. g v.now) r ≡ option_map g (option_copied r) = search rules in
+    cc (copied, lookup-stands_for g bs es u)
 
 -- of values as what is kept: for `#[tactic(auto, using(..))]`
 pub value-lent : (r : Option (Bor Meaning)) (bs : List ℕ) (es : List (Meaning × Meaning)) → IsUtf8 bs

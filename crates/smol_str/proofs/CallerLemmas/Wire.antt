@@ -1,5 +1,5 @@
 -- Wire forms in bytes.
-use Rattle.smol_str.proofs.Common.{◌≡◌, ◌∷◌, ℕ, ◌+◌, ◌<◌, ◌≤◌, ◌^◌, All, List, [], ◌++◌, append_assoc, map, map-id, Option, length, take, drop, refl, sym, ap, ◌∙◌, subst, inl, inr, IsTrue, arith, flat_map, to_le_bytes, from_le_bytes, from_le_bytes-to_le_bytes_4, w32, chars, all_scalars, IsUtf8, take-append-le, chars-encodes, length-append, All-head, All-tail, size, HasWire, wire, Holds, HasEndedEarly, body, common_steps, rules, append-nil, length-take, Result, OnErr, Appends, get_or, Meaning, map-append, length-map}
+use Rattle.smol_str.proofs.Common.{◌≡◌, ◌∷◌, ℕ, ◌+◌, ◌<◌, ◌≤◌, ◌^◌, All, List, [], ◌++◌, append_assoc, map, map-id, Option, length, drop, refl, sym, ap, ◌∙◌, subst, inl, inr, IsTrue, arith, flat_map, to_le_bytes, from_le_bytes-to_le_bytes_4, w32, chars, all_scalars, IsUtf8, take-append-le, chars-encodes, length-append, All-head, All-tail, size, HasWire, wire, Holds, HasEndedEarly, body, common_steps, rules, append-nil, length-take, Result, OnErr, Appends, get_or, Meaning, map-append, length-map}
 use Rattle.smol_str.specs.Wire.{prefix_size}
 use Rattle.smol_str.specs.Stream.{AppendsBeginning}
 use Rattle.smol_str.specs.WireFaults.{AfterEncodeFault}
@@ -66,16 +66,16 @@ module _ (b more t x : List ℕ) (sized : HasWire t) (scalars : IsTrue (all_scal
 
   states : prefix_size b ≡ size t
   unfolding prefix_size
-  states = sym (ap (from_le_bytes w32) (take-append-le 4 b more four)) ∙ ap prefix_size is ∙ prefix_size-wire t x sized
+  states = cc (take-append-le 4 b more four, prefix_size-wire t x sized)
 
   within : size t + 4 ≤ length b
   within = let says = states in omega (arith, λ (h : length b < 4 + prefix_size b). whole (inr h))
 
   pub form-cut-held : Holds b t (size t + 4)
   form-cut-held =
-      let front = sym (take-append-le (size t + 4) b more within) ∙ ap (take (size t + 4)) is in
+      let front = take-append-le (size t + 4) b more within in
       let reads = (Holds-written t x sized scalars).reads in
-      record { scalars = scalars; sized = sized; within = within; reads = front ∙ reads }
+      record { scalars = scalars; sized = sized; within = within; reads = cc (front, reads) }
 
   form_is_there : b ≡ wire t ++ drop (size t + 4) b
   form_is_there = (Holds-parts b t (size t + 4) form-cut-held).0
@@ -107,14 +107,11 @@ module _ {X Y : Type 0} (form : X → List ℕ) (P : X → Type 0) (key : X → 
   pub items-apart : (xs ys : List X) (s t : List ℕ) → All P xs → All P ys → length xs ≡ length ys
       → flat_map form xs ++ s ≡ flat_map form ys ++ t → (map key xs ≡ map key ys) × (s ≡ t)
   items-apart [] [] s t h k l e = (refl, e)
-  items-apart [] (y ∷ ys) s t h k l e = absurd (omega (arith, l))
-  items-apart (x ∷ xs) [] s t h k l e = absurd (omega (arith, l))
   items-apart (x ∷ xs) (y ∷ ys) s t h k l e =
-      let whole : form x ++ (flat_map form xs ++ s) ≡ form y ++ (flat_map form ys ++ t) =
-      sym (append_assoc (form x) (flat_map form xs) s) ∙ e ∙ append_assoc (form y) (flat_map form ys) t in
-      let first = apart x y _ _ (All-head P x xs h) (All-head P y ys k) whole in
-      let others = items-apart xs ys s t (All-tail P x xs h) (All-tail P y ys k) (omega (arith, l)) first.1 in
+      let first = apart x y _ _ (All-head P x xs h) (All-head P y ys k) (simp append_assoc at e) in
+      let others = items-apart xs ys s t (All-tail P x xs h) (All-tail P y ys k) (omega arith) first.1 in
       ((λ i. first.0 i ∷ others.0 i), others.1)
+  items-apart xs ys s t h k l e = absurd (omega arith)
 
 -- of the same texts
 pub forms-apart : (ss ts : List (List ℕ)) (x y : List ℕ) → All HasWire ss → All HasWire ts → length ss ≡ length ts

@@ -1,5 +1,5 @@
 -- For ASCII case, in texts, bytes and short texts as they are packed; and for what else maps ASCII characters alone.
-use Rattle.smol_str.proofs.Common.{◌≡◌, ℕ, ◌+◌, ◌<◌, List, [], ◌∷◌, ◌++◌, Bool, true, false, cond, map, refl, ap, ◌∙◌, arith, length-append, All, to_ascii_lowercase, to_ascii_uppercase, is_ascii, len_utf8, IsAsciiUppercase, IsAsciiLowercase, encode_utf8_all, encode, lt-ltb, le-ltb, ltb-true, ltb-false, cases_lt, nat_tests, length-encode, All-head, All-tail, size, lower, upper, front, IsAsciiText, BeginsPastAscii, lowercase_is, uppercase_is, All-map, All-from_get_or, get_or, common_steps, rules, ◌↔◌, IsTrue, MatchBool, zero, suc, ◌-◌, ◌≤◌, length, take, drop, sym, subst, take-add, length-take-le, length-drop, take-append-drop, IsUtf8, IsCharBoundary, IsAscii, IsNotAscii, chars, slice_range, map-append, take_all, length-map, IsAscii-append, IsAscii-take, IsAscii-drop, IsUtf8-from_ascii, IsUtf8-drop, IsCharBoundary-from_take, chars-append, chars-IsAscii, encodes-chars, IsAscii-map, lowercase_ascii, uppercase_ascii, AsciiCase, Lower, Upper, converted, IsAsciiFront, IsAscii-from_all, encodes-IsAscii, append_assoc, append-nil, ◌&&◌, set, replicate, put_chunk, put_chunk_is, scalar, scalars, take_at, drop_at, drop_all, set_at, chars-encodes, scalars-chars, INLINE_CAP, IsPacked, packed, padded, unpacked, and_parts, All-replicate, IsAscii-push, IsAscii-more, ⊎_elim, letter, length-le-encodes, get_or-drop, All-nil, All-cons, All-from_ascii}
+use Rattle.smol_str.proofs.Common.{◌≡◌, ℕ, ◌+◌, ◌<◌, List, [], ◌∷◌, ◌++◌, Bool, true, false, cond, map, refl, ap, ◌∙◌, arith, length-append, All, is_ascii, encode_utf8_all, encode, lt-ltb, le-ltb, ltb-true, ltb-false, cases_lt, nat_tests, All-head, All-tail, size, front, IsAsciiText, BeginsPastAscii, lowercase_is, uppercase_is, All-map, All-from_get_or, get_or, common_steps, rules, ◌↔◌, IsTrue, MatchBool, zero, suc, ◌-◌, ◌≤◌, length, take, drop, sym, subst, take-add, length-take-le, length-drop, take-append-drop, IsUtf8, IsCharBoundary, IsAscii, IsNotAscii, chars, slice_range, map-append, take_all, length-map, IsAscii-append, IsAscii-take, IsUtf8-from_ascii, IsUtf8-drop, IsCharBoundary-from_take, chars-append, chars-IsAscii, encodes-chars, IsAscii-map, lowercase_ascii, uppercase_ascii, AsciiCase, converted, IsAsciiFront, IsAscii-from_all, encodes-IsAscii, append_assoc, append-nil, set, replicate, put_chunk, put_chunk_is, scalar, scalars, take_at, drop_at, drop_all, set_at, chars-encodes, scalars-chars, INLINE_CAP, IsPacked, packed, padded, unpacked, and_parts, All-replicate, IsAscii-push, IsAscii-more, ⊎_elim, letter, length-le-encodes, get_or-drop, All-nil, All-cons, All-from_ascii}
 use Rattle.std.proofs.lemmas.List.Sums.{take_while-cons}
 use Rattle.smol_str.proofs.TextLemmas.Utf8.{Form, form, is_one}
 use Rattle.smol_str.proofs.BufferLemmas.Packed.{length-padded, len-bytes, IsPacked-packed, unpacked-packed}
@@ -44,21 +44,12 @@ pub ascii-more : (bytes : List ℕ) (at n : ℕ) (lanes : List ℕ) → lanes �
     → IsAscii lanes → IsAscii (take at bytes) → IsAscii (take (at + n) bytes)
 ascii-more bytes at n lanes is low front = grind (arith, common_steps, take-add, IsAscii-append)
 
-pub ascii-all : (bytes : List ℕ) (at k : ℕ) → k ≡ length bytes - at → IsAscii (take at bytes)
-    → IsAscii (take k (drop at bytes)) → IsAscii bytes
-ascii-all bytes at k e front rest =
-    let all = take_all k (drop at bytes) (omega (arith, length-drop at bytes)) in
-    rw (take-append-drop at bytes) at (IsAscii-append (take at bytes) (drop at bytes) front (rw all at rest))
-
 -- a part of the bytes is not ASCII
 pub high-lanes : (bytes : List ℕ) (at n : ℕ) (lanes : List ℕ) → lanes ≡ take n (drop at bytes)
     → (true ≡ false) ↔ IsAscii lanes → ¬ (IsAscii (take n (drop at bytes)))
 high-lanes bytes at n lanes is high part = let no : true ≡ false = high.1 (subst IsAscii (sym is) part) in absurd (cc)
 
 pub ruleset ascii_fronts = (IsAscii-more, ascii-more)
-
-pub not-ascii : (bytes : List ℕ) (at n : ℕ) → ¬ (IsAscii (take n (drop at bytes))) → IsTrue false ↔ IsAscii bytes
-not-ascii bytes at n high = grind (arith, common_steps, IsAscii-take, IsAscii-drop)
 
 -- bytes are ASCII exactly where their characters are
 pub IsAscii-chars : (bs : List ℕ) → IsUtf8 bs → IsAscii bs ↔ IsAsciiText (chars bs)
@@ -72,11 +63,8 @@ pub ascii-told : (b : Bool) (bytes : List ℕ) → MatchBool b (IsAscii bytes) (
 ascii-told b bytes told ascii = search rules
 
 -- a character whose bytes begin past ASCII
-from_encode_past : (c : ℕ) (bs : List ℕ) → Form c → 128 ≤ get_or (encode c ++ bs) 0 0 → 128 ≤ c
-from_encode_past c bs f h = search rules
-
 begins_past : (t : List ℕ) → (0 < length (encode_utf8_all t) → 128 ≤ get_or (encode_utf8_all t) 0 0) → BeginsPastAscii t
-begins_past t h = search (rules, from_encode_past, form, length-le-encodes)
+begins_past t h = search (rules, form, length-le-encodes)
 
 from_start : (xs : List ℕ) (n : ℕ) → slice_range xs 0 n ≡ take n xs
 from_start xs n = search rules

@@ -1,8 +1,8 @@
 -- For `str_ext::case` and `str_ext::full`: the ASCII front of a text and the rest of it, in a case.
-use Rattle.smol_str.proofs.Common.{◌≡◌, ℕ, List, [], ◌++◌, length, take, drop, sym, ap, ◌∙◌, arith, length-append, IsUtf8, IsAscii, IsCharBoundary, chars, encode_utf8_all, take_at, IsUtf8-from_ascii, chars-IsAscii, encodes-IsAscii, IsAscii-from_all, AsciiCase, Lower, Upper, size, IsShort, padded, front, converted, Draft, InBuffer, OnHeap, empty_draft, appended, common_steps, rules, suc, ◌<◌, ◌∷◌, Bool, false, Option, None, Some, flat_map, refl, append-nil, ne_eqb, to_ascii_lowercase, to_ascii_uppercase, chars-encodes, encodes_same, IsAscii-cons, IsAscii-nil, INLINE_CAP, Occurs, lower, upper, lowercased, uppercased, IsAsciiText, HasSigma, letter, letters, full_case, mapped, IsMappedAlone, length-map, map-append, IsUtf8-string_bytes, nat_tests, lowercase_is, uppercase_is}
+use Rattle.smol_str.proofs.Common.{◌≡◌, ℕ, List, [], ◌++◌, length, take, drop, sym, ap, ◌∙◌, arith, length-append, IsUtf8, IsAscii, IsCharBoundary, chars, encode_utf8_all, take_at, IsUtf8-from_ascii, chars-IsAscii, encodes-IsAscii, IsAscii-from_all, AsciiCase, Lower, Upper, size, IsShort, padded, front, converted, Draft, InBuffer, OnHeap, empty_draft, appended, common_steps, rules, suc, ◌<◌, ◌∷◌, Bool, false, Option, None, flat_map, refl, append-nil, ne_eqb, to_ascii_lowercase, chars-encodes, INLINE_CAP, Occurs, lower, upper, lowercased, uppercased, IsAsciiText, HasSigma, letter, letters, full_case, mapped, IsMappedAlone, length-map, map-append, IsUtf8-string_bytes, nat_tests, lowercase_is, uppercase_is}
 use Rattle.smol_str.proofs.CaseLemmas.Letters.{lowercase_moves, uppercase_moves}
 use Rattle.smol_str.proofs.CaseLemmas.Ascii.{front-parts, size-converted, front-append, IsAscii-converted, IsAscii-chars, ascii-converted}
-use Rattle.smol_str.proofs.BuilderLemmas.Push.{appended-heap, new-appended, appended-thrice, appended-first_heap, appended-second_heap}
+use Rattle.smol_str.proofs.BuilderLemmas.Push.{appended-heap, new-appended}
 use Rattle.smol_str.proofs.TextLemmas.Split.{boundary-parts, chars-drop}
 use Rattle.std.specs.Option.{option_to_list, is_some}
 use Rattle.std.specs.declared.char.ToLowercase.{CaseChanged}
@@ -46,18 +46,13 @@ module _ (bs : List ℕ) (index : ℕ) (u : IsUtf8 bs) (e : index ≡ length (fr
       let h = front-parts (chars bs) in
       rw (chars-drop bs (front (chars bs)) h.0 index u h.1 (size-front (chars bs) ∙ sym e)) (sym h.1)
 
--- the front and the rest of a text, in a case
-pub converted-parts : (case : AsciiCase) (t r : List ℕ) → front t ++ r ≡ t
-    → converted case (front t) ++ converted case r ≡ converted case t
-converted-parts case t r e = sym (map-append (letter case) (front t) r) ∙ ap (converted case) e
-
 -- a builder that the front outgrows is outgrown by the text
 pub front-heap : (case : AsciiCase) (t : List ℕ) (b : Draft) → (appended b (converted case (front t))).kind ≡ OnHeap
     → (appended b (converted case t)).kind ≡ OnHeap
 front-heap case t b heap =
     let p = front-parts t in
-    ap (λ x. (appended b x).kind) (sym (converted-parts case t p.0 (sym p.1)))
-    ∙ appended-heap b (converted case (front t)) (converted case p.0) heap
+    let parts : converted case t ≡ converted case (front t) ++ converted case p.0 = cc (p.1, map-append (letter case) (front t) p.0) in
+    rw parts (appended-heap b (converted case (front t)) (converted case p.0) heap)
 
 -- a text that outgrows the buffer in a case is not short itself
 pub converted-heap : (case : AsciiCase) (t : List ℕ) → (appended (empty_draft InBuffer) (converted case t)).kind ≡ OnHeap
@@ -185,7 +180,7 @@ pub ruleset fronts = (IsUtf8-front, chars-front, front-boundary, front-rest, OnE
 
 pub ruleset ascii_texts = (IsAscii-chars, full-ascii, full-alone)
 
-pub ruleset three_letters = (common_steps, letters-listed, OnErr-always, new-appended, appended-thrice, appended-first_heap, appended-second_heap)
+pub ruleset three_letters = (common_steps, letters-listed, OnErr-always, new-appended, appended-twice, appended-heap)
 
 pub ruleset short_texts = (OnErr-always, long-refused, ascii-converted, full-ascii)
 

@@ -2,7 +2,7 @@
 use Rattle.smol_str.proofs.Common.{◌≡◌, ℕ, zero, suc, ◌<◌, ◌≤◌, List, [], ◌∷◌, ◌++◌, Bool, true, false, nat_eq, length, get_or, take, refl, sym, ap, ◌∙◌, arith, append-nil, length-append, ne_eqb, if◌then◌else◌, IsUtf8, chars, encode_utf8_all, encode, Decides-eqb, length-map, take_at, encodes-chars, length-le-encodes, INLINE_CAP, IsShort, no_limit, replaced, replaced_all, each_with, each_replaced, not_from_Decides, rules, common_steps}
 use Rattle.smol_str.proofs.CaseLemmas.Ascii.{MovesAscii, IsUtf8-map, chars-map, size-mapped}
 use Rattle.smol_str.proofs.TextLemmas.Places.{OnErr-always, size-chars}
-use Rattle.smol_str.proofs.TextLemmas.Utf8.{Form, one, two, three, four, form}
+use Rattle.smol_str.proofs.TextLemmas.Utf8.{Form, one, form}
 use Rattle.smol_str.proofs.CutLemmas.Replace.{replaced-unmatched, replaced-matched, replaced-passed}
 use Rattle.smol_str.proofs.TextLemmas.Lists.{head_same}
 
@@ -95,8 +95,6 @@ one-byte bs u long = alone (chars bs) refl (encodes-chars bs u)
               low = rw is h;
               text = e ∙ ap (λ xs. get_or xs 0 0 ∷ []) (sym is);
             }
-        by_form (two l h k) = absurd (omega (arith, ap length f, ap length (append-nil (encode c) ∙ k)))
-        by_form (three l h k) = absurd (omega (arith, ap length f, ap length (append-nil (encode c) ∙ k)))
-        by_form (four l k) = absurd (omega (arith, ap length f, ap length (append-nil (encode c) ∙ k)))
+        by_form other = grind (arith, common_steps, ap length f, append-nil (encode c))
 
 pub ruleset each_byte = (IsUtf8-each, chars-each, whole-each)

@@ -21,9 +21,8 @@ last_part (x ∷ []) = x ∷ []
 last_part (x ∷ y ∷ rest) = last_part (y ∷ rest)
 
 two_parts : (p r : List ℕ) → but_last p ++ (last_part p ++ r) ≡ p ++ r
-two_parts [] r = refl
-two_parts (x ∷ []) r = refl
-two_parts (x ∷ y ∷ rest) r = ap (λ s. x ∷ s) (two_parts (y ∷ rest) r)
+two_parts (x ∷ y ∷ rest) r = cc (two_parts (y ∷ rest) r)
+two_parts p r = refl
 
 -- q followed by p is q and p without its last character, and then that character
 pub append-last_part : (p q x : List ℕ) → q ++ (p ++ x) ≡ (q ++ but_last p) ++ (last_part p ++ x)
@@ -87,11 +86,8 @@ rest_cut t p n q r rs h = record {
 
 pub IsCutAt-unique : (xs ys : List (List ℕ)) (t p : List ℕ) (n : ℕ) → 0 < length p → IsCutAt t p n xs →
     IsCutAt t p n ys → xs ≡ ys
-IsCutAt-unique [] ys t p n some h k = absurd (omega arith)
-IsCutAt-unique (q ∷ []) [] t p n some h k = absurd (omega arith)
 IsCutAt-unique (q ∷ []) (q' ∷ []) t p n some h k = search (rules, joined_one)
 IsCutAt-unique (q ∷ []) (q' ∷ r' ∷ rs') t p n some h k = search (rules, arith, joined_one, joined_more)
-IsCutAt-unique (q ∷ r ∷ rs) [] t p n some h k = absurd (omega arith)
 IsCutAt-unique (q ∷ r ∷ rs) (q' ∷ []) t p n some h k = search (rules, arith, joined_one, joined_more)
 IsCutAt-unique (q ∷ r ∷ rs) (q' ∷ r' ∷ rs') t p n some h k =
     let whole : q ++ (p ++ joined_by p (r ∷ rs)) ≡ q' ++ (p ++ joined_by p (r' ∷ rs')) =
@@ -106,6 +102,7 @@ IsCutAt-unique (q ∷ r ∷ rs) (q' ∷ r' ∷ rs') t p n some h k =
     IsCutAt-unique (r ∷ rs) (r' ∷ rs') (joined_by p (r ∷ rs)) p (n - 1) some (rest_cut t p n q r rs h)
     (rw left at (rest_cut t p n q' r' rs' k)) in
     cc
+IsCutAt-unique xs ys t p n some h k = absurd (omega arith)
 
 -- a first match in front of a cut
 pub IsCutAt-step : (t p q r : List ℕ) (n : ℕ) (pieces : List (List ℕ)) → t ≡ q ++ (p ++ r) → IsFirstAfter p q →
@@ -118,9 +115,6 @@ IsCutAt-step t p q r n (s ∷ ss) e none h = record {
   first = All-cons (IsFirstAfter p) q (but_last (s ∷ ss)) none h.first;
   complete = λ l. h.complete (omega arith);
 }
-
-pub IsCutAt-limit_zero : (t p : List ℕ) → IsCutAt t p 0 (t ∷ [])
-IsCutAt-limit_zero t p = search (rules, arith, joined_one, All-nil)
 
 pub IsCutAt-unmatched : (t p : List ℕ) (n : ℕ) → ¬ Occurs p t → IsCutAt t p n (t ∷ [])
 IsCutAt-unmatched t p n none = search (rules, arith, joined_one, All-nil)
@@ -176,7 +170,7 @@ cut_step n p t rec None h = IsCutAt-unmatched t p (n + 1) h
 cut_step n p t rec (Some m) h = IsCutAt-step t p m.0 m.1 n (cut_at n p m.1) h.0 h.1 (rec m.1)
 
 pub IsCutAt-cut : (n : ℕ) (p t : List ℕ) → 0 < length p → IsCutAt t p n (cut_at n p t)
-IsCutAt-cut zero p t some = IsCutAt-limit_zero t p
+IsCutAt-cut zero p t some = search (rules, arith, joined_one, All-nil)
 IsCutAt-cut (suc n) p t some =
     let next : suc n ≡ n + 1 = omega arith in
     subst (λ (k : ℕ). IsCutAt t p k (cut_at (suc n) p t)) (sym next)
@@ -186,11 +180,7 @@ IsCutAt-cut (suc n) p t some =
 one_spelling : (xs ys : List (List ℕ)) → length xs ≡ length ys → All One (but_last xs) → All One (but_last ys) →
     concat xs ≡ concat ys → xs ≡ ys
 one_spelling [] [] l h k e = refl
-one_spelling [] (y ∷ ys) l h k e = absurd (omega arith)
-one_spelling (x ∷ xs) [] l h k e = absurd (omega arith)
-one_spelling (x ∷ []) (y ∷ []) l h k e = ap (λ s. s ∷ []) (sym (append-nil x) ∙ e ∙ append-nil y)
-one_spelling (x ∷ []) (y ∷ z ∷ ys) l h k e = absurd (omega arith)
-one_spelling (x ∷ w ∷ xs) (y ∷ []) l h k e = absurd (omega arith)
+one_spelling (x ∷ []) (y ∷ []) l h k e = cc (append-nil x, append-nil y)
 one_spelling (x ∷ w ∷ xs) (y ∷ z ∷ ys) l h k e =
     let n : length x ≡ length y = cc (All-head One x (but_last (w ∷ xs)) h, All-head One y (but_last (z ∷ ys)) k) in
     let same : x ≡ y =
@@ -199,42 +189,34 @@ one_spelling (x ∷ w ∷ xs) (y ∷ z ∷ ys) l h k e =
     let rest = one_spelling (w ∷ xs) (z ∷ ys) (omega arith) (All-tail One x (but_last (w ∷ xs)) h)
     (All-tail One y (but_last (z ∷ ys)) k) left in
     cc
+one_spelling xs ys l h k e = absurd (omega arith)
 
 one_between_at : (m : ℕ) (xs ys : List (List ℕ)) (t : List ℕ) → length xs ≡ m + 1 → length ys ≡ m + 1 →
     concat xs ≡ t → concat ys ≡ t → (0 < m → IsSpelled xs) → (0 < m → IsSpelled ys) → xs ≡ ys
-one_between_at m [] ys t l k e f g h = absurd (omega arith)
-one_between_at m (x ∷ xs) [] t l k e f g h = absurd (omega arith)
-one_between_at zero (x ∷ []) (y ∷ []) t l k e f g h = ap (λ s. s ∷ []) (sym (append-nil x) ∙ e ∙ sym f ∙ append-nil y)
-one_between_at zero (x ∷ []) (y ∷ z ∷ ys) t l k e f g h = absurd (omega arith)
-one_between_at zero (x ∷ w ∷ xs) (y ∷ ys) t l k e f g h = absurd (omega arith)
+one_between_at zero (x ∷ []) (y ∷ []) t l k e f g h = cc (append-nil x, append-nil y)
 one_between_at (suc m) (x ∷ xs) (y ∷ ys) t l k e f g h =
     let a = g (omega arith) in
     let b = h (omega arith) in
     let same : concat xs ≡ concat ys = ap (λ s. s ++ concat xs) (sym a.0) ∙ e ∙ sym f ∙ ap (λ s. s ++ concat ys) b.0 in
-    ap (λ s. s ∷ xs) (a.0 ∙ sym b.0) ∙ ap (λ s. y ∷ s) (one_spelling xs ys (omega arith) a.1 b.1 same)
+    cc (a.0, b.0, one_spelling xs ys (omega arith) a.1 b.1 same)
+one_between_at m xs ys t l k e f g h = absurd (omega arith)
 
 pub IsCut-unique : (t p : List ℕ) (n : ℕ) (xs ys : List (List ℕ)) → IsCut t p n xs → IsCut t p n ys → xs ≡ ys
 IsCut-unique t [] n xs ys h k = search (rules, one_between_at)
 IsCut-unique t (c ∷ p) n xs ys h k = IsCutAt-unique xs ys t (c ∷ p) n (omega arith) h k
 
 pub length_spell : (n : ℕ) (t : List ℕ) → length (spell n t) ≡ min n (length t) + 1
-length_spell zero t = omega arith
-length_spell (suc n) [] = omega arith
 length_spell (suc n) (c ∷ t) = omega (arith, length_spell n t)
+length_spell n t = omega arith
 
 concat_spell : (n : ℕ) (t : List ℕ) → concat (spell n t) ≡ t
 concat_spell zero t = append-nil t
 concat_spell (suc n) [] = refl
 concat_spell (suc n) (c ∷ t) = ap (λ s. c ∷ s) (concat_spell n t)
 
--- one more piece of one character in front
-spelled_more : (c : ℕ) (xs : List (List ℕ)) → All One (but_last xs) → All One (but_last ((c ∷ []) ∷ xs))
-spelled_more c xs h = search (rules, All-nil, All-cons)
-
 spelled_spell : (n : ℕ) (t : List ℕ) → All One (but_last (spell n t))
-spelled_spell zero t = All-nil One
-spelled_spell (suc n) [] = All-nil One
-spelled_spell (suc n) (c ∷ t) = spelled_more c (spell n t) (spelled_spell n t)
+spelled_spell (suc n) (c ∷ t) = search (rules, All-nil, All-cons, spelled_spell n t)
+spelled_spell n t = All-nil One
 
 pub IsCutBetween-cut : (n : ℕ) (t : List ℕ) → IsCutBetween t n (cut_between n t)
 IsCutBetween-cut n t = search (rules, append-nil, length_spell, concat_spell, spelled_spell)

@@ -129,8 +129,7 @@ not_found bs nd u v f =
 module _ (bs nd : List ℕ) (u : IsUtf8 bs) (v : IsUtf8 nd) (some : 0 < length nd) where
   pub StandsAt-parts : (x y : List ℕ) → bs ≡ x ++ (nd ++ y) → StandsAt (chars nd) (chars bs) (length x)
   StandsAt-parts x y e =
-      StandsAt-bytes (chars bs) (chars nd) x y (some_char nd v some)
-      (encodes-chars bs u ∙ e ∙ sym (ap (λ q. x ++ (q ++ y)) (encodes-chars nd v)))
+      StandsAt-bytes (chars bs) (chars nd) x y (some_char nd v some) (cc (encodes-chars bs u, encodes-chars nd v))
 
   -- where it stands, a character begins, and one behind it
   boundaries : (x y : List ℕ) → bs ≡ x ++ (nd ++ y) → (i : ℕ) → length x ≡ i
@@ -168,9 +167,7 @@ module _ (bs nd : List ℕ) (i : ℕ) (u : IsUtf8 bs) (v : IsUtf8 nd) (some : 0 
   rest = chars (drop i bs)
 
   reads : chars bs ≡ before ++ rest
-  reads =
-      ap chars (sym (take-append-drop i bs))
-      ∙ chars-append (take i bs) (drop i bs) (IsUtf8-take bs i u from_here)
+  reads = cc (take-append-drop i bs, chars-append (take i bs) (drop i bs) (IsUtf8-take bs i u from_here))
 
   long : size before ≡ i
   long = size-chars (take i bs) (IsUtf8-take bs i u from_here) ∙ length-take-le i bs from_here.0

@@ -1,5 +1,5 @@
 -- For `bytes::search`: the first of the bytes that are tested at once, by the mask of the lanes that are the byte.
-use Rattle.smol_str.proofs.Common.{◌≡◌, ℕ, ◌<◌, ◌≤◌, ◌%◌, ◌^◌, List, Bool, true, false, cond, nat_eq, length, get_or, get_or_past, map, replicate, take, refl, sym, ap, ◌∙◌, arith, w8, w64, zip2, mask_l, top, length-map, cases_lt, ⊎_elim, get_or-take, get_or-drop, drop, ◌+◌, ◌-◌}
+use Rattle.smol_str.proofs.Common.{rules, ◌≡◌, ℕ, ◌<◌, ◌≤◌, ◌%◌, ◌^◌, List, Bool, true, false, cond, nat_eq, length, get_or, get_or_past, map, replicate, take, sym, ◌∙◌, arith, w8, w64, zip2, mask_l, top, length-map, get_or-take, get_or-drop, drop, ◌+◌, ◌-◌}
 use Rattle.std.specs.Int.{bit_at, trailing_zeros}
 use Rattle.std.proofs.lemmas.Bool.{true≢false}
 use Rattle.std.proofs.lemmas.List.{get_or-map}
@@ -12,31 +12,27 @@ abbrev pub marks : ℕ → List ℕ → ℕ → ℕ
 marks x lanes n = mask_l (map (top 7) (zip2 (λ a b. cond (nat_eq a b) 255 0) lanes (replicate n x))) % 2 ^ 64
 
 set : (b : Bool) → cond {A = ℕ} b 1 0 ≡ 1 → b ≡ true
-set true h = refl
-set false h = absurd (omega arith)
+set b h = search rules
 
 clear : (b : Bool) → cond {A = ℕ} b 1 0 ≡ 0 → b ≡ false
-clear true h = absurd (omega arith)
-clear false h = refl
+clear b h = search rules
 
 module _ (x : ℕ) (bytes lanes : List ℕ) (at n : ℕ) (few : n ≤ 64) (room : at + n ≤ length bytes) (long : length lanes ≡ n)
     (read : lanes ≡ take n (drop at bytes)) where
   bit : (k : ℕ) → bit_at (marks x lanes n) k ≡ cond (get_or (map (is_byte x) lanes) k false) 1 0
-  bit k = ap (λ m. bit_at m k) (bitmask_splat w8 nat_eq lanes n x long few) ∙ bit_mask_l (map (is_byte x) lanes) k
+  bit k = cc (bitmask_splat w8 nat_eq lanes n x long few, bit_mask_l (map (is_byte x) lanes) k)
 
   lane : (k : ℕ) → k < n → get_or (map (is_byte x) lanes) k false ≡ is_byte x (get_or bytes (at + k) 0)
   lane k low =
-      get_or-map (is_byte x) lanes k 0 false (omega (arith, long)) ∙ ap (λ l. is_byte x (get_or l k 0)) read
-      ∙ ap (is_byte x) (get_or-take n (drop at bytes) k 0 low ∙ get_or-drop at bytes k 0)
+      cc (get_or-map (is_byte x) lanes k 0 false (omega arith), get_or-take n (drop at bytes) k 0 low, get_or-drop at bytes k 0)
 
   other : (k : ℕ) → at ≤ k → k < at + n → bit_at (marks x lanes n) (k - at) ≡ 0 → ¬ Passes (is_byte x) bytes k
   other k from low none hit =
       let is : k ≡ at + (k - at) = omega arith in
-      true≢false (sym hit ∙ ap (λ j. is_byte x (get_or bytes j 0)) is ∙ sym (lane (k - at) (omega arith))
-      ∙ clear _ (sym (bit (k - at)) ∙ none))
+      cc (hit, lane (k - at) (omega arith), clear _ (sym (bit (k - at)) ∙ none))
 
   pub near_none : marks x lanes n ≡ 0 → Nowhere (Passes (is_byte x) bytes) at (at + n)
-  near_none none k low high = other k low high (ap (λ m. bit_at m (k - at)) none ∙ bit_at-zero (k - at))
+  near_none none k low high = other k low high (cc (bit_at-zero (k - at)))
 
   pub near_first : ¬ (marks x lanes n ≡ 0)
       → NoneBefore (Passes (is_byte x) bytes) at (at + n) (at + trailing_zeros w64 (marks x lanes n))
@@ -46,10 +42,7 @@ module _ (x : ℕ) (bytes lanes : List ℕ) (at n : ℕ) (few : n ≤ 64) (room 
       let k = trailing_zeros w64 m in
       let lowest = bit_at-trailing_zeros w64 m (omega (arith, some)) (omega arith) in
       let hit : get_or (map (is_byte x) lanes) k false ≡ true = set _ (sym (bit k) ∙ lowest.1) in
-      let within : k < n =
-      ⊎_elim (λ l. l) (λ past.
-      absurd (true≢false (sym hit
-      ∙ get_or_past (map (is_byte x) lanes) k false (omega (arith, length-map lanes (is_byte x), long))))) (cases_lt k n) in (
+      let within : k < n = grind (arith, get_or_past, length-map, true≢false) in (
         record {
           low = omega arith;
           high = omega (arith, within);

@@ -59,14 +59,9 @@ replaced-unmatched t (c ∷ p) w n none =
 abbrev taken : ℕ → List ℕ → List ℕ → Option (List ℕ × List ℕ) → List (List ℕ)
 taken n p t o = unwrap_or (option_map (λ m. m.0 ∷ cut_at n p m.1) o) (t ∷ [])
 
-kept_piece : (n c : ℕ) (p w t : List ℕ) (o : Option (List ℕ × List ℕ)) →
-    joined_by w (taken n p (c ∷ t) (option_map (λ (m : List ℕ × List ℕ). (c ∷ m.0, m.1)) o))
-    ≡ c ∷ joined_by w (taken n p t o)
-kept_piece n c p w t o = search rules
-
 kept_at : (n c : ℕ) (p w t : List ℕ) → starts_with nat_eq (c ∷ t) p ≡ false →
     joined_by w (cut_at n p (c ∷ t)) ≡ c ∷ joined_by w (cut_at n p t)
-kept_at n c p w t e = search (rules, kept_piece)
+kept_at n c p w t e = search rules
 
 pub replaced-passed : (c : ℕ) (t p w : List ℕ) (n : ℕ) → ((r : List ℕ) → ¬ (c ∷ t ≡ p ++ r)) →
     replaced (c ∷ t) p w n ≡ c ∷ replaced t p w n

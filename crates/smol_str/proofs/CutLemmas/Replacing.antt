@@ -35,11 +35,6 @@ module _ (bs p w : List ℕ) (n m : ℕ) (b : Draft) (i : ℕ) (h : IsReplacing 
 pub replacing-nothing : (t p w : List ℕ) (n : ℕ) (b : Draft) → b ≡ empty_draft InBuffer → ¬ Occurs p t → IsReplacing t p w n 0 b 0
 replacing-nothing t p w n b empty none = search (rules, arith, replaced-none, replaced-unmatched)
 
--- no match is left, or none is wanted
-pub replacing-unmatched : (t p w : List ℕ) (n m : ℕ) (b : Draft) (i : ℕ) (h : IsReplacing t p w n m b i)
-    → ¬ Occurs p h.rest → IsReplacing t p w n 0 b i
-replacing-unmatched t p w n m b i h none = search (rules, arith, replaced-none, replaced-unmatched)
-
 -- the next match, found in the bytes of the rest
 pub replacing-found : (bs nd w : List ℕ) (n m : ℕ) (b : Draft) (i k : ℕ) (rest needle : List ℕ)
     (h : IsReplacing (chars bs) (chars nd) w n m b i) → IsUtf8 bs → IsUtf8 nd → 0 < length nd → rest ≡ drop i bs
@@ -51,16 +46,16 @@ pub replacing-none : (bs nd w : List ℕ) (n m : ℕ) (b : Draft) (i : ℕ) (res
     (h : IsReplacing (chars bs) (chars nd) w n m b i) → IsUtf8 bs → IsUtf8 nd → rest ≡ drop i bs
     → needle ≡ nd → FindsNeedle rest needle 0 None → IsReplacing (chars bs) (chars nd) w n 0 b i
 replacing-none bs nd w n m b i rest needle h u v e f found =
-    replacing-unmatched (chars bs) (chars nd) w n m b i h
-    (Occurs-none bs nd i u v (rw (e, f) at found) h.done h.rest h.parts h.at)
+    let none = Occurs-none bs nd i u v (rw (e, f) at found) h.done h.rest h.parts h.at in
+    search (rules, arith, replaced-none, replaced-unmatched)
 
 -- two texts appended, one after the other
 pub appended-both : (b c d : Draft) (u v : List ℕ) → c ≡ appended b u → d ≡ appended c v → d ≡ appended b (u ++ v)
-appended-both b c d u v first second = second ∙ ap (λ x. appended x v) first ∙ appended-twice b u v
+appended-both b c d u v first second = cc (appended-twice b u v)
 
 pub second-heap : (b c : Draft) (u v : List ℕ) → c ≡ appended b u → (appended c v).kind ≡ OnHeap
     → (appended b (u ++ v)).kind ≡ OnHeap
-second-heap b c u v first heap = ap (λ x. x.kind) (sym (appended-both b c (appended c v) u v first refl)) ∙ heap
+second-heap b c u v first heap = cc (appended-twice b u v)
 
 pub size-one : (c : ℕ) → size (c ∷ []) ≡ len_utf8 c
 size-one c = omega (arith, length-append (encode c) [], length-encode c)
@@ -150,12 +145,9 @@ module _ (t w : List ℕ) (n m l : ℕ) (b : Draft) (i : ℕ) (h : IsReplacing t
         let at : i + 0 ≡ i = omega arith in
         subst (IsReplacing t [] w n 0 d) at (replacing-more t [] w n m 0 b i h [] [] w reads end-made d e)
 
-    end-refused : (appended b w).kind ≡ OnHeap → ¬ (IsShort (replaced t [] w n))
-    end-refused = replacing-refused t [] w n m 0 b i h [] [] w reads end-made
-
   -- either way w comes next
   pub before-refused : (rest : List ℕ) → h.rest ≡ rest → (appended b w).kind ≡ OnHeap → ¬ (IsShort (replaced t [] w n))
-  before-refused [] e heap = end-refused e heap
+  before-refused [] e heap = replacing-refused t [] w n m 0 b i h [] [] w e (end-made e) heap
   before-refused (c ∷ r) e heap = taken-refused c r e (appended-heap b w (c ∷ []) heap)
 
 pub chars-empty : (bs : List ℕ) → length bs ≡ 0 → chars bs ≡ []

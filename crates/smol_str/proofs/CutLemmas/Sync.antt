@@ -2,7 +2,7 @@
 -- its characters stand. It holds of every two lists of numbers.
 use Rattle.smol_str.proofs.Common.{◌≡◌, ℕ, ◌≤◌, ◌<◌, List, [], ◌∷◌, ◌++◌, ◌⊎◌, length, refl, ap, ◌∙◌, arith, append_assoc, encode, encodes, cons_from_encodes, encodes-append, StandsAt, rules}
 use Rattle.smol_str.proofs.TextLemmas.Lists.{head_same, tail_same}
-use Rattle.smol_str.proofs.TextLemmas.Utf8.{Form, form}
+use Rattle.smol_str.proofs.TextLemmas.Utf8.{form}
 
 -- the bytes begin with those of p: then the text begins with p
 pub starts_with-encodes : (z p y : List ℕ) → encodes z ≡ encodes p ++ y → (r : List ℕ) × (z ≡ p ++ r) × (encodes r ≡ y)
@@ -29,11 +29,8 @@ record LeadAndRest (c : ℕ) : Type 0 where
   leads : Leads lead
   follows : Follows rest
 
-lead_and_rest-form : (c : ℕ) → Form c → LeadAndRest c
-lead_and_rest-form c f = search rules
-
 lead_and_rest : (c : ℕ) → LeadAndRest c
-lead_and_rest c = lead_and_rest-form c (form c)
+lead_and_rest c = let forms = form c in search rules
 
 -- a byte that leads stands behind those that follow
 follows-apart : (s rest u : List ℕ) (b : ℕ) (v : List ℕ) → Follows s → Leads b → s ++ rest ≡ u ++ (b ∷ v) →
@@ -70,5 +67,4 @@ StandsAt-bytes t p x y some e = let h = StandsBetween-bytes t p x y some e in (h
 pub bytes-StandsAt : (t p : List ℕ) (i : ℕ) → StandsAt p t i →
     (x y : List ℕ) × (encodes t ≡ x ++ (encodes p ++ y)) × (length x ≡ i)
 bytes-StandsAt t p i h =
-    let spelt = ap encodes h.2 ∙ encodes-append h.0 (p ++ h.1) ∙ ap (λ s. encodes h.0 ++ s) (encodes-append p h.1) in
-    (encodes h.0, encodes h.1, spelt, h.3)
+    (encodes h.0, encodes h.1, cc (h.2, encodes-append h.0 (p ++ h.1), encodes-append p h.1), h.3)

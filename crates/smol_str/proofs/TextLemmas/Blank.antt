@@ -68,8 +68,7 @@ IsBlankRun-from_tests t n e few_newlines few_spaces all =
       spaces = length t - n;
       few_newlines = few_newlines;
       few_spaces = few_spaces;
-      reads =
-          rw e (blank_run-from_tests t (rw e at all));
+      reads = rw e (blank_run-from_tests t (rw e at all));
     }
 
 -- what the tests say of a blank run

@@ -1,5 +1,5 @@
 -- For the lemmas of texts, cuts and builders: lists of any kind.
-use Rattle.smol_str.proofs.Common.{◌≡◌, ℕ, List, ◌∷◌, ◌++◌, take, drop, sym, ap, ◌∙◌, flat_map, take-append-drop}
+use Rattle.smol_str.proofs.Common.{◌≡◌, ℕ, List, ◌∷◌, ◌++◌, take, drop, flat_map, take-append-drop}
 use Rattle.std.proofs.lemmas.List.Concat.{flat_map-append}
 
 pub head_same : (c d : ℕ) (s t : List ℕ) → c ∷ s ≡ d ∷ t → c ≡ d
@@ -11,4 +11,4 @@ tail_same c d s t e = cc
 module _ {X : Type 0} (f : X → List ℕ) (xs : List X) (i : ℕ) where
   -- the pieces of the first i items, and all the others
   pub flat_map-parts : flat_map f xs ≡ flat_map f (take i xs) ++ flat_map f (drop i xs)
-  flat_map-parts = ap (flat_map f) (sym (take-append-drop i xs)) ∙ flat_map-append f (take i xs) (drop i xs)
+  flat_map-parts = cc (take-append-drop i xs, flat_map-append f (take i xs) (drop i xs))

@@ -1,6 +1,6 @@
 -- For comparisons and the law of byte order: the order of texts is the order of their bytes.
-use Rattle.smol_str.proofs.Common.{◌≡◌, ℕ, ◌+◌, ◌/◌, ◌%◌, ◌<◌, List, [], ◌∷◌, ◌++◌, refl, ◌∙◌, ap, arith, ◌⊎◌, inl, inr, encode, encodes, next, slice_cmp, nat_list_cmp_total, nat_cmp, ordering_reverse, nat_tests, cases_order, cases_lt, common_steps, rules}
-use Rattle.smol_str.proofs.TextLemmas.Utf8.{Form, form}
+use Rattle.smol_str.proofs.Common.{◌≡◌, ℕ, ◌+◌, ◌/◌, ◌%◌, ◌<◌, List, [], ◌∷◌, ◌++◌, refl, ◌∙◌, arith, ◌⊎◌, inl, inr, encode, encodes, next, slice_cmp, nat_list_cmp_total, nat_cmp, nat_tests, cases_order, cases_lt, common_steps, rules}
+use Rattle.smol_str.proofs.TextLemmas.Utf8.{form}
 use Rattle.std.specs.declared.cmp.Ordering.TheVariants.{Less, Equal, Greater}
 
 pub nat_cmp-less : (a b : ℕ) → a < b → nat_cmp a b ≡ Less
@@ -45,29 +45,27 @@ digits4 : (k c d : ℕ) (xs ys : List ℕ) → c < d →
 digits4 k c d xs ys h = grind (arith, common_steps, split64, digits3, same_head, less_head)
 
 -- the bytes of the lower character come first
-less_forms : (c d : ℕ) (xs ys : List ℕ) → c < d → Form c → Form d →
-    slice_cmp nat_cmp (encode c ++ xs) (encode d ++ ys) ≡ Less
-less_forms c d xs ys h f g = search (rules, less_head, digits2, digits3, digits4)
-
 encode-less : (c d : ℕ) (xs ys : List ℕ) → c < d → slice_cmp nat_cmp (encode c ++ xs) (encode d ++ ys) ≡ Less
-encode-less c d xs ys h = less_forms c d xs ys h (form c) (form d)
+encode-less c d xs ys h =
+    let first = form c in
+    let second = form d in
+    search (rules, less_head, digits2, digits3, digits4)
 
 -- a character has a byte
-some_bytes : (c : ℕ) (xs : List ℕ) → Form c →
+some_bytes : (c : ℕ) (xs : List ℕ) →
     (slice_cmp nat_cmp [] (encode c ++ xs) ≡ Less) × (slice_cmp nat_cmp (encode c ++ xs) [] ≡ Greater)
-some_bytes c xs f = grind (arith, common_steps)
+some_bytes c xs = grind (arith, common_steps, form)
 
 pub order-texts : (s t : List ℕ) → slice_cmp nat_cmp (encodes s) (encodes t) ≡ slice_cmp nat_cmp s t
 order-texts [] [] = refl
-order-texts [] (d ∷ t) = (some_bytes d (encodes t) (form d)).0
-order-texts (c ∷ s) [] = (some_bytes c (encodes s) (form c)).1
+order-texts [] (d ∷ t) = (some_bytes d (encodes t)).0
+order-texts (c ∷ s) [] = (some_bytes c (encodes s)).1
 order-texts (c ∷ s) (d ∷ t) =
     elim (cases_order c d) [
       | inl e ↦ rw (e, nat_cmp-same d) (slice_cmp-front (encode d) (encodes s) (encodes t) ∙ order-texts s t)
       | inr o ↦ elim o [
         | inl l ↦ rw (nat_cmp-less c d l) (encode-less c d (encodes s) (encodes t) l)
         | inr g ↦ rw (nat_cmp-greater c d g)
-            (nat_list_cmp_total.antisymm (encode c ++ encodes s) (encode d ++ encodes t)
-            ∙ ap ordering_reverse (encode-less d c (encodes t) (encodes s) g))
+            (cc (nat_list_cmp_total.antisymm (encode c ++ encodes s) (encode d ++ encodes t), encode-less d c (encodes t) (encodes s) g))
       ]
     ]

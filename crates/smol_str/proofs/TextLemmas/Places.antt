@@ -1,5 +1,5 @@
 -- For makers, conversions and comparisons: texts, their bytes and their places.
-use Rattle.smol_str.proofs.Common.{◌≡◌, ◌↔◌, ℕ, ◌+◌, ◌<◌, ◌≤◌, List, [], ◌∷◌, ◌++◌, length, encode_utf8, encode_utf8_all, length-append, length-le-encodes, Bool, true, false, nat_le, nat_eq, Result, OnOk, OnErr, is_ok, refl, sym, ◌∙◌, ap, arith, chars, IsUtf8, pointwise, bytes_decides, encodes-chars, chars-IsAscii, encodes-IsAscii, encodes_same, encodes-append, chars_from_encodes, length-encode, len_utf8_bounds, IsUtf8-string_bytes, append-nil, nat_tests, Decides-and, Decides-like, same_from_decides, INLINE_CAP, size, is_short, IsShort, IsBlankRun, IsResident, blank_run, ◌⊎◌, common_steps, rules}
+use Rattle.smol_str.proofs.Common.{◌≡◌, ◌↔◌, ℕ, ◌+◌, ◌<◌, ◌≤◌, List, [], ◌∷◌, ◌++◌, length, encode_utf8, encode_utf8_all, length-append, length-le-encodes, Bool, true, false, nat_le, nat_eq, Result, OnOk, OnErr, is_ok, refl, sym, ap, arith, chars, IsUtf8, pointwise, bytes_decides, encodes-chars, chars-IsAscii, encodes-IsAscii, encodes_same, encodes-append, chars_from_encodes, length-encode, len_utf8_bounds, IsUtf8-string_bytes, append-nil, nat_tests, Decides-and, Decides-like, same_from_decides, INLINE_CAP, size, is_short, IsShort, IsBlankRun, IsResident, blank_run, ◌⊎◌, common_steps, rules}
 use Rattle.std.specs.Bool.{Decides}
 use Rattle.smol_str.specs.Shared.{SharedText, shared_bytes}
 use Rattle.smol_str.specs.declared.value.place.Place.TheVariants.{Inline, Static, Heap}
@@ -19,23 +19,17 @@ no-bytes (c ∷ t) h =
 pub IsShort-chars : (bs : List ℕ) → IsUtf8 bs → length bs ≤ INLINE_CAP → IsShort (chars bs)
 IsShort-chars bs u h = rw (encodes-chars bs u) h
 
-run_at : (bs : List ℕ) (a b : ℕ) → bs ≡ blank_run a b → chars bs ≡ bs
-run_at bs a b e = rw e (chars-IsAscii (blank_run a b) (IsAscii-blank_run a b))
-
 -- the bytes are a blank run exactly where the characters are
 pub IsBlankRun-chars : (bs : List ℕ) → IsBlankRun bs → IsBlankRun (chars bs)
-IsBlankRun-chars bs r = rw (run_at bs r.newlines r.spaces r.reads) r
+IsBlankRun-chars bs r =
+    let same : chars bs ≡ bs = rw r.reads (chars-IsAscii (blank_run r.newlines r.spaces) (IsAscii-blank_run r.newlines r.spaces)) in
+    rw same r
 
 pub IsBlankRun-bytes : (bs : List ℕ) → IsUtf8 bs → IsBlankRun (chars bs) → IsBlankRun bs
 IsBlankRun-bytes bs u r =
     let plain = encodes-IsAscii (blank_run r.newlines r.spaces) (IsAscii-blank_run r.newlines r.spaces) in
-    record {
-      newlines = r.newlines;
-      spaces = r.spaces;
-      few_newlines = r.few_newlines;
-      few_spaces = r.few_spaces;
-      reads = cc (encodes-chars bs u, r.reads, plain);
-    }
+    let same : chars bs ≡ bs = cc (encodes-chars bs u, r.reads, plain) in
+    rw same at r
 
 -- no text is resident that is longer than the buffer, and whose bytes are no blank run
 pub not_resident : (bs : List ℕ) → IsUtf8 bs → INLINE_CAP < length bs → ¬ (IsBlankRun bs) → ¬ (IsResident (chars bs))
@@ -81,18 +75,8 @@ cases_by_tests : (t : List ℕ) (a b : Bool) → is_short t ≡ a → is_blank_r
 cases_by_tests t a b e f =
     search (rules, nat_tests, place_of-short, is_blank_run-Decides, is_short-true, place_of-blank, place_of-heap)
 
-place-cases : (t : List ℕ) → PlaceCases t
+pub place-cases : (t : List ℕ) → PlaceCases t
 place-cases t = cases_by_tests t (is_short t) (is_blank_run t) refl refl
-
--- so each place is that of such texts alone
-pub inline-short : (t : List ℕ) → place_of t ≡ Inline → IsShort t
-inline-short t inline = grind (arith, common_steps, place-cases)
-
-pub static-blank : (t : List ℕ) → place_of t ≡ Static → (¬ (IsShort t)) × IsBlankRun t
-static-blank t static = let cases = place-cases t in search rules
-
-pub heap-not_resident : (t : List ℕ) → place_of t ≡ Heap → ¬ (IsResident t)
-heap-not_resident t heap = let cases = place-cases t in search rules
 
 -- two texts are equal exactly where their bytes are
 pub bytes_eq-texts : (s t : List ℕ) → pointwise nat_eq (encode_utf8_all s) (encode_utf8_all t) ≡ pointwise nat_eq s t
@@ -115,7 +99,7 @@ pub bytes_eq-chars : (t bs : List ℕ) → IsUtf8 bs →
 bytes_eq-chars t bs u = search (rules, arith, encodes-chars, bytes_eq-texts)
 
 pub chars-one : (c : ℕ) (bs : List ℕ) → IsUtf8 bs → bs ≡ encode_utf8 c → chars bs ≡ c ∷ []
-chars-one c bs u e = chars-of (c ∷ []) bs u (e ∙ sym (append-nil (encode_utf8 c)))
+chars-one c bs u e = chars-of (c ∷ []) bs u (cc (append-nil (encode_utf8 c)))
 
 -- what holds anyway holds of an `Err`
 pub OnErr-always : {T E : Type 0} (r : Result T E) (P : Type 0) → P → OnErr r P

@@ -1,6 +1,5 @@
 -- A wire form in two parts, its size and its text, for the calls that write and read one part after the other.
-use Rattle.smol_str.proofs.Common.{inr, cases_lt, IsUtf8, IsResident, chars, ◌≡◌, ℕ, ◌+◌, ◌<◌, ◌≤◌, ◌^◌, List, ◌++◌, Option, IfSome, length, take, refl, sym, ap, ◌∙◌, subst, arith, append_assoc, append-nil, to_le_bytes, from_le_bytes, w32, encode_utf8_all, from_le_bytes-to_le_bytes_4, encodes-chars, take_at, drop_at, length-append, Appends, Consumes, IsAtEnd, Appends-trans, Consumes-trans, Result, err_from_is_err_and, INLINE_CAP, size, place_of, Meaning, HasWire, HasEndedEarly, body, common_steps, rules, padded}
-use Rattle.std.specs.declared.str.Utf8Error.{Utf8Error}
+use Rattle.smol_str.proofs.Common.{inr, cases_lt, ◌≡◌, ℕ, ◌+◌, ◌<◌, ◌≤◌, ◌^◌, List, ◌++◌, Option, IfSome, length, take, refl, sym, ap, ◌∙◌, subst, arith, append_assoc, append-nil, to_le_bytes, from_le_bytes, w32, encode_utf8_all, from_le_bytes-to_le_bytes_4, encodes-chars, take_at, drop_at, length-append, Appends, Consumes, Appends-trans, Consumes-trans, Result, err_from_is_err_and, INLINE_CAP, size, place_of, Meaning, HasWire, HasEndedEarly, body, common_steps, rules, padded}
 use Rattle.std.specs.declared.io.Error.{Error}
 use Rattle.std.specs.Result.{IsErrAnd, IfErr}
 use Rattle.smol_str.specs.declared.borsh.fault.EncodeFault.{EncodeFault}
@@ -14,7 +13,7 @@ use Rattle.smol_str.specs.Faults.{AfterFromUtf8Fault}
 use Rattle.smol_str.specs.declared.borsh.TheConstants.{STACK_BODY}
 use Rattle.smol_str.specs.Wire.{wire, prefix_size}
 use Rattle.std.specs.Prelude.{⊤}
-use Rattle.smol_str.specs.Stream.{AppendsBeginning, GaveAllBelow, GaveBelow, GaveUpTo}
+use Rattle.smol_str.specs.Stream.{AppendsBeginning, GaveBelow, GaveUpTo}
 use Rattle.smol_str.specs.WireFaults.{AfterEncodeFault, AfterDecodeFault, GaveTooFew, GaveSomeOfBody, HasReadBody, HasReadLarge, NeedsMemory, AfterBodyFault, StatesAtMost, AfterLimitedFault, AfterFromWireFault, of_utf8_fault}
 use Rattle.smol_str.proofs.TextLemmas.Places.{size-chars}
 use Rattle.smol_str.proofs.WireLemmas.Stream.{IfErr-is, beginning-of_first, beginning-of_second, Consumes-full}
@@ -25,13 +24,9 @@ pub AfterFromWireFault-of_text : (b : List ℕ) (e : FromUtf8Fault) → ¬ HasEn
     → AfterFromWireFault b (of_utf8_fault e)
 AfterFromWireFault-of_text b e whole h = search rules
 
--- a text that is not resident has more than INLINE_CAP bytes
-above_cap : (bytes : List ℕ) → IsUtf8 bytes → ¬ (IsResident (chars bytes)) → INLINE_CAP < length bytes
-above_cap bytes u large = grind (arith, common_steps, size-chars, cases_lt)
-
 pub AfterBodyFault-of_text : (a b : Option (List ℕ)) (n : ℕ) (bytes : List ℕ) (e : FromUtf8Fault)
     → length bytes ≡ n → Consumes a b bytes → AfterFromUtf8Fault bytes e → AfterBodyFault a b n (of_utf8_fault e)
-AfterBodyFault-of_text a b n bytes e whole consumed h = search (rules, above_cap)
+AfterBodyFault-of_text a b n bytes e whole consumed h = search (rules, size-chars, cases_lt)
 
 -- ---- writing: the size of a text as it is found, and the text's bytes
 
@@ -77,11 +72,6 @@ prefix_size_of_bytes b prefix n e is = sym (is ∙ ap (from_le_bytes w32) e)
 
 -- ---- reading: a reader that gave the size n, below 2 ^ 32
 
--- what is so of all that begins with some bytes is so of what a reader had, which gave them
-IfSome-begun : (P : List ℕ → Type 0) (a b : Option (List ℕ)) (bytes : List ℕ) → Consumes a b bytes
-    → ((r : List ℕ) → P (bytes ++ r)) → IfSome a P
-IfSome-begun P a b bytes p h = search rules
-
 module _ (n : ℕ) (fits : n < 2 ^ 32) where
   -- bytes that begin with the size n
   pub prefix_size-front : (r : List ℕ) → prefix_size (to_le_bytes w32 n ++ r) ≡ n
@@ -106,22 +96,17 @@ module _ (n : ℕ) (fits : n < 2 ^ 32) where
   -- and then the text of a value
   module _ (b c : Option (List ℕ)) (v : Meaning) (h : HasReadBody b c n v) where
     same_bytes : h.body ≡ encode_utf8_all v.text
-    same_bytes = sym (encodes-chars h.body h.utf8) ∙ ap encode_utf8_all (sym h.value.text)
+    same_bytes = cc (encodes-chars h.body h.utf8, h.value.text)
 
     pub size-of_body : n ≡ size v.text
     size-of_body = sym h.whole ∙ ap length same_bytes
 
     pub is_read-of_body : HasWire v.text × (v.place ≡ place_of v.text)
-    is_read-of_body = let same = size-of_body in (omega arith, h.value.place ∙ ap place_of (sym h.value.text))
+    is_read-of_body = let same = size-of_body in (omega arith, cc (h.value.place, h.value.text))
 
     pub Consumes-of_body : (a : Option (List ℕ)) → Consumes a b (to_le_bytes w32 n) → Consumes a c (wire v.text)
     unfolding wire
     Consumes-of_body a p = search (rules, size-of_body, same_bytes, Consumes-trans)
-
-  -- and then fewer bytes
-  ended-of_body : (a b c : Option (List ℕ)) → Consumes a b (to_le_bytes w32 n) → GaveAllBelow b c n
-      → IfSome a HasEndedEarly × IsAtEnd c
-  ended-of_body a b c p q = search (rules, append-nil, prefix_size-front, length_front)
 
   -- and then fewer bytes, with others left
   pub early-of_body : (P : List ℕ → Type 0) → ((r : List ℕ) → P (to_le_bytes w32 n ++ r)) → (a b c : Option (List ℕ))
@@ -142,11 +127,6 @@ module _ (n : ℕ) (fits : n < 2 ^ 32) where
     Consumes-trans a b c (to_le_bytes w32 n) bs p consumed,
   )
 
-  -- and then n bytes that are no text
-  refused-of_body : (a b c : Option (List ℕ)) (e : Utf8Error) → Consumes a b (to_le_bytes w32 n)
-      → AfterBodyFault b c n (NotUtf8 e) → AfterDecodeFault a c (NotUtf8 e)
-  refused-of_body a b c e p h = grind (arith, common_steps, whole_front, body_front, append_assoc, taken_front)
-
   -- and then n bytes that are a text for which there was no memory
   long-of_body : (a b c : Option (List ℕ)) → Consumes a b (to_le_bytes w32 n)
       → (INLINE_CAP < n) × GaveUpTo b c n × (n ≤ STACK_BODY → HasReadLarge b c n)
@@ -157,8 +137,9 @@ module _ (n : ℕ) (fits : n < 2 ^ 32) where
 
   pub AfterDecodeFault-of_body : (a b c : Option (List ℕ)) (fault : DecodeFault) → Consumes a b (to_le_bytes w32 n)
       → AfterBodyFault b c n fault → AfterDecodeFault a c fault
-  AfterDecodeFault-of_body a b c Ended p h = ended-of_body a b c p h
-  AfterDecodeFault-of_body a b c (NotUtf8 e) p h = refused-of_body a b c e p h
+  AfterDecodeFault-of_body a b c Ended p h = search (rules, append-nil, prefix_size-front, length_front)
+  AfterDecodeFault-of_body a b c (NotUtf8 e) p h =
+      grind (arith, common_steps, whole_front, body_front, append_assoc, taken_front)
   AfterDecodeFault-of_body a b c OutOfMemory p h = (long-of_body a b c p h, within-of_body a b c p h.1)
   AfterDecodeFault-of_body a b c (Io e) p h = early-of_body (λ bytes. ⊤) (λ r. tt) a b c p h
 
@@ -170,7 +151,7 @@ module _ (n : ℕ) (fits : n < 2 ^ 32) where
   -- and with one that is not
   states_within : (a b : Option (List ℕ)) (limit : ℕ) → Consumes a b (to_le_bytes w32 n) → n ≤ limit
       → IfSome a (StatesAtMost limit)
-  states_within a b limit p h = IfSome-begun _ a b _ p (λ r _. let says = prefix_size-front r in omega arith)
+  states_within a b limit p h = search (rules, prefix_size-front)
 
   AfterLimitedFault-of_fault : (a b c : Option (List ℕ)) (limit : ℕ) (fault : DecodeFault)
       → Consumes a b (to_le_bytes w32 n) → n ≤ limit → AfterBodyFault b c n fault → AfterLimitedFault limit a c (Decode fault)

@@ -14,7 +14,9 @@
 //! So two texts are equal where their words are, and the first words that differ order them: if one
 //! text is a prefix of the other, zeros follow it and then a smaller length, so it sorts first. A text
 //! is written by words too, since loading a word just after byte stores stalls.
-ghost use Rattle.std.specs.Prelude.{◌≡◌, ◌↔◌, IsTrue, ◌+◌, ◌*◌, ◌<◌, ◌≤◌, length, take, drop, nat_eq, encode_utf8};
+ghost use Rattle.std.specs.Prelude.{◌≡◌, ◌↔◌, IsTrue, ◌+◌, ◌*◌, ◌<◌, ◌≤◌, ℕ, List, length, take, drop, nat_eq, OnSome, encode_utf8};
+ghost use Rattle.std.specs.Iterator.{IsFinite, YieldsThen};
+ghost use Rattle.std.specs.Str.{IsAscii};
 ghost use Rattle.std.specs.Ordering.{nat_cmp};
 ghost use Rattle.std.specs.Cmp.Lexicographic.{pointwise, slice_cmp};
 ghost use Rattle.std.specs.Int.{w64, to_le_bytes, from_be_bytes};
@@ -116,11 +118,12 @@ fn word_at(bytes: &[u8], at: usize) -> u64
     ensures { result ≡ word 8 bytes.now at }
 {
     let len = bytes.len();
+    // First, so that a whole word takes one test.
+    if at <= len - 8 {
+        return read_u64(bytes, at);
+    }
     if at >= len {
         return 0;
-    }
-    if len - at >= 8 {
-        return read_u64(bytes, at);
     }
     read_u64(bytes, len - 8) >> (8 * (8 - (len - at)))
 }
@@ -298,4 +301,32 @@ fn put_ends<const K: usize>(buf: &mut Packed, start: usize, bytes: &[u8])
     let last = *bytes[rest..].first_chunk::<K>().unwrap();
     buf[start..start + K].copy_from_slice(&first);
     buf[start + rest..start + bytes.len()].copy_from_slice(&last);
+}
+
+/// Writes the characters of an iterator to `buf[start..]` while they are ASCII and there is room: the end of what is
+/// written, and the first other character. The length is left as it is, since it is kept in a register here.
+#[inline(always)]
+pub(super) fn write_ascii<I: Iterator<Item = char>>(
+    buf: &mut Packed,
+    start: usize,
+    iter: &mut I,
+) -> (usize, Option<char>)
+    requires can { I.can_next iter.old }
+    requires ends { IsFinite (I.remaining iter.old) }
+    requires room { start ≤ INLINE_CAP }
+    ensures drew { (items : List ℕ) × YieldsThen I.next_gives iter.old items result.1 iter.new × IsAscii items
+        × (result.0 ≡ start + length items) × (buf.new ≡ put_at buf.old start items) }
+    ensures room { result.0 ≤ INLINE_CAP }
+    ensures more { OnSome result.1 (I.can_next iter.new × IsFinite (I.remaining iter.new)) }
+{
+    let mut len = start;
+    while let Some(character) = iter.next() {
+        let code = character as u32;
+        if code >= 0x80 || len >= INLINE_CAP {
+            return (len, Some(character));
+        }
+        buf[len] = code as u8;
+        len += 1;
+    }
+    (len, None)
 }

@@ -50,22 +50,20 @@ fn ascii_chunks(bytes: &[u8]) -> usize
     at
 }
 
-/// Whether no byte is past ASCII.
+/// Whether no byte is past ASCII. The last block may overlap the one before it.
 #[inline(always)]
 pub(crate) fn is_all_ascii(bytes: &[u8]) -> bool
     ensures { IsTrue result ↔ IsAscii bytes.now }
 {
-    let mut at = ascii_chunks(bytes);
-    if bytes.len() - at >= LANES {
-        return false;
+    let len = bytes.len();
+    if len < 8 {
+        return bytes.is_ascii();
     }
-    if bytes.len() - at >= 8 {
-        if has_high(load::<8>(bytes, at)) {
-            return false;
-        }
-        at += 8;
+    if len < LANES {
+        return !has_high(load::<8>(bytes, 0)) & !has_high(load::<8>(bytes, len - 8));
     }
-    bytes[at..].is_ascii()
+    let at = ascii_chunks(bytes);
+    (len - at < LANES) & !has_high(load::<LANES>(bytes, len - LANES))
 }
 
 /// Maps all ASCII letters in place; no other byte changes.

@@ -7,12 +7,13 @@ ghost use Rattle.std.specs.Cow.{cow_str_bytes};
 ghost use Rattle.smol_str.specs.Shared.{shared_bytes};
 ghost use Rattle.smol_str.specs.Text.{IsResident};
 ghost use Rattle.smol_str.specs.Meaning.{IsValueOf};
-ghost use Rattle.smol_str.specs.Faults.{AfterFromUtf8Fault};
+ghost use Rattle.smol_str.specs.Faults.{AfterFromUtf8Fault, IsUtf8FaultOf};
 ghost use Rattle.smol_str.specs.Said.{utf8_said};
 
 use super::place::Place;
 use super::{Repr, SmolStr};
-use crate::buffer::InlineText;
+use crate::buffer::{INLINE_CAP, InlineText};
+use crate::bytes::ascii::is_all_ascii;
 use crate::shared::SharedText;
 use std::alloc::{AllocError, AllocFailed, Global};
 use std::borrow::CowStr;
@@ -94,7 +95,7 @@ impl SmolStr {
         ensures ok { IfOk result (λ v. IsUtf8 bytes.now × IsValueOf (chars bytes.now) v) }
         ensures fault { IfErr result (AfterFromUtf8Fault bytes.now) }
     {
-        match str::from_utf8(bytes) {
+        match utf8_text(bytes) {
             Ok(text) => Ok(SmolStr::new(alloc, text)?),
             Err(fault) => Err(FromUtf8Fault::NotUtf8(fault)),
         }
@@ -220,4 +221,16 @@ impl Default for SmolStr {
     fn default() -> SmolStr {
         SmolStr::new_inline("")
     }
+}
+
+/// The same as std's `str::from_utf8`: short ASCII is found here, at each call.
+#[inline(always)]
+fn utf8_text(bytes: &[u8]) -> Result<&str, Utf8Error>
+    ensures ok { IfOk result (λ text. IsUtf8 bytes.now × (text.now ≡ bytes.now)) }
+    ensures fault { IfErr result (λ fault. (¬ (IsUtf8 bytes.now)) × IsUtf8FaultOf bytes.now fault) }
+{
+    if bytes.len() <= INLINE_CAP && is_all_ascii(bytes) {
+        return Ok(unsafe { str::from_utf8_unchecked(bytes) });
+    }
+    str::from_utf8(bytes)
 }

@@ -9,8 +9,7 @@ returns-clause-ok c =
     let b = c.args.bytes.now in
     let found = c.in-Some.body.now in
     let (utf8, value) = c.in_ok-value.ensures.ok in
-    let is : found ≡ encode_utf8_all c.in_ok-value.value.text =
-    sym (encodes-chars found utf8) ∙ ap encode_utf8_all (sym value.text) in
+    let is : found ≡ encode_utf8_all c.in_ok-value.value.text = cc (encodes-chars found utf8, value.text) in
     let bytes = All-from_get_or (λ c. c < 2 ^ 8) b 0 (λ i _. omega (arith, c.type_inv.bytes i)) in
     let scalars = subst (λ t. IsTrue (all_scalars t)) (sym value.text) (scalars-chars found utf8) in
     subst (λ n. Holds b c.in_ok-value.value.text n) (omega (arith, ap length is))

@@ -1,4 +1,4 @@
-use Rattle.smol_str.proofs.Common.{◌≡◌, ℕ, ◌+◌, ◌-◌, ◌≤◌, List, ◌++◌, rules, arith, length, take, slice_range, sym, ap, ◌∙◌, subst, le_refl, drop_at, length-take-le, Consumes, Consumes-trans, take-add, take-append-le}
+use Rattle.smol_str.proofs.Common.{◌≡◌, ℕ, ◌+◌, ◌-◌, ◌≤◌, List, ◌++◌, rules, arith, length, take, slice_range, subst, le_refl, drop_at, length-take-le, Consumes, Consumes-trans, take-add, take-append-le}
 use Rattle.std.proofs.lemmas.Slice.{take-put_mid_below}
 use borrow.Rule.Slice.PartMut.{put_mid}
 use Rattle.smol_str.proofs.WireLemmas.Stream.{GaveBelow-failed}
@@ -25,7 +25,7 @@ loop-filled-preserved g c =
     let joined = take_split from (from + n) old (put_mid from room old came) (omega arith)
     (take-put_mid_below _ _ _ _ _ (le_refl _) within) in
     let both = Consumes-trans _ _ _ _ _ c.loop-filled.invariant.1 c.in_ok-n.ensures.bytes.0 in
-    (search rules, subst (Consumes _ _) (ap (λ l. take from old ++ l) (sym part) ∙ joined) both)
+    (search rules, subst (Consumes _ _) (cc (part, joined)) both)
 
 pub returns-in_err-n-clause-failed : goal.returns-in_err-n-clause-failed
 returns-in_err-n-clause-failed g c =

@@ -1,28 +1,42 @@
-use Rattle.smol_str.proofs.Common.{arith, refl, take, IsAscii, IsAscii-take, IsAscii-drop}
-use Rattle.smol_str.proofs.CaseLemmas.Ascii.{ascii-more, ascii-all, high-lanes, not-ascii, ascii-told}
-use Rattle.smol_str.proofs.bytes.ascii.is_all_ascii.Goals.{then-bytes-at-ge8+else-has_high, else-bytes-at-ge8}
+use Rattle.smol_str.proofs.Common.{rules, ◌≡◌, ◌↔◌, ◌&&◌, ◌-◌, ◌+◌, ◌≤◌, ℕ, List, Bool, true, false, not, IsTrue, length, take, drop, take-take, take_all, refl, arith, IsAscii, IsAscii-take, IsAscii-drop, ap, sym, ◌∙◌, ltb-true, ltb-false}
+use Rattle.std.proofs.Common.{true≢false}
+use Rattle.smol_str.proofs.CaseLemmas.Ascii.{ascii-more, ascii-told}
 use Rattle.smol_str.proofs.bytes.ascii.is_all_ascii.Goals as goal
 
-pub returns-then-bytes-at-ge-LANES : goal.returns-then-bytes-at-ge-LANES
-returns-then-bytes-at-ge-LANES c =
-    not-ascii c.args.bytes.now c.ascii_chunks-at.result 16 (c.ascii_chunks-at.ensures.stops (omega arith))
+-- the last bytes are ASCII, and so are those before them
+module _ (bytes : List ℕ) (at n : ℕ) (some : n ≤ length bytes) where
+  ends : length bytes ≤ at + n → IsAscii (take at bytes) → IsAscii (take n (drop (length bytes - n) bytes)) → IsAscii bytes
+  ends near front last =
+      let from = length bytes - n in
+      let before = rw (take-take from at bytes (omega arith)) at (IsAscii-take (take at bytes) from front) in
+      rw (take_all (from + n) bytes (omega arith)) at (ascii-more bytes from n _ refl last before)
 
-pub returns-then-has_high : goal.returns-then-has_high
-returns-then-has_high c =
-    not-ascii c.args.bytes.now c.ascii_chunks-at.result 8
-    (high-lanes c.args.bytes.now c.ascii_chunks-at.result 8 _ c.load.ensures.lanes c.if-has_high.ensures)
+  told : (a high : Bool) → (a ≡ true → IsAscii (take at bytes) × (length bytes ≤ at + n)) → (a ≡ false → ¬ (IsAscii bytes))
+      → (high ≡ false) ↔ IsAscii (take n (drop (length bytes - n) bytes)) → IsTrue (a && not high) ↔ IsAscii bytes
+  told true false front back last = (λ _. ends (front refl).1 (front refl).0 (last.0 refl), λ _. refl)
+  told true true front back last =
+      (λ f. absurd (true≢false (sym f)), λ ascii. sym (last.1 (IsAscii-take _ n (IsAscii-drop bytes (length bytes - n) ascii))))
+  told false high front back last = search (rules, true≢false)
+
+low : (high : Bool) → not high ≡ true → high ≡ false
+low high e = search rules
+
+pub returns-then-len-lt8 : goal.returns-then-len-lt8
+returns-then-len-lt8 c = (λ yes. rw yes at c.is_ascii.ensures.cases, ascii-told _ _ c.is_ascii.ensures.cases)
+
+pub returns-then-len-lt-LANES : goal.returns-then-len-lt-LANES
+returns-then-len-lt-LANES c =
+    let first = rw c.load.ensures.lanes at c.has_high.ensures in
+    let last = rw c.load-then-len-lt-LANES.ensures.lanes at c.has_high-then-len-lt-LANES.ensures in
+    told c.args.bytes.now 8 8 (omega (arith, c.if-len-lt8.false)) (not c.has_high.result) _
+    (λ yes. (first.0 (low _ yes), omega (arith, c.if-len-lt-LANES.true)))
+    (λ no ascii. true≢false (sym (ap not (first.1 (IsAscii-take c.args.bytes.now 8 ascii))) ∙ no)) last
 
 pub returns : goal.returns
 returns c =
-    let bytes = c.args.bytes.now in
-    let front : IsAscii (take c.if-bytes-at-ge8.at bytes) =
-    elim c.if-bytes-at-ge8.branch [
-      | then-bytes-at-ge8+else-has_high w ↦ rw w.at-is
-          (ascii-more bytes c.ascii_chunks-at.result 8 _ w.load.ensures.lanes
-          (w.has_high.ensures.0 w.if-has_high.false) c.ascii_chunks-at.ensures.all.low)
-      | else-bytes-at-ge8 w ↦ rw w.at-is c.ascii_chunks-at.ensures.all.low
-    ] in (
-      λ yes. ascii-all bytes c.if-bytes-at-ge8.at _ refl front (rw yes at c.is_ascii.ensures.cases),
-      λ ascii. ascii-told _ _ c.is_ascii.ensures.cases
-          (IsAscii-take _ _ (IsAscii-drop bytes c.if-bytes-at-ge8.at ascii)),
-    )
+    let at = c.ascii_chunks-at.result in
+    let last = rw c.load-2.ensures.lanes at c.has_high-2.ensures in
+    told c.args.bytes.now at 16 (omega (arith, c.if-len-lt-LANES.false)) _ _
+    (λ yes. (c.ascii_chunks-at.ensures.all.low, omega (arith, ltb-true _ _ yes)))
+    (λ no ascii. c.ascii_chunks-at.ensures.stops (omega (arith, ltb-false _ _ no))
+    (IsAscii-take _ 16 (IsAscii-drop c.args.bytes.now at ascii))) last

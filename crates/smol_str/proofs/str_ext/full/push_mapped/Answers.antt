@@ -1,7 +1,8 @@
-use Rattle.smol_str.proofs.Common.{mapped, refl, YieldsList-from_chars}
+use Rattle.smol_str.proofs.Common.{arith, common_steps, map-id, mapped, refl, YieldsList-from_chars}
 use Rattle.smol_str.proofs.TextLemmas.Places.{OnErr-always}
 use Rattle.smol_str.proofs.CaseLemmas.Full.{mapped-append}
-use Rattle.smol_str.proofs.BuilderLemmas.Push.{new-appended, mapped-more, mapped-refused, mapped-all}
+use Rattle.smol_str.proofs.BuilderLemmas.Push.{new-appended, mapped-refused}
+use Rattle.smol_str.proofs.BuilderLemmas.Draft.{appended-twice}
 use Rattle.std.proofs.lemmas.Iterator.Consumers.{YieldsList-so_far, YieldsList-turn, YieldsList-end}
 use Rattle.smol_str.proofs.str_ext.full.push_mapped.Goals as goal
 
@@ -9,9 +10,7 @@ pub push_one-requires : goal.push_one-requires
 push_one-requires c = new-appended _ _ _ c.requires c.loop-character.invariant
 
 pub loop-character-preserved : goal.loop-character-preserved
-loop-character-preserved c =
-    mapped-more (mapped c.args.case) (mapped-append c.args.case) _ _ _ c.loop-character.yielded _ c.in-Some.character
-    c.loop-character.invariant refl c.in_ok-push_one.ensures.ok
+loop-character-preserved c = grind (arith, common_steps, appended-twice, mapped-append)
 
 pub returns-in_err-push_one-clause-refused : goal.returns-in_err-push_one-clause-refused
 returns-in_err-push_one-clause-refused c =
@@ -28,4 +27,4 @@ returns-clause-ok c =
     let characters = YieldsList-from_chars c.args.text.now c.utf8.text cc in
     let all = YieldsList-end characters c.loop-character.yielded _ c.loop-character.yielded_by _ _
     c.in-None.is c.next.ensures.steps in
-    mapped-all (mapped c.args.case) (mapped-append c.args.case) _ _ _ _ c.loop-character.invariant all.0
+    cc (all.0, map-id c.loop-character.yielded)

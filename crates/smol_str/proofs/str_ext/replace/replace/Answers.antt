@@ -3,11 +3,8 @@ use Rattle.smol_str.proofs.CutLemmas.Bytes.{one-byte, each-replaced}
 use Rattle.smol_str.proofs.CutLemmas.Replacing.{rest-whole}
 use Rattle.smol_str.proofs.str_ext.replace.replace.Goals as goal
 
-pub replace_byte-requires-clause-ascii_from : goal.replace_byte-requires-clause-ascii_from
-replace_byte-requires-clause-ascii_from c = search (rules, one-byte)
-
-pub replace_byte-requires-clause-ascii_to : goal.replace_byte-requires-clause-ascii_to
-replace_byte-requires-clause-ascii_to c = search (rules, one-byte)
+pub replace_byte-requires : goal.replace_byte-requires
+replace_byte-requires c = search (rules, one-byte)
 
 pub returns-then-count-text : goal.returns-then-count-text
 returns-then-count-text c = search (rules, one-byte, each-replaced) fits 60

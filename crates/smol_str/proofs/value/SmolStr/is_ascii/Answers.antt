@@ -9,7 +9,5 @@ returns-in_default c =
     let utf8 : IsUtf8 bytes = c.as_str.utf8 in
     let text : chars bytes ≡ c.args.self.now.text = chars-of _ bytes utf8 c.as_str.ensures.bytes in
     let ascii = IsAscii-chars bytes utf8 in
-    rw (← text) (
-      λ yes. ascii.0 (rw yes at c.is_ascii-in_default.ensures.cases),
-      λ low. ascii-told _ bytes c.is_ascii-in_default.ensures.cases (ascii.1 low),
-    )
+    let cases = c.is_ascii-in_default.ensures.cases in
+    rw (← text) (λ yes. ascii.0 (rw yes at cases), λ low. ascii-told _ bytes cases (ascii.1 low))

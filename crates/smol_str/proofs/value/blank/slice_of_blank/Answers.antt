@@ -16,11 +16,7 @@ range-requires-clause-end_boundary c = rw c.blank_constant.ensures (boundary _ (
 
 pub returns : goal.returns
 returns c =
-    let span : (BLANK_NEWLINES + c.args.spaces) - (BLANK_NEWLINES - c.args.newlines)
-    ≡ c.args.newlines + c.args.spaces = omega arith in
-    rw (
-      c.range.ensures.value,
-      c.blank_constant.ensures,
-      span,
-    ) (slice-blank_run BLANK_NEWLINES BLANK_SPACES c.args.newlines c.args.spaces c.requires.few_newlines
-    c.requires.few_spaces)
+    let n = c.args.newlines in
+    let span : (BLANK_NEWLINES + c.args.spaces) - (BLANK_NEWLINES - n) ≡ n + c.args.spaces = omega arith in
+    rw (c.range.ensures.value, c.blank_constant.ensures, span)
+    (slice-blank_run BLANK_NEWLINES BLANK_SPACES n c.args.spaces c.requires.few_newlines c.requires.few_spaces)

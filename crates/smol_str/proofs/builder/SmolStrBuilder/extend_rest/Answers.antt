@@ -1,0 +1,28 @@
+use Rattle.std.proofs.iter.Next.{said}
+use Rattle.smol_str.proofs.BuilderLemmas.Collect.{appended-on, all-appended, stopped-at}
+use Rattle.smol_str.proofs.BuilderLemmas.Draft.{appended-twice}
+use Rattle.smol_str.proofs.Common.{[], ◌∷◌, inr}
+use Rattle.smol_str.proofs.TextLemmas.Places.{OnErr-always}
+use Rattle.smol_str.proofs.builder.SmolStrBuilder.extend_rest.Goals as goal
+
+pub loop-character-preserved : goal.loop-character-preserved
+loop-character-preserved g c = appended-on _ _ _ _ _ c.loop-character.invariant c.in_ok-push-2.ensures.ok
+
+pub returns-in_err-push-2-clause-stopped : goal.returns-in_err-push-2-clause-stopped
+returns-in_err-push-2-clause-stopped g c =
+    let now = c.loop-character in
+    let first = c.args.first in
+    let x = c.in-Some.character in
+    let yielded = rw c.into_iter-character-iterator.ensures.into_iter_gives at now.yielded_by in
+    let joins = appended-twice c.args.self.now (first ∷ now.yielded) (x ∷ []) in
+    let stopped = stopped-at g.I.Iterator.next_gives c.args.iter (λ items. first ∷ items) now.yielded c.args.self.now now.self
+    now.invariant x c.next.new.self (now.character-iterator, yielded, c.in-Some.ensures.steps)
+    (cc (now.invariant, joins, c.in_err-push-2.ensures.refused)) in
+    rw c.in_err-push-2.ensures.unchanged (OnErr-always c.from_residual-in_err-push-2.result _ (inr stopped))
+
+pub returns-clause-ok : goal.returns-clause-ok
+returns-clause-ok g c =
+    let now = c.loop-character in
+    let drained = rw c.into_iter-character-iterator.ensures.into_iter_gives at now.yielded_by in
+    all-appended g.I.Iterator.next_gives c.args.iter (λ items. c.args.first ∷ items) now.yielded c.args.self.now now.self now.invariant
+    (c.next.new.self, (now.character-iterator, drained, said g.I.Iterator.next_gives (cc) c.next.ensures.steps))
