@@ -1,4 +1,4 @@
-use Rattle.smol_str.proofs.Common.{◌≡◌, ◌-◌, ◌∙◌, sym, ap, true, not, false≢true, arith, rules, bytes_decides}
+use Rattle.smol_str.proofs.Common.{◌≡◌, ◌∙◌, sym, ap, not, false≢true, arith, rules, bytes_decides}
 use Rattle.smol_str.proofs.TextLemmas.Blank.{Passes-from_IsBlankRun, reads-run}
 use Rattle.smol_str.proofs.value.blank.find_blank.Goals as goal
 
