@@ -22,6 +22,8 @@ unsafe extern "C" {
         operation: *const u8, operation_len: usize, texts: *const u8, texts_len: usize, others: *const u8, others_len: usize,
         rounds: usize, pick: usize,
     ) -> u64;
+    safe fn fork() -> i32;
+    safe fn wait(status: Option<&mut i32>) -> i32;
 }
 
 /// The sum of an operation's rounds over the texts; `None` where a side has no such operation.
@@ -119,12 +121,16 @@ extern "C" fn counted(bench: &Bench, side: &Side, rounds: usize) -> u64 {
     black_box(bench.run(*side, black_box(rounds)).unwrap_or(0))
 }
 
+/// Counts a row in a process of its own, so that it does not matter what other rows left in the heap.
 fn count(bench: &Bench, side: Side) {
-    const FEW: usize = 8;
+    if fork() > 0 {
+        wait(None);
+        return;
+    }
     // what is bound late is bound now, and the heap comes into a state that lasts
-    (0..3).for_each(|_| drop(black_box(bench.run(side, FEW))));
-    counted(bench, &side, FEW);
-    counted(bench, &side, FEW + 160);
+    (0..3).for_each(|_| drop(black_box(bench.run(side, 8))));
+    [8, 8 + 160].map(|rounds| counted(bench, &side, rounds));
+    std::process::exit(0);
 }
 
 /// The sides that have a row, which must all return one sum.
@@ -137,25 +143,25 @@ fn sides_of(name: &str, bench: &Bench) -> String {
     sums.iter().map(|(side, _)| *side).collect::<Vec<_>>().join(",")
 }
 
-/// The least nanoseconds of an operation on each side, of 101 runs of a millisecond in turn.
+/// The least nanoseconds of an operation on each side, in turn, above those of no rounds, which only make the texts.
 fn times(bench: &Bench) -> String {
     let seconds = |side: Side, rounds| {
         let start = Instant::now();
-        black_box(bench.run(side, rounds)).map(|_| start.elapsed().as_secs_f64())
+        black_box(bench.run(side, rounds)).map_or(f64::MAX, |_| start.elapsed().as_secs_f64())
     };
     let mut rounds = 1;
-    while seconds(upstream, rounds).unwrap() < 0.001 {
+    while seconds(upstream, rounds) < 0.001 + 2.0 * seconds(upstream, 0) {
         rounds *= 2;
     }
     let all = sides();
-    let mut least = vec![f64::MAX; all.len()];
-    for turn in 0..101 {
+    let mut least = vec![[f64::MAX; 2]; all.len()];
+    for turn in 0..(1.0 / seconds(upstream, rounds)).clamp(11.0, 101.0) as usize {
         for at in (0..all.len()).map(|at| (at + turn) % all.len()) {
-            least[at] = seconds(all[at].1, rounds).map_or(f64::MAX, |it| it.min(least[at]));
+            least[at] = [0, 1].map(|it| seconds(all[at].1, it * rounds).min(least[at][it]));
         }
     }
     let texts = (rounds * bench.count) as f64;
-    least.iter().filter(|it| **it < f64::MAX).map(|it| format!("\t{}", it * 1e9 / texts)).collect()
+    least.iter().filter(|it| it[1] < f64::MAX).map(|it| format!("\t{}", (it[1] - it[0]) * 1e9 / texts)).collect()
 }
 
 fn for_each_row(words: &[String], run: impl Fn(&str, &str, &Bench)) {

@@ -260,7 +260,7 @@ impl SmolStrBuilder {
     {
         let SmolStrBuilder { alloc, repr } = self;
         match repr {
-            BuilderRepr::Inline(text) => Ok(SmolStr::from_inline(text)),
+            BuilderRepr::Inline(text) => Ok(SmolStr::from_inline(text.duplicate())),
             BuilderRepr::Heap(text) => match SmolStr::new(alloc, text.as_str()) {
                 Ok(value) => Ok(value),
                 Err(AllocError) => Err(SmolStrBuilder {
@@ -288,8 +288,9 @@ impl SmolStrBuilder {
     {
         let SmolStrBuilder { alloc: _, repr } = self;
         match repr {
-            BuilderRepr::Inline(text) => Ok(SmolStr::from_inline(text)),
-            BuilderRepr::Heap(text) => SmolStr::from_owned(text),
+            BuilderRepr::Inline(text) => Ok(SmolStr::from_inline(text.duplicate())),
+            // Returned as it comes, the value would lie in memory in the other arm, too.
+            BuilderRepr::Heap(text) => Ok(SmolStr::from_owned(text)?),
         }
     }
 }

@@ -30,14 +30,15 @@ pub(super) fn to_full_case(
     ensures ok { IfOk result (λ v. IsValueOf (full_case case (chars text.now)) v) }
     ensures refused { OnErr result (¬ (IsAsciiText (chars text.now) × IsShort (chars text.now))) }
 {
+    // Returned as it comes, a slow value would lie in memory for short ASCII, too.
     if text.len() > INLINE_CAP {
-        return long_full_case(alloc, text, case);
+        return Ok(long_full_case(alloc, text, case)?);
     }
     let short = SmolStr::new_inline_in_case(text, case);
     if short.is_ascii() {
         return Ok(short);
     }
-    short_full_case(alloc, text, case)
+    Ok(short_full_case(alloc, text, case)?)
 }
 
 /// The same of any text. Slow path, kept out of line so that the fast path inlines.
