@@ -1,6 +1,6 @@
 -- For collecting, extending and building by steps: items drawn and appended one after another.
 use Rattle.std.proofs.Common.{true, false, true≢false, ◌⊎◌, inr, ◌≡◌, ℕ, ◌<◌, List, [], ◌∷◌, ◌++◌, length, take, drop, map, Option, Some, Result, Ok, Err, IfOk, OnOk, OnErr, refl, sym, ap, ◌∙◌, subst, arith, rules, inl, length-append, length-take}
-use Rattle.std.specs.Iterator.{Yields, YieldsThen, Drains}
+use Rattle.std.specs.Iterator.{Yields, YieldsThen, Drains, DrainsIf}
 use Rattle.std.specs.Iterator.Runs.{Run}
 use Rattle.std.specs.Result.{MatchResult}
 use Rattle.std.proofs.iter.runs.Lists.{Yields-both}
@@ -124,29 +124,52 @@ module _ {S : Type 0} (steps : S → Option ℕ → S → Type 0) (s : S) (xs : 
       let made = run steps s (xs ++ x ∷ p.items) false (_, gave, λ e. absurd (true≢false (sym e))) in
       (made, refl, (omega (arith, length-append {A = ℕ}), rw (but_last-on xs p.items x some) text, cc))
 
--- an iterator that gives a list: `texts` says the text of items, and `whole` that of the list, part by part
-module _ {S A B : Type 0} {steps : S → Option A → S → Type 0} {s : S} {v : A → B} {all : List B} (texts : List A → List ℕ)
-    (whole : List B → List ℕ) (is : (xs : List A) → texts xs ≡ whole (map v xs))
-    (parts : (n : ℕ) → whole all ≡ whole (take n all) ++ whole (drop n all)) where
+-- `texts` says the text of items, and `whole` that of the list that v sees in them, part by part
+pub record Reads {A B : Type 0} (texts : List A → List ℕ) (whole : List B → List ℕ) (v : A → B) : Type 0 where
+  pub is : (xs : List A) → texts xs ≡ whole (map v xs)
+  pub parts : (all : List B) (n : ℕ) → whole all ≡ whole (take n all) ++ whole (drop n all)
+
+-- an iterator that gives a list
+module _ {S A B : Type 0} {steps : S → Option A → S → Type 0} {s : S} {v : A → B} {all : List B} {texts : List A → List ℕ}
+    {whole : List B → List ℕ} (reads : Reads texts whole v) where
   module _ (p : Run steps) (from : p.from ≡ s) (gives : YieldsList steps v s all) where
     -- at its end all its texts came
-    pub text-whole : p.whole ≡ true → texts p.items ≡ whole all
+    text-whole : p.whole ≡ true → texts p.items ≡ whole all
     text-whole end =
         let (u, (t, came, ends)) = run-drains steps s p from end in
-        cc (is p.items, items_from_drains p.items (t, came, λ _. (u, ends)) gives)
+        cc (reads.is p.items, items_from_drains p.items (t, came, λ _. (u, ends)) gives)
 
     -- before it a front of them
-    pub text-front : whole all ≡ texts p.items ++ whole (drop (length p.items) all)
+    text-front : whole all ≡ texts p.items ++ whole (drop (length p.items) all)
     text-front =
-        cc (parts (length p.items), is p.items, YieldsList-so_far gives p.items _ (run-yields steps s p from))
+        cc (reads.parts all (length p.items), reads.is p.items, YieldsList-so_far gives p.items _ (run-yields steps s p from))
 
-  -- so the text of the whole list is not short either
+  -- a value of its text, by `collect` and by std's trait
+  pub collected : {E : Type 0} (m : Meaning → Meaning) (r : Result Meaning E) → IfOk r (Collected texts steps s m)
+      → ((y : Meaning) → m y ≡ y) → YieldsList steps v s all → IfOk r (λ y. IsValueOf (whole all) y)
+  unfolding Collected
+  collected m (Ok y) (p, from, end, made) same gives = rw (same y) at (rw (text-whole p from gives end) at made)
+  collected m (Err e) made same gives = tt
+
+  pub made : {E : Type 0} (r : Result Meaning E)
+      → IfOk r (λ y. (xs : List A) × DrainsIf steps (Unit {0}) s xs × IsValueOf (texts xs) y)
+      → YieldsList steps v s all → IfOk r (λ y. IsValueOf (whole all) y)
+  made (Ok y) (xs, d, is) gives = rw (reads.is xs, items_from_drains xs d gives) at is
+  made (Err e) h gives = tt
+
+  -- not made as long as that text is short
   pub not_short-outgrown : Outgrown texts steps s → YieldsList steps v s all → ¬ (IsShort (whole all))
   unfolding Outgrown
   not_short-outgrown (p, from, long) gives short =
       long (IsShort-front (texts p.items) _ (subst IsShort (text-front p from gives) short))
 
-  -- and a builder that a front puts on the heap is put there by the whole
+  -- a builder with its text at the end
+  pub text-appended : (old new : Draft) → AppendedAll texts steps s old new → YieldsList steps v s all
+      → new ≡ appended old (whole all)
+  unfolding AppendedAll
+  text-appended old new (p, from, end, now) gives = cc (now, text-whole p from gives end)
+
+  -- that a front puts on the heap only where the whole would
   pub heap-stopped : (old new : Draft) → StoppedAt texts steps s old new → YieldsList steps v s all
       → (appended old (whole all)).kind ≡ OnHeap
   unfolding StoppedAt
@@ -162,4 +185,4 @@ module _ {S A B : Type 0} {steps : S → Option A → S → Type 0} {s : S} {v :
       let came = YieldsList-so_far gives (but_last p.items) u before in
       let all_came = YieldsList-so_far gives p.items _ (run-yields steps s p from) in
       let most = simp (length-map, length-take) at (ap length all_came) in
-      (length (but_last p.items), omega (arith, some, length_but_last p.items, most), cc (front, is (but_last p.items), came))
+      (length (but_last p.items), omega (arith, some, length_but_last p.items, most), cc (front, reads.is (but_last p.items), came))

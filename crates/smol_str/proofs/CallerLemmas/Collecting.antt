@@ -9,218 +9,176 @@ use Rattle.std.specs.Str.Pattern.{FindsText}
 use Rattle.std.proofs.lemmas.List.Folds.{flat_map-map}
 use Rattle.smol_str.specs.Collect.{AppendedAll, StoppedAt, Collected, Outgrown}
 use Rattle.smol_str.specs.JoinedLaws.{joined-strs}
-use Rattle.smol_str.proofs.BuilderLemmas.Collect.{text-whole, not_short-outgrown, heap-stopped, front-stopped}
+use Rattle.smol_str.proofs.BuilderLemmas.Collect.{Reads, collected, made, not_short-outgrown, text-appended, heap-stopped, front-stopped}
+use Rattle.std.proofs.lemmas.Result.{on_err_weaker, on_ok_weaker}
 use Rattle.smol_str.proofs.IteratorLemmas.{YieldsList-from_array, iterators, gives-chars, gives-rev_chars, gives-slice}
 use Rattle.smol_str.proofs.PieceLemmas.{joined-nothing, gives-split}
 use Rattle.smol_str.proofs.TextLemmas.Lists.{flat_map-parts}
 
--- From an iterator that gives a list, as the lemmas `YieldsList-from_..` of std say, where `texts` says the text of the
--- items that came, and `whole` that of the list.
-module _ {S A B : Type 0} {steps : S → Option A → S → Type 0} {s : S} {v : A → B} {all : List B} (texts : List A → List ℕ)
-    (whole : List B → List ℕ) (is : (xs : List A) → texts xs ≡ whole (map v xs)) where
-  module _ (parts : (n : ℕ) → whole all ≡ whole (take n all) ++ whole (drop n all)) where
-    -- a value of its text
-    collected : {E : Type 0} (m : Meaning → Meaning) (r : Result Meaning E) → IfOk r (Collected texts steps s m)
-        → ((y : Meaning) → m y ≡ y) → YieldsList steps v s all → IfOk r (λ y. IsValueOf (whole all) y)
-    unfolding Collected
-    collected m (Ok y) (p, from, end, made) same gives =
-        rw (same y) at (rw (text-whole texts whole is parts p from gives end) at made)
-    collected m (Err e) made same gives = tt
-
-    -- refused only where its text is not short
-    refused : {T E : Type 0} (r : Result T E) → OnErr r (Outgrown texts steps s) → YieldsList steps v s all
-        → OnErr r (¬ (IsShort (whole all)))
-    refused r out gives = search (rules, not_short-outgrown)
-
-    -- a builder with its text at the end
-    extended : {T E : Type 0} (r : Result T E) (old new : Draft) → OnOk r (AppendedAll texts steps s old new)
-        → YieldsList steps v s all → OnOk r (new ≡ appended old (whole all))
-    unfolding AppendedAll
-    extended (Ok x) old new (p, from, end, now) gives =
-        cc (now, text-whole texts whole is parts p from gives end)
-    extended (Err e) old new now gives = tt
-
-    -- refused only where that builder would be on the heap
-    extend_refused : {T E : Type 0} (r : Result T E) (old new : Draft) → OnErr r (StoppedAt texts steps s old new)
-        → YieldsList steps v s all → OnErr r ((appended old (whole all)).kind ≡ OnHeap)
-    extend_refused r old new stopped gives = search (rules, heap-stopped)
-
-    -- and the builder has the text of a front at its end then
-    extend_stopped : {T E : Type 0} (r : Result T E) (old new : Draft) → OnErr r (StoppedAt texts steps s old new)
-        → YieldsList steps v s all → OnErr r ((n : ℕ) × (n < length all) × (new ≡ appended old (whole (take n all))))
-    extend_stopped (Ok x) old new stopped gives = tt
-    extend_stopped (Err e) old new stopped gives = front-stopped texts whole is parts old new stopped gives
-
-  -- the same by std's traits, `iter.collect(alloc)` and `builder.extend(iter)`
-  drained : (xs : List A) → DrainsIf steps (Unit {0}) s xs → YieldsList steps v s all → texts xs ≡ whole all
-  drained xs d gives = is xs ∙ ap whole (items_from_drains xs d gives)
-
-  made : {E : Type 0} (r : Result Meaning E)
-      → IfOk r (λ y. (xs : List A) × DrainsIf steps (Unit {0}) s xs × IsValueOf (texts xs) y)
-      → YieldsList steps v s all → IfOk r (λ y. IsValueOf (whole all) y)
-  made r h gives = search (rules, drained)
-
--- the same of each kind of item: of characters,
-same : (xs : List ℕ) → xs ≡ map (λ c. c) xs
-same xs = sym (map-id xs)
-
-parts : (all : List ℕ) (n : ℕ) → all ≡ take n all ++ drop n all
-parts all n = sym (take-append-drop n all)
+-- From an iterator that gives a list, as the lemmas `YieldsList-from_..` of std say: of characters,
+characters : Reads (λ (xs : List ℕ). xs) (λ xs. xs) (λ c. c)
+characters = record { is = λ xs. sym (map-id xs); parts = λ all n. sym (take-append-drop n all) }
 
 module _ {S E : Type 0} {steps : S → Option ℕ → S → Type 0} {s : S} {all : List ℕ} where
   pub chars_collected : (m : Meaning → Meaning) (r : Result Meaning E) → IfOk r (Collected (λ xs. xs) steps s m)
       → ((y : Meaning) → m y ≡ y) → YieldsList steps (λ c. c) s all → IfOk r (λ y. IsValueOf all y)
-  chars_collected m r is eq gives = collected (λ xs. xs) (λ xs. xs) same (parts all) m r is eq gives
+  chars_collected m r is eq gives = collected characters m r is eq gives
 
   pub chars_refused : {T : Type 0} (r : Result T E) → OnErr r (Outgrown (λ xs. xs) steps s)
       → YieldsList steps (λ c. c) s all → OnErr r (¬ (IsShort all))
-  chars_refused r out gives = refused (λ xs. xs) (λ xs. xs) same (parts all) r out gives
+  chars_refused r out gives = on_err_weaker r (λ out. not_short-outgrown characters out gives) out
 
   pub chars_extended : {T : Type 0} (r : Result T E) (old new : Draft) → OnOk r (AppendedAll (λ xs. xs) steps s old new)
       → YieldsList steps (λ c. c) s all → OnOk r (new ≡ appended old all)
-  chars_extended r old new is gives = extended (λ xs. xs) (λ xs. xs) same (parts all) r old new is gives
+  chars_extended r old new is gives = on_ok_weaker r (λ all. text-appended characters old new all gives) is
 
   pub chars_extend_refused : {T : Type 0} (r : Result T E) (old new : Draft)
       → OnErr r (StoppedAt (λ xs. xs) steps s old new) → YieldsList steps (λ c. c) s all
       → OnErr r ((appended old all).kind ≡ OnHeap)
-  chars_extend_refused r old new out gives = extend_refused (λ xs. xs) (λ xs. xs) same (parts all) r old new out gives
+  chars_extend_refused r old new out gives = on_err_weaker r (λ out. heap-stopped characters old new out gives) out
 
   pub chars_extend_stopped : {T : Type 0} (r : Result T E) (old new : Draft)
       → OnErr r (StoppedAt (λ xs. xs) steps s old new) → YieldsList steps (λ c. c) s all
       → OnErr r ((n : ℕ) × (n < length all) × (new ≡ appended old (take n all)))
-  chars_extend_stopped r old new out gives = extend_stopped (λ xs. xs) (λ xs. xs) same (parts all) r old new out gives
+  chars_extend_stopped r old new out gives = on_err_weaker r (λ out. front-stopped characters old new out gives) out
 
   pub chars_made : (r : Result Meaning E)
       → IfOk r (λ y. (xs : List ℕ) × DrainsIf steps (Unit {0}) s xs × IsValueOf xs y)
       → YieldsList steps (λ c. c) s all → IfOk r (λ y. IsValueOf all y)
-  chars_made r is gives = made (λ xs. xs) (λ xs. xs) same r is gives
+  chars_made r is gives = made characters r is gives
 
 -- of `&str`s, read off their bytes,
+strs : Reads joined_strs (joined chars) (λ x. x.now)
+strs = record { is = λ xs. refl; parts = flat_map-parts chars }
+
 module _ {S E : Type 0} {steps : S → Option (Bor (List ℕ)) → S → Type 0} {s : S} {all : List (List ℕ)} where
   pub strs_collected : (m : Meaning → Meaning) (r : Result Meaning E) → IfOk r (Collected joined_strs steps s m)
       → ((y : Meaning) → m y ≡ y) → YieldsList steps (λ x. x.now) s all → IfOk r (λ y. IsValueOf (joined chars all) y)
-  strs_collected m r is eq gives = collected joined_strs (joined chars) (λ xs. refl) (flat_map-parts chars all) m r is eq gives
+  strs_collected m r is eq gives = collected strs m r is eq gives
 
   pub strs_refused : {T : Type 0} (r : Result T E) → OnErr r (Outgrown joined_strs steps s)
       → YieldsList steps (λ x. x.now) s all → OnErr r (¬ (IsShort (joined chars all)))
-  strs_refused r out gives = refused joined_strs (joined chars) (λ xs. refl) (flat_map-parts chars all) r out gives
+  strs_refused r out gives = on_err_weaker r (λ out. not_short-outgrown strs out gives) out
 
   pub strs_extended : {T : Type 0} (r : Result T E) (old new : Draft) → OnOk r (AppendedAll joined_strs steps s old new)
       → YieldsList steps (λ x. x.now) s all → OnOk r (new ≡ appended old (joined chars all))
-  strs_extended r old new is gives = extended joined_strs (joined chars) (λ xs. refl) (flat_map-parts chars all) r old new is gives
+  strs_extended r old new is gives = on_ok_weaker r (λ all. text-appended strs old new all gives) is
 
   pub strs_extend_refused : {T : Type 0} (r : Result T E) (old new : Draft) → OnErr r (StoppedAt joined_strs steps s old new)
       → YieldsList steps (λ x. x.now) s all → OnErr r ((appended old (joined chars all)).kind ≡ OnHeap)
-  strs_extend_refused r old new out gives =
-      extend_refused joined_strs (joined chars) (λ xs. refl) (flat_map-parts chars all) r old new out gives
+  strs_extend_refused r old new out gives = on_err_weaker r (λ out. heap-stopped strs old new out gives) out
 
   pub strs_made : (r : Result Meaning E)
       → IfOk r (λ y. (xs : List (Bor (List ℕ))) × DrainsIf steps (Unit {0}) s xs × IsValueOf (joined_strs xs) y)
       → YieldsList steps (λ x. x.now) s all → IfOk r (λ y. IsValueOf (joined chars all) y)
-  strs_made r is gives = made joined_strs (joined chars) (λ xs. refl) r is gives
+  strs_made r is gives = made strs r is gives
 
 -- of `String`s,
+strings : Reads joined_strings joined_strings (λ x. x)
+strings = record { is = λ xs. ap joined_strings (sym (map-id xs)); parts = flat_map-parts string_text }
+
 module _ {S E : Type 0} {steps : S → Option (String Global) → S → Type 0} {s : S} {all : List (String Global)} where
   pub strings_collected : (m : Meaning → Meaning) (r : Result Meaning E) → IfOk r (Collected joined_strings steps s m)
       → ((y : Meaning) → m y ≡ y) → YieldsList steps (λ x. x) s all → IfOk r (λ y. IsValueOf (joined_strings all) y)
-  strings_collected m r is eq gives = collected joined_strings joined_strings (λ xs. ap joined_strings (sym (map-id xs))) (flat_map-parts string_text all) m r is eq gives
+  strings_collected m r is eq gives = collected strings m r is eq gives
 
   pub strings_refused : {T : Type 0} (r : Result T E) → OnErr r (Outgrown joined_strings steps s)
       → YieldsList steps (λ x. x) s all → OnErr r (¬ (IsShort (joined_strings all)))
-  strings_refused r out gives = refused joined_strings joined_strings (λ xs. ap joined_strings (sym (map-id xs))) (flat_map-parts string_text all) r out gives
+  strings_refused r out gives = on_err_weaker r (λ out. not_short-outgrown strings out gives) out
 
   pub strings_made : (r : Result Meaning E)
       → IfOk r (λ y. (xs : List (String Global)) × DrainsIf steps (Unit {0}) s xs × IsValueOf (joined_strings xs) y)
       → YieldsList steps (λ x. x) s all → IfOk r (λ y. IsValueOf (joined_strings all) y)
-  strings_made r is gives = made joined_strings joined_strings (λ xs. ap joined_strings (sym (map-id xs))) r is gives
+  strings_made r is gives = made strings r is gives
 
 -- and of borrowed `String`s
+string_refs : Reads joined_string_refs (joined string_text) (λ x. x.now)
+string_refs = record { is = λ xs. refl; parts = flat_map-parts string_text }
+
 module _ {S E : Type 0} {steps : S → Option (Bor (String Global)) → S → Type 0} {s : S} {all : List (String Global)} where
   pub string_refs_collected : (m : Meaning → Meaning) (r : Result Meaning E) → IfOk r (Collected joined_string_refs steps s m)
       → ((y : Meaning) → m y ≡ y) → YieldsList steps (λ x. x.now) s all → IfOk r (λ y. IsValueOf (joined string_text all) y)
-  string_refs_collected m r is eq gives = collected joined_string_refs (joined string_text) (λ xs. refl) (flat_map-parts string_text all) m r is eq gives
+  string_refs_collected m r is eq gives = collected string_refs m r is eq gives
 
   pub string_refs_refused : {T : Type 0} (r : Result T E) → OnErr r (Outgrown joined_string_refs steps s)
       → YieldsList steps (λ x. x.now) s all → OnErr r (¬ (IsShort (joined string_text all)))
-  string_refs_refused r out gives = refused joined_string_refs (joined string_text) (λ xs. refl) (flat_map-parts string_text all) r out gives
+  string_refs_refused r out gives = on_err_weaker r (λ out. not_short-outgrown string_refs out gives) out
 
   pub string_refs_extended : {T : Type 0} (r : Result T E) (old new : Draft) → OnOk r (AppendedAll joined_string_refs steps s old new)
       → YieldsList steps (λ x. x.now) s all → OnOk r (new ≡ appended old (joined string_text all))
-  string_refs_extended r old new is gives = extended joined_string_refs (joined string_text) (λ xs. refl) (flat_map-parts string_text all) r old new is gives
+  string_refs_extended r old new is gives = on_ok_weaker r (λ all. text-appended string_refs old new all gives) is
 
   pub string_refs_extend_refused : {T : Type 0} (r : Result T E) (old new : Draft) → OnErr r (StoppedAt joined_string_refs steps s old new)
       → YieldsList steps (λ x. x.now) s all → OnErr r ((appended old (joined string_text all)).kind ≡ OnHeap)
-  string_refs_extend_refused r old new out gives =
-      extend_refused joined_string_refs (joined string_text) (λ xs. refl) (flat_map-parts string_text all) r old new out gives
+  string_refs_extend_refused r old new out gives = on_err_weaker r (λ out. heap-stopped string_refs old new out gives) out
 
   pub string_refs_made : (r : Result Meaning E)
       → IfOk r (λ y. (xs : List (Bor (String Global))) × DrainsIf steps (Unit {0}) s xs × IsValueOf (joined_string_refs xs) y)
       → YieldsList steps (λ x. x.now) s all → IfOk r (λ y. IsValueOf (joined string_text all) y)
-  string_refs_made r is gives = made joined_string_refs (joined string_text) (λ xs. refl) r is gives
+  string_refs_made r is gives = made string_refs r is gives
 
 -- items xs came from an iterator that gives a list, and then no more
 abbrev pub CameFrom : {A B : Type 0} → (A → B) → List B → List A → Type 1
 CameFrom {A} v all xs =
     (S : Type 0) × (steps : S → Option A → S → Type 0) × (s t u : S) × Yields steps s xs t × steps t None u × YieldsList steps v s all
 
-came : {A B : Type 0} (v : A → B) (all : List B) (xs : List A) → CameFrom v all xs → map v xs ≡ all
-came v all xs (S, steps, s, t, u, runs, ends, gives) = items_from_drains xs (t, runs, λ _. (u, ends)) gives
+came : {A B : Type 0} {texts : List A → List ℕ} {whole : List B → List ℕ} {v : A → B} (reads : Reads texts whole v)
+    (all : List B) (xs : List A) → CameFrom v all xs → texts xs ≡ whole all
+came {whole} reads all xs (S, steps, s, t, u, runs, ends, gives) =
+    reads.is xs ∙ ap whole (items_from_drains xs (t, runs, λ _. (u, ends)) gives)
 
 -- by std's `collect` and `extend`, in forms that `grind` finds
 pub chars_came : {E : Type 0} (r : Result Meaning E) (all : List ℕ)
     → ((xs : List ℕ) × CameFrom (λ c. c) all xs × IfOk r (λ y. y.text ≡ xs) × IfOk r (λ y. y.place ≡ place_of xs))
     → IfOk r (λ y. IsValueOf all y)
-chars_came r all (xs, from, text, place) = let is = same xs ∙ came (λ c. c) all xs from in search rules
+chars_came r all (xs, from, text, place) = let is = came characters all xs from in search rules
 
 pub chars_grown : {E : Type 0} (r : Result (Unit {0}) E) (old new : Draft) (all : List ℕ)
     → ((xs : List ℕ) × CameFrom (λ c. c) all xs × (new ≡ appended old xs)) → OnOk r (new ≡ appended old all)
-chars_grown (Err e) old new all h = tt
-chars_grown (Ok x) old new all (xs, from, is) = is ∙ ap (appended old) (same xs ∙ came (λ c. c) all xs from)
+chars_grown r old new all (xs, from, is) = let text = came characters all xs from in search rules
 
 pub string_refs_grown : {E : Type 0} (r : Result (Unit {0}) E) (old new : Draft) (all : List (String Global))
     → ((xs : List (Bor (String Global))) × CameFrom (λ x. x.now) all xs × (new ≡ appended old (joined_string_refs xs)))
     → OnOk r (new ≡ appended old (joined string_text all))
-string_refs_grown (Err e) old new all h = tt
-string_refs_grown (Ok x) old new all (xs, from, is) =
-    is ∙ ap (λ ys. appended old (joined string_text ys)) (came (λ x. x.now) all xs from)
+string_refs_grown r old new all (xs, from, is) = let text = came string_refs all xs from in search rules
 
 pub ruleset chars_by_std = (gives-chars, gives-rev_chars, chars_came, chars_grown)
 
 pub ruleset strings_by_std = (gives-slice, string_refs_grown)
 
 -- the `&str`s themselves, whose texts a closure or a copy gives,
-lent : (xs : List (Bor (List ℕ))) → joined_strs xs ≡ joined str_text (map (λ x. x) xs)
-lent xs = cc (joined-strs xs, map-id xs)
+items_lent : Reads joined_strs (joined str_text) (λ x. x)
+items_lent = record { is = λ xs. cc (joined-strs xs, map-id xs); parts = flat_map-parts str_text }
 
 module _ {S E : Type 0} {steps : S → Option (Bor (List ℕ)) → S → Type 0} {s : S} {all : List (Bor (List ℕ))} where
   pub items_collected : (m : Meaning → Meaning) (r : Result Meaning E) → IfOk r (Collected joined_strs steps s m)
       → ((y : Meaning) → m y ≡ y) → YieldsList steps (λ x. x) s all → IfOk r (λ y. IsValueOf (joined str_text all) y)
-  items_collected m r is eq gives = collected joined_strs (joined str_text) lent (flat_map-parts str_text all) m r is eq gives
+  items_collected m r is eq gives = collected items_lent m r is eq gives
 
   pub items_refused : {T : Type 0} (r : Result T E) → OnErr r (Outgrown joined_strs steps s)
       → YieldsList steps (λ x. x) s all → OnErr r (¬ (IsShort (joined str_text all)))
-  items_refused r out gives = refused joined_strs (joined str_text) lent (flat_map-parts str_text all) r out gives
+  items_refused r out gives = on_err_weaker r (λ out. not_short-outgrown items_lent out gives) out
 
   pub items_extended : {T : Type 0} (r : Result T E) (old new : Draft) → OnOk r (AppendedAll joined_strs steps s old new)
       → YieldsList steps (λ x. x) s all → OnOk r (new ≡ appended old (joined str_text all))
-  items_extended r old new is gives =
-      extended joined_strs (joined str_text) lent (flat_map-parts str_text all) r old new is gives
+  items_extended r old new is gives = on_ok_weaker r (λ all. text-appended items_lent old new all gives) is
 
 -- or whose texts are those of a list,
-of_texts : (xs : List (Bor (List ℕ))) → joined_strs xs ≡ joined (λ t. t) (map (λ x. chars x.now) xs)
-of_texts xs = cc (joined-strs xs, flat_map-map (λ t. t) str_text xs)
+texts_lent : Reads joined_strs (joined (λ t. t)) (λ x. chars x.now)
+texts_lent = record {
+  is = λ xs. cc (joined-strs xs, flat_map-map (λ t. t) str_text xs);
+  parts = flat_map-parts (λ t. t);
+}
 
 module _ {S E : Type 0} {steps : S → Option (Bor (List ℕ)) → S → Type 0} {s : S} where
   module _ {all : List (List ℕ)} (t : List ℕ) (one : joined (λ q. q) all ≡ t) where
     pub texts_collected : (m : Meaning → Meaning) (r : Result Meaning E) → IfOk r (Collected joined_strs steps s m)
         → ((y : Meaning) → m y ≡ y) → YieldsList steps (λ x. chars x.now) s all → IfOk r (λ y. IsValueOf t y)
-    texts_collected m r is eq gives = subst (λ t. IfOk r (λ y. IsValueOf t y)) one
-        (collected joined_strs (joined (λ q. q)) of_texts (flat_map-parts (λ q. q) all) m r is eq gives)
+    texts_collected m r is eq gives = rw one at (collected texts_lent m r is eq gives)
 
     pub texts_refused : {T : Type 0} (r : Result T E) → OnErr r (Outgrown joined_strs steps s)
         → YieldsList steps (λ x. chars x.now) s all → OnErr r (¬ (IsShort t))
-    texts_refused r out gives = subst (λ t. OnErr r (¬ (IsShort t))) one
-        (refused joined_strs (joined (λ q. q)) of_texts (flat_map-parts (λ q. q) all) r out gives)
+    texts_refused r out gives = rw one at (on_err_weaker r (λ out. not_short-outgrown texts_lent out gives) out)
 
   -- read off each item x of it as h x,
   module _ {B : Type 0} (h : B → List ℕ) (xs : List B) where
@@ -235,15 +193,14 @@ module _ {S E : Type 0} {steps : S → Option (Bor (List ℕ)) → S → Type 0}
 
     pub mapped_extended : {T : Type 0} (r : Result T E) (old new : Draft) → OnOk r (AppendedAll joined_strs steps s old new)
         → YieldsList steps (λ x. chars x.now) s (map h xs) → OnOk r (new ≡ appended old (joined h xs))
-    mapped_extended r old new is gives = subst (λ t. OnOk r (new ≡ appended old t)) (flat_map-map (λ t. t) h xs)
-        (extended joined_strs (joined (λ q. q)) of_texts (flat_map-parts (λ q. q) (map h xs)) r old new is gives)
+    mapped_extended r old new is gives = 
+        rw flat_map-map at (on_ok_weaker r (λ all. text-appended texts_lent old new all gives) is)
 
     pub mapped_extend_refused : {T : Type 0} (r : Result T E) (old new : Draft)
         → OnErr r (StoppedAt joined_strs steps s old new) → YieldsList steps (λ x. chars x.now) s (map h xs)
         → OnErr r ((appended old (joined h xs)).kind ≡ OnHeap)
-    mapped_extend_refused r old new out gives = subst (λ t. OnErr r ((appended old t).kind ≡ OnHeap))
-        (flat_map-map (λ t. t) h xs)
-        (extend_refused joined_strs (joined (λ q. q)) of_texts (flat_map-parts (λ q. q) (map h xs)) r old new out gives)
+    mapped_extend_refused r old new out gives = 
+        rw flat_map-map at (on_err_weaker r (λ out. heap-stopped texts_lent old new out gives) out)
 
   -- or the pieces of a text t that is split at p, which are what is left where p is replaced by nothing
   module _ (t p : List ℕ) where
@@ -261,17 +218,13 @@ module _ {S E : Type 0} {steps : S → Option (Bor (List ℕ)) → S → Type 0}
 module _ {n : ℕ} where
   pub array_chars_long : (s : IntoIter ℕ n) → Outgrown (λ xs. xs) array_steps s
       → (array_into_iter_items s ≡ array_into_iter_items s) × (INLINE_CAP < size (array_into_iter_items s))
-  array_chars_long s out =
-      let r : Result ℕ ℕ = Err 0 in
-      let long = chars_refused r out (YieldsList-from_array (array_into_iter_items s) refl) in
-      (refl, omega (arith, long))
+  array_chars_long s out = 
+      (refl, omega (arith, not_short-outgrown characters out (YieldsList-from_array (array_into_iter_items s) refl)))
 
   pub array_strs_long : (s : IntoIter (Bor (List ℕ)) n) → Outgrown joined_strs array_steps s
       → (array_into_iter_items s ≡ array_into_iter_items s) × (INLINE_CAP < size (joined str_text (array_into_iter_items s)))
-  array_strs_long s out =
-      let r : Result ℕ ℕ = Err 0 in
-      let long = items_refused r out (YieldsList-from_array (array_into_iter_items s) refl) in
-      (refl, omega (arith, long))
+  array_strs_long s out = 
+      (refl, omega (arith, not_short-outgrown items_lent out (YieldsList-from_array (array_into_iter_items s) refl)))
 
 -- and the same of a text that is split at another
 pub split_long : (s : Split (Bor (List ℕ))) → IsUtf8 (split_text s) → IsUtf8 (split_pattern s).now
@@ -279,10 +232,9 @@ pub split_long : (s : Split (Bor (List ℕ))) → IsUtf8 (split_text s) → IsUt
     → Outgrown joined_strs (split_steps (λ n. FindsText n.now) (λ n m. m.now ≡ n.now)) s
     → (split_text s ≡ split_text s)
     × (INLINE_CAP < size (replaced_all (chars (split_text s)) (chars (split_pattern s).now) []))
-split_long s u v some more out =
-    let r : Result ℕ ℕ = Err 0 in
-    let gives = gives-split (split_pattern s) (split_text s) (split_pattern s).now (λ s o t h. h) u v some refl refl more refl in
-    let long = split_refused (chars (split_text s)) (chars (split_pattern s).now) r out gives in
+split_long s u v some more out = 
+    let gives = gives-split (split_pattern s) _ (split_pattern s).now (λ s o t h. h) u v some refl refl more refl in
+    let long = rw joined-nothing at (not_short-outgrown texts_lent out gives) in
     (refl, omega (arith, long))
 
 -- for `#[tactic(auto, using(..))]` at a caller, and for `search (rules, collecting)` at its goal
