@@ -46,15 +46,14 @@ pub form-known : (t x : List ℕ) → HasWire t → IsTrue (all_scalars t) → (
     × (¬ HasEndedEarly (wire t ++ x)) × IsUtf8 (body (wire t ++ x)) × (chars (body (wire t ++ x)) ≡ t)
     × ((u : List ℕ) (n : ℕ) → Holds (wire t ++ x) u n → (u ≡ t) × (n ≡ size t + 4))
     × ((u r : List ℕ) → HasWire u → wire t ++ x ≡ wire u ++ r → (u ≡ t) × (r ≡ x))
-form-known t x sized scalars =
-    let b = wire t ++ x in (
-      refl,
-      form_is_whole b t x sized scalars refl,
-      form-utf8 b t x sized scalars refl,
-      form-text b t x sized scalars refl,
-      form-held b t x sized scalars refl,
-      form-read b t x sized scalars refl,
-    )
+form-known t x sized scalars = (
+  refl,
+  form_is_whole _ t x sized scalars refl,
+  form-utf8 _ t x sized scalars refl,
+  form-text _ t x sized scalars refl,
+  form-held _ t x sized scalars refl,
+  form-read _ t x sized scalars refl,
+)
 
 pub ruleset forms = (form-known, scalars-chars)
 
@@ -73,9 +72,7 @@ module _ (b more t x : List ℕ) (sized : HasWire t) (scalars : IsTrue (all_scal
 
   pub form-cut-held : Holds b t (size t + 4)
   form-cut-held =
-      let front = take-append-le (size t + 4) b more within in
-      let reads = (Holds-written t x sized scalars).reads in
-      record { scalars = scalars; sized = sized; within = within; reads = cc (front, reads) }
+      let written = Holds-written t x sized scalars in search (rules, within, take-append-le)
 
   form_is_there : b ≡ wire t ++ drop (size t + 4) b
   form_is_there = (Holds-parts b t (size t + 4) form-cut-held).0
@@ -96,11 +93,6 @@ pub count-apart : (m n : ℕ) (x y : List ℕ) → m < 2 ^ 32 → n < 2 ^ 32
     → to_le_bytes w32 m ++ x ≡ to_le_bytes w32 n ++ y → (m ≡ n) × (x ≡ y)
 count-apart m n x y h k e = search (rules, arith, from_le_bytes-to_le_bytes_4)
 
-first-apart : (s t : List ℕ) (ss ts : List (List ℕ)) (x y : List ℕ) → HasWire s → HasWire t
-    → flat_map wire (s ∷ ss) ++ x ≡ flat_map wire (t ∷ ts) ++ y
-    → (s ≡ t) × (flat_map wire ss ++ x ≡ flat_map wire ts ++ y)
-first-apart s t ss ts x y h k e = search (rules, arith, wire-apart, append_assoc)
-
 -- as many forms: of the same items, as far as `key` reads them and one form tells them apart
 module _ {X Y : Type 0} (form : X → List ℕ) (P : X → Type 0) (key : X → Y)
     (apart : (x y : X) (s t : List ℕ) → P x → P y → form x ++ s ≡ form y ++ t → (key x ≡ key y) × (s ≡ t)) where
@@ -110,7 +102,7 @@ module _ {X Y : Type 0} (form : X → List ℕ) (P : X → Type 0) (key : X → 
   items-apart (x ∷ xs) (y ∷ ys) s t h k l e =
       let first = apart x y _ _ (All-head P x xs h) (All-head P y ys k) (simp append_assoc at e) in
       let others = items-apart xs ys s t (All-tail P x xs h) (All-tail P y ys k) (omega arith) first.1 in
-      ((λ i. first.0 i ∷ others.0 i), others.1)
+      (cc (first.0, others.0), others.1)
   items-apart xs ys s t h k l e = absurd (omega arith)
 
 -- of the same texts
@@ -124,12 +116,12 @@ forms-apart ss ts x y h k l e =
 pub forms-next : (ss ts : List (List ℕ)) (x y : List ℕ) → All HasWire ss → All HasWire ts
     → All (λ t. IsTrue (all_scalars t)) ts → length ss < length ts → flat_map wire ss ++ x ≡ flat_map wire ts ++ y
     → (t after : List ℕ) × HasWire t × IsTrue (all_scalars t) × (x ≡ wire t ++ after)
-forms-next ss [] x y h k scalars l e = absurd (omega (arith, l))
 forms-next [] (t ∷ ts) x y h k scalars l e = search (rules, arith, All-head, append_assoc)
 forms-next (s ∷ ss) (t ∷ ts) x y h k scalars l e =
     forms-next ss ts x y (All-tail HasWire s ss h) (All-tail HasWire t ts k)
     (All-tail (λ t. IsTrue (all_scalars t)) t ts scalars) (omega (arith, l))
-    (first-apart s t ss ts x y (All-head HasWire s ss h) (All-head HasWire t ts k) e).1
+    (wire-apart s t _ _ (All-head HasWire s ss h) (All-head HasWire t ts k) (simp append_assoc at e)).1
+forms-next ss ts x y h k scalars l e = absurd (omega arith)
 
 -- one form more
 pub forms-more : (ts : List (List ℕ)) (t x : List ℕ)

@@ -76,22 +76,19 @@ module _ (n : ℕ) (fits : n < 2 ^ 32) where
   -- bytes that begin with the size n
   pub prefix_size-front : (r : List ℕ) → prefix_size (to_le_bytes w32 n ++ r) ≡ n
   unfolding prefix_size
-  prefix_size-front r = ap (from_le_bytes w32) (take_at (to_le_bytes w32 n) r 4 refl) ∙ from_le_bytes-to_le_bytes_4 n fits
-
-  length_front : (r : List ℕ) → length (to_le_bytes w32 n ++ r) ≡ 4 + length r
-  length_front r = length-append (to_le_bytes w32 n) r
+  prefix_size-front r = search (rules, take_at, from_le_bytes-to_le_bytes_4)
 
   -- and go on with n bytes
   module _ (bs r : List ℕ) (l : length bs ≡ n) where
     whole_front : ¬ HasEndedEarly (to_le_bytes w32 n ++ (bs ++ r))
-    whole_front early = grind (arith, common_steps, prefix_size-front, length_front, length-append)
+    whole_front early = grind (arith, common_steps, prefix_size-front, length-append)
 
     body_front : body (to_le_bytes w32 n ++ (bs ++ r)) ≡ bs
     body_front = search (rules, prefix_size-front, drop_at, take_at)
 
     taken_front : take (4 + prefix_size (to_le_bytes w32 n ++ (bs ++ r))) (to_le_bytes w32 n ++ (bs ++ r))
         ≡ to_le_bytes w32 n ++ bs
-    taken_front = grind (arith, common_steps, length_front, prefix_size-front, append_assoc, take_at)
+    taken_front = grind (arith, common_steps, length-append, prefix_size-front, append_assoc, take_at)
 
   -- and then the text of a value
   module _ (b c : Option (List ℕ)) (v : Meaning) (h : HasReadBody b c n v) where
@@ -111,21 +108,17 @@ module _ (n : ℕ) (fits : n < 2 ^ 32) where
   -- and then fewer bytes, with others left
   pub early-of_body : (P : List ℕ → Type 0) → ((r : List ℕ) → P (to_le_bytes w32 n ++ r)) → (a b c : Option (List ℕ))
       → Consumes a b (to_le_bytes w32 n) → GaveBelow b c n → GaveTooFew a c P
-  early-of_body P holds a b c p (bs, short, consumed) = (
-    to_le_bytes w32 n ++ bs,
-    inr (omega (arith, prefix_size-front bs, length_front bs)),
-    holds bs,
-    Consumes-trans a b c (to_le_bytes w32 n) bs p consumed,
-  )
+  early-of_body P holds a b c p (bs, short, consumed) =
+      let both = Consumes-trans a b c (to_le_bytes w32 n) bs p consumed in
+      let stated = prefix_size-front bs in
+      search (rules, arith, holds bs, length-append)
 
   -- and then some bytes, n of them at the most
   within-of_body : (a b c : Option (List ℕ)) → Consumes a b (to_le_bytes w32 n) → GaveUpTo b c n → GaveSomeOfBody a c
-  within-of_body a b c p (bs, some, most, consumed) = (
-    to_le_bytes w32 n ++ bs,
-    omega (arith, prefix_size-front bs, length_front bs),
-    omega (arith, prefix_size-front bs, length_front bs),
-    Consumes-trans a b c (to_le_bytes w32 n) bs p consumed,
-  )
+  within-of_body a b c p (bs, some, most, consumed) =
+      let both = Consumes-trans a b c (to_le_bytes w32 n) bs p consumed in
+      let stated = prefix_size-front bs in
+      search (rules, arith, length-append)
 
   -- and then n bytes that are a text for which there was no memory
   long-of_body : (a b c : Option (List ℕ)) → Consumes a b (to_le_bytes w32 n)
@@ -133,11 +126,11 @@ module _ (n : ℕ) (fits : n < 2 ^ 32) where
       → IfSome a (λ x. (4 ≤ length x) × (INLINE_CAP < prefix_size x) × (prefix_size x ≤ STACK_BODY →
       NeedsMemory x × Consumes a c (take (4 + prefix_size x) x)))
   long-of_body a b c p h =
-      grind (arith, common_steps, prefix_size-front, length_front, whole_front, body_front, append_assoc, taken_front)
+      grind (arith, common_steps, prefix_size-front, length-append, whole_front, body_front, append_assoc, taken_front)
 
   pub AfterDecodeFault-of_body : (a b c : Option (List ℕ)) (fault : DecodeFault) → Consumes a b (to_le_bytes w32 n)
       → AfterBodyFault b c n fault → AfterDecodeFault a c fault
-  AfterDecodeFault-of_body a b c Ended p h = search (rules, append-nil, prefix_size-front, length_front)
+  AfterDecodeFault-of_body a b c Ended p h = search (rules, append-nil, prefix_size-front, length-append)
   AfterDecodeFault-of_body a b c (NotUtf8 e) p h =
       grind (arith, common_steps, whole_front, body_front, append_assoc, taken_front)
   AfterDecodeFault-of_body a b c OutOfMemory p h = (long-of_body a b c p h, within-of_body a b c p h.1)
@@ -146,26 +139,20 @@ module _ (n : ℕ) (fits : n < 2 ^ 32) where
   -- with a limit below the size
   pub AfterLimitedFault-above : (a b : Option (List ℕ)) (limit : ℕ) → Consumes a b (to_le_bytes w32 n) → limit < n
       → AfterLimitedFault limit a b TooLong
-  AfterLimitedFault-above a b limit p h = search (rules, prefix_size-front, length_front, take_at)
+  AfterLimitedFault-above a b limit p h = search (rules, prefix_size-front, length-append, take_at)
 
   -- and with one that is not
   states_within : (a b : Option (List ℕ)) (limit : ℕ) → Consumes a b (to_le_bytes w32 n) → n ≤ limit
       → IfSome a (StatesAtMost limit)
   states_within a b limit p h = search (rules, prefix_size-front)
 
-  AfterLimitedFault-of_fault : (a b c : Option (List ℕ)) (limit : ℕ) (fault : DecodeFault)
+  pub AfterLimitedFault-of_fault : (a b c : Option (List ℕ)) (limit : ℕ) (fault : DecodeFault)
       → Consumes a b (to_le_bytes w32 n) → n ≤ limit → AfterBodyFault b c n fault → AfterLimitedFault limit a c (Decode fault)
   AfterLimitedFault-of_fault a b c limit (Io e) p l h = search (rules, arith, early-of_body, prefix_size-front)
   AfterLimitedFault-of_fault a b c limit fault p l h = search (rules, AfterDecodeFault-of_body, states_within)
-
-  pub AfterLimitedFault-of_body : {T : Type 0} (r : Result T LimitedFault) (a b c : Option (List ℕ)) (limit : ℕ)
-      (fault : DecodeFault) → IsErrAnd r (λ f. f ≡ Decode fault) → Consumes a b (to_le_bytes w32 n) → n ≤ limit
-      → AfterBodyFault b c n fault → IfErr r (AfterLimitedFault limit a c)
-  AfterLimitedFault-of_body r a b c limit fault failed p l h =
-      IfErr-is (AfterLimitedFault limit a c) r (Decode fault) failed (AfterLimitedFault-of_fault a b c limit fault p l h)
 
 pub ruleset written_forms = (failed-in_prefix, failed-in_bytes, Appends-parts)
 
 pub ruleset read_bodies = (IfErr-is, Consumes-full, AfterBodyFault-of_text)
 
-pub ruleset limited_reads = (IfErr-is, is_read-of_body, Consumes-of_body, size-of_body, AfterLimitedFault-above, AfterLimitedFault-of_body)
+pub ruleset limited_reads = (IfErr-is, is_read-of_body, Consumes-of_body, size-of_body, AfterLimitedFault-above)

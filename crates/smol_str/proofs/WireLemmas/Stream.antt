@@ -15,17 +15,11 @@ module _ (first second : List ℕ) where
       → AppendsBeginning a b (first ++ second)
   beginning-of_first a b (front, rest, split, some, appended) =
       let more = length-append rest second in
-      (front, rest ++ second, ap (λ l. l ++ second) split ∙ append_assoc front rest second, omega arith, appended)
+      (front, rest ++ second, cc (split, append_assoc front rest second), omega arith, appended)
 
   pub beginning-of_second : (a b c : Option (List ℕ)) → Appends a b first → AppendsBeginning b c second
       → AppendsBeginning a c (first ++ second)
-  beginning-of_second a b c p (front, rest, split, some, appended) = (
-    first ++ front,
-    rest,
-    ap (λ l. first ++ l) split ∙ sym (append_assoc first front rest),
-    some,
-    Appends-trans a b c first front p appended,
-  )
+  beginning-of_second a b c p h = search (rules, arith, append_assoc, Appends-trans)
 
 -- a result that is known to be a fault
 pub IfErr-is : {T F : Type 0} (P : F → Type 0) (r : Result T F) (f : F) → IsErrAnd r (λ fault. fault ≡ f) → P f → IfErr r P
@@ -33,30 +27,19 @@ IfErr-is P r f failed p = search (rules, arith, err_from_is_err_and)
 
 -- ---- reading: a reader that gave some bytes, and then failed, gave no others
 
-module _ (a b c : Option (List ℕ)) (kept : Keeps b c) where
-  pub GaveBelow-failed : (bytes : List ℕ) (n : ℕ) → Consumes a b bytes → length bytes < n → GaveBelow a c n
-  GaveBelow-failed bytes n consumed short = (bytes, short, Consumes-kept a b c bytes consumed kept)
+pub GaveBelow-failed : (a b c : Option (List ℕ)) → Keeps b c → (bytes : List ℕ) (n : ℕ) → Consumes a b bytes
+    → length bytes < n → GaveBelow a c n
+GaveBelow-failed a b c kept bytes n consumed short = (bytes, short, Consumes-kept a b c bytes consumed kept)
 
 -- a reader that gave some bytes, and then fewer than there was room for
 pub GaveBelow-after : (a b c : Option (List ℕ)) (bytes : List ℕ) (room n : ℕ) → Consumes a b bytes → GaveBelow b c room
     → length bytes + room ≤ n → GaveBelow a c n
-GaveBelow-after a b c bytes room n consumed (more, short, then) within =
-    (bytes ++ more, omega (arith, length-append bytes more), Consumes-trans a b c bytes more consumed then)
+GaveBelow-after a b c bytes room n consumed h within = search (rules, arith, length-append, Consumes-trans)
 
 -- a reader that gave some bytes, and then some more
 pub GaveUpTo-after : (a b c : Option (List ℕ)) (bytes more : List ℕ) (n : ℕ) → Consumes a b bytes
     → Consumes b c more → 0 < length more → length bytes + length more ≤ n → GaveUpTo a c n
 GaveUpTo-after a b c bytes more n consumed then some within = search (rules, arith, length-append, Consumes-trans)
-
--- reading up to a limit, which the reader's failure ended, or want of memory
-module _ {T : Type 0} (limit : ℕ) (a b : Option (List ℕ)) (r : Result T ReadFault) where
-  pub AfterReadFault-failed : (e : Error) → IsErrAnd r (λ fault. fault ≡ Io e) → GaveBelow a b limit
-      → IfErr r (AfterReadFault limit a b)
-  AfterReadFault-failed e failed gave = IfErr-is (AfterReadFault limit a b) r (Io e) failed gave
-
-  pub AfterReadFault-refused : IsErrAnd r (λ fault. fault ≡ OutOfMemory) → GaveUpTo a b limit
-      → IfErr r (AfterReadFault limit a b)
-  AfterReadFault-refused failed gave = IfErr-is (AfterReadFault limit a b) r OutOfMemory failed gave
 
 -- a reader gave what fills a buffer
 pub Consumes-full : (a b : Option (List ℕ)) (n : ℕ) (buffer : List ℕ) → Consumes a b (take n buffer) → length buffer ≤ n
