@@ -46,18 +46,6 @@ last_off bs ds c u e =
     let utf8 : IsUtf8 ds = (h.0, (front.0, h.3)) in
     (utf8, cc (parts, chars_from_encodes h.0 ds utf8 h.3))
 
--- the characters of a text, last first
-pub YieldsList-from_rev_chars : {s : _} (bs : List ℕ) → IsUtf8 bs → chars_rest (rev_source s) ≡ bs
-    → YieldsList (rev_steps chars_steps_back) (λ c. c) s (reverse (chars bs))
-YieldsList-from_rev_chars {s} bs u e =
-    let rest = λ (t : _). chars_rest (rev_source t) in
-    let all = YieldsList-from_shown_while (rev_steps chars_steps_back) (λ c. c) (λ t. reverse (chars (rest t))) (λ t. IsUtf8 (rest t))
-    (λ t u h k. cc (nil_from_length (rest t) k.0, chars-nil))
-    (λ t c u h k.
-    let off = last_off (rest t) (rest u) c h k in
-    (off.0, cc (off.1, reverse-append (chars (rest u)) (c ∷ [])))) s (rw e u) in
-    subst (λ b. YieldsList (rev_steps chars_steps_back) (λ c. c) s (reverse (chars b))) e all
-
 -- ---- std's lemmas in forms that `grind` finds at a caller's goal: no λ stands in what they show but that by which items
 -- are seen, and a list that may have computed has a name
 
@@ -89,7 +77,15 @@ gives-chars bs u e = YieldsList-from_chars bs u e
 
 pub gives-rev_chars : {s t : _} (bs : List ℕ) → IsUtf8 bs → rev_source s ≡ t → chars_rest t ≡ bs
     → YieldsList (rev_steps chars_steps_back) (λ c. c) s (reverse (chars bs))
-gives-rev_chars bs u e f = YieldsList-from_rev_chars bs u (ap chars_rest e ∙ f)
+gives-rev_chars {s} bs u e f =
+    let rest = λ (t : _). chars_rest (rev_source t) in
+    let is : rest s ≡ bs = ap chars_rest e ∙ f in
+    let all = YieldsList-from_shown_while (rev_steps chars_steps_back) (λ c. c) (λ t. reverse (chars (rest t))) (λ t. IsUtf8 (rest t))
+    (λ t u h k. cc (nil_from_length (rest t) k.0, chars-nil))
+    (λ t c u h k.
+    let off = last_off (rest t) (rest u) c h k in
+    (off.0, cc (off.1, reverse-append (chars (rest u)) (c ∷ [])))) s (rw is u) in
+    subst (λ b. YieldsList (rev_steps chars_steps_back) (λ c. c) s (reverse (chars b))) is all
 
 pub gives-lines : {s : _} (all : List (List ℕ)) → all ≡ lines (lines_rest s) → YieldsList lines_steps (λ x. x.now) s all
 gives-lines {s} all e = rw e (YieldsList-from_lines (lines_rest s) refl)
@@ -109,20 +105,13 @@ module _ {S A : Type 0} {steps : S → Option (Bor A) → S → Type 0} {t : S} 
       → YieldsList (copied_steps steps) (λ y. y) s ys
   gives-copied e gives = YieldsList-from_copied (YieldsList-at e gives)
 
-rev_copied-none : {A : Type 0} (s t : _) → rev_steps (copied_steps (iter_steps_back {A = A})) s None t
-    → length (reverse (iter_rest (copied_source (rev_source s)))) ≡ 0
-rev_copied-none s t h = search (rules, length-reverse)
-
-rev_copied-some : {A : Type 0} (s : _) (x : A) (t : _) → rev_steps (copied_steps iter_steps_back) s (Some x) t
-    → reverse (iter_rest (copied_source (rev_source s))) ≡ x ∷ reverse (iter_rest (copied_source (rev_source t)))
-rev_copied-some s x t h = search (rules, reverse-append)
-
 pub gives-rev_copied : {A : Type 0} {s : _} {steps : Rev (Copied (Iter A)) → Option A → Rev (Copied (Iter A)) → Type 0}
     (xs : List A) → ((s : _) (o : _) (t : _) → steps s o t → rev_steps (copied_steps iter_steps_back) s o t)
     → iter_rest (copied_source (rev_source s)) ≡ xs → YieldsList steps (λ y. y) s (reverse xs)
 gives-rev_copied {s = s} xs f e =
     let all = YieldsList-from_shown (rev_steps (copied_steps iter_steps_back)) (λ y. y)
-    (λ u. reverse (iter_rest (copied_source (rev_source u)))) rev_copied-none rev_copied-some s in
+    (λ u. reverse (iter_rest (copied_source (rev_source u)))) (λ s t h. search (rules, length-reverse))
+    (λ s x t h. search (rules, reverse-append)) s in
     weaker f (subst (λ ys. YieldsList (rev_steps (copied_steps iter_steps_back)) (λ y. y) s (reverse ys)) e all)
 
 -- `map` of items that are values, and of items that are lent

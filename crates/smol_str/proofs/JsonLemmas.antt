@@ -1,5 +1,5 @@
 -- JSON strings, for module `json`.
-use Rattle.smol_str.proofs.Common.{String, Global, string_bytes, rules, ◌≡◌, ℕ, ◌<◌, List, [], length, None, Some, Result, refl, sym, ap, ◌∙◌, IsResident, chars, encodes-chars, encodes_same, IsUtf8-string_bytes, place_of, Meaning, IsValueOf, common_steps, arith}
+use Rattle.smol_str.proofs.Common.{String, Global, string_bytes, rules, ◌≡◌, ℕ, ◌<◌, List, [], ◌∷◌, length, Some, Result, sym, ap, ◌∙◌, IsResident, chars, encodes-chars, encodes_same, IsUtf8-string_bytes, place_of, Meaning, IsValueOf, common_steps, arith}
 use Rattle.std.specs.Result.{IfOk, IfErr}
 use Rattle.serde_json.specs.Data as json
 use Rattle.serde_json.specs.Read.{read}
@@ -11,13 +11,10 @@ use Rattle.smol_str.specs.declared.json.JsonFault.TheVariants.{OutOfMemory}
 use Rattle.smol_str.specs.Json.{json_value, IsJsonText, IsJsonOf, AfterValueFault, AfterJsonFault}
 use Rattle.smol_str.proofs.WireLemmas.Stream.{IfErr-is}
 
-view-String : (s : String Global) → view (value.String s) ≡ json.string (string_bytes s)
-view-String s = search (rules, value.the_lemmas)
-
 -- a string value is the JSON value of its text
 pub view-chars : (v : value.Value) (s : String Global) → v ≡ value.String s →
     view v ≡ json_value (chars (string_bytes s))
-view-chars v s is = grind (arith, common_steps, encodes-chars, IsUtf8-string_bytes, view-String)
+view-chars v s is = grind (arith, common_steps, encodes-chars, IsUtf8-string_bytes, value.the_lemmas)
 
 -- two texts with one JSON value are one
 pub json_value-same : (s t : List ℕ) → json_value s ≡ json_value t → s ≡ t
@@ -31,12 +28,10 @@ pub not_resident : (d : json.Data) (s : List ℕ) → d ≡ json_value s → ¬ 
 not_resident d s is long = search (rules, json_value-same)
 
 -- no bytes are no JSON text
-read-nil : read [] ≡ None
-unfolding serde_json_on_literals
-read-nil = refl
-
 some_bytes : (bs : List ℕ) (d : json.Data) → read bs ≡ Some d → 0 < length bs
-some_bytes bs d e = grind (arith, common_steps, read-nil)
+unfolding serde_json_on_literals
+some_bytes [] d e = cc
+some_bytes (b ∷ bs) d e = omega arith
 
 -- a fault of the value that bytes read as
 pub AfterJsonFault-read : {T : Type 0} (r : Result T JsonFault) (bs : List ℕ) (d : json.Data) → read bs ≡ Some d

@@ -40,29 +40,24 @@ joined-nothing [] = refl
 joined-nothing (q ∷ []) = cc (append-nil q, joined_one [] q)
 joined-nothing (q ∷ r ∷ rs) = cc (joined-nothing (r ∷ rs), joined_more [] q r rs)
 
+-- what is left to come: the pieces of the text that is left, or none
+abbrev pieces : List ℕ → Bool → List ℕ → List (List ℕ)
+pieces nd more w = cond more (cut (chars w) (chars nd) (no_limit (chars w))) []
+
 -- in the text w, the text nd, which is not empty
 module _ (w nd : List ℕ) (u : IsUtf8 w) (v : IsUtf8 nd) (some : 0 < length nd) where
   -- characters that stand have bytes that stand
   there : (a r : List ℕ) → chars w ≡ a ++ (chars nd ++ r) → drop (size a) w ≡ nd ++ encode_utf8_all r
   there a r e = cc (drop-parts w a (chars nd ++ r) (size a) u e refl, encodes-append (chars nd) r, encodes-chars nd v)
 
-  within : (a r : List ℕ) → chars w ≡ a ++ (chars nd ++ r) → size a ≤ length w
-  within a r e = omega (arith, ap length (there a r e), length-append nd (encode_utf8_all r), length-drop (size a) w)
-
   lacking : ((i : ℕ) → i ≤ length w → LacksTextAt nd w i) → ¬ Occurs (chars nd) (chars w)
-  lacking none (a, r, e) = none (size a) (within a r e) (encode_utf8_all r) (there a r e)
+  lacking none (a, r, e) =
+      let at = there a r e in
+      none (size a) (omega (arith, ap length at, length-append nd (encode_utf8_all r), length-drop (size a) w)) (encode_utf8_all r) at
 
-  -- the first match, as characters
-  record First (x y : List ℕ) : Type 0 where
-    front : List ℕ
-    rest : List ℕ
-    reads : chars w ≡ front ++ (chars nd ++ rest)
-    first : IsFirstAfter (chars nd) front
-    before : chars x ≡ front
-    after : chars y ≡ rest
-    utf8 : IsUtf8 y
-
-  first_match : (i j : ℕ) → ((k : ℕ) → k < i → LacksTextAt nd w k) → HasTextAt nd w i j → First (take i w) (drop j w)
+  -- the first match is that of the characters
+  first_match : (i j : ℕ) → ((k : ℕ) → k < i → LacksTextAt nd w k) → HasTextAt nd w i j → IsUtf8 (drop j w)
+      × (pieces nd true w ≡ chars (take i w) ∷ pieces nd true (drop j w))
   first_match i j none at =
       let p = chars nd in
       let long = some_char nd v some in
@@ -73,21 +68,12 @@ module _ (w nd : List ℕ) (u : IsUtf8 w) (v : IsUtf8 nd) (some : 0 < length nd)
       let place : size h.0 ≡ i = cc (h.3, length-take-le i w fits) in
       let s = scalars_parts h.0 (p ++ h.1) (cc (h.2, scalars-chars w u)) in
       let z = scalars_parts p h.1 s.1 in
-      record {
-        front = h.0;
-        rest = h.1;
-        reads = h.2;
-        first = λ o.
-            let x = earlier (chars w) p h.0 h.1 h.2 long o in
-            none (size x.0.0) (omega (arith, x.1)) (encode_utf8_all x.0.1) (there x.0.0 x.0.1 x.0.2);
-        before = cc (h.3, chars-encodes h.0 s.0);
-        after = cc (h.4, chars-encodes h.1 z.1);
-        utf8 = (h.1, (z.1, h.4));
-      }
-
--- what is left to come: the pieces of the text that is left, or none
-abbrev pieces : List ℕ → Bool → List ℕ → List (List ℕ)
-pieces nd more w = cond more (cut (chars w) (chars nd) (no_limit (chars w))) []
+      let first : IsFirstAfter p h.0 = λ o.
+          let x = earlier (chars w) p h.0 h.1 h.2 long o in
+          none (size x.0.0) (omega (arith, x.1)) (encode_utf8_all x.0.1) (there x.0.0 x.0.1 x.0.2) in
+      let before : chars (take i w) ≡ h.0 = cc (h.3, chars-encodes h.0 s.0) in
+      let after : chars (drop j w) ≡ h.1 = cc (h.4, chars-encodes h.1 z.1) in
+      ((h.1, (z.1, h.4)), rw (before, after) (cut_first (chars w) p h.0 h.1 long h.2 first))
 
 -- a piece comes off
 module _ (w nd x rest : List ℕ) (live : Bool) (u : IsUtf8 w) (v : IsUtf8 nd) (some : 0 < length nd) where
@@ -99,8 +85,7 @@ module _ (w nd x rest : List ℕ) (live : Bool) (u : IsUtf8 w) (v : IsUtf8 nd) (
   one_piece (Some q) found said =
       let h = first_match w nd u v some q.0 q.1 found.0 found.1 in
       let m = said (omega (arith, found.1.ends)) in
-      let first = cut_first (chars w) (chars nd) h.front h.rest (some_char nd v some) h.reads h.first in
-      ((λ more. rw m.2 h.utf8), rw (m.0, m.1, m.2, h.before, h.after) first)
+      ((λ more. rw m.2 h.0), rw (m.0, m.1, m.2) h.1)
 
 -- a text that is split at another
 pub gives-split : {s : _} {steps : Split (Bor (List ℕ)) → Option (Bor (List ℕ)) → Split (Bor (List ℕ)) → Type 0}

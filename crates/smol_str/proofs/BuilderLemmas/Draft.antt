@@ -1,5 +1,5 @@
 -- For the builder: its text and kind, before and after an append.
-use Rattle.smol_str.proofs.Common.{◌≡◌, ℕ, ◌-◌, ◌<◌, ◌≤◌, List, [], ◌++◌, length, append-nil, Bool, false, nat_le, cond, refl, append_assoc, arith, ◌⊎◌, chars, IsUtf8, nat_tests, INLINE_CAP, size, is_short, IsShort, Draft, Kind, InBuffer, OnHeap, kind_with, kind_for, appended, empty_draft, common_steps, rules}
+use Rattle.smol_str.proofs.Common.{◌≡◌, ℕ, ◌-◌, ◌<◌, ◌≤◌, List, [], ◌++◌, length, append-nil, false, nat_le, refl, append_assoc, arith, ◌⊎◌, chars, IsUtf8, nat_tests, INLINE_CAP, size, IsShort, Draft, Kind, InBuffer, OnHeap, kind_with, kind_for, appended, empty_draft, common_steps, rules}
 use Rattle.smol_str.proofs.TextLemmas.Places.{size-append, size-chars, is_short-true, is_short-false, IsShort-front}
 
 -- the bytes fit in the room that is left, or they do not
@@ -20,21 +20,13 @@ kind_with-long t h = rw (is_short-false t h)
 pub kind_for-large : (n : ℕ) → INLINE_CAP < n → kind_for n ≡ OnHeap
 kind_for-large n h = let e : nat_le n INLINE_CAP ≡ false = grind (arith, nat_tests) in rw e
 
-large_or_long : (fits : Bool) (t : List ℕ) → kind_with (cond fits InBuffer OnHeap) t ≡ OnHeap
-    → (fits ≡ false) ⊎ (¬ (IsShort t))
-large_or_long fits t heap = search (rules, kind_with-short)
-
 -- a builder is on the heap for its capacity or for its text
 pub why_heap : (n : ℕ) (t : List ℕ) → kind_with (kind_for n) t ≡ OnHeap → (INLINE_CAP < n) ⊎ (¬ (IsShort t))
-why_heap n t heap = grind (arith, common_steps, large_or_long, nat_le)
-
-kind_by_test : (s t : List ℕ) (b : Bool) → is_short s ≡ b →
-    kind_with (cond b InBuffer OnHeap) (s ++ t) ≡ kind_with InBuffer (s ++ t)
-kind_by_test s t b e = search (rules, kind_with-long, is_short-true, IsShort-front)
+why_heap n t heap = grind (arith, common_steps, nat_tests, kind_with-short)
 
 kind_with-twice : (k : Kind) (s t : List ℕ) → kind_with (kind_with k s) (s ++ t) ≡ kind_with k (s ++ t)
 kind_with-twice OnHeap s t = refl
-kind_with-twice InBuffer s t = kind_by_test s t (is_short s) refl
+kind_with-twice InBuffer s t = grind (arith, common_steps, kind_with-long, is_short-true, IsShort-front)
 
 -- appending twice is appending the joined text
 pub appended-twice : (b : Draft) (t u : List ℕ) → appended (appended b t) u ≡ appended b (t ++ u)

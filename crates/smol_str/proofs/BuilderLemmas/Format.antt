@@ -14,10 +14,9 @@ pieces s [] t whole run = (IsUtf8-nil, cc (chars-nil))
 pieces s (p ∷ ps) t whole (j, took, run) =
     let u = chars p in
     let same : appended j [] ≡ j = cc (took.1, appended-twice s u [], append-nil u) in
-    let rest = pieces j ps t same run in (
-      IsUtf8-append p (concat ps) took.0 rest.0,
-      cc (rest.1, took.1, appended-twice s u (chars (concat ps)), chars-append p (concat ps) took.0),
-    )
+    let rest = pieces j ps t same run in
+    let parts = chars-append p (concat ps) took.0 in
+    (IsUtf8-append p (concat ps) took.0 rest.0, cc (rest.1, took.1, appended-twice s u (chars (concat ps)), parts))
 
 module _ (s : Draft) (bs : List ℕ) (t : Draft) (whole : appended s [] ≡ s) (w : WritesInCalls Takes s bs t) where
   pub printed-text : t ≡ appended s (chars bs)

@@ -1,5 +1,5 @@
 -- Maps with values as keys, at texts.
-use Rattle.smol_str.proofs.Common.{◌≡◌, ℕ, Bor, Option, Some, List, [], ◌∷◌, Bool, true, false, cond, false≢true, refl, ap, arith, IsUtf8, bytes_eq, chars, encodes-chars, encodes_same, false_from_ne_true, option_map, if◌then◌else◌, Meaning, rules}
+use Rattle.smol_str.proofs.Common.{◌≡◌, ℕ, Bor, Option, Some, List, [], ◌∷◌, Bool, false, cond, false≢true, refl, ap, arith, IsUtf8, bytes_eq, chars, encodes-chars, encodes_same, false_from_ne_true, option_map, if◌then◌else◌, Meaning, rules}
 use Rattle.std.specs.Map.{lookup, KeepsOthers}
 use Rattle.std.specs.Option.{option_copied}
 use Rattle.std.proofs.lemmas.Slice.Eq.{bytes_eq-Decides}
@@ -46,7 +46,8 @@ lookup-stands_for g bs (e ∷ es) u = search (rules, stands_for-text, lookup-sta
 pub lookup-lent : {V W : Type 0} (g : V → W) (r : Option (Bor V)) (bs : List ℕ) (es : List (Meaning × V)) → IsUtf8 bs
     → option_copied r ≡ lookup (stands_for bs) es
     → option_map (λ v. g v.now) r ≡ lookup (bytes_eq (chars bs)) (entry_texts g es)
-lookup-lent g r bs es u found = let copied : option_map (λ v. g v.now) r ≡ option_map g (option_copied r) = search rules in
+lookup-lent g r bs es u found =
+    let copied : option_map (λ v. g v.now) r ≡ option_map g (option_copied r) = search rules in
     cc (copied, lookup-stands_for g bs es u)
 
 -- of values as what is kept: for `#[tactic(auto, using(..))]`
@@ -69,12 +70,7 @@ module _ {V W : Type 0} (g : V → W) (insert : List (Meaning × V) → Meaning 
 
 -- an entry that is set is found at its text, and leaves what is found at others
 module _ {V : Type 0} (key t : List ℕ) (v : V) where
-  -- by the tests: t is this entry's text, and so is the key, and the key is t
-  found : (a b c : Bool) (w : V) (rest : Option V) → (a ≡ true → b ≡ c) → (a ≡ false → b ≡ true → c ≡ false)
-      → (if a then cond b (Some v) rest else cond b (Some w) (cond c (Some v) rest)) ≡ cond c (Some v) (cond b (Some w) rest)
-  found a b c w rest same apart = search rules
-
   pub lookup-with_entry : (es : List (List ℕ × V))
       → lookup (bytes_eq key) (with_entry es t v) ≡ cond (bytes_eq key t) (Some v) (lookup (bytes_eq key) es)
   lookup-with_entry [] = refl
-  lookup-with_entry (e ∷ es) = search (rules, bytes_eq-Decides, found, false≢true, false_from_ne_true, lookup-with_entry es)
+  lookup-with_entry (e ∷ es) = search (rules, arith, bytes_eq-Decides, false≢true, false_from_ne_true, lookup-with_entry es)

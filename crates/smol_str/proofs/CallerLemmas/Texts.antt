@@ -39,8 +39,7 @@ pub ruleset texts = (
 -- in a loop that appends a piece for each item: the pieces of the first, and of one more, are no longer than all pieces
 pub size-front : {X : Type 0} (f : X → List ℕ) (xs : List X) (i : ℕ)
     → (flat_map f (take i xs) ≡ flat_map f (take i xs)) × (size (flat_map f (take (i + 1) xs)) ≤ size (flat_map f xs))
-size-front f xs i =
-    (refl, rw (flat_map-parts f xs (i + 1)) (omega (arith, size-append)))
+size-front f xs i = (refl, rw (flat_map-parts f xs (i + 1)) (omega (arith, size-append)))
 
 pub ruleset builders = (
   texts,

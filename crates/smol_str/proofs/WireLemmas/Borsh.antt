@@ -1,12 +1,7 @@
 -- A wire form in two parts, its size and its text, for the calls that write and read one part after the other.
-use Rattle.smol_str.proofs.Common.{inr, cases_lt, ◌≡◌, ℕ, ◌+◌, ◌<◌, ◌≤◌, ◌^◌, List, ◌++◌, Option, IfSome, length, take, refl, sym, ap, ◌∙◌, subst, arith, append_assoc, append-nil, to_le_bytes, from_le_bytes, w32, encode_utf8_all, from_le_bytes-to_le_bytes_4, encodes-chars, take_at, drop_at, length-append, Appends, Consumes, Appends-trans, Consumes-trans, Result, err_from_is_err_and, INLINE_CAP, size, place_of, Meaning, HasWire, HasEndedEarly, body, common_steps, rules, padded}
-use Rattle.std.specs.declared.io.Error.{Error}
-use Rattle.std.specs.Result.{IsErrAnd, IfErr}
-use Rattle.smol_str.specs.declared.borsh.fault.EncodeFault.{EncodeFault}
-use Rattle.smol_str.specs.declared.borsh.fault.EncodeFault.TheVariants.{Io as WriteFailed}
+use Rattle.smol_str.proofs.Common.{cases_lt, ◌≡◌, ℕ, ◌+◌, ◌<◌, ◌≤◌, ◌^◌, List, ◌++◌, Option, IfSome, length, take, sym, ap, ◌∙◌, subst, arith, append_assoc, append-nil, to_le_bytes, from_le_bytes, w32, encode_utf8_all, from_le_bytes-to_le_bytes_4, encodes-chars, take_at, drop_at, length-append, Appends, Consumes, Appends-trans, Consumes-trans, INLINE_CAP, size, place_of, Meaning, HasWire, HasEndedEarly, body, common_steps, rules, padded}
 use Rattle.smol_str.specs.declared.borsh.fault.DecodeFault.{DecodeFault}
 use Rattle.smol_str.specs.declared.borsh.fault.DecodeFault.TheVariants.{Ended, NotUtf8, OutOfMemory, Io}
-use Rattle.smol_str.specs.declared.borsh.fault.LimitedFault.{LimitedFault}
 use Rattle.smol_str.specs.declared.borsh.fault.LimitedFault.TheVariants.{TooLong, Decode}
 use Rattle.smol_str.specs.declared.value.convert.FromUtf8Fault.{FromUtf8Fault}
 use Rattle.smol_str.specs.Faults.{AfterFromUtf8Fault}
@@ -14,7 +9,7 @@ use Rattle.smol_str.specs.declared.borsh.TheConstants.{STACK_BODY}
 use Rattle.smol_str.specs.Wire.{wire, prefix_size}
 use Rattle.std.specs.Prelude.{⊤}
 use Rattle.smol_str.specs.Stream.{AppendsBeginning, GaveBelow, GaveUpTo}
-use Rattle.smol_str.specs.WireFaults.{AfterEncodeFault, AfterDecodeFault, GaveTooFew, GaveSomeOfBody, HasReadBody, HasReadLarge, NeedsMemory, AfterBodyFault, StatesAtMost, AfterLimitedFault, AfterFromWireFault, of_utf8_fault}
+use Rattle.smol_str.specs.WireFaults.{AfterDecodeFault, GaveTooFew, GaveSomeOfBody, HasReadBody, HasReadLarge, NeedsMemory, AfterBodyFault, StatesAtMost, AfterLimitedFault, AfterFromWireFault, of_utf8_fault}
 use Rattle.smol_str.proofs.TextLemmas.Places.{size-chars}
 use Rattle.smol_str.proofs.WireLemmas.Stream.{IfErr-is, beginning-of_first, beginning-of_second, Consumes-full}
 
@@ -44,23 +39,18 @@ module _ (t prefix bytes : List ℕ) (is : bytes ≡ encode_utf8_all t)
   pub Appends-parts : (a b c : Option (List ℕ)) → Appends a b prefix → Appends b c bytes → Appends a c (wire t)
   Appends-parts a b c p q = subst (Appends a c) wire-parts (Appends-trans a b c prefix bytes p q)
 
-  -- a writer that failed after a beginning of the form
-  module _ (a c : Option (List ℕ)) (r : Result (Unit {0}) EncodeFault) (e : Error)
-      (failed : IsErrAnd r (λ fault. fault ≡ WriteFailed e)) where
-    AfterEncodeFault-failed : AppendsBeginning a c (prefix ++ bytes)
-        → IfErr r (AfterEncodeFault (wire t) (HasWire t) a c)
-    AfterEncodeFault-failed p = grind (arith, common_steps, err_from_is_err_and, wire-parts)
+  -- a beginning of the form, which a writer that failed was given
+  pub begun-in_short : (a c : Option (List ℕ)) (form buffer : List ℕ) → form ≡ prefix ++ buffer
+      → buffer ≡ padded (encode_utf8_all t) → AppendsBeginning a c (take (4 + length bytes) form)
+      → HasWire t × AppendsBeginning a c (wire t)
+  begun-in_short a c form buffer e p h = search (rules, short-form)
 
-    pub failed-in_short : (form buffer : List ℕ) → form ≡ prefix ++ buffer → buffer ≡ padded (encode_utf8_all t)
-        → AppendsBeginning a c (take (4 + length bytes) form) → IfErr r (AfterEncodeFault (wire t) (HasWire t) a c)
-    failed-in_short form buffer e p h = search (rules, short-form, wire-parts, AfterEncodeFault-failed)
+  pub begun-in_prefix : (a c : Option (List ℕ)) → AppendsBeginning a c prefix → HasWire t × AppendsBeginning a c (wire t)
+  begun-in_prefix a c h = (rw is at said.0, rw wire-parts at (beginning-of_first prefix bytes a c h))
 
-    pub failed-in_prefix : AppendsBeginning a c prefix → IfErr r (AfterEncodeFault (wire t) (HasWire t) a c)
-    failed-in_prefix p = AfterEncodeFault-failed (beginning-of_first prefix bytes a c p)
-
-    pub failed-in_bytes : (b : Option (List ℕ)) → Appends a b prefix → AppendsBeginning b c bytes
-        → IfErr r (AfterEncodeFault (wire t) (HasWire t) a c)
-    failed-in_bytes b p q = AfterEncodeFault-failed (beginning-of_second prefix bytes a b c p q)
+  pub begun-in_bytes : (a b c : Option (List ℕ)) → Appends a b prefix → AppendsBeginning b c bytes
+      → HasWire t × AppendsBeginning a c (wire t)
+  begun-in_bytes a b c p h = (rw is at said.0, rw wire-parts at (beginning-of_second prefix bytes a b c p h))
 
 -- ---- bytes
 
@@ -76,7 +66,7 @@ module _ (n : ℕ) (fits : n < 2 ^ 32) where
   -- bytes that begin with the size n
   pub prefix_size-front : (r : List ℕ) → prefix_size (to_le_bytes w32 n ++ r) ≡ n
   unfolding prefix_size
-  prefix_size-front r = search (rules, take_at, from_le_bytes-to_le_bytes_4)
+  prefix_size-front r = search (rules, from_le_bytes-to_le_bytes_4)
 
   -- and go on with n bytes
   module _ (bs r : List ℕ) (l : length bs ≡ n) where
@@ -151,7 +141,7 @@ module _ (n : ℕ) (fits : n < 2 ^ 32) where
   AfterLimitedFault-of_fault a b c limit (Io e) p l h = search (rules, arith, early-of_body, prefix_size-front)
   AfterLimitedFault-of_fault a b c limit fault p l h = search (rules, AfterDecodeFault-of_body, states_within)
 
-pub ruleset written_forms = (failed-in_prefix, failed-in_bytes, Appends-parts)
+pub ruleset written_forms = (IfErr-is, Appends-parts)
 
 pub ruleset read_bodies = (IfErr-is, Consumes-full, AfterBodyFault-of_text)
 

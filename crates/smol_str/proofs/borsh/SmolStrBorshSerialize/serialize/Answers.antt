@@ -1,22 +1,25 @@
 use Rattle.smol_str.proofs.Common.{◌∙◌, rules}
-use Rattle.smol_str.proofs.WireLemmas.Borsh.{failed-in_short, failed-in_prefix, failed-in_bytes, short-form}
+use Rattle.smol_str.proofs.WireLemmas.Borsh.{begun-in_short, begun-in_prefix, begun-in_bytes, short-form}
+use Rattle.smol_str.proofs.WireLemmas.Stream.{IfErr-is}
 use Rattle.smol_str.proofs.borsh.SmolStrBorshSerialize.serialize.Goals as goal
 
 pub returns-in_err-write_steps-clause-fault : goal.returns-in_err-write_steps-clause-fault
 returns-in_err-write_steps-clause-fault g c =
-    failed-in_short _ _ _ (c.as_bytes-bytes.ensures.value ∙ c.as_str.ensures.bytes) c.in-Some.ensures _ _ _ _
-    c.from_residual.ensures.1 _ _ c.short_form.ensures c.in-Some-inline_buffer.ensures.buffer c.in_err-write_steps.ensures.beginning
+    IfErr-is _ _ _ c.from_residual.ensures.1
+    (begun-in_short _ _ _ (c.as_bytes-bytes.ensures.value ∙ c.as_str.ensures.bytes) c.in-Some.ensures _ _ _ _
+    c.short_form.ensures c.in-Some-inline_buffer.ensures.buffer c.in_err-write_steps.ensures.beginning)
 
 pub returns-in-Some-inline_buffer-clause-ok : goal.returns-in-Some-inline_buffer-clause-ok
 returns-in-Some-inline_buffer-clause-ok g c = search (rules, short-form)
 
 pub returns-in_err-write_steps-2-clause-fault : goal.returns-in_err-write_steps-2-clause-fault
 returns-in_err-write_steps-2-clause-fault g c =
-    failed-in_prefix _ _ _ (c.as_bytes-bytes.ensures.value ∙ c.as_str.ensures.bytes) c.in-Some.ensures _ _ _ _
-    c.from_residual-in_err-write_steps-2.ensures.1 c.in_err-write_steps-2.ensures.beginning
+    IfErr-is _ _ _ c.from_residual-in_err-write_steps-2.ensures.1
+    (begun-in_prefix _ _ _ (c.as_bytes-bytes.ensures.value ∙ c.as_str.ensures.bytes) c.in-Some.ensures _ _
+    c.in_err-write_steps-2.ensures.beginning)
 
 pub returns-in_err-write_steps-3-clause-fault : goal.returns-in_err-write_steps-3-clause-fault
 returns-in_err-write_steps-3-clause-fault g c =
-    failed-in_bytes _ _ _ (c.as_bytes-bytes.ensures.value ∙ c.as_str.ensures.bytes) c.in-Some.ensures _ _ _ _
-    c.from_residual-in_err-write_steps-3.ensures.1 _ c.in_ok-write_steps-2.ensures.ok
-    c.in_err-write_steps-3.ensures.beginning
+    IfErr-is _ _ _ c.from_residual-in_err-write_steps-3.ensures.1
+    (begun-in_bytes _ _ _ (c.as_bytes-bytes.ensures.value ∙ c.as_str.ensures.bytes) c.in-Some.ensures _ _ _
+    c.in_ok-write_steps-2.ensures.ok c.in_err-write_steps-3.ensures.beginning)
