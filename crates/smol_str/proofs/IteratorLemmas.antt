@@ -100,10 +100,9 @@ gives-split_char {s} test c bs f low text more pattern same =
     (YieldsList-from_str_split c bs low text more pattern))
 
 -- adapters
-module _ {S A : Type 0} {steps : S → Option (Bor A) → S → Type 0} {t : S} {ys : List A} where
-  pub gives-copied : {s : _} → copied_source s ≡ t → YieldsList steps (λ y. y.now) t ys
-      → YieldsList (copied_steps steps) (λ y. y) s ys
-  gives-copied e gives = YieldsList-from_copied (YieldsList-at e gives)
+pub gives-copied : {S A : Type 0} {steps : S → Option (Bor A) → S → Type 0} {s : _} {t : S} {ys : List A}
+    → copied_source s ≡ t → YieldsList steps (λ y. y.now) t ys → YieldsList (copied_steps steps) (λ y. y) s ys
+gives-copied e gives = YieldsList-from_copied (YieldsList-at e gives)
 
 pub gives-rev_copied : {A : Type 0} {s : _} {steps : Rev (Copied (Iter A)) → Option A → Rev (Copied (Iter A)) → Type 0}
     (xs : List A) → ((s : _) (o : _) (t : _) → steps s o t → rev_steps (copied_steps iter_steps_back) s o t)
@@ -138,22 +137,19 @@ pub gives-flat_chars : {S F A : Type 0} {s : _} {f : F} {steps : S → Option (B
     → YieldsList (flatten_steps (map_steps steps g) becomes chars_steps) (λ c. c) s (flat_map h ys)
 gives-flat_chars {f = f} {becomes = becomes} g h ys gives c front back done same k utf8 =
     YieldsList-from_flat_map g becomes chars_steps (λ c. c) h f (λ x u q called.
-    let all = YieldsList-from_chars (chars_rest u) (utf8 x u q called) refl in
-    let these = subst (YieldsList chars_steps (λ c. c) u) (k x u q called).1 all in
-    ((k x u q called).0, λ j is. subst (λ t. YieldsList chars_steps (λ c. c) t (h x.now)) (sym (same u j is)) these))
+    let these = rw (k x u q called).1 at (YieldsList-from_chars {s = u} _ (utf8 x u q called) refl) in
+    ((k x u q called).0, λ j is. rw (same u j is) these))
     gives c front back done
 
 -- `take` and `skip` by a number that is written out, of characters and of what a slice lends
 module _ {s : _} (all : List ℕ) where
   pub gives-take_chars : IsUtf8 (chars_rest (take_source s)) → all ≡ take (take_count s) (chars (chars_rest (take_source s)))
       → YieldsList (take_steps chars_steps) (λ c. c) s all
-  gives-take_chars u e =
-      rw e (YieldsList-from_take (take_count s) (YieldsList-from_chars (chars_rest (take_source s)) u refl) refl)
+  gives-take_chars u e = rw e (YieldsList-from_take (take_count s) (YieldsList-from_chars _ u refl) refl)
 
   pub gives-skip_chars : IsUtf8 (chars_rest (skip_source s)) → all ≡ drop (skip_count s) (chars (chars_rest (skip_source s)))
       → YieldsList (skip_steps chars_steps) (λ c. c) s all
-  gives-skip_chars u e =
-      rw e (YieldsList-from_skip (skip_count s) (YieldsList-from_chars (chars_rest (skip_source s)) u refl) refl)
+  gives-skip_chars u e = rw e (YieldsList-from_skip (skip_count s) (YieldsList-from_chars _ u refl) refl)
 
 module _ {A : Type 0} {s : _} (all : List A) where
   pub gives-take_slice : all ≡ take (take_count s) (iter_rest (take_source s))

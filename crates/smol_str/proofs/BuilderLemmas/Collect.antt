@@ -16,13 +16,10 @@ use Rattle.smol_str.specs.Joined.{joined}
 use Rattle.smol_str.specs.Meaning.{Meaning, IsValueOf}
 use Rattle.smol_str.specs.Collect.{AppendedAll, StoppedAt, Collected, Outgrown}
 use Rattle.smol_str.proofs.TextLemmas.Places.{IsShort-front}
+use Rattle.std.proofs.lemmas.Result.{on_err_weaker, IfOk-weaker}
 use Rattle.smol_str.proofs.BuilderLemmas.Draft.{appended-twice, OnHeap-long}
 use Rattle.smol_str.proofs.BuilderLemmas.Push.{appended-heap}
 use Rattle.smol_str.proofs.CutLemmas.Cut.{length_but_last}
-
-pub appended-on : (old now new : Draft) (xs ys : List ℕ) → now ≡ appended old xs → new ≡ appended now ys
-    → new ≡ appended old (xs ++ ys)
-appended-on old now new xs ys h a = search (rules, arith, appended-twice)
 
 -- after one item more
 pub appended-last : {A : Type 0} (f : A → List ℕ) (old now new : Draft) (xs : List A) (x : A)
@@ -89,14 +86,12 @@ module _ {S A : Type 0} (steps : S → Option A → S → Type 0) (s : S) where
         → AppendedAll texts steps s (empty_draft InBuffer) new → IfOk r (λ v. IsValueOf new.text (m v))
         → IfOk r (Collected texts steps s m)
     unfolding AppendedAll Collected
-    collected-value m (Ok v) (p, from, whole, all) is = (p, from, whole, search rules)
-    collected-value m (Err e) all is = tt
+    collected-value m r (p, from, whole, all) is = IfOk-weaker r _ _ (λ v is. (p, from, whole, search rules)) is
 
     pub outgrown-value : {V E : Type 0} (r : Result V E) → AppendedAll texts steps s (empty_draft InBuffer) new
         → OnErr r (¬ (IsResident new.text)) → OnErr r (Outgrown texts steps s)
     unfolding AppendedAll Outgrown
-    outgrown-value (Ok v) all away = tt
-    outgrown-value (Err e) (p, from, whole, all) away = (p, from, search rules)
+    outgrown-value r (p, from, whole, all) away = on_err_weaker r (λ away. (p, from, search rules)) away
 
 module _ {S : Type 0} (steps : S → Option ℕ → S → Type 0) (s : S) (xs : List ℕ) (old now new : Draft)
     (is : now ≡ appended old xs) (t : S) (x : ℕ) (came : YieldsThen steps s xs (Some x) t) where
@@ -108,8 +103,8 @@ module _ {S : Type 0} (steps : S → Option ℕ → S → Type 0) (s : S) (xs : 
   unfolding AppendedAll
   all-behind (p, from, whole, all) =
       let (u, (v, gave, end)) = run-drains steps t p from whole in
-      all-appended steps s (λ items. items) (xs ++ x ∷ p.items) old new (appended-on old now new xs (x ∷ p.items) is all)
-      (u, (v, drew p.items v gave, end))
+      all-appended steps s (λ items. items) (xs ++ x ∷ p.items) old new
+      (cc (is, all, appended-twice old xs (x ∷ p.items))) (u, (v, drew p.items v gave, end))
 
   pub stopped-behind : ((new ≡ now) × ((appended now (x ∷ [])).kind ≡ OnHeap)) ⊎ StoppedAt (λ items. x ∷ items) steps t now new
       → StoppedAt (λ items. items) steps s old new
@@ -119,7 +114,7 @@ module _ {S : Type 0} (steps : S → Option ℕ → S → Type 0) (s : S) (xs : 
       stopped-at steps s (λ items. items) xs old new (same ∙ is) x t came cc
   stopped-behind (inr (p, from, (some, front, heap))) =
       let gave = drew p.items _ (run-yields steps t p from) in
-      let text = appended-on old now new xs (x ∷ but_last p.items) is front in
+      let text : new ≡ appended old (xs ++ x ∷ but_last p.items) = cc (front, is, appended-twice old xs (x ∷ but_last p.items)) in
       let joins = appended-twice old xs (x ∷ p.items) in
       let made = run steps s (xs ++ x ∷ p.items) false (_, gave, λ e. absurd (true≢false (sym e))) in
       (made, refl, (omega (arith, length-append {A = ℕ}), rw (but_last-on xs p.items x some) text, cc))

@@ -185,7 +185,7 @@ module _ {S E : Type 0} {steps : S → Option (Bor (List ℕ)) → S → Type 0}
     pub mapped_collected : (m : Meaning → Meaning) (r : Result Meaning E) → IfOk r (Collected joined_strs steps s m)
         → ((y : Meaning) → m y ≡ y) → YieldsList steps (λ x. chars x.now) s (map h xs)
         → IfOk r (λ y. IsValueOf (joined h xs) y)
-    mapped_collected m r is eq gives = texts_collected (joined h xs) (flat_map-map (λ t. t) h xs) m r is eq gives
+    mapped_collected m r is eq gives = rw flat_map-map at (collected texts_lent m r is eq gives)
 
     pub mapped_refused : {T : Type 0} (r : Result T E) → OnErr r (Outgrown joined_strs steps s)
         → YieldsList steps (λ x. chars x.now) s (map h xs) → OnErr r (¬ (IsShort (joined h xs)))
@@ -207,8 +207,7 @@ module _ {S E : Type 0} {steps : S → Option (Bor (List ℕ)) → S → Type 0}
     pub split_collected : (m : Meaning → Meaning) (r : Result Meaning E) → IfOk r (Collected joined_strs steps s m)
         → ((y : Meaning) → m y ≡ y) → YieldsList steps (λ x. chars x.now) s (cut t p (no_limit t))
         → IfOk r (λ y. IsValueOf (replaced_all t p []) y)
-    split_collected m r is eq gives =
-        texts_collected (replaced_all t p []) (joined-nothing (cut t p (no_limit t))) m r is eq gives
+    split_collected m r is eq gives = rw joined-nothing at (collected texts_lent m r is eq gives)
 
     pub split_refused : {T : Type 0} (r : Result T E) → OnErr r (Outgrown joined_strs steps s)
         → YieldsList steps (λ x. chars x.now) s (cut t p (no_limit t)) → OnErr r (¬ (IsShort (replaced_all t p [])))

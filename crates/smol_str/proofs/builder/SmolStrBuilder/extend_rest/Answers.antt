@@ -1,12 +1,12 @@
 use Rattle.std.proofs.iter.Next.{said}
-use Rattle.smol_str.proofs.BuilderLemmas.Collect.{appended-on, all-appended, stopped-at}
+use Rattle.smol_str.proofs.BuilderLemmas.Collect.{all-appended, stopped-at}
 use Rattle.smol_str.proofs.BuilderLemmas.Draft.{appended-twice}
-use Rattle.smol_str.proofs.Common.{[], ◌∷◌, inr}
+use Rattle.smol_str.proofs.Common.{[], ◌∷◌, inr, arith, rules}
 use Rattle.smol_str.proofs.TextLemmas.Places.{OnErr-always}
 use Rattle.smol_str.proofs.builder.SmolStrBuilder.extend_rest.Goals as goal
 
 pub loop-character-preserved : goal.loop-character-preserved
-loop-character-preserved g c = appended-on _ _ _ _ _ c.loop-character.invariant c.in_ok-push-2.ensures.ok
+loop-character-preserved g c = search (rules, arith, appended-twice)
 
 pub returns-in_err-push-2-clause-stopped : goal.returns-in_err-push-2-clause-stopped
 returns-in_err-push-2-clause-stopped g c =
