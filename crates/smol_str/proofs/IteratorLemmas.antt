@@ -61,8 +61,7 @@ weaker_runs steps more v f s (y ∷ ys) h = (
 -- steps of which other steps follow give the same
 pub weaker : {S A B : Type 0} {steps more : S → Option A → S → Type 0} {v : A → B} {s : S} {ys : List B}
     → ((s : S) (o : Option A) (t : S) → more s o t → steps s o t) → YieldsList steps v s ys → YieldsList more v s ys
-weaker {steps = steps} {more = more} {v = v} {s = s} {ys = ys} f gives =
-    record { runs = weaker_runs steps more v f s ys gives.runs }
+weaker f gives = record { runs = weaker_runs _ _ _ f _ _ gives.runs }
 
 -- sources
 pub gives-slice : {A : Type 0} {s : _} (xs : List A) → iter_rest s ≡ xs → YieldsList iter_steps (λ y. y.now) s xs

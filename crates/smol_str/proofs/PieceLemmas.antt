@@ -53,7 +53,7 @@ module _ (w nd : List ℕ) (u : IsUtf8 w) (v : IsUtf8 nd) (some : 0 < length nd)
   lacking : ((i : ℕ) → i ≤ length w → LacksTextAt nd w i) → ¬ Occurs (chars nd) (chars w)
   lacking none (a, r, e) =
       let at = there a r e in
-      none (size a) (omega (arith, ap length at, length-append nd (encode_utf8_all r), length-drop (size a) w)) (encode_utf8_all r) at
+      none (size a) (omega (arith, ap length at, length-append {A = ℕ}, length-drop {A = ℕ})) (encode_utf8_all r) at
 
   -- the first match is that of the characters
   first_match : (i j : ℕ) → ((k : ℕ) → k < i → LacksTextAt nd w k) → HasTextAt nd w i j → IsUtf8 (drop j w)

@@ -24,7 +24,5 @@ module _ (f : List ℕ → List ℕ) (parts : (a b : List ℕ) → f (a ++ b) �
   mapped-refused old b ys t v c is same so_far more item heap =
       let rest = drop (length ys + 1) t in
       let begun : take (length ys + 1) t ≡ ys ++ c ∷ [] = cc (take_more t (length ys) c more, map-id ys) in
-      let whole : f t ≡ (f ys ++ v) ++ f rest =
-      cc (take-append-drop (length ys + 1) t, parts (take (length ys + 1) t) rest, parts ys (c ∷ [])) in
-      let now : (appended old (f ys ++ v)).kind ≡ OnHeap = cc (appended-twice old (f ys) v) in
-      cc (appended-heap old (f ys ++ v) (f rest) now)
+      let whole = appended-heap old (f ys ++ v) (f rest) (cc (appended-twice old (f ys) v)) in
+      cc (whole, take-append-drop (length ys + 1) t, parts (take (length ys + 1) t) rest, parts ys (c ∷ []))

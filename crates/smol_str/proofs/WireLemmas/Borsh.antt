@@ -100,15 +100,13 @@ module _ (n : ℕ) (fits : n < 2 ^ 32) where
       → Consumes a b (to_le_bytes w32 n) → GaveBelow b c n → GaveTooFew a c P
   early-of_body P holds a b c p (bs, short, consumed) =
       let both = Consumes-trans a b c (to_le_bytes w32 n) bs p consumed in
-      let stated = prefix_size-front bs in
-      search (rules, arith, holds bs, length-append)
+      search (rules, arith, holds bs, length-append, prefix_size-front)
 
   -- and then some bytes, n of them at the most
   within-of_body : (a b c : Option (List ℕ)) → Consumes a b (to_le_bytes w32 n) → GaveUpTo b c n → GaveSomeOfBody a c
   within-of_body a b c p (bs, some, most, consumed) =
       let both = Consumes-trans a b c (to_le_bytes w32 n) bs p consumed in
-      let stated = prefix_size-front bs in
-      search (rules, arith, length-append)
+      search (rules, arith, length-append, prefix_size-front)
 
   -- and then n bytes that are a text for which there was no memory
   long-of_body : (a b c : Option (List ℕ)) → Consumes a b (to_le_bytes w32 n)
@@ -132,14 +130,12 @@ module _ (n : ℕ) (fits : n < 2 ^ 32) where
   AfterLimitedFault-above a b limit p h = search (rules, prefix_size-front, length-append, take_at)
 
   -- and with one that is not
-  states_within : (a b : Option (List ℕ)) (limit : ℕ) → Consumes a b (to_le_bytes w32 n) → n ≤ limit
-      → IfSome a (StatesAtMost limit)
-  states_within a b limit p h = search (rules, prefix_size-front)
-
   pub AfterLimitedFault-of_fault : (a b c : Option (List ℕ)) (limit : ℕ) (fault : DecodeFault)
       → Consumes a b (to_le_bytes w32 n) → n ≤ limit → AfterBodyFault b c n fault → AfterLimitedFault limit a c (Decode fault)
   AfterLimitedFault-of_fault a b c limit (Io e) p l h = search (rules, arith, early-of_body, prefix_size-front)
-  AfterLimitedFault-of_fault a b c limit fault p l h = search (rules, AfterDecodeFault-of_body, states_within)
+  AfterLimitedFault-of_fault a b c limit fault p l h =
+      let within : IfSome a (StatesAtMost limit) = search (rules, prefix_size-front) in
+      search (rules, AfterDecodeFault-of_body)
 
 pub ruleset written_forms = (IfErr-is, Appends-parts)
 

@@ -11,8 +11,7 @@ module _ (first second : List ℕ) where
   pub beginning-of_first : (a b : Option (List ℕ)) → AppendsBeginning a b first
       → AppendsBeginning a b (first ++ second)
   beginning-of_first a b (front, rest, split, some, appended) =
-      let more = length-append rest second in
-      (front, rest ++ second, cc (split, append_assoc front rest second), omega arith, appended)
+      (front, rest ++ second, cc (split, append_assoc front rest second), omega (arith, length-append rest second), appended)
 
   pub beginning-of_second : (a b c : Option (List ℕ)) → Appends a b first → AppendsBeginning b c second
       → AppendsBeginning a c (first ++ second)
