@@ -40,7 +40,7 @@ last_off : (bs ds : List ℕ) (c : ℕ) → IsUtf8 bs → bs ≡ ds ++ encode_ut
 last_off bs ds c u e =
     let one : encode_utf8_all (c ∷ []) ++ [] ≡ encode_utf8 c = append-nil _ ∙ append-nil _ in
     let h = StandsBetween-bytes (chars bs) (c ∷ []) ds [] (omega arith) (cc (encodes-chars bs u, one)) in
-    let none : h.1 ≡ [] = nil_from_length h.1 (omega (arith, ap length h.4, length-le-encodes h.1)) in
+    let none = nil_from_length h.1 (omega (arith, ap length h.4, length-le-encodes h.1)) in
     let parts : chars bs ≡ h.0 ++ c ∷ [] = cc (h.2, none) in
     let front = scalars_parts h.0 (c ∷ []) (cc (parts, scalars-chars bs u)) in
     let utf8 : IsUtf8 ds = (h.0, (front.0, h.3)) in

@@ -71,9 +71,8 @@ module _ (w nd : List ℕ) (u : IsUtf8 w) (v : IsUtf8 nd) (some : 0 < length nd)
       let first : IsFirstAfter p h.0 = λ o.
           let x = earlier (chars w) p h.0 h.1 h.2 long o in
           none (size x.0.0) (omega (arith, x.1)) (encode_utf8_all x.0.1) (there x.0.0 x.0.1 x.0.2) in
-      let before : chars (take i w) ≡ h.0 = cc (h.3, chars-encodes h.0 s.0) in
-      let after : chars (drop j w) ≡ h.1 = cc (h.4, chars-encodes h.1 z.1) in
-      ((h.1, (z.1, h.4)), rw (before, after) (cut_first (chars w) p h.0 h.1 long h.2 first))
+      let cuts = cut_first (chars w) p h.0 h.1 long h.2 first in
+      ((h.1, (z.1, h.4)), cc (cuts, h.3, chars-encodes h.0 s.0, h.4, chars-encodes h.1 z.1))
 
 -- a piece comes off
 module _ (w nd x rest : List ℕ) (live : Bool) (u : IsUtf8 w) (v : IsUtf8 nd) (some : 0 < length nd) where

@@ -31,7 +31,7 @@ module _ (b t x : List ℕ) (sized : HasWire t) (scalars : IsTrue (all_scalars t
   form-utf8 = (t, (scalars, sym (body-Holds b t (size t + 4) form_is_held)))
 
   pub form-text : chars (body b) ≡ t
-  form-text = ap chars (body-Holds b t (size t + 4) form_is_held) ∙ chars-encodes t scalars
+  form-text = cc (body-Holds b t (size t + 4) form_is_held, chars-encodes t scalars)
 
   -- what `from_wire` finds in them
   pub form-held : (u : List ℕ) (n : ℕ) → Holds b u n → (u ≡ t) × (n ≡ size t + 4)
@@ -60,12 +60,11 @@ pub ruleset forms = (form-known, scalars-chars)
 -- bytes that with more are the form of t and what follows it: where they have not ended early, the form is all there
 module _ (b more t x : List ℕ) (sized : HasWire t) (scalars : IsTrue (all_scalars t)) (is : b ++ more ≡ wire t ++ x)
     (whole : ¬ HasEndedEarly b) where
-  four : 4 ≤ length b
-  four = omega (arith, λ (h : length b < 4). whole (inl h))
-
   states : prefix_size b ≡ size t
   unfolding prefix_size
-  states = cc (take-append-le 4 b more four, prefix_size-wire t x sized)
+  states =
+      let four : 4 ≤ length b = omega (arith, λ (h : length b < 4). whole (inl h)) in
+      cc (take-append-le 4 b more four, prefix_size-wire t x sized)
 
   within : size t + 4 ≤ length b
   within = let says = states in omega (arith, λ (h : length b < 4 + prefix_size b). whole (inr h))
@@ -74,17 +73,14 @@ module _ (b more t x : List ℕ) (sized : HasWire t) (scalars : IsTrue (all_scal
   form-cut-held =
       let written = Holds-written t x sized scalars in search (rules, within, take-append-le)
 
-  form_is_there : b ≡ wire t ++ drop (size t + 4) b
-  form_is_there = (Holds-parts b t (size t + 4) form-cut-held).0
-
   pub form-cut-long : length (wire t) ≤ length b
   form-cut-long = rw (length-wire t) within
 
   pub form-cut-utf8 : IsUtf8 (body b)
-  form-cut-utf8 = form-utf8 b t (drop (size t + 4) b) sized scalars form_is_there
+  form-cut-utf8 = (t, (scalars, sym (body-Holds b t (size t + 4) form-cut-held)))
 
   pub form-cut-text : chars (body b) ≡ t
-  form-cut-text = form-text b t (drop (size t + 4) b) sized scalars form_is_there
+  form-cut-text = cc (body-Holds b t (size t + 4) form-cut-held, chars-encodes t scalars)
 
 -- ---- wire forms one after another, and how many they are
 
@@ -109,8 +105,7 @@ module _ {X Y : Type 0} (form : X → List ℕ) (P : X → Type 0) (key : X → 
 pub forms-apart : (ss ts : List (List ℕ)) (x y : List ℕ) → All HasWire ss → All HasWire ts → length ss ≡ length ts
     → flat_map wire ss ++ x ≡ flat_map wire ts ++ y → (ss ≡ ts) × (x ≡ y)
 forms-apart ss ts x y h k l e =
-    let same = items-apart wire HasWire (λ t. t) (λ s t x y h k e. wire-apart s t x y h k e) ss ts x y h k l e in
-    (sym (map-id ss) ∙ same.0 ∙ map-id ts, same.1)
+    simp map-id at (items-apart wire HasWire (λ t. t) wire-apart ss ts x y h k l e)
 
 -- more forms: behind the fewer stands the next
 pub forms-next : (ss ts : List (List ℕ)) (x y : List ℕ) → All HasWire ss → All HasWire ts

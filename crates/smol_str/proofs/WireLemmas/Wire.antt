@@ -39,10 +39,9 @@ module _ (b t : List ℕ) (n : ℕ) (h : Holds b t n) where
 
   pub body-Holds : body b ≡ encode_utf8_all t
   body-Holds =
-      let back : drop 4 b ≡ encode_utf8_all t ++ drop n b =
       let behind = drop_at (to_le_bytes w32 (size t)) (encode_utf8_all t ++ drop n b) 4 refl in
-      cc (wire-held, wire-append t (drop n b), behind) in
-      cc (states, back, take_at (encode_utf8_all t) (drop n b) (size t) refl)
+      let front = take_at (encode_utf8_all t) (drop n b) (size t) refl in
+      cc (wire-held, wire-append t (drop n b), behind, states, front)
 
 pub Holds-one : (b s t : List ℕ) (m n : ℕ) → Holds b s m → Holds b t n → (s ≡ t) × (m ≡ n)
 Holds-one b s t m n h k =
