@@ -1,10 +1,9 @@
 -- What std's iterators give as lists of texts: characters from the end of a text, an array by value, a text split at
 -- another.
-use Rattle.std.proofs.Common.{◌≡◌, ◌<◌, ◌==◌, ℕ, Bool, true, false, Bor, List, [], ◌∷◌, ◌++◌, length, map, take, drop, reverse, flat_map, Option, None, Some, refl, sym, ap, ◌∙◌, subst, arith, append-nil, rules}
-use Rattle.std.specs.Str.{IsUtf8, chars, encode_utf8_all}
+use Rattle.smol_str.proofs.Common.{◌≡◌, ◌<◌, ◌==◌, ℕ, Bool, true, false, Bor, List, [], ◌∷◌, ◌++◌, length, map, take, drop, flat_map, Option, None, Some, refl, sym, ap, ◌∙◌, subst, arith, append-nil, rules, IsUtf8, chars, encode_utf8_all, encode_utf8, chars-nil, encodes-chars, chars_from_encodes, scalars-chars, length-le-encodes}
+use Rattle.std.proofs.Common.{reverse}
 use Rattle.std.specs.Str.Lines.{lines}
 use Rattle.std.specs.Str.Pattern.{FindsChar}
-use Rattle.std.specs.Char.{encode_utf8}
 use denote.Param.Members.{Mut}
 use Rattle.std.specs.Fn.{Called}
 use Rattle.std.specs.List.{slice_split}
@@ -25,7 +24,6 @@ use Rattle.std.proofs.lemmas.Iterator.Consumers.{YieldsList-from_shown, YieldsLi
 use Rattle.std.proofs.lemmas.Iterator.Search.{YieldsList-from_take_while}
 use Rattle.std.proofs.lemmas.Iterator.Splits.{YieldsList-from_shown_while, YieldsList-from_lines, YieldsList-from_str_split}
 use Rattle.std.proofs.lemmas.List.{reverse-append, length-reverse, nil_from_length}
-use Rattle.std.proofs.lemmas.Str.{chars-nil, encodes-chars, chars_from_encodes, scalars-chars, length-le-encodes}
 use Rattle.smol_str.proofs.TextLemmas.Split.{scalars_parts}
 use Rattle.smol_str.proofs.CutLemmas.Sync.{StandsBetween-bytes}
 

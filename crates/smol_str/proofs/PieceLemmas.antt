@@ -1,18 +1,10 @@
 -- What `split` of a text at another text gives: the pieces of the cut.
-use Rattle.std.proofs.Common.{◌≡◌, ℕ, ◌+◌, ◌<◌, ◌≤◌, Bool, true, false, cond, List, [], ◌∷◌, ◌++◌, length, take, drop, Bor, Option, Some, None, MatchOption, refl, sym, ap, ◌∙◌, subst, arith, length-append, append-nil, take-append-drop, length-take-le}
-use Rattle.std.specs.Str.{IsUtf8, chars, encode_utf8_all}
+use Rattle.smol_str.proofs.Common.{◌≡◌, ℕ, ◌+◌, ◌<◌, ◌≤◌, Bool, true, false, cond, List, [], ◌∷◌, ◌++◌, length, take, drop, Bor, Option, Some, None, MatchOption, refl, sym, ap, ◌∙◌, subst, arith, length-append, append-nil, take-append-drop, length-take-le, IsUtf8, chars, encode_utf8_all, flat_map, YieldsList, length-drop, chars-encodes, encodes-append, encodes-chars, scalars-chars, size, Occurs, IsFirstAfter, joined_by, cut, no_limit, match_count}
 use Rattle.std.specs.Str.Pattern.{FindsText, LacksTextAt, HasTextAt}
 use Rattle.std.specs.Str.Iter.{split_steps, split_text, split_has_more, split_pattern}
-use Rattle.std.specs.List.{flat_map}
 use Rattle.std.specs.declared.str.Split.{Split}
-use Rattle.std.proofs.lemmas.Iterator.{YieldsList}
 use Rattle.std.proofs.lemmas.Iterator.Splits.{YieldsList-from_shown_while}
 use Rattle.smol_str.proofs.IteratorLemmas.{weaker}
-use Rattle.std.proofs.lemmas.List.{length-drop}
-use Rattle.std.proofs.lemmas.Str.{chars-encodes, encodes-append, encodes-chars, scalars-chars}
-use Rattle.smol_str.specs.Text.{size}
-use Rattle.smol_str.specs.Cut.{Occurs, IsFirstAfter, joined_by}
-use Rattle.smol_str.specs.Replace.{cut, no_limit, match_count}
 use Rattle.smol_str.proofs.CutLemmas.Cut.{IsCut-cut, IsCut-unique, IsCutAt-step, IsCutAt-unmatched, joined_one, joined_more}
 use Rattle.smol_str.proofs.CutLemmas.Replace.{whole_cut, match_count-limit}
 use Rattle.smol_str.proofs.CutLemmas.Match.{earlier, some_char}

@@ -1,22 +1,14 @@
 -- For collecting, extending and building by steps: items drawn and appended one after another.
-use Rattle.std.proofs.Common.{true, false, true≢false, ◌⊎◌, inr, ◌≡◌, ℕ, ◌<◌, List, [], ◌∷◌, ◌++◌, length, take, drop, map, Option, Some, Result, Ok, Err, IfOk, OnOk, OnErr, refl, sym, ap, ◌∙◌, subst, arith, rules, inl, length-append, length-take}
+use Rattle.smol_str.proofs.Common.{true, false, false≢true, ◌⊎◌, inr, ◌≡◌, ℕ, ◌<◌, List, [], ◌∷◌, ◌++◌, length, take, drop, map, Option, Some, Result, Ok, Err, IfOk, OnOk, OnErr, refl, ap, ◌∙◌, subst, arith, rules, inl, length-append, length-take, YieldsList, items_from_drains, append-nil, length-map, IsShort, IsResident, but_last, Draft, InBuffer, OnHeap, empty_draft, appended, joined, Meaning, IsValueOf, on_err_weaker, IfOk-weaker}
 use Rattle.std.specs.Iterator.{Yields, YieldsThen, Drains, DrainsIf}
 use Rattle.std.specs.Iterator.Runs.{Run}
 use Rattle.std.specs.Result.{MatchResult}
 use Rattle.std.proofs.iter.runs.Lists.{Yields-both}
 use Rattle.std.proofs.iter.runs.Made.{run, took, to_end, to_item}
 use Rattle.std.proofs.lemmas.Grind.{flat_map-append}
-use Rattle.std.proofs.lemmas.Iterator.{YieldsList, items_from_drains}
 use Rattle.std.proofs.lemmas.Iterator.Consumers.{YieldsList-so_far}
-use Rattle.std.proofs.lemmas.List.{append-nil, length-map}
-use Rattle.smol_str.specs.Text.{IsShort, IsResident}
-use Rattle.smol_str.specs.Cut.{but_last}
-use Rattle.smol_str.specs.Draft.{Draft, InBuffer, OnHeap, empty_draft, appended}
-use Rattle.smol_str.specs.Joined.{joined}
-use Rattle.smol_str.specs.Meaning.{Meaning, IsValueOf}
 use Rattle.smol_str.specs.Collect.{AppendedAll, StoppedAt, Collected, Outgrown}
 use Rattle.smol_str.proofs.TextLemmas.Places.{IsShort-front}
-use Rattle.std.proofs.lemmas.Result.{on_err_weaker, IfOk-weaker}
 use Rattle.smol_str.proofs.BuilderLemmas.Draft.{appended-twice, OnHeap-long}
 use Rattle.smol_str.proofs.BuilderLemmas.Push.{appended-heap}
 use Rattle.smol_str.proofs.CutLemmas.Cut.{length_but_last}
@@ -116,7 +108,7 @@ module _ {S : Type 0} (steps : S → Option ℕ → S → Type 0) (s : S) (xs : 
       let gave = drew p.items _ (run-yields steps t p from) in
       let text : new ≡ appended old (xs ++ x ∷ but_last p.items) = cc (front, is, appended-twice old xs (x ∷ but_last p.items)) in
       let joins = appended-twice old xs (x ∷ p.items) in
-      let made = run steps s (xs ++ x ∷ p.items) false (_, gave, λ e. absurd (true≢false (sym e))) in
+      let made = run steps s (xs ++ x ∷ p.items) false (_, gave, λ e. absurd (false≢true e)) in
       (made, refl, (omega (arith, length-append {A = ℕ}), rw (but_last-on xs p.items x some) text, cc))
 
 -- `texts` says the text of items, and `whole` that of the list that v sees in them, part by part

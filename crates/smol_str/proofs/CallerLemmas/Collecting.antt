@@ -1,5 +1,5 @@
 -- Collecting and extending from an iterator that gives a list.
-use Rattle.smol_str.proofs.Common.{◌≡◌, ℕ, ◌<◌, ◌++◌, String, Global, Bor, true, Option, Result, Ok, Err, IfOk, OnOk, OnErr, subst, List, [], length, take, drop, map, refl, sym, ap, ◌∙◌, arith, chars, IsUtf8, YieldsList, chars-encodes, take-append-drop, INLINE_CAP, size, IsShort, Meaning, IsValueOf, Draft, OnHeap, appended, joined, joined_strs, joined_strings, joined_string_refs, str_text, string_text, replaced_all, cut, no_limit, map-id, items_from_drains, None, place_of, rules}
+use Rattle.smol_str.proofs.Common.{◌≡◌, ℕ, ◌<◌, ◌++◌, String, Global, Bor, true, Option, Result, Ok, Err, IfOk, OnOk, OnErr, subst, List, [], length, take, drop, map, refl, sym, ap, ◌∙◌, arith, chars, IsUtf8, YieldsList, chars-encodes, take-append-drop, INLINE_CAP, size, IsShort, Meaning, IsValueOf, Draft, OnHeap, appended, joined, joined_strs, joined_strings, joined_string_refs, str_text, string_text, replaced_all, cut, no_limit, map-id, items_from_drains, None, place_of, rules, on_err_weaker, on_ok_weaker}
 use Rattle.std.specs.Iterator.{Yields, DrainsIf}
 use Rattle.std.specs.Array.Iter.{array_steps, array_into_iter_items}
 use Rattle.std.specs.declared.array.IntoIter.{IntoIter}
@@ -10,7 +10,6 @@ use Rattle.std.proofs.lemmas.List.Folds.{flat_map-map}
 use Rattle.smol_str.specs.Collect.{AppendedAll, StoppedAt, Collected, Outgrown}
 use Rattle.smol_str.specs.JoinedLaws.{joined-strs}
 use Rattle.smol_str.proofs.BuilderLemmas.Collect.{Reads, collected, made, not_short-outgrown, text-appended, heap-stopped, front-stopped}
-use Rattle.std.proofs.lemmas.Result.{on_err_weaker, on_ok_weaker}
 use Rattle.smol_str.proofs.IteratorLemmas.{YieldsList-from_array, iterators, gives-chars, gives-rev_chars, gives-slice}
 use Rattle.smol_str.proofs.PieceLemmas.{joined-nothing, gives-split}
 use Rattle.smol_str.proofs.TextLemmas.Lists.{flat_map-parts}
@@ -165,10 +164,7 @@ module _ {S E : Type 0} {steps : S → Option (Bor (List ℕ)) → S → Type 0}
 
 -- or whose texts are those of a list,
 texts_lent : Reads joined_strs (joined (λ t. t)) (λ x. chars x.now)
-texts_lent = record {
-  is = λ xs. cc (joined-strs xs, flat_map-map (λ t. t) str_text xs);
-  parts = flat_map-parts (λ t. t);
-}
+texts_lent = record { is = λ xs. cc (joined-strs xs, flat_map-map (λ t. t) str_text xs); parts = flat_map-parts (λ t. t) }
 
 module _ {S E : Type 0} {steps : S → Option (Bor (List ℕ)) → S → Type 0} {s : S} where
   module _ {all : List (List ℕ)} (t : List ℕ) (one : joined (λ q. q) all ≡ t) where
@@ -193,13 +189,13 @@ module _ {S E : Type 0} {steps : S → Option (Bor (List ℕ)) → S → Type 0}
 
     pub mapped_extended : {T : Type 0} (r : Result T E) (old new : Draft) → OnOk r (AppendedAll joined_strs steps s old new)
         → YieldsList steps (λ x. chars x.now) s (map h xs) → OnOk r (new ≡ appended old (joined h xs))
-    mapped_extended r old new is gives = 
+    mapped_extended r old new is gives =
         rw flat_map-map at (on_ok_weaker r (λ all. text-appended texts_lent old new all gives) is)
 
     pub mapped_extend_refused : {T : Type 0} (r : Result T E) (old new : Draft)
         → OnErr r (StoppedAt joined_strs steps s old new) → YieldsList steps (λ x. chars x.now) s (map h xs)
         → OnErr r ((appended old (joined h xs)).kind ≡ OnHeap)
-    mapped_extend_refused r old new out gives = 
+    mapped_extend_refused r old new out gives =
         rw flat_map-map at (on_err_weaker r (λ out. heap-stopped texts_lent old new out gives) out)
 
   -- or the pieces of a text t that is split at p, which are what is left where p is replaced by nothing
@@ -217,12 +213,12 @@ module _ {S E : Type 0} {steps : S → Option (Bor (List ℕ)) → S → Type 0}
 module _ {n : ℕ} where
   pub array_chars_long : (s : IntoIter ℕ n) → Outgrown (λ xs. xs) array_steps s
       → (array_into_iter_items s ≡ array_into_iter_items s) × (INLINE_CAP < size (array_into_iter_items s))
-  array_chars_long s out = 
+  array_chars_long s out =
       (refl, omega (arith, not_short-outgrown characters out (YieldsList-from_array (array_into_iter_items s) refl)))
 
   pub array_strs_long : (s : IntoIter (Bor (List ℕ)) n) → Outgrown joined_strs array_steps s
       → (array_into_iter_items s ≡ array_into_iter_items s) × (INLINE_CAP < size (joined str_text (array_into_iter_items s)))
-  array_strs_long s out = 
+  array_strs_long s out =
       (refl, omega (arith, not_short-outgrown items_lent out (YieldsList-from_array (array_into_iter_items s) refl)))
 
 -- and the same of a text that is split at another
@@ -231,7 +227,7 @@ pub split_long : (s : Split (Bor (List ℕ))) → IsUtf8 (split_text s) → IsUt
     → Outgrown joined_strs (split_steps (λ n. FindsText n.now) (λ n m. m.now ≡ n.now)) s
     → (split_text s ≡ split_text s)
     × (INLINE_CAP < size (replaced_all (chars (split_text s)) (chars (split_pattern s).now) []))
-split_long s u v some more out = 
+split_long s u v some more out =
     let gives = gives-split (split_pattern s) _ (split_pattern s).now (λ s o t h. h) u v some refl refl more refl in
     let long = rw joined-nothing at (not_short-outgrown texts_lent out gives) in
     (refl, omega (arith, long))

@@ -1,9 +1,8 @@
 -- A beginning of what is written in two parts: for `serialize`, which writes a size and then a text. And what a
 -- reader gave that failed: for `stream`.
-use Rattle.smol_str.proofs.Common.{◌≡◌, Result, err_from_is_err_and, ℕ, ◌+◌, ◌<◌, ◌≤◌, length, List, ◌++◌, Option, arith, append_assoc, length-append, Appends, Appends-trans, Consumes, Consumes-trans, rules, take, subst}
+use Rattle.smol_str.proofs.Common.{◌≡◌, Result, err_from_is_err_and, ℕ, ◌+◌, ◌<◌, ◌≤◌, length, List, ◌++◌, Option, arith, append_assoc, length-append, Appends, Appends-trans, Consumes, Consumes-trans, rules, take, subst, take_all}
 use Rattle.std.specs.Io.KnownBytes.{Keeps}
 use Rattle.std.proofs.KnownBytes.{Consumes-kept}
-use Rattle.std.proofs.lemmas.List.{take_all}
 use Rattle.smol_str.specs.Stream.{AppendsBeginning, GaveBelow, GaveUpTo}
 use Rattle.std.specs.Result.{IsErrAnd, IfErr}
 
