@@ -60,10 +60,9 @@ module _ (w nd : List ℕ) (u : IsUtf8 w) (v : IsUtf8 nd) (some : 0 < length nd)
       let place : size h.0 ≡ i = cc (h.3, length-take-le i w fits) in
       let s = scalars_parts h.0 (p ++ h.1) (cc (h.2, scalars-chars w u)) in
       let z = scalars_parts p h.1 s.1 in
-      let first : IsFirstAfter p h.0 = λ o.
-          let x = earlier (chars w) p h.0 h.1 h.2 long o in
-          none (size x.0.0) (omega (arith, x.1)) (encode_utf8_all x.0.1) (there x.0.0 x.0.1 x.0.2) in
-      let cuts = cut_first (chars w) p h.0 h.1 long h.2 first in
+      let cuts = cut_first (chars w) p h.0 h.1 long h.2 (λ o.
+      let x = earlier (chars w) p h.0 h.1 h.2 long o in
+      none (size x.0.0) (omega (arith, x.1)) (encode_utf8_all x.0.1) (there x.0.0 x.0.1 x.0.2)) in
       ((h.1, (z.1, h.4)), cc (cuts, h.3, chars-encodes h.0 s.0, h.4, chars-encodes h.1 z.1))
 
 -- a piece comes off

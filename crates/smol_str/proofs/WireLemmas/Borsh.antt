@@ -9,15 +9,11 @@ use Rattle.smol_str.specs.declared.borsh.TheConstants.{STACK_BODY}
 use Rattle.smol_str.specs.Wire.{wire, prefix_size}
 use Rattle.std.specs.Prelude.{⊤}
 use Rattle.smol_str.specs.Stream.{AppendsBeginning, GaveBelow, GaveUpTo}
-use Rattle.smol_str.specs.WireFaults.{AfterDecodeFault, GaveTooFew, GaveSomeOfBody, HasReadBody, HasReadLarge, NeedsMemory, AfterBodyFault, StatesAtMost, AfterLimitedFault, AfterFromWireFault, of_utf8_fault}
+use Rattle.smol_str.specs.WireFaults.{AfterDecodeFault, GaveTooFew, GaveSomeOfBody, HasReadBody, HasReadLarge, NeedsMemory, AfterBodyFault, StatesAtMost, AfterLimitedFault, of_utf8_fault}
 use Rattle.smol_str.proofs.TextLemmas.Places.{size-chars}
 use Rattle.smol_str.proofs.WireLemmas.Stream.{IfErr-is, beginning-of_first, beginning-of_second, Consumes-full}
 
 -- ---- faults that another call's become
-
-pub AfterFromWireFault-of_text : (b : List ℕ) (e : FromUtf8Fault) → ¬ HasEndedEarly b → AfterFromUtf8Fault (body b) e
-    → AfterFromWireFault b (of_utf8_fault e)
-AfterFromWireFault-of_text b e whole h = search rules
 
 pub AfterBodyFault-of_text : (a b : Option (List ℕ)) (n : ℕ) (bytes : List ℕ) (e : FromUtf8Fault)
     → length bytes ≡ n → Consumes a b bytes → AfterFromUtf8Fault bytes e → AfterBodyFault a b n (of_utf8_fault e)

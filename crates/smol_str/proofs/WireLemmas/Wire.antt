@@ -58,10 +58,6 @@ small_at [] small i = lit< tt
 small_at (x ∷ xs) small zero = search (rules, All-head)
 small_at (x ∷ xs) small (suc i) = search (rules, small_at xs, All-tail)
 
--- four bytes are a `u32`
-u32_from : (bs : List ℕ) → ((i : ℕ) → get_or bs i 0 < 256) → from_le_bytes w32 bs < 2 ^ 32
-u32_from bs small = omega (arith, small 0, small 1, small 2, small 3)
-
 -- bytes that have not ended early hold the text that their body is
 pub Holds-stated : (b t : List ℕ) → All (λ c. c < 2 ^ 8) b → ¬ HasEndedEarly b → body b ≡ encode_utf8_all t →
     IsTrue (all_scalars t) → Holds b t (size t + 4)
@@ -70,7 +66,7 @@ Holds-stated b t small whole e scalars =
     let four : 4 ≤ length b = omega (arith, λ (h : length b < 4). whole (inl h)) in
     let rest : 4 + prefix_size b ≤ length b = omega (arith, λ (h : length b < 4 + prefix_size b). whole (inr h)) in
     let front = small_at (take 4 b) (All-take (λ c. c < 2 ^ 8) 4 b small) in
-    let fits = u32_from (take 4 b) front in
+    let fits : from_le_bytes w32 (take 4 b) < 2 ^ 32 = omega (arith, front 0, front 1, front 2, front 3) in
     let long : size t ≡ prefix_size b =
     ap length (sym e) ∙ length-take-le (prefix_size b) (drop 4 b) (omega (arith, length-drop 4 b)) in
     let sized = le_bytes_4 (take 4 b) (size t) (length-take-le 4 b four) front long in

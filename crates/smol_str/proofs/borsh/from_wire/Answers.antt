@@ -1,7 +1,6 @@
 use Rattle.smol_str.proofs.Common.{◌≡◌, ◌<◌, ◌^◌, IsTrue, length, arith, sym, ap, ◌∙◌, subst, encode_utf8_all, all_scalars, encodes-chars, scalars-chars, All-from_get_or, Holds, rules}
 use Rattle.smol_str.proofs.WireLemmas.Wire.{Holds-stated}
 use Rattle.smol_str.proofs.WireLemmas.Stream.{IfErr-is}
-use Rattle.smol_str.proofs.WireLemmas.Borsh.{AfterFromWireFault-of_text}
 use Rattle.smol_str.proofs.borsh.from_wire.Goals as goal
 
 pub returns-clause-ok : goal.returns-clause-ok
@@ -16,4 +15,4 @@ returns-clause-ok c =
     (Holds-stated b _ bytes c.in-Some.ensures.0 (sym c.in-Some.ensures.1 ∙ is) scalars)
 
 pub returns-in_err-value-clause-fault : goal.returns-in_err-value-clause-fault
-returns-in_err-value-clause-fault c = search (rules, IfErr-is, AfterFromWireFault-of_text)
+returns-in_err-value-clause-fault c = search (rules, IfErr-is)
