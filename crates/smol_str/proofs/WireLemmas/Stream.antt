@@ -1,8 +1,6 @@
 -- A beginning of what is written in two parts: for `serialize`, which writes a size and then a text. And what a
 -- reader gave that failed: for `stream`.
 use Rattle.smol_str.proofs.Common.{◌≡◌, Result, err_from_is_err_and, ℕ, ◌+◌, ◌<◌, ◌≤◌, length, List, ◌++◌, Option, arith, append_assoc, length-append, Appends, Appends-trans, Consumes, Consumes-trans, rules, take, subst, take_all}
-use Rattle.std.specs.Io.KnownBytes.{Keeps}
-use Rattle.std.proofs.KnownBytes.{Consumes-kept}
 use Rattle.smol_str.specs.Stream.{AppendsBeginning, GaveBelow, GaveUpTo}
 use Rattle.std.specs.Result.{IsErrAnd, IfErr}
 
@@ -20,11 +18,7 @@ module _ (first second : List ℕ) where
 pub IfErr-is : {T F : Type 0} (P : F → Type 0) (r : Result T F) (f : F) → IsErrAnd r (λ fault. fault ≡ f) → P f → IfErr r P
 IfErr-is P r f failed p = search (rules, arith, err_from_is_err_and)
 
--- ---- reading: a reader that gave some bytes, and then failed, gave no others
-
-pub GaveBelow-failed : (a b c : Option (List ℕ)) → Keeps b c → (bytes : List ℕ) (n : ℕ) → Consumes a b bytes
-    → length bytes < n → GaveBelow a c n
-GaveBelow-failed a b c kept bytes n consumed short = (bytes, short, Consumes-kept a b c bytes consumed kept)
+-- ---- reading
 
 -- a reader that gave some bytes, and then fewer than there was room for
 pub GaveBelow-after : (a b c : Option (List ℕ)) (bytes : List ℕ) (room n : ℕ) → Consumes a b bytes → GaveBelow b c room

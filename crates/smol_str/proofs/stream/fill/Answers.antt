@@ -1,7 +1,7 @@
 use Rattle.smol_str.proofs.Common.{◌≡◌, ℕ, ◌+◌, ◌-◌, ◌≤◌, List, ◌++◌, rules, arith, length, take, slice_range, subst, le_refl, drop_at, length-take-le, Consumes, Consumes-trans, take-add, take-append-le}
 use Rattle.std.proofs.lemmas.Slice.{take-put_mid_below}
 use borrow.Rule.Slice.PartMut.{put_mid}
-use Rattle.smol_str.proofs.WireLemmas.Stream.{GaveBelow-failed}
+use Rattle.std.proofs.KnownBytes.{Consumes-kept}
 use Rattle.smol_str.proofs.stream.fill.Goals as goal
 
 take_split : (a b : ℕ) (old new : List ℕ) → a ≤ b → take a new ≡ take a old
@@ -30,5 +30,4 @@ loop-filled-preserved g c =
 pub returns-in_err-n-clause-failed : goal.returns-in_err-n-clause-failed
 returns-in_err-n-clause-failed g c =
     let gone = length-take-le c.loop-filled.filled c.loop-filled.buf c.loop-filled.invariant.0 in
-    let stops = GaveBelow-failed _ _ _ c.in_err-n.ensures.bytes _ (length c.args.buf.now) c.loop-filled.invariant.1 (omega arith) in
-    search (rules, stops)
+    search (rules, arith, Consumes-kept)
