@@ -1,13 +1,6 @@
 -- For the builder: its text and kind, before and after an append.
-use Rattle.smol_str.proofs.Common.{◌≡◌, ℕ, ◌-◌, ◌<◌, ◌≤◌, List, [], ◌++◌, length, append-nil, false, nat_le, refl, append_assoc, arith, ◌⊎◌, chars, IsUtf8, nat_tests, INLINE_CAP, size, IsShort, Draft, Kind, InBuffer, OnHeap, kind_with, kind_for, appended, empty_draft, common_steps, rules}
-use Rattle.smol_str.proofs.TextLemmas.Places.{size-append, size-chars, is_short-true, is_short-false, IsShort-front}
-
--- the bytes fit in the room that is left, or they do not
-pub IsShort-append : (t bs : List ℕ) → IsUtf8 bs → IsShort t → length bs ≤ INLINE_CAP - size t → IsShort (t ++ chars bs)
-IsShort-append t bs u short room = omega (arith, size-append t (chars bs), size-chars bs u)
-
-pub too_long-append : (t bs : List ℕ) → IsUtf8 bs → INLINE_CAP - size t < length bs → ¬ (IsShort (t ++ chars bs))
-too_long-append t bs u room = λ short. omega (arith, short, size-append t (chars bs), size-chars bs u)
+use Rattle.smol_str.proofs.Common.{◌≡◌, ℕ, ◌<◌, List, [], ◌++◌, append-nil, refl, append_assoc, arith, ◌⊎◌, nat_tests, INLINE_CAP, IsShort, Draft, Kind, InBuffer, OnHeap, kind_with, kind_for, appended, empty_draft, common_steps, rules}
+use Rattle.smol_str.proofs.TextLemmas.Places.{is_short-true, is_short-false, IsShort-front}
 
 -- a builder in its buffer, whose text stays short, or does not
 pub kind_with-short : (t : List ℕ) → IsShort t → kind_with InBuffer t ≡ InBuffer
@@ -15,10 +8,6 @@ kind_with-short t h = rw (is_short-true t h)
 
 pub kind_with-long : (t : List ℕ) → ¬ (IsShort t) → kind_with InBuffer t ≡ OnHeap
 kind_with-long t h = rw (is_short-false t h)
-
--- a capacity that the buffer has not
-pub kind_for-large : (n : ℕ) → INLINE_CAP < n → kind_for n ≡ OnHeap
-kind_for-large n h = let e : nat_le n INLINE_CAP ≡ false = grind (arith, nat_tests) in rw e
 
 -- a builder is on the heap for its capacity or for its text
 pub why_heap : (n : ℕ) (t : List ℕ) → kind_with (kind_for n) t ≡ OnHeap → (INLINE_CAP < n) ⊎ (¬ (IsShort t))

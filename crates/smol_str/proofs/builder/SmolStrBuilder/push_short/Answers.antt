@@ -1,13 +1,14 @@
 use Rattle.smol_str.proofs.Common.{arith, rules}
-use Rattle.smol_str.proofs.BuilderLemmas.Draft.{IsShort-append, too_long-append, kind_with-short, kind_with-long}
+use Rattle.smol_str.proofs.BuilderLemmas.Draft.{kind_with-short, kind_with-long}
+use Rattle.smol_str.proofs.TextLemmas.Places.{size-append, size-chars}
 use Rattle.smol_str.proofs.builder.SmolStrBuilder.push_short.Goals.{in-Inline+else-text-len, in_default}
 use Rattle.smol_str.proofs.builder.SmolStrBuilder.push_short.Goals as goal
 
 pub invariant_of-self : goal.invariant_of-self
-invariant_of-self c = search (rules, arith, IsShort-append)
+invariant_of-self c = search (rules, arith, size-append, size-chars)
 
 pub returns-then-text-len-clause-done : goal.returns-then-text-len-clause-done
-returns-then-text-len-clause-done c = λ _. search (rules, arith, kind_with-short, IsShort-append)
+returns-then-text-len-clause-done c = λ _. search (rules, arith, kind_with-short, size-append, size-chars)
 
 pub returns-clause-outgrown : goal.returns-clause-outgrown
-returns-clause-outgrown c = λ _. search (rules, arith, kind_with-long, too_long-append)
+returns-clause-outgrown c = λ _. search (rules, arith, kind_with-long, size-append, size-chars)
