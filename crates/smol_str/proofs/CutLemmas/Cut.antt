@@ -1,5 +1,5 @@
 -- For the laws of cuts and first matches: each text has one cut at a pattern, and `cut` is it.
-use Rattle.smol_str.proofs.Common.{◌≡◌, ◌↔◌, ℕ, ◌+◌, ◌-◌, ◌<◌, ◌≤◌, zero, suc, min, List, [], ◌∷◌, ◌++◌, Bool, true, false, cond, Option, Some, None, ◌⊎◌, inl, inr, ⊎_elim, length, take, drop, option_map, unwrap_or, MatchOption, refl, sym, ap, ◌∙◌, subst, arith, length-append, append_assoc, append-nil, take-append-drop, nat_eq, concat, starts_with, flat_map, false≢true, false_from_ne_true, Decides-eqb, take_at, take-append-le, append_cancel_left, All, All-nil, All-cons, All-head, All-tail, Occurs, but_last, IsFirstAfter, joined_by, IsCutAt, IsSpelled, IsCutBetween, IsCut, first_match, cut_at, spell, cut_between, cut, rules}
+use Rattle.smol_str.proofs.Common.{◌≡◌, ◌↔◌, ℕ, ◌+◌, ◌-◌, ◌<◌, ◌≤◌, zero, suc, min, List, [], ◌∷◌, ◌++◌, Bool, true, false, cond, Option, Some, None, ◌⊎◌, inl, inr, ⊎_elim, length, drop, option_map, unwrap_or, MatchOption, refl, sym, ap, ◌∙◌, arith, length-append, append_assoc, append-nil, take-append-drop, nat_eq, concat, starts_with, flat_map, false≢true, false_from_ne_true, Decides-eqb, take_at, take-append-le, append_cancel_left, All, All-nil, All-cons, All-head, All-tail, Occurs, but_last, IsFirstAfter, joined_by, IsCutAt, IsSpelled, IsCutBetween, IsCut, first_match, cut_at, spell, cut_between, cut, rules}
 use Rattle.std.proofs.lemmas.Slice.Eq.{starts_is}
 pub use Rattle.smol_str.proofs.TextLemmas.Lists.{head_same, tail_same}
 
@@ -16,9 +16,7 @@ not_later p c t none o = none (c ∷ o.0, o.1, ap (λ xs. c ∷ xs) o.2)
 
 -- the last item, as a list
 abbrev pub last_part : List ℕ → List ℕ
-last_part [] = []
-last_part (x ∷ []) = x ∷ []
-last_part (x ∷ y ∷ rest) = last_part (y ∷ rest)
+last_part p = drop (length (but_last p)) p
 
 two_parts : (p r : List ℕ) → but_last p ++ (last_part p ++ r) ≡ p ++ r
 two_parts (x ∷ y ∷ rest) r = cc (two_parts (y ∷ rest) r)
@@ -29,9 +27,8 @@ pub append-last_part : (p q x : List ℕ) → q ++ (p ++ x) ≡ (q ++ but_last p
 append-last_part p q x = sym (append_assoc q (but_last p) (last_part p ++ x) ∙ ap (λ s. q ++ s) (two_parts p x))
 
 pub length_but_last : {X : Type 0} (p : List X) → length (but_last p) ≡ length p - 1
-length_but_last [] = refl
-length_but_last (x ∷ []) = omega arith
 length_but_last (x ∷ y ∷ rest) = omega (arith, length_but_last (y ∷ rest))
+length_but_last p = omega arith
 
 -- a piece of one character
 abbrev One : List ℕ → Type 0
@@ -40,49 +37,44 @@ One r = length r ≡ 1
 -- a text that begins with p, and goes on to a later match
 occurs_before : (p q x y : List ℕ) → 0 < length p → 0 < length q → p ++ x ≡ q ++ (p ++ y) → Occurs p (q ++ but_last p)
 occurs_before p q x y some more e =
-    let s : List ℕ = q ++ but_last p in
+    let s = q ++ but_last p in
     let long : length p ≤ length s = omega (arith, length-append q (but_last p), length_but_last p) in
-    let reads : take (length p) s ≡ p =
-    cc (take-append-le (length p) s (last_part p ++ y) long, append-last_part p q y, take_at p x (length p) refl) in
-    ([], drop (length p) s, rw reads at (sym (take-append-drop (length p) s)))
-
--- there is one first match
-pub one_first : (p q q' x y : List ℕ) → 0 < length p → q ++ (p ++ x) ≡ q' ++ (p ++ y) → IsFirstAfter p q →
-    IsFirstAfter p q' → q ≡ q'
-one_first p [] [] x y some e f g = refl
-one_first p [] (d ∷ q') x y some e f g = absurd (g (occurs_before p (d ∷ q') x y some (omega arith) e))
-one_first p (c ∷ q) [] x y some e f g = absurd (f (occurs_before p (c ∷ q) y x some (omega arith) (sym e)))
-one_first p (c ∷ q) (d ∷ q') x y some e f g = search (rules, arith, not_later, one_first p q q' x y some (tail_same c d (q ++ (p ++ x)) (q' ++ (p ++ y)) e) (not_later p c (q ++ but_last p) f) (not_later p d (q' ++ but_last p) g))
+    let begins = take-append-le (length p) s (last_part p ++ y) long in
+    ([], drop (length p) s, cc (take-append-drop (length p) s, begins, append-last_part p q y, take_at p x (length p) refl))
 
 -- the first match is the one after the shortest text
 shortest : (p q a r s : List ℕ) → 0 < length p → q ++ (p ++ r) ≡ a ++ (p ++ s) → IsFirstAfter p q → length q ≤ length a
 shortest p [] a r s some e f = omega arith
 shortest p (c ∷ q) [] r s some e f = absurd (f (occurs_before p (c ∷ q) s r some (omega arith) (sym e)))
 shortest p (c ∷ q) (d ∷ a) r s some e f =
-    let rest = tail_same c d (q ++ (p ++ r)) (a ++ (p ++ s)) e in
-    omega (arith, shortest p q a r s some rest (not_later p c (q ++ but_last p) f))
+    omega (arith, shortest p q a r s some (tail_same c d _ _ e) (not_later p c (q ++ but_last p) f))
+
+-- there is one first match
+pub one_first : (p q q' x y : List ℕ) → 0 < length p → q ++ (p ++ x) ≡ q' ++ (p ++ y) → IsFirstAfter p q →
+    IsFirstAfter p q' → q ≡ q'
+one_first p q q' x y some e f g =
+    let long : length q ≡ length q' = omega (arith, shortest p q q' x y some e f, shortest p q' q y x some (sym e) g) in
+    cc (take_at q (p ++ x) (length q) refl, take_at q' (p ++ y) (length q) (sym long))
+
+-- p that stands in q and p without its last character stands in q followed by p, before q's end
+pub sooner : (p q r : List ℕ) → 0 < length p → (o : Occurs p (q ++ but_last p))
+    → (q ++ (p ++ r) ≡ o.0 ++ (p ++ (o.1 ++ (last_part p ++ r)))) × (length o.0 < length q)
+sooner p q r some (a, s, e) = (
+  cc (append-last_part p q r, append_assoc a (p ++ s) (last_part p ++ r), append_assoc p s (last_part p ++ r)),
+  omega (arith, ap length e, length-append {A = ℕ}, length_but_last p),
+)
 
 pub first-shortest : (p q r : List ℕ) → 0 < length p →
     IsFirstAfter p q ↔ ((a s : List ℕ) → q ++ (p ++ r) ≡ a ++ (p ++ s) → length q ≤ length a)
 first-shortest p q r some = (
-  (λ f a s e. shortest p q a r s some e f),
-  (λ least o.
-      let later = append-last_part p q r ∙ ap (λ x. x ++ (last_part p ++ r)) o.2 ∙ append_assoc o.0 (p ++ o.1) (last_part p ++ r)
-      ∙ ap (λ x. o.0 ++ x) (append_assoc p o.1 (last_part p ++ r)) in
-      let sizes = ap length o.2 in
-      omega (arith, least o.0 (o.1 ++ (last_part p ++ r)) later, length-append q (but_last p), length-append o.0 (p ++ o.1), length-append p o.1, length_but_last p)),
+  λ f a s e. shortest p q a r s some e f,
+  λ least o. let h = sooner p q r some o in omega (arith, least o.0 (o.1 ++ (last_part p ++ r)) h.0, h.1),
 )
 
 -- without its first piece a cut is a cut of what is left
 rest_cut : (t p : List ℕ) (n : ℕ) (q r : List ℕ) (rs : List (List ℕ)) → IsCutAt t p n (q ∷ r ∷ rs) →
     IsCutAt (joined_by p (r ∷ rs)) p (n - 1) (r ∷ rs)
-rest_cut t p n q r rs h = record {
-  some = omega arith;
-  limited = omega arith;
-  joined = refl;
-  first = All-tail (IsFirstAfter p) q (but_last (r ∷ rs)) h.first;
-  complete = λ l. h.complete (omega arith);
-}
+rest_cut t p n q r rs h = search (rules, arith, All-tail (IsFirstAfter p) q (but_last (r ∷ rs)) h.first)
 
 pub IsCutAt-unique : (xs ys : List (List ℕ)) (t p : List ℕ) (n : ℕ) → 0 < length p → IsCutAt t p n xs →
     IsCutAt t p n ys → xs ≡ ys
@@ -92,29 +84,19 @@ IsCutAt-unique (q ∷ r ∷ rs) (q' ∷ []) t p n some h k = search (rules, arit
 IsCutAt-unique (q ∷ r ∷ rs) (q' ∷ r' ∷ rs') t p n some h k =
     let whole : q ++ (p ++ joined_by p (r ∷ rs)) ≡ q' ++ (p ++ joined_by p (r' ∷ rs')) =
     cc (joined_more p q r rs, joined_more p q' r' rs', h.joined, k.joined) in
-    let same : q ≡ q' =
-    one_first p q q' (joined_by p (r ∷ rs)) (joined_by p (r' ∷ rs')) some whole
-    (All-head (IsFirstAfter p) q (but_last (r ∷ rs)) h.first)
-    (All-head (IsFirstAfter p) q' (but_last (r' ∷ rs')) k.first) in
+    let same = one_first p q q' (joined_by p (r ∷ rs)) (joined_by p (r' ∷ rs')) some whole
+    (All-head (IsFirstAfter p) q _ h.first) (All-head (IsFirstAfter p) q' _ k.first) in
     let left : joined_by p (r' ∷ rs') ≡ joined_by p (r ∷ rs) =
-    append_cancel_left p _ _ (append_cancel_left q (p ++ joined_by p (r' ∷ rs')) (p ++ joined_by p (r ∷ rs)) (cc)) in
-    let more : r ∷ rs ≡ r' ∷ rs' =
-    IsCutAt-unique (r ∷ rs) (r' ∷ rs') (joined_by p (r ∷ rs)) p (n - 1) some (rest_cut t p n q r rs h)
-    (rw left at (rest_cut t p n q' r' rs' k)) in
-    cc
+    append_cancel_left p _ _ (append_cancel_left q _ _ (cc)) in
+    cc (IsCutAt-unique (r ∷ rs) (r' ∷ rs') _ p (n - 1) some (rest_cut t p n q r rs h) (rw left at (rest_cut t p n q' r' rs' k)))
 IsCutAt-unique xs ys t p n some h k = absurd (omega arith)
 
 -- a first match in front of a cut
 pub IsCutAt-step : (t p q r : List ℕ) (n : ℕ) (pieces : List (List ℕ)) → t ≡ q ++ (p ++ r) → IsFirstAfter p q →
     IsCutAt r p n pieces → IsCutAt t p (n + 1) (q ∷ pieces)
 IsCutAt-step t p q r n [] e none h = absurd (omega arith)
-IsCutAt-step t p q r n (s ∷ ss) e none h = record {
-  some = omega arith;
-  limited = omega arith;
-  joined = joined_more p q s ss ∙ ap (λ x. q ++ (p ++ x)) h.joined ∙ sym e;
-  first = All-cons (IsFirstAfter p) q (but_last (s ∷ ss)) none h.first;
-  complete = λ l. h.complete (omega arith);
-}
+IsCutAt-step t p q r n (s ∷ ss) e none h =
+    search (rules, arith, joined_more, All-cons (IsFirstAfter p) q (but_last (s ∷ ss)) none h.first)
 
 pub IsCutAt-unmatched : (t p : List ℕ) (n : ℕ) → ¬ Occurs p t → IsCutAt t p n (t ∷ [])
 IsCutAt-unmatched t p n none = search (rules, arith, joined_one, All-nil)
@@ -141,19 +123,16 @@ too_long p some o = omega (arith, length_but_last p, ap length o.2, length-appen
 abbrev First : List ℕ → List ℕ → List ℕ × List ℕ → Type 0
 First p t m = (t ≡ m.0 ++ (p ++ m.1)) × (IsFirstAfter p m.0)
 
-abbrev found_here : List ℕ → ℕ → List ℕ → Bool → Option (List ℕ × List ℕ) → Option (List ℕ × List ℕ)
-found_here p c t b o = cond b (Some ([], drop (length p) (c ∷ t))) (option_map (λ m. (c ∷ m.0, m.1)) o)
-
 first_step : (p : List ℕ) (c : ℕ) (t : List ℕ) → 0 < length p → (b : Bool) → starts_with nat_eq (c ∷ t) p ≡ b →
-    (o : Option (List ℕ × List ℕ))
-    → MatchOption o (¬ Occurs p t) (First p t) →
-    MatchOption (found_here p c t b o) (¬ Occurs p (c ∷ t)) (First p (c ∷ t))
+    (o : Option (List ℕ × List ℕ)) → MatchOption o (¬ Occurs p t) (First p t) →
+    MatchOption (cond b (Some ([], drop (length p) (c ∷ t))) (option_map (λ m. (c ∷ m.0, m.1)) o))
+    (¬ Occurs p (c ∷ t)) (First p (c ∷ t))
 first_step p c t some false e (Some m) h = (
   ap (λ s. c ∷ s) h.0,
-  λ o. ⊎_elim
-      (λ x. starts_with-false p (c ∷ t) (x.0 ++ (last_part p ++ m.1)) e
-      (ap (λ s. c ∷ s) (h.0 ∙ append-last_part p m.0 m.1) ∙ ap (λ s. s ++ (last_part p ++ m.1)) x.1
-      ∙ append_assoc p x.0 (last_part p ++ m.1)))
+  λ o.
+      let later = append-last_part p (c ∷ m.0) m.1 in
+      ⊎_elim
+      (λ x. starts_with-false p (c ∷ t) (x.0 ++ (last_part p ++ m.1)) e (cc (later, append_assoc p x.0 (last_part p ++ m.1))))
       h.1
       (occurs_cases p c (m.0 ++ but_last p) o.0 o.1 o.2),
 )
@@ -173,22 +152,17 @@ pub IsCutAt-cut : (n : ℕ) (p t : List ℕ) → 0 < length p → IsCutAt t p n 
 IsCutAt-cut zero p t some = search (rules, arith, joined_one, All-nil)
 IsCutAt-cut (suc n) p t some =
     let next : suc n ≡ n + 1 = omega arith in
-    subst (λ (k : ℕ). IsCutAt t p k (cut_at (suc n) p t)) (sym next)
-    (cut_step n p t (λ s. IsCutAt-cut n p s some) (first_match p t) (first_found p t some))
+    rw next (cut_step n p t (λ s. IsCutAt-cut n p s some) (first_match p t) (first_found p t some))
 
 -- at the empty pattern
 one_spelling : (xs ys : List (List ℕ)) → length xs ≡ length ys → All One (but_last xs) → All One (but_last ys) →
     concat xs ≡ concat ys → xs ≡ ys
 one_spelling [] [] l h k e = refl
 one_spelling (x ∷ []) (y ∷ []) l h k e = cc (append-nil x, append-nil y)
-one_spelling (x ∷ w ∷ xs) (y ∷ z ∷ ys) l h k e =
-    let n : length x ≡ length y = cc (All-head One x (but_last (w ∷ xs)) h, All-head One y (but_last (z ∷ ys)) k) in
-    let same : x ≡ y =
-    cc (take_at x (concat (w ∷ xs)) (length x) refl, take_at y (concat (z ∷ ys)) (length x) (sym n)) in
-    let left : concat (w ∷ xs) ≡ concat (z ∷ ys) = append_cancel_left x (concat (w ∷ xs)) (concat (z ∷ ys)) (cc) in
-    let rest = one_spelling (w ∷ xs) (z ∷ ys) (omega arith) (All-tail One x (but_last (w ∷ xs)) h)
-    (All-tail One y (but_last (z ∷ ys)) k) left in
-    cc
+one_spelling ((a ∷ []) ∷ w ∷ xs) ((b ∷ []) ∷ z ∷ ys) l h k e =
+    let rest = one_spelling (w ∷ xs) (z ∷ ys) (omega arith) (All-tail One _ _ h) (All-tail One _ _ k) (tail_same a b _ _ e) in
+    cc (head_same a b _ _ e)
+one_spelling (x ∷ w ∷ xs) (y ∷ z ∷ ys) l h k e = absurd (omega (arith, All-head One x _ h, All-head One y _ k))
 one_spelling xs ys l h k e = absurd (omega arith)
 
 one_between_at : (m : ℕ) (xs ys : List (List ℕ)) (t : List ℕ) → length xs ≡ m + 1 → length ys ≡ m + 1 →
@@ -197,8 +171,7 @@ one_between_at zero (x ∷ []) (y ∷ []) t l k e f g h = cc (append-nil x, appe
 one_between_at (suc m) (x ∷ xs) (y ∷ ys) t l k e f g h =
     let a = g (omega arith) in
     let b = h (omega arith) in
-    let same : concat xs ≡ concat ys = ap (λ s. s ++ concat xs) (sym a.0) ∙ e ∙ sym f ∙ ap (λ s. s ++ concat ys) b.0 in
-    cc (a.0, b.0, one_spelling xs ys (omega arith) a.1 b.1 same)
+    cc (a.0, b.0, one_spelling xs ys (omega arith) a.1 b.1 (cc (a.0, b.0)))
 one_between_at m xs ys t l k e f g h = absurd (omega arith)
 
 pub IsCut-unique : (t p : List ℕ) (n : ℕ) (xs ys : List (List ℕ)) → IsCut t p n xs → IsCut t p n ys → xs ≡ ys
@@ -210,9 +183,8 @@ length_spell (suc n) (c ∷ t) = omega (arith, length_spell n t)
 length_spell n t = omega arith
 
 concat_spell : (n : ℕ) (t : List ℕ) → concat (spell n t) ≡ t
-concat_spell zero t = append-nil t
-concat_spell (suc n) [] = refl
 concat_spell (suc n) (c ∷ t) = ap (λ s. c ∷ s) (concat_spell n t)
+concat_spell n t = append-nil t
 
 spelled_spell : (n : ℕ) (t : List ℕ) → All One (but_last (spell n t))
 spelled_spell (suc n) (c ∷ t) = search (rules, All-nil, All-cons, spelled_spell n t)

@@ -4,8 +4,8 @@ use Rattle.memchr.specs.Find.{OccursAt, FindsNeedle, is_byte, IsFirstByte}
 use Rattle.memchr.proofs.lemmas.FindLemmas.{OccursAt-byte, byte-OccursAt}
 use Rattle.memchr.proofs.lemmas.MatchLemmas.{OccursAt-split, OccursAt-from_part}
 use Rattle.smol_str.proofs.TextLemmas.Places.{size-append, size-chars}
-use Rattle.smol_str.proofs.CutLemmas.Cut.{append-last_part, last_part, length_but_last, one_first}
-use Rattle.smol_str.proofs.CutLemmas.Sync.{StandsBetween-bytes, StandsAt-bytes}
+use Rattle.smol_str.proofs.CutLemmas.Cut.{last_part, one_first, sooner}
+use Rattle.smol_str.proofs.CutLemmas.Sync.{StandsAt-bytes}
 use Rattle.smol_str.proofs.TextLemmas.Split.{boundary-parts, drop-parts, chars-take, chars-drop}
 use Rattle.std.proofs.lemmas.Str.{IsUtf8-take}
 
@@ -23,47 +23,30 @@ pub earlier : (b p q r : List ℕ) → b ≡ q ++ (p ++ r) → 0 < length p → 
     → (x : Occurs p b) × (size x.0 < size q)
 earlier b p q r e some o =
     let u = o.0 in
-    let v = o.1 in
-    let short : length u < length q =
-    omega (
-      arith,
-      ap length o.2,
-      length-append q (but_last p),
-      length-append u (p ++ v),
-      length-append p v,
-      length_but_last p,
-    ) in
-    let whole : b ≡ u ++ (p ++ (v ++ (last_part p ++ r))) =
-    cc (append-last_part p q r, o.2, append_assoc u (p ++ v) (last_part p ++ r), append_assoc p v (last_part p ++ r)) in
-    let begins : take (length u) q ≡ u =
-    cc (take-append-le (length u) q (but_last p) (omega arith), o.2, take_at u (p ++ v) (length u) refl) in
-    let two = rw begins at (sym (take-append-drop (length u) q)) in (
-      (u, v ++ (last_part p ++ r), whole),
-      omega (
-        arith,
-        ap size two,
-        size-append u (drop (length u) q),
-        length-le-encodes (drop (length u) q),
-        length-drop (length u) q,
-      ),
+    let k = drop (length u) q in
+    let h = sooner p q r some o in
+    let begins = take-append-le (length u) q (p ++ r) (omega (arith, h.1)) in
+    let parts : q ≡ u ++ k =
+    cc (take-append-drop (length u) q, begins, take_at u (p ++ (o.1 ++ (last_part p ++ r))) (length u) refl, h.0) in (
+      (u, o.1 ++ (last_part p ++ r), e ∙ h.0),
+      omega (arith, h.1, ap size parts, size-append u k, length-le-encodes k, length-drop (length u) q),
     )
+
+-- what is before a match, the match and what is behind it
+match-bytes : (hay nd : List ℕ) (k : ℕ) → OccursAt hay nd k → hay ≡ take k hay ++ (nd ++ drop (k + length nd) hay)
+match-bytes hay nd k h = cc (take-append-drop k hay, OccursAt-split hay nd k h)
 
 -- the answer of a search in the bytes of b, with i bytes before them
 module _ (a b p : List ℕ) (i : ℕ) where
   found_none : FindsNeedle (encode_utf8_all b) (encode_utf8_all p) 0 None → ¬ Occurs p b
-  found_none f = λ o.
-      let at = chars_stand b p o.0 o.1 o.2 in
-      f (size o.0) (omega arith) (omega arith) at
+  found_none f o = let at = chars_stand b p o.0 o.1 o.2 in f (size o.0) (omega arith) (omega arith) at
 
   found_some : (k : ℕ) → 0 < length p → size a ≡ i → FindsNeedle (encode_utf8_all b) (encode_utf8_all p) 0 (Some k)
       → IsNextMatch a b p (i + k)
   found_some k some n f =
       let bs = encode_utf8_all b in
-      let nd = encode_utf8_all p in
-      let y = drop (k + length nd) bs in
-      let reads : bs ≡ take k bs ++ (nd ++ y) = cc (take-append-drop k bs, OccursAt-split bs nd k f.1) in
-      let h = StandsBetween-bytes b p (take k bs) y some reads in
-      let long : size h.0 ≡ k = ap length h.3 ∙ length-take-le k bs (omega arith) in
+      let h = StandsAt-bytes b p (take k bs) _ some (match-bytes bs (encode_utf8_all p) k f.1) in
+      let long : size h.0 ≡ k = h.3 ∙ length-take-le k bs (omega arith) in
       record {
         before = h.0;
         after = h.1;
@@ -77,9 +60,8 @@ module _ (a b p : List ℕ) (i : ℕ) where
 -- a pattern that is not empty has a character
 pub some_char : (nd : List ℕ) → IsUtf8 nd → 0 < length nd → 0 < length (chars nd)
 some_char nd u some =
-    let empty = λ (none : length (chars nd) ≤ 0).
-    sym (encodes-chars nd u) ∙ ap encode_utf8_all (nil_from_length (chars nd) (omega arith)) in
-    ⊎_elim (λ l. l) (λ none. absurd (omega (arith, ap length (empty none)))) (cases_lt 0 (length (chars nd)))
+    ⊎_elim (λ l. l) (λ none. absurd (omega (arith, size-chars nd u, ap size (nil_from_length (chars nd) (omega arith)))))
+    (cases_lt 0 (length (chars nd)))
 
 -- at most one place is that of the next match
 pub one_next : (a b p : List ℕ) (i j : ℕ) → 0 < length p → IsNextMatch a b p i → IsNextMatch a b p j → i ≡ j
@@ -89,36 +71,31 @@ pub next-occurs : (a b p : List ℕ) (i : ℕ) → IsNextMatch a b p i → Occur
 next-occurs a b p i h = (h.before, h.after, h.reads)
 
 -- what follows the first i bytes of a text, searched
-module _ (bs nd : List ℕ) (i : ℕ) where
-  pub IsNextMatch-found : (k : ℕ) → IsUtf8 bs → IsUtf8 nd → 0 < length nd → FindsNeedle (drop i bs) nd 0 (Some k)
-      → (a b : List ℕ) → chars bs ≡ a ++ b → size a ≡ i → IsNextMatch a b (chars nd) (i + k)
-  IsNextMatch-found k u v some f a b e n = search (rules, found_some, some_char, drop-parts, encodes-chars)
+module _ (bs nd : List ℕ) (i : ℕ) (u : IsUtf8 bs) (v : IsUtf8 nd) where
+  pub Occurs-none : FindsNeedle (drop i bs) nd 0 None → (a b : List ℕ) → chars bs ≡ a ++ b → size a ≡ i
+      → ¬ Occurs (chars nd) b
+  Occurs-none f a b e n = found_none a b (chars nd) i (rw (← drop-parts bs a b i u e n, encodes-chars nd v) f)
 
-  pub Occurs-none : IsUtf8 bs → IsUtf8 nd → FindsNeedle (drop i bs) nd 0 None
-      → (a b : List ℕ) → chars bs ≡ a ++ b → size a ≡ i → ¬ Occurs (chars nd) b
-  Occurs-none u v f a b e n = found_none a b (chars nd) i (rw (← drop-parts bs a b i u e n, encodes-chars nd v) f)
+  module _ (r : Option ℕ) (is : r ≡ None) (f : FindsNeedle (drop i bs) nd 0 None) where
+    pub none_not_some : (a b : List ℕ) → chars bs ≡ a ++ b → size a ≡ i → (j : ℕ)
+        → (r ≡ Some j) ↔ IsNextMatch a b (chars nd) j
+    none_not_some a b e n j = search (rules, Occurs-none, next-occurs)
 
-  pub some_exact : (k : ℕ) → IsUtf8 bs → IsUtf8 nd → 0 < length nd → FindsNeedle (drop i bs) nd 0 (Some k)
-      → (a b : List ℕ) → chars bs ≡ a ++ b → size a ≡ i → (j : ℕ)
-      → (Some (i + k) ≡ Some j) ↔ IsNextMatch a b (chars nd) j
-  some_exact k u v some f a b e n j =
-      let h = IsNextMatch-found k u v some f a b e n in (
-        λ s. subst (IsNextMatch a b (chars nd)) (same_Some (i + k) j s) h,
-        λ m. ap Some (one_next a b (chars nd) (i + k) j (some_char nd v some) h m),
-      )
+    pub none_exact : (a b : List ℕ) → chars bs ≡ a ++ b → size a ≡ i → (r ≡ None) ↔ (¬ Occurs (chars nd) b)
+    none_exact a b e n = (λ _. Occurs-none f a b e n, λ _. is)
 
-  pub some_not_none : (k : ℕ) → IsUtf8 bs → IsUtf8 nd → 0 < length nd → FindsNeedle (drop i bs) nd 0 (Some k)
-      → (a b : List ℕ) → chars bs ≡ a ++ b → size a ≡ i → (Some (i + k) ≡ None) ↔ (¬ Occurs (chars nd) b)
-  some_not_none k u v some f a b e n =
-      (λ s. cc, λ none. absurd (none (next-occurs a b (chars nd) (i + k) (IsNextMatch-found k u v some f a b e n))))
+  module _ (some : 0 < length nd) (k : ℕ) (f : FindsNeedle (drop i bs) nd 0 (Some k)) where
+    pub IsNextMatch-found : (a b : List ℕ) → chars bs ≡ a ++ b → size a ≡ i → IsNextMatch a b (chars nd) (i + k)
+    IsNextMatch-found a b e n = search (rules, found_some, some_char, drop-parts, encodes-chars)
 
-  pub none_not_some : (r : Option ℕ) → r ≡ None → IsUtf8 bs → IsUtf8 nd → FindsNeedle (drop i bs) nd 0 None
-      → (a b : List ℕ) → chars bs ≡ a ++ b → size a ≡ i → (j : ℕ) → (r ≡ Some j) ↔ IsNextMatch a b (chars nd) j
-  none_not_some r is u v f a b e n j = search (rules, Occurs-none, next-occurs)
+    pub some_exact : (a b : List ℕ) → chars bs ≡ a ++ b → size a ≡ i → (j : ℕ)
+        → (Some (i + k) ≡ Some j) ↔ IsNextMatch a b (chars nd) j
+    some_exact a b e n j =
+        let h = IsNextMatch-found a b e n in
+        (λ s. rw (← same_Some (i + k) j s) h, λ m. ap Some (one_next a b (chars nd) (i + k) j (some_char nd v some) h m))
 
-  pub none_exact : (r : Option ℕ) → r ≡ None → IsUtf8 bs → IsUtf8 nd → FindsNeedle (drop i bs) nd 0 None
-      → (a b : List ℕ) → chars bs ≡ a ++ b → size a ≡ i → (r ≡ None) ↔ (¬ Occurs (chars nd) b)
-  none_exact r is u v f a b e n = (λ _. Occurs-none u v f a b e n, λ _. is)
+    pub some_not_none : (a b : List ℕ) → chars bs ≡ a ++ b → size a ≡ i → (Some (i + k) ≡ None) ↔ (¬ Occurs (chars nd) b)
+    some_not_none a b e n = let o = next-occurs a b (chars nd) (i + k) (IsNextMatch-found a b e n) in search rules
 
 -- a pattern whose bytes are nowhere in a text's stands nowhere in the text
 pub not_found : (bs nd : List ℕ) → IsUtf8 bs → IsUtf8 nd → FindsNeedle bs nd 0 None → ¬ Occurs (chars nd) (chars bs)
@@ -135,24 +112,23 @@ module _ (bs nd : List ℕ) (u : IsUtf8 bs) (v : IsUtf8 nd) (some : 0 < length n
   boundaries : (x y : List ℕ) → bs ≡ x ++ (nd ++ y) → (i : ℕ) → length x ≡ i
       → IsCharBoundary bs i × IsCharBoundary bs (i + length nd)
   boundaries x y e i long =
-      let h = StandsAt-parts x y e in
-      let behind : chars bs ≡ (h.0 ++ chars nd) ++ h.1 = h.2 ∙ sym (append_assoc h.0 (chars nd) h.1) in (
+      let h = StandsAt-parts x y e in (
         boundary-parts bs h.0 (chars nd ++ h.1) i u h.2 (h.3 ∙ long),
-        boundary-parts bs (h.0 ++ chars nd) h.1 (i + length nd) u behind
-            (omega (arith, size-append h.0 (chars nd), size-chars nd v)),
+        boundary-parts bs (h.0 ++ chars nd) h.1 (i + length nd) u (cc (h.2, append_assoc h.0 (chars nd) h.1))
+            (omega (arith, h.3, size-append h.0 (chars nd), size-chars nd v)),
       )
 
   pub found-boundaries : (i k : ℕ) → i ≤ length bs → FindsNeedle (drop i bs) nd 0 (Some k)
       → IsCharBoundary bs (i + k) × IsCharBoundary bs (i + k + length nd)
   found-boundaries i k inside f =
       let rest = drop i bs in
+      let found = match-bytes rest nd k f.1 in
+      let x = take i bs ++ take k rest in
       let y = drop (k + length nd) rest in
-      let found : rest ≡ take k rest ++ (nd ++ y) = cc (take-append-drop k rest, OccursAt-split rest nd k f.1) in
-      let reads : bs ≡ (take i bs ++ take k rest) ++ (nd ++ y) =
-      cc (take-append-drop i bs, found, append_assoc (take i bs) (take k rest) (nd ++ y)) in
+      let reads : bs ≡ x ++ (nd ++ y) = cc (take-append-drop i bs, found, append_assoc (take i bs) (take k rest) (nd ++ y)) in
       let fits = f.1.fits in
-      boundaries (take i bs ++ take k rest) y reads (i + k)
-      (omega (arith, length-append (take i bs) (take k rest), length-take-le i bs inside, length-take-le k rest (omega (arith, fits))))
+      let last = length-take-le k rest (omega (arith, fits)) in
+      boundaries x y reads (i + k) (omega (arith, length-append (take i bs) (take k rest), length-take-le i bs inside, last))
 
 -- of a text from a char boundary on, what a search for a pattern that is not empty finds
 module _ (bs nd : List ℕ) (i : ℕ) (u : IsUtf8 bs) (v : IsUtf8 nd) (some : 0 < length nd)
@@ -160,24 +136,18 @@ module _ (bs nd : List ℕ) (i : ℕ) (u : IsUtf8 bs) (v : IsUtf8 nd) (some : 0 
   from_here : IsCharBoundary bs i
   from_here = ⊎_elim (λ none. subst (IsCharBoundary bs) (omega arith) (IsCharBoundary-start bs u)) start (cases_lt i 1)
 
-  abbrev before : List ℕ
-  before = chars (take i bs)
-
-  abbrev rest : List ℕ
-  rest = chars (drop i bs)
-
-  reads : chars bs ≡ before ++ rest
+  reads : chars bs ≡ chars (take i bs) ++ chars (drop i bs)
   reads = cc (take-append-drop i bs, chars-append (take i bs) (drop i bs) (IsUtf8-take bs i u from_here))
 
-  long : size before ≡ i
+  long : size (chars (take i bs)) ≡ i
   long = size-chars (take i bs) (IsUtf8-take bs i u from_here) ∙ length-take-le i bs from_here.0
 
-  pub nowhere : FindsNeedle (drop i bs) nd 0 None → ¬ Occurs (chars nd) rest
+  pub nowhere : FindsNeedle (drop i bs) nd 0 None → ¬ Occurs (chars nd) (chars (drop i bs))
   nowhere f = not_found (drop i bs) nd (IsUtf8-drop bs i u from_here) v f
 
   module _ (k : ℕ) (f : FindsNeedle (drop i bs) nd 0 (Some k)) where
-    match : IsNextMatch before rest (chars nd) (i + k)
-    match = IsNextMatch-found bs nd i k u v some f before rest reads long
+    match : IsNextMatch (chars (take i bs)) (chars (drop i bs)) (chars nd) (i + k)
+    match = IsNextMatch-found bs nd i u v some k f _ _ reads long
 
     pub is_first : (j : ℕ) → j ≡ i + k → IsFirstAfter (chars nd) (chars (take (j - i) (drop i bs)))
     is_first j e = search (rules, size-append, match, chars-take, IsUtf8-drop, from_here, reads, long)
@@ -185,12 +155,11 @@ module _ (bs nd : List ℕ) (i : ℕ) (u : IsUtf8 bs) (v : IsUtf8 nd) (some : 0 
     pub parts : (j : ℕ) → j ≡ i + k
         → chars bs ≡ chars (take j bs) ++ (chars nd ++ chars (drop (j + length nd) bs))
     parts j e =
-        let a = before ++ match.before in
+        let front = chars (take i bs) in
+        let a = front ++ match.before in
         let p = chars nd in
         let whole : chars bs ≡ a ++ (p ++ match.after) =
-        cc (reads, match.reads, append_assoc before match.before (p ++ match.after)) in
-        let behind : chars bs ≡ (a ++ p) ++ match.after = whole ∙ sym (append_assoc a p match.after) in
-        let first = chars-take bs a (p ++ match.after) j u whole (match.index ∙ sym e) in
-        let last = chars-drop bs (a ++ p) match.after (j + length nd) u behind
+        cc (reads, match.reads, append_assoc front match.before (p ++ match.after)) in
+        let last = chars-drop bs (a ++ p) match.after (j + length nd) u (whole ∙ sym (append_assoc a p match.after))
         (omega (arith, size-append a p, size-chars nd v, match.index)) in
-        rw (first, last) whole
+        rw (chars-take bs a (p ++ match.after) j u whole (match.index ∙ sym e), last) whole

@@ -19,7 +19,7 @@ module _ (bs p w : List ℕ) (n m : ℕ) (b : Draft) (i : ℕ) (h : IsReplacing 
   replacing-boundary = boundary-parts bs h.done h.rest i u h.parts h.at
 
   pub replacing-inside : i ≤ length bs
-  replacing-inside = omega (arith, size-chars bs u, ap size h.parts, size-append h.done h.rest)
+  replacing-inside = replacing-boundary.0
 
   -- the next character of the rest, or none
   pub next-char : (rest : List ℕ) (r : Option ℕ) → rest ≡ drop i bs → r ≡ slice_get (chars rest) 0
@@ -69,17 +69,15 @@ module _ (t p w : List ℕ) (n m l : ℕ) (b : Draft) (i : ℕ) (h : IsReplacing
   more-appended : (d : Draft) → d ≡ appended b x → d ≡ appended (empty_draft InBuffer) (b.text ++ x)
   more-appended d e = cc (h.draft, appended-twice (empty_draft InBuffer) b.text x)
 
-  replacing-more : (d : Draft) → d ≡ appended b x → IsReplacing t p w n l d (i + size q)
-  replacing-more d e =
-      let now : d.text ≡ b.text ++ x = ap (λ y. y.text) (more-appended d e) in
-      record {
-        done = h.done ++ q;
-        rest = r;
-        parts = cc (h.parts, append_assoc h.done q r);
-        at = omega (arith, size-append h.done q);
-        draft = cc (more-appended d e);
-        text = cc (more-text);
-      }
+  replacing-more : (d : Draft) → d ≡ appended b x → (j : ℕ) → j ≡ i + size q → IsReplacing t p w n l d j
+  replacing-more d e j at = record {
+    done = h.done ++ q;
+    rest = r;
+    parts = cc (h.parts, append_assoc h.done q r);
+    at = omega (arith, size-append h.done q);
+    draft = cc (more-appended d e);
+    text = cc (more-text, more-appended d e);
+  }
 
   replacing-refused : (appended b x).kind ≡ OnHeap → ¬ (IsShort (replaced t p w n))
   replacing-refused e = grind (arith, common_steps, new-heap, IsShort-front, more-text)
@@ -110,11 +108,9 @@ module _ (bs nd w : List ℕ) (n m : ℕ) (b : Draft) (i j : ℕ) (h : IsReplaci
     pub match-step : IsUtf8 nd → (d : Draft) → d ≡ appended b (k.before ++ w)
         → IsReplacing (chars bs) (chars nd) w n l d (j + length nd)
     match-step v d e =
-        let at : i + size (k.before ++ chars nd) ≡ j + length nd =
-        omega (arith, size-append k.before (chars nd), size-append h.done k.before, size-chars nd v) in
-        subst (IsReplacing (chars bs) (chars nd) w n l d) at
-        (replacing-more (chars bs) (chars nd) w n m l b i h (k.before ++ chars nd) k.after (k.before ++ w) match-passed
-        match-made d e)
+        replacing-more (chars bs) (chars nd) w n m l b i h (k.before ++ chars nd) k.after (k.before ++ w) match-passed
+        match-made d e (j + length nd)
+        (omega (arith, k.index, size-append k.before (chars nd), size-append h.done k.before, size-chars nd v))
 
     pub match-refused : (appended b (k.before ++ w)).kind ≡ OnHeap → ¬ (IsShort (replaced (chars bs) (chars nd) w n))
     match-refused =
@@ -129,8 +125,8 @@ module _ (t w : List ℕ) (n m l : ℕ) (b : Draft) (i : ℕ) (h : IsReplacing t
 
     pub taken-step : (d : Draft) → d ≡ appended b (w ++ (c ∷ [])) → IsReplacing t [] w n l d (i + len_utf8 c)
     taken-step d e =
-        subst (λ (k : ℕ). IsReplacing t [] w n l d (i + k)) (size-one c)
-        (replacing-more t [] w n m l b i h (c ∷ []) r (w ++ (c ∷ [])) reads taken-made d e)
+        replacing-more t [] w n m l b i h (c ∷ []) r (w ++ (c ∷ [])) reads taken-made d e (i + len_utf8 c)
+        (omega (arith, size-one c))
 
     pub taken-refused : (appended b (w ++ (c ∷ []))).kind ≡ OnHeap → ¬ (IsShort (replaced t [] w n))
     taken-refused = replacing-refused t [] w n m l b i h (c ∷ []) r (w ++ (c ∷ [])) reads taken-made
@@ -141,9 +137,7 @@ module _ (t w : List ℕ) (n m l : ℕ) (b : Draft) (i : ℕ) (h : IsReplacing t
     end-made = grind (arith, common_steps, replaced-end, replaced-none, append-nil)
 
     pub taken-end : (d : Draft) → d ≡ appended b w → IsReplacing t [] w n 0 d i
-    taken-end d e =
-        let at : i + 0 ≡ i = omega arith in
-        subst (IsReplacing t [] w n 0 d) at (replacing-more t [] w n m 0 b i h [] [] w reads end-made d e)
+    taken-end d e = replacing-more t [] w n m 0 b i h [] [] w reads end-made d e i (omega arith)
 
   -- either way w comes next
   pub before-refused : (rest : List ℕ) → h.rest ≡ rest → (appended b w).kind ≡ OnHeap → ¬ (IsShort (replaced t [] w n))
@@ -155,19 +149,13 @@ chars-empty bs e = ap chars (nil_from_length bs e) ∙ chars-nil
 
 -- the rest appended
 module _ (bs p w : List ℕ) (n : ℕ) (b : Draft) (i : ℕ) (h : IsReplacing (chars bs) p w n 0 b i) (u : IsUtf8 bs) where
-  rest-made : replaced h.rest p w 0 ≡ chars (drop i bs) ++ replaced [] p w 0
-  rest-made = grind (arith, common_steps, replaced-none, chars-drop, append-nil)
-
   pub rest-whole : (d : Draft) → d ≡ appended b (chars (drop i bs)) → d ≡ appended (empty_draft InBuffer) (replaced (chars bs) p w n)
   rest-whole d e =
-      let x = chars (drop i bs) in
-      let reads = sym (append-nil h.rest) in
-      let now = more-appended (chars bs) p w n 0 0 b i h h.rest [] x reads rest-made d e in
-      cc (now, more-text (chars bs) p w n 0 0 b i h h.rest [] x reads rest-made, replaced-none [] p w, append-nil (b.text ++ x))
+      let reads = chars-drop bs h.done h.rest i u h.parts h.at in
+      cc (reads, h.text, h.draft, replaced-none h.rest p w, appended-twice (empty_draft InBuffer) b.text h.rest)
 
   pub rest-refused : (appended b (chars (drop i bs))).kind ≡ OnHeap → ¬ (IsShort (replaced (chars bs) p w n))
-  rest-refused =
-      replacing-refused (chars bs) p w n 0 0 b i h h.rest [] (chars (drop i bs)) (sym (append-nil h.rest)) rest-made
+  rest-refused heap = search (rules, new-heap, rest-whole)
 
 -- a limit above the text's length leaves no match out
 pub replaced-unlimited : (bs p w : List ℕ) → IsUtf8 bs → (n : ℕ) → length bs < n

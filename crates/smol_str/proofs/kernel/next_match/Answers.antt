@@ -8,8 +8,8 @@ returns-in_err-found c =
     record {
       first = rw c.from_residual.ensures (nowhere _ _ _ c.utf8.text c.utf8.pattern c.requires.not_empty c.requires.boundary found);
       parts = search rules;
-      found = none_not_some _ _ _ c.from_residual.result c.from_residual.ensures c.utf8.text c.utf8.pattern found;
-      none = none_exact _ _ _ c.from_residual.result c.from_residual.ensures c.utf8.text c.utf8.pattern found;
+      found = none_not_some _ _ _ c.utf8.text c.utf8.pattern c.from_residual.result c.from_residual.ensures found;
+      none = none_exact _ _ _ c.utf8.text c.utf8.pattern c.from_residual.result c.from_residual.ensures found;
       synchronised = StandsAt-parts _ _ c.utf8.text c.utf8.pattern c.requires.not_empty;
       within = search rules;
       boundaries = search rules;
@@ -23,8 +23,8 @@ returns c =
     record {
       first = is_first _ _ _ c.utf8.text c.utf8.pattern some c.requires.boundary at found _ refl;
       parts = parts _ _ _ c.utf8.text c.utf8.pattern some c.requires.boundary at found _ refl;
-      found = some_exact _ _ _ at c.utf8.text c.utf8.pattern some found;
-      none = some_not_none _ _ _ at c.utf8.text c.utf8.pattern some found;
+      found = some_exact _ _ _ c.utf8.text c.utf8.pattern some at found;
+      none = some_not_none _ _ _ c.utf8.text c.utf8.pattern some at found;
       synchronised = StandsAt-parts _ _ c.utf8.text c.utf8.pattern some;
       within = grind (arith, common_steps);
       boundaries = found-boundaries _ _ c.utf8.text c.utf8.pattern some _ _ (search rules) found;
