@@ -23,8 +23,8 @@ pub front-append : (a r : List ℕ) → IsAsciiText a → BeginsPastAscii r → 
 front-append [] [] low past = refl
 front-append [] (d ∷ r) low past = rw (take_while-cons is_ascii d r, le-ltb d 0x80 past)
 front-append (c ∷ a) r low past =
-    let small = All-head (λ d. d < 0x80) c a low in
-    rw (take_while-cons is_ascii c (a ++ r), lt-ltb c 0x80 small, front-append a r (All-tail (λ d. d < 0x80) c a low) past)
+    let rest = front-append a r (All-tail (λ d. d < 0x80) c a low) past in
+    grind (arith, nat_tests, take_while-cons is_ascii c (a ++ r), All-head (λ d. d < 0x80) c a low)
 
 -- a text is its front and what follows
 abbrev Parts : List ℕ → List ℕ → Type 0
@@ -73,7 +73,7 @@ from_start xs n = search rules
 module _ (text : List ℕ) (at : ℕ) (u : IsUtf8 text) (f : IsAsciiFront text at)
     (stops : at < length text → 128 ≤ get_or text at 0) where
   pub front-boundary_at : IsCharBoundary text at
-  front-boundary_at = IsCharBoundary-from_take text at u f.inside (IsUtf8-from_ascii (take at text) f.low)
+  front-boundary_at = search (rules, IsCharBoundary-from_take, IsUtf8-from_ascii)
 
   front-done : front (chars text) ≡ take at text
   front-done =
@@ -142,9 +142,7 @@ module _ (f : ℕ → ℕ) (m : MovesAscii f) where
 
   scalars-map : (t : List ℕ) → scalars t ≡ true → scalars (map f t) ≡ true
   scalars-map [] h = refl
-  scalars-map (c ∷ t) h =
-      let p = and_parts (scalar c) (scalars t) h in
-      rw (scalar-map c p.0) (scalars-map t p.1)
+  scalars-map (c ∷ t) h = search (rules, and_parts, scalar-map, scalars-map t)
 
   module _ (bs : List ℕ) (u : IsUtf8 bs) where
     encodes-mapped : encode_utf8_all (map f (chars bs)) ≡ map f bs
@@ -161,8 +159,8 @@ module _ (f : ℕ → ℕ) (m : MovesAscii f) where
 
 -- of what is packed, all but the length
 map-zeros : (f : ℕ → ℕ) → f 0 ≡ 0 → (n : ℕ) → map f (replicate n 0) ≡ replicate n 0
-map-zeros f e zero = refl
-map-zeros f e (suc n) = λ i. (e i) ∷ (map-zeros f e n i)
+map-zeros f e n =
+    map-unchanged f (λ c. 0 < c) (λ c h. grind arith) (replicate n 0) (All-replicate (λ c. ¬ (0 < c)) n 0 (omega arith))
 
 map-packed : (f : ℕ → ℕ) → f 0 ≡ 0 → (bytes : List ℕ) → length bytes ≤ INLINE_CAP →
     set (map f (packed bytes)) INLINE_CAP (length bytes) ≡ packed (map f bytes)
@@ -203,14 +201,11 @@ module _ (case : AsciiCase) (old buf : List ℕ) (h : IsPacked old) (e : buf ≡
 -- what is packed is ASCII exactly where the text is, if the length is
 pub IsAscii-packed : (all : List ℕ) → INLINE_CAP < 128 → IsPacked all → IsAscii all ↔ IsAsciiText (chars (unpacked all))
 IsAscii-packed all small h =
-    let bytes = IsAscii-chars (unpacked all) h.utf8 in
-    let n : ℕ = INLINE_CAP - length (unpacked all) in
-    let zeros = IsAscii-from_all (replicate n 0) (All-replicate (λ b. b < 128) n 0 (omega arith)) in (
-      λ low. bytes.0 (IsAscii-take all (get_or all INLINE_CAP 0) low),
-      λ text.
-          subst IsAscii (sym h.reads)
-          (IsAscii-push (padded (unpacked all)) (length (unpacked all))
-          (IsAscii-append (unpacked all) (replicate n 0) (bytes.1 text) zeros) (omega arith)),
+    let bytes = unpacked all in
+    let zeros = IsAscii-from_all _ (All-replicate (λ b. b < 128) (INLINE_CAP - length bytes) 0 (omega arith)) in
+    let text = IsAscii-chars bytes h.utf8 in (
+      λ low. text.0 (IsAscii-take all (get_or all INLINE_CAP 0) low),
+      λ low. rw h.reads (IsAscii-push _ (length bytes) (IsAscii-append bytes _ (text.1 low) zeros) (omega arith)),
     )
 
 -- a case makes no character ASCII that is not
@@ -219,6 +214,4 @@ low_unmoved case c h = ⊎_elim (λ l. l) (λ g. omega (arith, (letter-moves cas
 
 pub ascii-converted : (case : AsciiCase) (t : List ℕ) → IsAsciiText (converted case t) → IsAsciiText t
 ascii-converted case [] h = All-nil (λ c. c < 128)
-ascii-converted case (c ∷ t) h =
-    let rest = ascii-converted case t (All-tail (λ c. c < 128) (letter case c) (converted case t) h) in
-    search (rules, All-cons, low_unmoved, All-head, rest)
+ascii-converted case (c ∷ t) h = search (rules, All-cons, low_unmoved, All-head, All-tail, ascii-converted case t)

@@ -42,17 +42,12 @@ module _ (bs : List ℕ) (index : ℕ) (u : IsUtf8 bs) (e : index ≡ length (fr
       boundary-parts bs (front (chars bs)) h.0 index u h.1 (size-front (chars bs) ∙ sym e)
 
   pub front-rest : front (chars bs) ++ chars (drop index bs) ≡ chars bs
-  front-rest =
-      let h = front-parts (chars bs) in
-      rw (chars-drop bs (front (chars bs)) h.0 index u h.1 (size-front (chars bs) ∙ sym e)) (sym h.1)
+  front-rest = let h = front-parts (chars bs) in grind (arith, common_steps, h.1, chars-drop, size-front)
 
 -- a builder that the front outgrows is outgrown by the text
 pub front-heap : (case : AsciiCase) (t : List ℕ) (b : Draft) → (appended b (converted case (front t))).kind ≡ OnHeap
     → (appended b (converted case t)).kind ≡ OnHeap
-front-heap case t b heap =
-    let p = front-parts t in
-    let parts : converted case t ≡ converted case (front t) ++ converted case p.0 = cc (p.1, map-append (letter case) (front t) p.0) in
-    rw parts (appended-heap b (converted case (front t)) (converted case p.0) heap)
+front-heap case t b heap = let p = front-parts t in search (rules, p.1, map-append, appended-heap)
 
 -- a text that outgrows the buffer in a case is not short itself
 pub converted-heap : (case : AsciiCase) (t : List ℕ) → (appended (empty_draft InBuffer) (converted case t)).kind ≡ OnHeap
@@ -77,9 +72,8 @@ lowercase_front : (w : Bool) (a r : List ℕ) → IsAscii a
     → (v : Bool) × (lowercase_chars w (a ++ r) ≡ lower a ++ lowercase_chars v r)
 lowercase_front w [] r h = (w, refl)
 lowercase_front w (c ∷ a) r h =
-    let low : c < 128 = h 0 in
     let k = lowercase_front (is_in_word_after w c) a r (λ i. h (suc i)) in
-    (k.0, rw (ne_eqb c 0x3A3 (omega arith), letters_ascii Lower c low) (ap (λ s. to_ascii_lowercase c ∷ s) k.1))
+    (k.0, rw (ne_eqb c 0x3A3 (omega (arith, h 0)), letters_ascii Lower c (h 0)) (cc (k.1)))
 
 uppercase_front : (a r : List ℕ) → IsAscii a → uppercased (a ++ r) ≡ upper a ++ uppercased r
 uppercase_front [] r h = refl
@@ -106,8 +100,7 @@ front_first Upper a r h = (uppercased r, uppercase_front a r h, λ _. refl)
 pub full-parts : (case : AsciiCase) (t r : List ℕ) → front t ++ r ≡ t → IsMappedAlone case r
     → converted case (front t) ++ mapped case r ≡ full_case case t
 full-parts case t r e alone =
-    let k = front_first case (front t) r (IsAscii-front t) in
-    ap (λ s. converted case (front t) ++ s) (k.2 alone) ∙ sym k.1 ∙ ap (full_case case) e
+    let k = front_first case (front t) r (IsAscii-front t) in cc (k.1, k.2 alone)
 
 pub full-front : (case : AsciiCase) (t : List ℕ) → (r : List ℕ) × (full_case case t ≡ converted case (front t) ++ r)
 full-front case t =
@@ -123,15 +116,11 @@ alone-nil Upper = tt
 pub full-ascii : (case : AsciiCase) (t : List ℕ) → IsAsciiText t → full_case case t ≡ converted case t
 full-ascii case t h =
     let k = front_first case t [] (IsAscii-from_all t h) in
-    rw (append-nil, ← k.2 (alone-nil case), append-nil) at k.1
-
--- an ASCII text is its own front
-pub front-whole : (t : List ℕ) → IsAsciiText t → front t ≡ t
-front-whole t h = ap front (sym (append-nil t)) ∙ front-append t [] h tt
+    cc (k.1, k.2 (alone-nil case), append-nil t, append-nil (converted case t))
 
 -- the rest of an ASCII text is empty
 pub rest-none : (t r : List ℕ) → front t ++ r ≡ t → IsAsciiText t → r ≡ []
-rest-none t r e h = grind (arith, common_steps, front-whole, length-append)
+rest-none t r e h = grind (arith, common_steps, front-append t [] h tt, append-nil, length-append)
 
 -- an ASCII text whose full case outgrows the buffer is not short
 pub full-long : (case : AsciiCase) (t : List ℕ) → ¬ (IsShort (full_case case t)) → ¬ (IsAsciiText t × IsShort t)

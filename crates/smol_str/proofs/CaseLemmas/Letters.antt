@@ -1,5 +1,5 @@
 -- For `str_ext::letters`: each letter of a range is mapped as Unicode's tables map it, seen one by one.
-use Rattle.smol_str.proofs.Common.{◌≡◌, ℕ, ◌+◌, ◌-◌, ◌<◌, ◌≤◌, List, [], ◌∷◌, Bool, true, ◌&&◌, zero, suc, refl, ⊎_elim, ap, ◌∙◌, arith, and_parts, bytes_eq, cases_lt}
+use Rattle.smol_str.proofs.Common.{list_all, ◌≡◌, ℕ, ◌+◌, ◌-◌, ◌<◌, ◌≤◌, List, [], ◌∷◌, Bool, true, ◌&&◌, zero, suc, refl, arith, and_parts, bytes_eq}
 use Rattle.std.proofs.lemmas.Slice.Eq.{bytes_eq-Decides}
 use Rattle.std.specs.Char.Unicode.Rows.{by_runs, by_strings}
 use Rattle.std.specs.Char.Unicode.ToLowercase.{to_lowercase, lowercase_runs, lowercase_strings}
@@ -12,13 +12,7 @@ all_from test a (suc n) = test (a + n) && all_from test a n
 
 all_from-at : (test : ℕ → Bool) (a n c : ℕ) → all_from test a n ≡ true → a ≤ c → c < a + n → test c ≡ true
 all_from-at test a zero c ok least most = absurd (omega arith)
-all_from-at test a (suc n) c ok least most =
-    let parts = and_parts (test (a + n)) (all_from test a n) ok in
-    ⊎_elim (λ low. all_from-at test a n c parts.1 least low) (λ high. ap test (last c a n most high) ∙ parts.0)
-    (cases_lt c (a + n))
-  where
-    last : (c a n : ℕ) → c < a + suc n → a + n ≤ c → c ≡ a + n
-    last c a n most high = omega arith
+all_from-at test a (suc n) c ok least most = grind (arith, and_parts, all_from-at test a n c)
 
 -- a range: its first character, how many it has, and what each is moved to
 pub record Range : Type 0 where
@@ -37,18 +31,12 @@ AllMove f (r ∷ rs) = Moves f r × AllMove f rs
 abbrev pub moves : (ℕ → List ℕ) → Range → Bool
 moves f r = all_from (λ c. bytes_eq (f c) (r.moved c ∷ [])) r.first r.count
 
-abbrev pub all_move : (ℕ → List ℕ) → List Range → Bool
-all_move f [] = true
-all_move f (r ∷ rs) = moves f r && all_move f rs
-
-AllMove-computed : (f : ℕ → List ℕ) (rs : List Range) → all_move f rs ≡ true → AllMove f rs
+AllMove-computed : (f : ℕ → List ℕ) (rs : List Range) → list_all (moves f) rs ≡ true → AllMove f rs
 AllMove-computed f [] ok = tt
 AllMove-computed f (r ∷ rs) ok =
-    let parts = and_parts (moves f r) (all_move f rs) ok in (
-      λ c least most. (bytes_eq-Decides (f c) (r.moved c ∷ [])).0
-          (all_from-at (λ x. bytes_eq (f x) (r.moved x ∷ [])) r.first r.count c parts.0 least most),
-      AllMove-computed f rs parts.1,
-    )
+    let parts = and_parts (moves f r) (list_all (moves f) rs) ok in
+    let same = all_from-at (λ x. bytes_eq (f x) (r.moved x ∷ [])) r.first r.count in
+    (λ c least most. (bytes_eq-Decides (f c) (r.moved c ∷ [])).0 (same c parts.0 least most), AllMove-computed f rs parts.1)
 
 -- n characters from a on, which stay, or move up or down by k
 abbrev pub stay : ℕ → ℕ → Range

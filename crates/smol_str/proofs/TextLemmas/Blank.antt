@@ -1,75 +1,53 @@
 -- For `blank_slice` and the places: the constant's slices, and the test for a run.
-use Rattle.smol_str.proofs.Common.{◌≡◌, ℕ, zero, suc, ◌+◌, ◌-◌, ◌<◌, ◌≤◌, List, [], ◌∷◌, length, take, drop, replicate, get_or, refl, ap, Bool, true, false, ◌==◌, arith, length-append, list_all, IsAscii, IsAscii-append, drop-append-le, drop-replicate, take-replicate, nat_tests, take-append-add, drop_at, blank_run, leading_newlines, all_spaces, IsBlankRun, and_parts, common_steps, ◌⊎◌, rules}
+use Rattle.smol_str.proofs.Common.{◌≡◌, ℕ, zero, suc, ◌+◌, ◌-◌, ◌≤◌, List, [], ◌∷◌, length, take, drop, replicate, refl, true, ◌==◌, arith, length-append, ◌++◌, take_at, take-append-drop, length-drop, get_or-take, All-replicate, All-from_get_or, list_all, IsAscii, IsAscii-append, nat_tests, drop_at, blank_run, leading_newlines, all_spaces, IsBlankRun, and_parts, common_steps, ◌⊎◌, rules}
 use Rattle.std.proofs.Math.ListN.{length-replicate}
+use Rattle.std.proofs.lemmas.List.{replicate-append-replicate}
+use Rattle.std.proofs.lemmas.List.Folds.{length-prefix_len}
+use Rattle.std.proofs.lemmas.List.Sums.{list_all-from_AllPass, prefix_len_passes}
+use Rattle.std.proofs.lemmas.Str.Ascii.{IsAscii-from_all}
 use Rattle.smol_str.specs.declared.value.blank.TheConstants.{BLANK_NEWLINES, BLANK_SPACES}
 
 pub length-blank_run : (a b : ℕ) → length (blank_run a b) ≡ a + b
 length-blank_run a b = simp (length-append, length-replicate)
 
-get_or-same : (n c i : ℕ) → c < 128 → get_or (replicate n c) i 0 < 128
-get_or-same zero c i h = omega arith
-get_or-same (suc n) c zero h = h
-get_or-same (suc n) c (suc i) h = get_or-same n c i h
-
 pub IsAscii-blank_run : (a b : ℕ) → IsAscii (blank_run a b)
-IsAscii-blank_run a b = grind (arith, common_steps, IsAscii-append, get_or-same)
+IsAscii-blank_run a b = search (rules, arith, IsAscii-append, IsAscii-from_all, All-replicate)
 
 -- the shorter run inside a longer one
 pub slice-blank_run : (n m a b : ℕ) → a ≤ n → b ≤ m → take (a + b) (drop (n - a) (blank_run n m)) ≡ blank_run a b
 slice-blank_run n m a b la lb =
-    let front : n - a ≤ length (replicate {A = ℕ} n 10) = rw (length-replicate {A = ℕ} n 10) (omega arith) in
-    let left : n - (n - a) ≡ a = omega arith in
-    let taken = take-append-add {A = ℕ} (replicate a 10) (replicate m 32) b in
-    rw (drop-append-le (n - a) (replicate n 10) (replicate m 32) front, drop-replicate {X = ℕ} (n - a) n 10, left)
-    (rw (length-replicate {A = ℕ} a 10, take-replicate {X = ℕ} b m 32 lb) at taken)
-
-same_char : (x k : ℕ) → (x == k) ≡ true → x ≡ k
-same_char x k h = grind (arith, nat_tests)
+    let front : replicate {A = ℕ} n 10 ≡ replicate (n - a) 10 ++ replicate a 10 =
+    search (rules, arith, replicate-append-replicate) in
+    let back : replicate {A = ℕ} m 32 ≡ replicate b 32 ++ replicate (m - b) 32 =
+    search (rules, arith, replicate-append-replicate) in
+    grind (arith, common_steps, front, back, take_at, drop_at, length-blank_run)
 
 -- a list of one character alone
 all_same : (k : ℕ) (xs : List ℕ) → list_all (λ c. c == k) xs ≡ true → xs ≡ replicate (length xs) k
 all_same k [] h = refl
-all_same k (x ∷ xs) h =
-    let p = and_parts (x == k) (list_all (λ c. c == k) xs) h in
-    rw (same_char x k p.0) (ap (λ t. k ∷ t) (all_same k xs p.1))
+all_same k (x ∷ xs) h = grind (arith, common_steps, nat_tests, and_parts, all_same k xs)
 
-all_same-replicate : (k n : ℕ) → (k == k) ≡ true → list_all (λ c. c == k) (replicate n k) ≡ true
-all_same-replicate k zero h = refl
-all_same-replicate k (suc n) h = rw h (all_same-replicate k n h)
+newlines_pass : (t : List ℕ) → list_all (λ c. c == 10) (take (leading_newlines t) t) ≡ true
+newlines_pass t =
+    search (rules, list_all-from_AllPass, All-from_get_or, prefix_len_passes, get_or-take, length-prefix_len)
 
 pub leading_newlines-blank_run : (a b : ℕ) → leading_newlines (blank_run a b) ≡ a
 leading_newlines-blank_run zero zero = refl
 leading_newlines-blank_run zero (suc b) = refl
 leading_newlines-blank_run (suc a) b = omega (arith, leading_newlines-blank_run a b)
 
-from_tests_step : (x : ℕ) (xs : List ℕ) (b : Bool) → (x == 10) ≡ b →
-    (all_spaces (drop (leading_newlines xs) xs) ≡ true →
-    xs ≡ blank_run (leading_newlines xs) (length xs - leading_newlines xs)) →
-    all_spaces (drop (leading_newlines (x ∷ xs)) (x ∷ xs)) ≡ true →
-    x ∷ xs ≡ blank_run (leading_newlines (x ∷ xs)) (length (x ∷ xs) - leading_newlines (x ∷ xs))
-from_tests_step x xs true e rest h =
-    let k : 1 + leading_newlines xs ≡ suc (leading_newlines xs) = omega arith in
-    let d : suc (length xs) - suc (leading_newlines xs) ≡ length xs - leading_newlines xs = omega arith in
-    rw (e, k, d) (rw (same_char x 10 e) (ap (λ t. 10 ∷ t) (rest (rw (e, k) at h))))
-from_tests_step x xs false e rest h =
-    let k : suc (length xs) - 0 ≡ suc (length xs) = omega arith in rw (e, k) (all_same 32 (x ∷ xs) (rw e at h))
-
 -- newlines in front, and spaces behind them
 pub blank_run-from_tests : (t : List ℕ) → all_spaces (drop (leading_newlines t) t) ≡ true →
     t ≡ blank_run (leading_newlines t) (length t - leading_newlines t)
-blank_run-from_tests [] h = refl
-blank_run-from_tests (x ∷ xs) h = from_tests_step x xs (x == 10) refl (blank_run-from_tests xs) h
+blank_run-from_tests t h =
+    let n = leading_newlines t in
+    let sizes = length-prefix_len (λ c. c == 10) t in
+    cc (take-append-drop n t, all_same 10 (take n t) (newlines_pass t), all_same 32 (drop n t) h, length-drop n t)
 
 pub IsBlankRun-from_tests : (t : List ℕ) (n : ℕ) → n ≡ leading_newlines t → n ≤ BLANK_NEWLINES →
     length t - n ≤ BLANK_SPACES → all_spaces (drop n t) ≡ true → IsBlankRun t
 IsBlankRun-from_tests t n e few_newlines few_spaces all =
-    record {
-      newlines = n;
-      spaces = length t - n;
-      few_newlines = few_newlines;
-      few_spaces = few_spaces;
-      reads = rw e (blank_run-from_tests t (rw e at all));
-    }
+    let reads = blank_run-from_tests t (rw e at all) in search (rules, reads)
 
 -- what the tests say of a blank run
 pub record Passes (t : List ℕ) : Type 0 where
@@ -79,7 +57,7 @@ pub record Passes (t : List ℕ) : Type 0 where
 
 passes_at : (a b : ℕ) → a ≤ BLANK_NEWLINES → b ≤ BLANK_SPACES → Passes (blank_run a b)
 passes_at a b la lb =
-    search (rules, leading_newlines-blank_run, length-blank_run, drop_at, length-append, length-replicate, all_same-replicate)
+    search (rules, leading_newlines-blank_run, length-blank_run, drop_at, length-replicate, list_all-from_AllPass, All-replicate)
 
 pub Passes-from_IsBlankRun : (t : List ℕ) → IsBlankRun t → Passes t
 Passes-from_IsBlankRun t r = rw r.reads (passes_at r.newlines r.spaces r.few_newlines r.few_spaces)

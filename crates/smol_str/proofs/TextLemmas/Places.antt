@@ -1,5 +1,5 @@
 -- For makers, conversions and comparisons: texts, their bytes and their places.
-use Rattle.smol_str.proofs.Common.{◌≡◌, ◌↔◌, ℕ, ◌+◌, ◌<◌, ◌≤◌, List, [], ◌∷◌, ◌++◌, length, encode_utf8, encode_utf8_all, length-append, length-le-encodes, Bool, true, false, nat_le, nat_eq, Result, OnOk, OnErr, is_ok, refl, sym, ap, arith, chars, IsUtf8, pointwise, bytes_decides, encodes-chars, chars-IsAscii, encodes-IsAscii, encodes_same, encodes-append, chars_from_encodes, length-encode, len_utf8_bounds, IsUtf8-string_bytes, append-nil, nat_tests, Decides-and, Decides-like, same_from_decides, INLINE_CAP, size, is_short, IsShort, IsBlankRun, IsResident, blank_run, ◌⊎◌, common_steps, rules}
+use Rattle.smol_str.proofs.Common.{nil_from_length, ◌≡◌, ◌↔◌, ℕ, ◌+◌, ◌<◌, ◌≤◌, List, [], ◌∷◌, ◌++◌, length, encode_utf8, encode_utf8_all, length-append, length-le-encodes, true, false, nat_le, nat_eq, Result, OnOk, OnErr, is_ok, sym, ap, arith, chars, IsUtf8, pointwise, bytes_decides, encodes-chars, chars-IsAscii, encodes-IsAscii, encodes_same, encodes-append, chars_from_encodes, length-encode, len_utf8_bounds, IsUtf8-string_bytes, append-nil, nat_tests, Decides-and, Decides-like, same_from_decides, INLINE_CAP, size, is_short, IsShort, IsBlankRun, IsResident, ◌⊎◌, common_steps, rules}
 use Rattle.std.specs.Bool.{Decides}
 use Rattle.smol_str.specs.Shared.{SharedText, shared_bytes}
 use Rattle.smol_str.specs.declared.value.place.Place.TheVariants.{Inline, Static, Heap}
@@ -12,24 +12,18 @@ size-chars bs u = ap length (encodes-chars bs u)
 
 -- a text of no bytes is the empty one
 pub no-bytes : {P : Type 0} (t : List ℕ) → (P ↔ (size t ≡ 0)) → (P ↔ (t ≡ []))
-no-bytes [] h = (λ _. refl, λ _. h.1 refl)
-no-bytes (c ∷ t) h =
-    (λ p. absurd (omega (arith, h.0 p, length-le-encodes (c ∷ t))), λ e. absurd (omega (arith, ap length e)))
+no-bytes t h = (λ p. nil_from_length t (omega (arith, h.0 p, length-le-encodes t)), λ e. h.1 (ap size e))
 
 pub IsShort-chars : (bs : List ℕ) → IsUtf8 bs → length bs ≤ INLINE_CAP → IsShort (chars bs)
 IsShort-chars bs u h = rw (encodes-chars bs u) h
 
 -- the bytes are a blank run exactly where the characters are
 pub IsBlankRun-chars : (bs : List ℕ) → IsBlankRun bs → IsBlankRun (chars bs)
-IsBlankRun-chars bs r =
-    let same : chars bs ≡ bs = rw r.reads (chars-IsAscii (blank_run r.newlines r.spaces) (IsAscii-blank_run r.newlines r.spaces)) in
-    rw same r
+IsBlankRun-chars bs r = search (rules, chars-IsAscii, IsAscii-blank_run)
 
 pub IsBlankRun-bytes : (bs : List ℕ) → IsUtf8 bs → IsBlankRun (chars bs) → IsBlankRun bs
 IsBlankRun-bytes bs u r =
-    let plain = encodes-IsAscii (blank_run r.newlines r.spaces) (IsAscii-blank_run r.newlines r.spaces) in
-    let same : chars bs ≡ bs = cc (encodes-chars bs u, r.reads, plain) in
-    rw same at r
+    let plain = encodes-IsAscii _ (IsAscii-blank_run r.newlines r.spaces) in grind (arith, encodes-chars, plain)
 
 -- no text is resident that is longer than the buffer, and whose bytes are no blank run
 pub not_resident : (bs : List ℕ) → IsUtf8 bs → INLINE_CAP < length bs → ¬ (IsBlankRun bs) → ¬ (IsResident (chars bs))
@@ -55,28 +49,22 @@ pub place_of-short : (t : List ℕ) → IsShort t → place_of t ≡ Inline
 unfolding place_of
 place_of-short t h = rw (is_short-true t h)
 
-no_test : (t : List ℕ) → ¬ (IsBlankRun t) → (b : Bool) → is_blank_run t ≡ b → b ≡ false
-no_test t h b e = search (rules, is_blank_run-Decides)
-
 pub place_of-blank : (t : List ℕ) → ¬ (IsShort t) → IsBlankRun t → place_of t ≡ Static
 unfolding place_of
 place_of-blank t long run = rw (is_short-false t long, (is_blank_run-Decides t).1 run)
 
 pub place_of-heap : (t : List ℕ) → ¬ (IsResident t) → place_of t ≡ Heap
 unfolding place_of
-place_of-heap t away = search (rules, is_short-false, no_test)
+place_of-heap t away = grind (arith, nat_tests, is_blank_run-Decides)
 
 -- each text has one of the three places, for its own reason
 abbrev PlaceCases : List ℕ → Type 0
 PlaceCases t = (IsShort t × (place_of t ≡ Inline)) ⊎ (((¬ (IsShort t)) × IsBlankRun t × (place_of t ≡ Static))
     ⊎ ((¬ (IsResident t)) × (place_of t ≡ Heap)))
 
-cases_by_tests : (t : List ℕ) (a b : Bool) → is_short t ≡ a → is_blank_run t ≡ b → PlaceCases t
-cases_by_tests t a b e f =
-    search (rules, nat_tests, place_of-short, is_blank_run-Decides, is_short-true, place_of-blank, place_of-heap)
-
 pub place-cases : (t : List ℕ) → PlaceCases t
-place-cases t = cases_by_tests t (is_short t) (is_blank_run t) refl refl
+unfolding place_of
+place-cases t = grind (arith, nat_tests, is_blank_run-Decides)
 
 -- two texts are equal exactly where their bytes are
 pub bytes_eq-texts : (s t : List ℕ) → pointwise nat_eq (encode_utf8_all s) (encode_utf8_all t) ≡ pointwise nat_eq s t

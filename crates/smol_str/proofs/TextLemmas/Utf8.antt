@@ -1,12 +1,6 @@
 -- For byte order and self-synchronisation: the four forms of a character's bytes.
-use Rattle.smol_str.proofs.Common.{◌≡◌, ℕ, ◌+◌, ◌/◌, ◌<◌, ◌≤◌, List, [], ◌∷◌, arith, true, next, ltb, nat_tests, cases_lt, common_steps, rules}
+use Rattle.smol_str.proofs.Common.{◌≡◌, ℕ, ◌+◌, ◌/◌, ◌<◌, ◌≤◌, List, [], ◌∷◌, arith, next, nat_tests, cases_lt, common_steps, rules}
 use lib.Utf8.{encode}
-
-div4096 : (c : ℕ) → c / 4096 ≡ c / 64 / 64
-div4096 c = omega arith
-
-div262144 : (c : ℕ) → c / 262144 ≡ c / 64 / 64 / 64
-div262144 c = omega arith
 
 -- one to four bytes, with six bits in each but the first
 abbrev pub form1 : ℕ → List ℕ
@@ -29,7 +23,7 @@ pub data Form (c : ℕ) : Type 0 where
 
 pub is_one : (c : ℕ) → c < 128 → encode c ≡ form1 c
 unfolding encode
-is_one c h = let t : ltb c 128 ≡ true = grind (arith, nat_tests) in rw t
+is_one c h = search (rules, nat_tests)
 
 pub is_two : (c : ℕ) → 128 ≤ c → c < 2048 → encode c ≡ form2 c
 unfolding encode
@@ -37,11 +31,11 @@ is_two c l h = search (rules, nat_tests)
 
 pub is_three : (c : ℕ) → 2048 ≤ c → c < 65536 → encode c ≡ form3 c
 unfolding encode
-is_three c l h = search (rules, div4096)
+is_three c l h = grind (arith, nat_tests)
 
 pub is_four : (c : ℕ) → 65536 ≤ c → encode c ≡ form4 c
 unfolding encode
-is_four c l = search (rules, div4096, div262144)
+is_four c l = grind (arith, nat_tests)
 
 pub form : (c : ℕ) → Form c
 form c = grind (arith, common_steps, cases_lt, is_one, is_two, is_three, is_four)
