@@ -1,23 +1,16 @@
 -- For `str_ext::ascii`: each of one ASCII character replaced by another, byte for byte.
-use Rattle.smol_str.proofs.Common.{◌≡◌, ℕ, zero, suc, ◌<◌, ◌≤◌, List, [], ◌∷◌, ◌++◌, Bool, true, false, nat_eq, length, get_or, take, refl, sym, ap, ◌∙◌, arith, append-nil, length-append, ne_eqb, if◌then◌else◌, IsUtf8, chars, encode_utf8_all, encode, Decides-eqb, length-map, take_at, encodes-chars, length-le-encodes, INLINE_CAP, IsShort, no_limit, replaced, replaced_all, each_with, each_replaced, not_from_Decides, rules, common_steps}
+use Rattle.smol_str.proofs.Common.{nat_tests, ◌≡◌, ℕ, zero, suc, ◌<◌, ◌≤◌, List, [], ◌∷◌, ◌++◌, nat_eq, length, get_or, take, refl, sym, ap, ◌∙◌, arith, append-nil, length-append, if◌then◌else◌, IsUtf8, chars, encode_utf8_all, Decides-eqb, length-map, take_at, encodes-chars, length-le-encodes, INLINE_CAP, IsShort, no_limit, replaced, replaced_all, each_with, each_replaced, not_from_Decides, rules, common_steps}
 use Rattle.smol_str.proofs.CaseLemmas.Ascii.{MovesAscii, IsUtf8-map, chars-map, size-mapped}
 use Rattle.smol_str.proofs.TextLemmas.Places.{OnErr-always, size-chars}
-use Rattle.smol_str.proofs.TextLemmas.Utf8.{Form, one, form}
+use Rattle.smol_str.proofs.TextLemmas.Utf8.{form}
 use Rattle.smol_str.proofs.CutLemmas.Replace.{replaced-unmatched, replaced-matched, replaced-passed}
 use Rattle.smol_str.proofs.TextLemmas.Lists.{head_same}
 
 -- ---- one character: what stays and what is replaced
 
-pub each-kept : (x y b : ℕ) → ¬ (b ≡ x) → b ≡ (if nat_eq b x then y else b)
-each-kept x y b differs = rw (ne_eqb b x differs) refl
-
-either_low : (b : Bool) (y c : ℕ) → y < 128 → c < 128 → (if b then y else c) < 128
-either_low true y c h k = h
-either_low false y c h k = k
-
 -- ASCII goes to ASCII
 pub each-moves : (x y : ℕ) → x < 128 → y < 128 → MovesAscii (λ c. if nat_eq c x then y else c)
-each-moves x y low small = omega (arith, either_low, each-kept)
+each-moves x y low small = grind (arith, nat_tests)
 
 module _ (x y : ℕ) (low : x < 128) (small : y < 128) (bs : List ℕ) (u : IsUtf8 bs) where
   pub IsUtf8-each : IsUtf8 (each_replaced x y bs)
@@ -84,17 +77,7 @@ pub one-byte : (bs : List ℕ) → IsUtf8 bs → length bs ≡ 1 → IsOneByte b
 one-byte bs u long = alone (chars bs) refl (encodes-chars bs u)
   where
     alone : (cs : List ℕ) → chars bs ≡ cs → encode_utf8_all cs ≡ bs → IsOneByte bs
-    alone [] e f = absurd (omega (arith, ap length f))
-    alone (c ∷ d ∷ cs) e f = absurd (omega (arith, ap length f, length-le-encodes (c ∷ d ∷ cs)))
-    alone (c ∷ []) e f = by_form (form c)
-      where
-        by_form : Form c → IsOneByte bs
-        by_form (one h k) =
-            let is : bs ≡ c ∷ [] = sym f ∙ append-nil (encode c) ∙ k in
-            record {
-              low = rw is h;
-              text = e ∙ ap (λ xs. get_or xs 0 0 ∷ []) (sym is);
-            }
-        by_form other = grind (arith, common_steps, ap length f, append-nil (encode c))
+    alone (c ∷ []) e f = search (rules, form, append-nil, ap length f)
+    alone cs e f = absurd (omega (arith, ap length f, length-le-encodes cs))
 
 pub ruleset each_byte = (IsUtf8-each, chars-each, whole-each)

@@ -178,20 +178,14 @@ pub IsCut-unique : (t p : List ℕ) (n : ℕ) (xs ys : List (List ℕ)) → IsCu
 IsCut-unique t [] n xs ys h k = search (rules, one_between_at)
 IsCut-unique t (c ∷ p) n xs ys h k = IsCutAt-unique xs ys t (c ∷ p) n (omega arith) h k
 
-pub length_spell : (n : ℕ) (t : List ℕ) → length (spell n t) ≡ min n (length t) + 1
-length_spell (suc n) (c ∷ t) = omega (arith, length_spell n t)
-length_spell n t = omega arith
-
-concat_spell : (n : ℕ) (t : List ℕ) → concat (spell n t) ≡ t
-concat_spell (suc n) (c ∷ t) = ap (λ s. c ∷ s) (concat_spell n t)
-concat_spell n t = append-nil t
-
-spelled_spell : (n : ℕ) (t : List ℕ) → All One (but_last (spell n t))
-spelled_spell (suc n) (c ∷ t) = search (rules, All-nil, All-cons, spelled_spell n t)
-spelled_spell n t = All-nil One
+spell_is : (n : ℕ) (t : List ℕ) →
+    (length (spell n t) ≡ min n (length t) + 1) × (concat (spell n t) ≡ t) × All One (but_last (spell n t))
+spell_is (suc n) (c ∷ t) = let k = spell_is n t in search (rules, arith, k, All-nil, All-cons)
+spell_is n t = (omega arith, append-nil t, All-nil One)
 
 pub IsCutBetween-cut : (n : ℕ) (t : List ℕ) → IsCutBetween t n (cut_between n t)
-IsCutBetween-cut n t = search (rules, append-nil, length_spell, concat_spell, spelled_spell)
+IsCutBetween-cut zero t = search (rules, append-nil)
+IsCutBetween-cut (suc n) t = let k = spell_is n t in search (rules, k)
 
 pub IsCut-cut : (t p : List ℕ) (n : ℕ) → IsCut t p n (cut t p n)
 IsCut-cut t p n = search (rules, IsCutBetween-cut, IsCutAt-cut)

@@ -1,5 +1,5 @@
 -- For `bytes::search`: the first of the bytes that are tested at once, by the mask of the lanes that are the byte.
-use Rattle.smol_str.proofs.Common.{rules, ◌≡◌, ℕ, ◌<◌, ◌≤◌, ◌%◌, ◌^◌, List, Bool, true, false, cond, nat_eq, length, get_or, get_or_past, map, replicate, take, sym, ◌∙◌, arith, w8, w64, zip2, mask_l, top, length-map, get_or-take, get_or-drop, drop, ◌+◌, ◌-◌}
+use Rattle.smol_str.proofs.Common.{rules, ◌≡◌, ℕ, ◌<◌, ◌≤◌, ◌%◌, ◌^◌, List, true, false, cond, nat_eq, length, get_or, get_or_past, map, replicate, take, arith, w8, w64, zip2, mask_l, top, length-map, get_or-take, get_or-drop, drop, ◌+◌, ◌-◌}
 use Rattle.std.specs.Int.{bit_at, trailing_zeros}
 use Rattle.std.proofs.lemmas.Bool.{true≢false}
 use Rattle.std.proofs.lemmas.List.{get_or-map}
@@ -11,12 +11,6 @@ use Rattle.memchr.specs.Find.{Nowhere, NoneBefore, Passes, is_byte}
 abbrev pub marks : ℕ → List ℕ → ℕ → ℕ
 marks x lanes n = mask_l (map (top 7) (zip2 (λ a b. cond (nat_eq a b) 255 0) lanes (replicate n x))) % 2 ^ 64
 
-set : (b : Bool) → cond {A = ℕ} b 1 0 ≡ 1 → b ≡ true
-set b h = search rules
-
-clear : (b : Bool) → cond {A = ℕ} b 1 0 ≡ 0 → b ≡ false
-clear b h = search rules
-
 module _ (x : ℕ) (bytes lanes : List ℕ) (at n : ℕ) (few : n ≤ 64) (room : at + n ≤ length bytes) (long : length lanes ≡ n)
     (read : lanes ≡ take n (drop at bytes)) where
   bit : (k : ℕ) → bit_at (marks x lanes n) k ≡ cond (get_or (map (is_byte x) lanes) k false) 1 0
@@ -27,9 +21,7 @@ module _ (x : ℕ) (bytes lanes : List ℕ) (at n : ℕ) (few : n ≤ 64) (room 
       cc (get_or-map (is_byte x) lanes k 0 false (omega arith), get_or-take n (drop at bytes) k 0 low, get_or-drop at bytes k 0)
 
   other : (k : ℕ) → at ≤ k → k < at + n → bit_at (marks x lanes n) (k - at) ≡ 0 → ¬ Passes (is_byte x) bytes k
-  other k from low none hit =
-      let is : k ≡ at + (k - at) = omega arith in
-      cc (hit, lane (k - at) (omega arith), clear _ (sym (bit (k - at)) ∙ none))
+  other k from low none hit = grind (arith, bit (k - at), lane (k - at))
 
   pub near_none : marks x lanes n ≡ 0 → Nowhere (Passes (is_byte x) bytes) at (at + n)
   near_none none k low high = other k low high (cc (bit_at-zero (k - at)))
@@ -41,12 +33,8 @@ module _ (x : ℕ) (bytes lanes : List ℕ) (at n : ℕ) (few : n ≤ 64) (room 
       let m = marks x lanes n in
       let k = trailing_zeros w64 m in
       let lowest = bit_at-trailing_zeros w64 m (omega (arith, some)) (omega arith) in
-      let hit : get_or (map (is_byte x) lanes) k false ≡ true = set _ (sym (bit k) ∙ lowest.1) in
-      let within : k < n = grind (arith, get_or_past, length-map, true≢false) in (
-        record {
-          low = omega arith;
-          high = omega (arith, within);
-          before = λ j low high. other j low (omega (arith, within)) (lowest.2 (j - at) (omega arith));
-        },
-        sym (lane k within) ∙ hit,
-      )
+      let hit : get_or (map (is_byte x) lanes) k false ≡ true = grind (arith, bit k, lowest.1) in
+      let within : k < n = grind (arith, get_or_past, length-map, true≢false) in
+      let none = λ (j : ℕ) (low : at ≤ j) (high : j < at + k).
+      other j low (omega (arith, within)) (lowest.2 (j - at) (omega arith)) in
+      search (rules, arith, none, lane k within)

@@ -1,5 +1,5 @@
 -- For the laws of replacement: what replacing makes of a text.
-use Rattle.smol_str.proofs.Common.{◌≡◌, ℕ, ◌+◌, ◌-◌, ◌<◌, ◌≤◌, suc, min, List, [], ◌∷◌, ◌++◌, false, length, refl, ap, ◌∙◌, arith, length-append, append-nil, nat_eq, concat, starts_with, Occurs, IsFirstAfter, joined_by, IsCutAt, IsCut, cut, cut_at, cut_between, no_limit, match_count, replaced, replaced_all, rules, common_steps}
+use Rattle.smol_str.proofs.Common.{◌≡◌, ℕ, ◌+◌, ◌-◌, ◌<◌, ◌≤◌, suc, min, List, [], ◌∷◌, ◌++◌, false, length, refl, ap, arith, length-append, append-nil, nat_eq, starts_with, Occurs, IsFirstAfter, joined_by, IsCutAt, IsCut, cut, cut_at, no_limit, match_count, replaced, replaced_all, rules, common_steps}
 use Rattle.std.proofs.lemmas.List.Concat.{concat_is}
 use Rattle.smol_str.proofs.CutLemmas.Cut.{joined_one, joined_more, IsCut-cut, IsCutAt-cut, IsCutBetween-cut, IsCut-unique, IsCutAt-step, IsCutAt-unique, IsCutAt-unmatched, starts_with-nowhere}
 
@@ -7,18 +7,11 @@ pub replaced-cut : (t p w : List ℕ) (n : ℕ) (pieces : List (List ℕ)) → I
     replaced t p w n ≡ joined_by w pieces
 replaced-cut t p w n pieces h = ap (joined_by w) (IsCut-unique t p n (cut t p n) pieces (IsCut-cut t p n) h)
 
-joined_front : (p q : List ℕ) (pieces : List (List ℕ)) → 1 ≤ length pieces
-    → joined_by p (q ∷ pieces) ≡ q ++ (p ++ joined_by p pieces)
-joined_front p q pieces l = search (rules, joined_more)
-
 pub replaced-none : (t p w : List ℕ) → replaced t p w 0 ≡ t
 replaced-none t p w = search (rules, joined_one)
 
-joined_nothing : (pieces : List (List ℕ)) → joined_by [] pieces ≡ concat pieces
-joined_nothing pieces = search (rules, concat_is)
-
 pub replaced-itself : (t p : List ℕ) (n : ℕ) → replaced t p p n ≡ t
-replaced-itself t [] n = joined_nothing (cut_between n t) ∙ (IsCutBetween-cut n t).joined
+replaced-itself t [] n = let h = (IsCutBetween-cut n t).joined in search (rules, concat_is)
 replaced-itself t (c ∷ p) n = (IsCutAt-cut n (c ∷ p) t (omega arith)).joined
 
 -- each piece but one has a match behind it
@@ -45,8 +38,8 @@ pub replaced-matched : (t p w q r : List ℕ) (n : ℕ) → t ≡ q ++ (p ++ r) 
 replaced-matched t [] w q r n e none = absurd (none ([], q ++ [], refl))
 replaced-matched t (c ∷ p) w q r n e none =
     let rest = IsCutAt-cut n (c ∷ p) r (omega arith) in
-    replaced-cut t (c ∷ p) w (n + 1) (q ∷ cut r (c ∷ p) n) (IsCutAt-step t (c ∷ p) q r n (cut r (c ∷ p) n) e none rest)
-    ∙ joined_front w q (cut r (c ∷ p) n) rest.some
+    let whole = replaced-cut t (c ∷ p) w (n + 1) (q ∷ cut r (c ∷ p) n) (IsCutAt-step t (c ∷ p) q r n _ e none rest) in
+    search (rules, whole, joined_more, rest)
 
 pub replaced-unmatched : (t p w : List ℕ) (n : ℕ) → ¬ Occurs p t → replaced t p w n ≡ t
 replaced-unmatched t [] w n none = absurd (none ([], t, refl))

@@ -9,8 +9,7 @@ pub starts_with-encodes : (z p y : List ℕ) → encodes z ≡ encodes p ++ y �
 starts_with-encodes z [] y e = (z, refl, e)
 starts_with-encodes z (c ∷ cs) y e =
     let h = cons_from_encodes z (encodes cs ++ y) c (e ∙ append_assoc (encode c) (encodes cs) y) in
-    let q = starts_with-encodes h.0 cs y h.2 in
-    (q.0, h.1 ∙ ap (λ xs. c ∷ xs) q.1, q.2)
+    let q = starts_with-encodes h.0 cs y h.2 in (q.0, cc (h.1, q.1), q.2)
 
 -- bytes that begin no character
 abbrev Follows : List ℕ → Type 0
@@ -44,21 +43,18 @@ abbrev pub StandsBetween : List ℕ → List ℕ → List ℕ → List ℕ → T
 StandsBetween t p x y = (a : List ℕ) × (r : List ℕ) × (t ≡ a ++ (p ++ r)) × (encodes a ≡ x) × (encodes r ≡ y)
 
 pub StandsBetween-bytes : (t p x y : List ℕ) → 0 < length p → encodes t ≡ x ++ (encodes p ++ y) → StandsBetween t p x y
-StandsBetween-bytes t [] x y some e = absurd (omega arith)
-StandsBetween-bytes [] (k ∷ ks) [] y some e = let h = starts_with-encodes [] (k ∷ ks) y e in ([], h.0, h.1, refl, h.2)
-StandsBetween-bytes [] (k ∷ ks) (d ∷ x) y some e = absurd (cc)
-StandsBetween-bytes (c ∷ cs) (k ∷ ks) [] y some e = let h = starts_with-encodes (c ∷ cs) (k ∷ ks) y e in ([], h.0, h.1, refl, h.2)
+StandsBetween-bytes t p [] y some e = let h = starts_with-encodes t p y e in ([], h.0, h.1, refl, h.2)
+StandsBetween-bytes [] p (d ∷ x) y some e = absurd (cc)
 StandsBetween-bytes (c ∷ cs) (k ∷ ks) (d ∷ x) y some e =
     let f = lead_and_rest c in
     let g = lead_and_rest k in
-    let needle : encodes (k ∷ ks) ++ y ≡ g.lead ∷ (g.rest ++ (encodes ks ++ y)) =
-    cc (append_assoc (encode k) (encodes ks) y, g.reads) in
-    let whole : f.lead ∷ (f.rest ++ encodes cs) ≡ d ∷ (x ++ (g.lead ∷ (g.rest ++ (encodes ks ++ y)))) = cc (f.reads) in
-    let first = head_same f.lead d (f.rest ++ encodes cs) (x ++ (g.lead ∷ (g.rest ++ (encodes ks ++ y)))) whole in
-    let h = follows-apart f.rest (encodes cs) x g.lead (g.rest ++ (encodes ks ++ y)) f.follows g.leads
-    (tail_same f.lead d (f.rest ++ encodes cs) (x ++ (g.lead ∷ (g.rest ++ (encodes ks ++ y)))) whole) in
-    let r = StandsBetween-bytes cs (k ∷ ks) h.0 y some (cc (h.2)) in
-    (c ∷ r.0, r.1, cc (r.2), cc (f.reads, r.3, h.1, first), r.4)
+    let after = g.rest ++ (encodes ks ++ y) in
+    let whole : f.lead ∷ (f.rest ++ encodes cs) ≡ d ∷ (x ++ (g.lead ∷ after)) =
+    cc (f.reads, g.reads, append_assoc (encode k) (encodes ks) y) in
+    let h = follows-apart f.rest (encodes cs) x g.lead after f.follows g.leads (tail_same f.lead d _ _ whole) in
+    let r = StandsBetween-bytes cs (k ∷ ks) h.0 y some (cc (h.2, g.reads, append_assoc (encode k) (encodes ks) y)) in
+    (c ∷ r.0, r.1, cc (r.2), cc (f.reads, r.3, h.1, head_same f.lead d _ _ whole), r.4)
+StandsBetween-bytes t p x y some e = absurd (omega arith)
 
 pub StandsAt-bytes : (t p x y : List ℕ) → 0 < length p → encodes t ≡ x ++ (encodes p ++ y) → StandsAt p t (length x)
 StandsAt-bytes t p x y some e = let h = StandsBetween-bytes t p x y some e in (h.0, h.1, h.2, ap length h.3)
