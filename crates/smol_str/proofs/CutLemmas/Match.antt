@@ -47,15 +47,10 @@ module _ (a b p : List ℕ) (i : ℕ) where
       let bs = encode_utf8_all b in
       let h = StandsAt-bytes b p (take k bs) _ some (match-bytes bs (encode_utf8_all p) k f.1) in
       let long : size h.0 ≡ k = h.3 ∙ length-take-le k bs (omega arith) in
-      record {
-        before = h.0;
-        after = h.1;
-        reads = h.2;
-        index = omega (arith, size-append a h.0);
-        first = λ o.
-            let x = earlier b p h.0 h.1 h.2 some o in
-            f.0.before (size x.0.0) (omega arith) (omega arith) (chars_stand b p x.0.0 x.0.1 x.0.2);
-      }
+      let first : IsFirstAfter p h.0 = λ o.
+      let x = earlier b p h.0 h.1 h.2 some o in
+      f.0.before (size x.0.0) (omega arith) (omega arith) (chars_stand b p x.0.0 x.0.1 x.0.2) in
+      search (rules, arith, h.2, first, size-append)
 
 -- a pattern that is not empty has a character
 pub some_char : (nd : List ℕ) → IsUtf8 nd → 0 < length nd → 0 < length (chars nd)
