@@ -106,11 +106,9 @@ module _ (f : ℕ → ℕ) (old bytes : List ℕ) (at : ℕ) (h : IsMapping f ol
       let long : length v ≡ n = rw (is, length-map) (length-take-le n (drop at bytes) (omega (arith, length-drop at bytes))) in
       let both : length (take at bytes ++ v) ≡ at + n = grind (arith, length-append, length-take-le) in
       let whole : new ≡ (take at bytes ++ v) ++ drop n (drop at bytes) = grind (arith, put_chunk_is, append_assoc) in
-      record {
-        inside = omega (arith, ap length whole, length-append (take at bytes ++ v) (drop n (drop at bytes)));
-        maps =
-            rw (whole, take_at, drop_at, append_assoc, is, ← map-append, take-append-drop) h.maps;
-      }
+      let maps : take (at + n) new ++ map f (drop (at + n) new) ≡ map f old =
+      rw (whole, take_at, drop_at, append_assoc, is, ← map-append, take-append-drop) h.maps in
+      search (rules, arith, whole, length-append, maps)
 
   -- the rest of the bytes, all at once
   pub mapping-rest : (k : ℕ) (new : List ℕ) → k ≡ length bytes - at → new ≡ map f (take k (drop at bytes))
