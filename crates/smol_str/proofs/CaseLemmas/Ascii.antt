@@ -158,7 +158,8 @@ module _ (f : ℕ → ℕ) (m : MovesAscii f) where
 -- of what is packed, all but the length
 map-zeros : (f : ℕ → ℕ) → f 0 ≡ 0 → (n : ℕ) → map f (replicate n 0) ≡ replicate n 0
 map-zeros f e n =
-    map-unchanged f (λ c. 0 < c) (λ c h. grind arith) (replicate n 0) (All-replicate (λ c. ¬ (0 < c)) n 0 (omega arith))
+    map-unchanged f (λ c. 0 < c) (λ c h. grind arith) (replicate n 0)
+    (All-replicate (λ c. ¬ (0 < c)) n 0 (omega arith))
 
 map-packed : (f : ℕ → ℕ) → f 0 ≡ 0 → (bytes : List ℕ) → length bytes ≤ INLINE_CAP →
     set (map f (packed bytes)) INLINE_CAP (length bytes) ≡ packed (map f bytes)

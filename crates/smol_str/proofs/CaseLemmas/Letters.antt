@@ -36,7 +36,8 @@ AllMove-computed f [] ok = tt
 AllMove-computed f (r ∷ rs) ok =
     let parts = and_parts (moves f r) (list_all (moves f) rs) ok in
     let same = all_from-at (λ x. bytes_eq (f x) (r.moved x ∷ [])) r.first r.count in
-    (λ c least most. (bytes_eq-Decides (f c) (r.moved c ∷ [])).0 (same c parts.0 least most), AllMove-computed f rs parts.1)
+    let same_at = λ (c : ℕ). (bytes_eq-Decides (f c) (r.moved c ∷ [])).0 in
+    (λ c least most. same_at c (same c parts.0 least most), AllMove-computed f rs parts.1)
 
 -- n characters from a on, which stay, or move up or down by k
 abbrev pub stay : ℕ → ℕ → Range

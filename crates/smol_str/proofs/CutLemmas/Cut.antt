@@ -40,7 +40,8 @@ occurs_before p q x y some more e =
     let s = q ++ but_last p in
     let long : length p ≤ length s = omega (arith, length-append q (but_last p), length_but_last p) in
     let begins = take-append-le (length p) s (last_part p ++ y) long in
-    ([], drop (length p) s, cc (take-append-drop (length p) s, begins, append-last_part p q y, take_at p x (length p) refl))
+    let front = take_at p x (length p) refl in
+    ([], drop (length p) s, cc (take-append-drop (length p) s, begins, front, append-last_part p q y))
 
 -- the first match is the one after the shortest text
 shortest : (p q a r s : List ℕ) → 0 < length p → q ++ (p ++ r) ≡ a ++ (p ++ s) → IsFirstAfter p q → length q ≤ length a
@@ -53,7 +54,8 @@ shortest p (c ∷ q) (d ∷ a) r s some e f =
 pub one_first : (p q q' x y : List ℕ) → 0 < length p → q ++ (p ++ x) ≡ q' ++ (p ++ y) → IsFirstAfter p q →
     IsFirstAfter p q' → q ≡ q'
 one_first p q q' x y some e f g =
-    let long : length q ≡ length q' = omega (arith, shortest p q q' x y some e f, shortest p q' q y x some (sym e) g) in
+    let long : length q ≡ length q' =
+    omega (arith, shortest p q q' x y some e f, shortest p q' q y x some (sym e) g) in
     cc (take_at q (p ++ x) (length q) refl, take_at q' (p ++ y) (length q) (sym long))
 
 -- p that stands in q and p without its last character stands in q followed by p, before q's end
@@ -88,7 +90,8 @@ IsCutAt-unique (q ∷ r ∷ rs) (q' ∷ r' ∷ rs') t p n some h k =
     (All-head (IsFirstAfter p) q _ h.first) (All-head (IsFirstAfter p) q' _ k.first) in
     let left : joined_by p (r' ∷ rs') ≡ joined_by p (r ∷ rs) =
     append_cancel_left p _ _ (append_cancel_left q _ _ (cc)) in
-    cc (IsCutAt-unique (r ∷ rs) (r' ∷ rs') _ p (n - 1) some (rest_cut t p n q r rs h) (rw left at (rest_cut t p n q' r' rs' k)))
+    cc (IsCutAt-unique (r ∷ rs) (r' ∷ rs') _ p (n - 1) some (rest_cut t p n q r rs h)
+    (rw left at (rest_cut t p n q' r' rs' k)))
 IsCutAt-unique xs ys t p n some h k = absurd (omega arith)
 
 -- a first match in front of a cut
@@ -132,7 +135,8 @@ first_step p c t some false e (Some m) h = (
   λ o.
       let later = append-last_part p (c ∷ m.0) m.1 in
       ⊎_elim
-      (λ x. starts_with-false p (c ∷ t) (x.0 ++ (last_part p ++ m.1)) e (cc (later, append_assoc p x.0 (last_part p ++ m.1))))
+      (λ x. starts_with-false p (c ∷ t) (x.0 ++ (last_part p ++ m.1)) e
+      (cc (later, append_assoc p x.0 (last_part p ++ m.1))))
       h.1
       (occurs_cases p c (m.0 ++ but_last p) o.0 o.1 o.2),
 )
@@ -160,7 +164,8 @@ one_spelling : (xs ys : List (List ℕ)) → length xs ≡ length ys → All One
 one_spelling [] [] l h k e = refl
 one_spelling (x ∷ []) (y ∷ []) l h k e = cc (append-nil x, append-nil y)
 one_spelling ((a ∷ []) ∷ w ∷ xs) ((b ∷ []) ∷ z ∷ ys) l h k e =
-    let rest = one_spelling (w ∷ xs) (z ∷ ys) (omega arith) (All-tail One _ _ h) (All-tail One _ _ k) (tail_same a b _ _ e) in
+    let left = tail_same a b _ _ e in
+    let rest = one_spelling (w ∷ xs) (z ∷ ys) (omega arith) (All-tail One _ _ h) (All-tail One _ _ k) left in
     cc (head_same a b _ _ e)
 one_spelling (x ∷ w ∷ xs) (y ∷ z ∷ ys) l h k e = absurd (omega (arith, All-head One x _ h, All-head One y _ k))
 one_spelling xs ys l h k e = absurd (omega arith)

@@ -27,7 +27,7 @@ earlier b p q r e some o =
     let h = sooner p q r some o in
     let begins = take-append-le (length u) q (p ++ r) (omega (arith, h.1)) in
     let parts : q ≡ u ++ k =
-    cc (take-append-drop (length u) q, begins, take_at u (p ++ (o.1 ++ (last_part p ++ r))) (length u) refl, h.0) in (
+    cc (take-append-drop (length u) q, begins, h.0, take_at u (p ++ (o.1 ++ (last_part p ++ r))) (length u) refl) in (
       (u, o.1 ++ (last_part p ++ r), e ∙ h.0),
       omega (arith, h.1, ap size parts, size-append u k, length-le-encodes k, length-drop (length u) q),
     )
@@ -55,7 +55,8 @@ module _ (a b p : List ℕ) (i : ℕ) where
 -- a pattern that is not empty has a character
 pub some_char : (nd : List ℕ) → IsUtf8 nd → 0 < length nd → 0 < length (chars nd)
 some_char nd u some =
-    ⊎_elim (λ l. l) (λ none. absurd (omega (arith, size-chars nd u, ap size (nil_from_length (chars nd) (omega arith)))))
+    ⊎_elim (λ l. l)
+    (λ none. absurd (omega (arith, size-chars nd u, ap size (nil_from_length (chars nd) (omega arith)))))
     (cases_lt 0 (length (chars nd)))
 
 -- at most one place is that of the next match
@@ -87,9 +88,11 @@ module _ (bs nd : List ℕ) (i : ℕ) (u : IsUtf8 bs) (v : IsUtf8 nd) where
         → (Some (i + k) ≡ Some j) ↔ IsNextMatch a b (chars nd) j
     some_exact a b e n j =
         let h = IsNextMatch-found a b e n in
-        (λ s. rw (← same_Some (i + k) j s) h, λ m. ap Some (one_next a b (chars nd) (i + k) j (some_char nd v some) h m))
+        let one = one_next a b (chars nd) (i + k) j (some_char nd v some) h in
+        (λ s. rw (← same_Some (i + k) j s) h, λ m. ap Some (one m))
 
-    pub some_not_none : (a b : List ℕ) → chars bs ≡ a ++ b → size a ≡ i → (Some (i + k) ≡ None) ↔ (¬ Occurs (chars nd) b)
+    pub some_not_none : (a b : List ℕ) → chars bs ≡ a ++ b → size a ≡ i
+        → (Some (i + k) ≡ None) ↔ (¬ Occurs (chars nd) b)
     some_not_none a b e n = let o = next-occurs a b (chars nd) (i + k) (IsNextMatch-found a b e n) in search rules
 
 -- a pattern whose bytes are nowhere in a text's stands nowhere in the text
@@ -120,10 +123,12 @@ module _ (bs nd : List ℕ) (u : IsUtf8 bs) (v : IsUtf8 nd) (some : 0 < length n
       let found = match-bytes rest nd k f.1 in
       let x = take i bs ++ take k rest in
       let y = drop (k + length nd) rest in
-      let reads : bs ≡ x ++ (nd ++ y) = cc (take-append-drop i bs, found, append_assoc (take i bs) (take k rest) (nd ++ y)) in
+      let reads : bs ≡ x ++ (nd ++ y) =
+      cc (take-append-drop i bs, found, append_assoc (take i bs) (take k rest) (nd ++ y)) in
       let fits = f.1.fits in
       let last = length-take-le k rest (omega (arith, fits)) in
-      boundaries x y reads (i + k) (omega (arith, length-append (take i bs) (take k rest), length-take-le i bs inside, last))
+      boundaries x y reads (i + k)
+      (omega (arith, length-append (take i bs) (take k rest), length-take-le i bs inside, last))
 
 -- of a text from a char boundary on, what a search for a pattern that is not empty finds
 module _ (bs nd : List ℕ) (i : ℕ) (u : IsUtf8 bs) (v : IsUtf8 nd) (some : 0 < length nd)
@@ -155,6 +160,7 @@ module _ (bs nd : List ℕ) (i : ℕ) (u : IsUtf8 bs) (v : IsUtf8 nd) (some : 0 
         let p = chars nd in
         let whole : chars bs ≡ a ++ (p ++ match.after) =
         cc (reads, match.reads, append_assoc front match.before (p ++ match.after)) in
-        let last = chars-drop bs (a ++ p) match.after (j + length nd) u (whole ∙ sym (append_assoc a p match.after))
+        let behind = whole ∙ sym (append_assoc a p match.after) in
+        let last = chars-drop bs (a ++ p) match.after (j + length nd) u behind
         (omega (arith, size-append a p, size-chars nd v, match.index)) in
         rw (chars-take bs a (p ++ match.after) j u whole (match.index ∙ sym e), last) whole

@@ -38,7 +38,8 @@ pub replaced-matched : (t p w q r : List ℕ) (n : ℕ) → t ≡ q ++ (p ++ r) 
 replaced-matched t [] w q r n e none = absurd (none ([], q ++ [], refl))
 replaced-matched t (c ∷ p) w q r n e none =
     let rest = IsCutAt-cut n (c ∷ p) r (omega arith) in
-    let whole = replaced-cut t (c ∷ p) w (n + 1) (q ∷ cut r (c ∷ p) n) (IsCutAt-step t (c ∷ p) q r n _ e none rest) in
+    let whole = replaced-cut t (c ∷ p) w (n + 1) (q ∷ cut r (c ∷ p) n)
+    (IsCutAt-step t (c ∷ p) q r n _ e none rest) in
     search (rules, whole, joined_more, rest)
 
 pub replaced-unmatched : (t p w : List ℕ) (n : ℕ) → ¬ Occurs p t → replaced t p w n ≡ t

@@ -57,7 +57,8 @@ pub record Passes (t : List ℕ) : Type 0 where
 
 passes_at : (a b : ℕ) → a ≤ BLANK_NEWLINES → b ≤ BLANK_SPACES → Passes (blank_run a b)
 passes_at a b la lb =
-    search (rules, leading_newlines-blank_run, length-blank_run, drop_at, length-replicate, list_all-from_AllPass, All-replicate)
+    let spaces = list_all-from_AllPass (λ c. c == 32) (replicate b 32) in
+    search (rules, leading_newlines-blank_run, length-blank_run, drop_at, length-replicate, spaces, All-replicate)
 
 pub Passes-from_IsBlankRun : (t : List ℕ) → IsBlankRun t → Passes t
 Passes-from_IsBlankRun t r = rw r.reads (passes_at r.newlines r.spaces r.few_newlines r.few_spaces)
