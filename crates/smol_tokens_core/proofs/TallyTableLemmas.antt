@@ -11,7 +11,7 @@ use Rattle.smol_str.specs.Meaning.{Meaning}
 use Rattle.smol_str.specs.declared.value.place.Place.TheVariants.{Inline}
 use Rattle.smol_str.proofs.CallerLemmas.{stands_for-text}
 use Rattle.smol_tokens_core.specs.Tally.{is_same, times_of, tally, HasEachOnce, by_text}
-use Rattle.smol_tokens_core.proofs.ListLemmas.{by_test}
+use Rattle.smol_tokens_core.proofs.SightLemmas.{by_same}
 use Rattle.smol_tokens_core.proofs.TallyLemmas.{once-tally}
 use Rattle.smol_tokens_core.proofs.TableLemmas.{tally-added, lookup-tally, tally-table}
 
@@ -72,7 +72,7 @@ by_bytes bs u = λ i key. stands_for-text bs key u i
 set_there : (es : List (Meaning × ℕ)) (token : Meaning) (n m : ℕ) → lookup (is_text_of token) es ≡ Some n
     → set_value (is_text_of token) es m ≡ insert_entry is_text_of es token m
 set_there [] token n m there = absurd (cc there)
-set_there (e ∷ es) token n m there = search (rules, by_test, set_there es token n m)
+set_there (e ∷ es) token n m there = search (rules, by_same, set_there es token n m)
 
 -- what a look-up in a table finds is how often the token was counted
 pub found-times : (pairs : List (List ℕ × ℕ)) (es : List (Meaning × ℕ)) (token : Meaning) (found : Option ℕ)

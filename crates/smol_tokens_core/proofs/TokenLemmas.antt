@@ -13,8 +13,8 @@ use Rattle.smol_tokens_core.specs.Tally.{is_same, times_of, tally, seen_once}
 use Rattle.smol_tokens_core.specs.ReportFaults.{HasALineTooOften}
 use Rattle.smol_tokens_core.proofs.PieceLemmas.{lines-nil}
 use Rattle.smol_tokens_core.proofs.SightLemmas.{is_same_itself, by_same}
-use Rattle.smol_tokens_core.proofs.TableLemmas.{lookup-tally}
-use Rattle.smol_tokens_core.proofs.TallyLemmas.{times_of-tally, counts-tally, tally-again}
+use Rattle.smol_tokens_core.proofs.TableLemmas.{lookup-tally, tally-again, times_of-tally}
+use Rattle.smol_tokens_core.proofs.TallyLemmas.{counts-tally}
 
 -- of texts that were seen once each, the times are how often a text stands
 pub times_of-seen_once : (t : List ℕ) (texts : List (List ℕ))

@@ -1,4 +1,5 @@
-use Rattle.smol_tokens_core.proofs.TallyLemmas.{tally-again, counts-tally, times_of-tally, once-tally, tokens-longer}
+use Rattle.smol_tokens_core.proofs.TallyLemmas.{counts-tally, once-tally, tokens-longer}
+use Rattle.smol_tokens_core.proofs.TableLemmas.{tally-again, times_of-tally}
 use Rattle.smol_tokens_core.proofs.TokenLemmas.{times_of-seen_once}
 use Rattle.smol_tokens_core.proofs.laws.tallies.Goals as goal
 
