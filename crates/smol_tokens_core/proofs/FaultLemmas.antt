@@ -16,34 +16,14 @@ use Rattle.smol_tokens_core.specs.declared.mode.Mode.{Mode}
 use Rattle.smol_tokens_core.specs.declared.fault.RunFault.{RunFault}
 use Rattle.smol_tokens_core.specs.declared.fault.RunFault.TheVariants.{NotUtf8, OutOfMemory}
 
-Keeps-itself : (known : Option (List ℕ)) → Keeps known known
+pub Keeps-itself : (known : Option (List ℕ)) → Keeps known known
 Keeps-itself known = search rules
-
--- nothing was written
-abbrev unwritten : Option (List ℕ) → Option (List ℕ) → Option (List ℕ) → Streams
-unwritten input left held = record { input = input; left = left; held = held; holds = held }
-
--- the input was not read to its end
-pub after-reading : (mode : Mode) (limit : ℕ) (input left held : Option (List ℕ)) (fault : ReadFault)
-    → AfterReadFault limit input left fault → AfterFault mode (unwritten input left held) (of_read_fault fault)
-after-reading mode limit input left held fault h = search (rules, Keeps-itself)
 
 -- the whole input came, is a text, and there is no report on it: nothing was written
 pub after-no_report : (mode : Mode) (input left held : Option (List ℕ)) (bytes : List ℕ) (fault : RunFault)
     → IsAtEnd left → IfSome input (λ all. bytes ≡ all) → IsUtf8 bytes → HasNoReport mode (chars bytes) fault
-    → AfterFault mode (unwritten input left held) fault
+    → AfterFault mode (record { input = input; left = left; held = held; holds = held }) fault
 after-no_report mode input left held bytes fault end whole utf8 none = search (rules, Keeps-itself, IfSome_then)
-
--- the whole input came and is no text: nothing was written
-pub after-not_utf8 : (mode : Mode) (input left held : Option (List ℕ)) (bytes : List ℕ) → IsAtEnd left
-    → IfSome input (λ all. bytes ≡ all) → ¬ (IsUtf8 bytes) → AfterFault mode (unwritten input left held) NotUtf8
-after-not_utf8 mode input left held bytes end whole none = search (rules, IfSome_then, Keeps-itself)
-
--- what holds of the bytes of the report holds of those that were written
-pub whole-report : (mode : Mode) (input : Option (List ℕ)) (bytes out : List ℕ) (P : List ℕ → Type 0)
-    → IfSome input (λ all. bytes ≡ all) → IsUtf8 bytes → out ≡ encode_utf8_all (report mode (chars bytes)) → P out
-    → IfSome input (λ all. IsUtf8 all × P (encode_utf8_all (report mode (chars all))))
-whole-report mode input bytes out P whole utf8 is written = search (rules, IfSome_then)
 
 -- memory was refused
 pub no_report-refused : {T : Type 0} (r : Result T RunFault) (mode : Mode) (t : List ℕ)

@@ -3,4 +3,4 @@ use Rattle.smol_tokens_core.proofs.ReportLemmas.{encodes-count_line}
 use Rattle.smol_tokens_core.proofs.tokens.push_count.Goals as goal
 
 pub returns : goal.returns
-returns c = rw (encodes-count_line c.args.token.now.text c.args.count (omega arith)) (search rules)
+returns c = search (rules, arith, encodes-count_line)

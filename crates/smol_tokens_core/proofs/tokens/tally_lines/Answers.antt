@@ -1,5 +1,5 @@
 use Rattle.std.proofs.lemmas.Grind.{common_steps}
-use Rattle.std.proofs.Common.{map, refl, inr, ◌∙◌, arith}
+use Rattle.std.proofs.Common.{arith, refl, inr}
 use Rattle.std.specs.Str.{chars}
 use Rattle.smol_tokens_core.proofs.FaultLemmas.{no_report-refused}
 use Rattle.smol_tokens_core.proofs.TokenLemmas.{tally-seen, lines-seen, some_text, no_report-add}
@@ -10,12 +10,8 @@ loop-line-preserved-in-Counted g c = grind (arith, common_steps, tally-seen, lin
 
 pub returns-in-Full-clause-fault : goal.returns-in-Full-clause-fault
 returns-in-Full-clause-fault g c =
-    let full = rw c.in-Full.is at c.add_again.ensures in (
-      refl,
-      no_report-add (chars c.args.text.now) (chars c.in-Some.line.now)
-          (map (λ line. chars line.now) c.loop-line.yielded) _ _ c.loop-line.tally c.loop-line.invariant.0
-          c.loop-line.invariant.1 c.in-Some.ensures.steps full.1,
-    )
+    let full = rw c.in-Full.is at c.add_again.ensures in
+    (refl, no_report-add _ (chars c.in-Some.line.now) _ _ _ _ c.loop-line.invariant.0 c.loop-line.invariant.1 c.in-Some.ensures.steps full.1)
 
 pub returns-in_err-token-in-New-clause-fault : goal.returns-in_err-token-in-New-clause-fault
 returns-in_err-token-in-New-clause-fault g c =
@@ -23,13 +19,7 @@ returns-in_err-token-in-New-clause-fault g c =
     (inr (some_text (chars c.args.text.now) _ _ _ _ c.loop-line.invariant.1 c.in-Some.ensures.steps))
 
 pub loop-line-preserved : goal.loop-line-preserved
-loop-line-preserved g c =
-    let same = rw c.in-New.is at c.add_again.ensures in (
-      tally-seen (λ line. chars line.now) c.loop-line.yielded c.in-Some.line _ _ _ (same.0 ∙ c.loop-line.invariant.0)
-          c.in_ok-token-in-New.ensures.ok.text c.in-Ok.ensures.ok,
-      lines-seen (λ line. chars line.now) c.loop-line.yielded c.in-Some.line _ _ _ c.loop-line.invariant.1
-          c.in-Some.ensures.steps,
-    )
+loop-line-preserved g c = grind (arith, common_steps, tally-seen, lines-seen)
 
 pub returns-in_default-clause-fault : goal.returns-in_default-clause-fault
 returns-in_default-clause-fault g c =
