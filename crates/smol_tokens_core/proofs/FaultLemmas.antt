@@ -1,20 +1,16 @@
 -- What stands where an input was not read, or where there is no report on it.
-use Rattle.std.proofs.Common.{◌≡◌, ℕ, List, Option, Result, IsUtf8, encode_utf8_all, arith, rules}
+use Rattle.std.proofs.Common.{◌≡◌, ℕ, List, Option, Result, IsUtf8, arith, rules}
 use Rattle.std.specs.Prelude.{IfSome}
 use Rattle.std.specs.Result.{IsErrAnd, IfErr, OnErr}
 use Rattle.std.specs.Str.{chars}
 use Rattle.std.specs.Io.KnownBytes.{IsAtEnd, Keeps}
 use Rattle.std.proofs.lemmas.Option.{IfSome_then}
 use Rattle.std.proofs.lemmas.Result.{err_from_is_err_and}
-use Rattle.smol_str.specs.Stream.{AfterReadFault}
-use Rattle.smol_str.specs.declared.stream.ReadFault.{ReadFault}
-use Rattle.smol_tokens_core.specs.Faults.{Streams, AfterFault}
-use Rattle.smol_tokens_core.specs.ReadFaults.{of_read_fault}
-use Rattle.smol_tokens_core.specs.Report.{report}
+use Rattle.smol_tokens_core.specs.Faults.{AfterFault}
 use Rattle.smol_tokens_core.specs.ReportFaults.{WantsMemory, HasNoReport}
 use Rattle.smol_tokens_core.specs.declared.mode.Mode.{Mode}
 use Rattle.smol_tokens_core.specs.declared.fault.RunFault.{RunFault}
-use Rattle.smol_tokens_core.specs.declared.fault.RunFault.TheVariants.{NotUtf8, OutOfMemory}
+use Rattle.smol_tokens_core.specs.declared.fault.RunFault.TheVariants.{OutOfMemory}
 
 pub Keeps-itself : (known : Option (List ℕ)) → Keeps known known
 Keeps-itself known = search rules

@@ -1,6 +1,6 @@
 -- For the lemmas of tallies: whether two texts are one, and each text of a list once, in order of first sight.
 use Rattle.std.proofs.Common.{◌≡◌, ◌≢◌, ℕ, List, [], ◌∷◌, ◌++◌, true, false, refl, sym, ⊎_elim, arith, rules}
-use Rattle.std.specs.Prelude.{not, All}
+use Rattle.std.specs.Prelude.{not}
 use Rattle.std.specs.List.{AllPairs}
 use Rattle.std.proofs.lemmas.Bool.{cases_Bool, false_from_ne_true, false≢true, not-true}
 use Rattle.std.proofs.lemmas.Slice.Eq.{bytes_eq-Decides}

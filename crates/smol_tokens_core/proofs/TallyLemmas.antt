@@ -1,13 +1,12 @@
 -- For the laws of tallies: sums of times, and a tally with one entry more in front.
-use Rattle.std.proofs.Common.{◌≡◌, ◌≢◌, ℕ, ◌+◌, List, [], ◌∷◌, ◌++◌, true, false, cond, map, refl, ap, ◌∙◌, subst, arith, rules}
+use Rattle.std.proofs.Common.{◌≡◌, ◌≢◌, ℕ, ◌+◌, List, [], ◌∷◌, ◌++◌, true, false, cond, map, refl, ap, ◌∙◌, arith, rules}
 use Rattle.std.specs.Prelude.{not, filter, All}
 use Rattle.std.specs.List.{AllPairs}
-use Rattle.std.proofs.lemmas.Bool.{cond-true}
 use Rattle.std.proofs.lemmas.List.{map-append}
 use Rattle.std.proofs.lemmas.List.Sums.{sum_by-cons}
 use Rattle.std.proofs.lemmas.List.Elements.{All-map}
 use Rattle.smol_tokens_core.specs.Tally.{is_same, tokens, times_of, without, first_sights, tally}
-use Rattle.smol_tokens_core.proofs.SightLemmas.{same_from, is_same_itself, by_same, other_way, sights_once, sights-longer}
+use Rattle.smol_tokens_core.proofs.SightLemmas.{is_same_itself, by_same, other_way, sights_once, sights-longer}
 
 -- what a pair adds to the times of a text
 times-cons : (t : List ℕ) (e : List ℕ × ℕ) (es : List (List ℕ × ℕ))

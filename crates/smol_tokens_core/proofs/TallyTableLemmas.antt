@@ -1,5 +1,5 @@
 -- For `Tally`: a table by values, seen as pairs of texts and counts.
-use Rattle.std.proofs.Common.{◌≡◌, ℕ, ◌+◌, List, [], ◌∷◌, ◌++◌, cond, Option, None, Some, unwrap_or, arith, rules, refl, ap, ◌∙◌}
+use Rattle.std.proofs.Common.{◌≡◌, ℕ, ◌+◌, List, [], ◌∷◌, ◌++◌, cond, Option, None, Some, unwrap_or, arith, rules, refl, ap}
 use Rattle.std.specs.Map.{lookup, set_value}
 use Rattle.std.specs.Str.{chars, IsUtf8}
 use Rattle.indexmap.specs.IndexMap.{insert_entry}

@@ -1,4 +1,4 @@
-use Rattle.std.proofs.Common.{Some, None, ap, sym, ◌∙◌, arith}
+use Rattle.std.proofs.Common.{ap, sym, ◌∙◌, arith}
 use Rattle.std.proofs.lemmas.Map.Steps.{set_value_same}
 use Rattle.smol_tokens_core.specs.Tally.{by_text}
 use Rattle.smol_tokens_core.proofs.TallyLemmas.{once-tally}

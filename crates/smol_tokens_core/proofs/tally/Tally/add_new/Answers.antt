@@ -1,4 +1,3 @@
-use Rattle.std.proofs.Common.{rules}
 use Rattle.smol_tokens_core.proofs.TallyTableLemmas.{added-new}
 use Rattle.smol_tokens_core.proofs.TallyLemmas.{once-tally}
 use Rattle.smol_tokens_core.proofs.tally.Tally.add_new.Goals as goal
