@@ -7,9 +7,10 @@ use Rattle.std.proofs.lemmas.Bool.{eqb-false, ne_eqb}
 use Rattle.std.proofs.lemmas.List.Elements.{All-nil, All-cons, All-weaker, All-head, All-tail}
 use Rattle.std.proofs.lemmas.List.Splits.{slice_split_at, slice_split_none, length-slice_split}
 use Rattle.smol_str.specs.Cut.{joined_by}
-use Rattle.smol_str.proofs.CallerLemmas.{joined_more}
+use Rattle.smol_str.specs.Replace.{cut, no_limit}
+use Rattle.smol_str.proofs.CallerLemmas.{joined_more, IsCut-cut}
 use Rattle.smol_tokens_core.specs.Lines.{is_newline, newline, lines, without_empty_last, HasNoNewline, ended}
-use Rattle.smol_tokens_core.proofs.PieceLemmas.{lines-pieces, joined-pieces, lines-nil, lines-cons}
+use Rattle.smol_tokens_core.proofs.PieceLemmas.{lines-pieces, lines-nil, lines-cons}
 
 -- a piece in front of others is no last one
 before : (q : List ℕ) (pieces : List (List ℕ)) → 0 < length pieces
@@ -22,26 +23,24 @@ lines-first q t none = search (rules, arith, length-slice_split, lines-pieces, s
 
 -- without a newline the text is the one line, if it is not empty
 pub lines-last : (q : List ℕ) → All (λ c. is_newline c ≡ false) q → lines q ≡ without_empty_last (q ∷ [])
-lines-last q none = lines-pieces q ∙ ap without_empty_last (slice_split_none is_newline q none)
+lines-last q none = search (rules, lines-pieces, slice_split_none)
 
 none_newline : (q : List ℕ) → HasNoNewline q → All (λ c. is_newline c ≡ false) q
-none_newline q h = All-weaker (λ c. c ≢ 10) (λ c. is_newline c ≡ false) (λ c ne. ne_eqb c 10 ne) q h
+none_newline q h = search (rules, All-weaker, ne_eqb)
 
 -- lines that were written are read again, and an unfinished one counts where it is not empty
 pub lines-ended : (qs : List (List ℕ)) (q : List ℕ) → All HasNoNewline qs → HasNoNewline q
     → lines (ended qs ++ q) ≡ qs ++ without_empty_last (q ∷ [])
 lines-ended [] q h k = lines-last q (none_newline q k)
 lines-ended (r ∷ rs) q h k =
-    search (rules, append_assoc, lines-first, none_newline, All-head, All-tail, lines-ended rs q (All-tail HasNoNewline r rs h) k)
+    search (rules, append_assoc, lines-first, none_newline, All-head, lines-ended rs q (All-tail HasNoNewline r rs h) k)
 
 -- no line has a newline
 no_newline_step : (c : ℕ) (qs : List (List ℕ)) → (b : Bool) → (c == 10) ≡ b → All HasNoNewline qs
     → All HasNoNewline (cond b ([] ∷ qs) (onto_first c qs))
-no_newline_step c qs true e h = All-cons HasNoNewline [] qs (All-nil (λ c. c ≢ 10)) h
-no_newline_step c [] false e h = search (rules, All-cons, eqb-false, All-nil)
 no_newline_step c (q ∷ qs) false e h =
-    All-cons HasNoNewline (c ∷ q) qs
-    (All-cons (λ c. c ≢ 10) c q (eqb-false c 10 e) (All-head HasNoNewline q qs h)) (All-tail HasNoNewline q qs h)
+    All-cons HasNoNewline (c ∷ q) qs (search (rules, All-cons, eqb-false, All-head)) (All-tail HasNoNewline q qs h)
+no_newline_step c qs b e h = search (rules, All-cons, eqb-false, All-nil)
 
 pub HasNoNewline-lines : (t : List ℕ) → All HasNoNewline (lines t)
 HasNoNewline-lines [] = rw lines-nil (All-nil HasNoNewline)
@@ -51,15 +50,10 @@ HasNoNewline-lines (c ∷ t) = rw (lines-cons c t) (no_newline_step c (lines t) 
 abbrev GivesBack : List ℕ → List (List ℕ) → List ℕ → Type 0
 GivesBack p qs t = (joined_by p qs ≡ t) ⊎ (joined_by p qs ++ p ≡ t)
 
-joined_step : (p q r : List ℕ) (rs ss : List (List ℕ)) → GivesBack p (r ∷ ss) (joined_by p (r ∷ rs))
-    → GivesBack p (q ∷ r ∷ ss) (joined_by p (q ∷ r ∷ rs))
-joined_step p q r rs ss h = search (rules, arith, joined_more, append_assoc)
-
 joined_kept : (p : List ℕ) (qs : List (List ℕ)) → GivesBack p (without_empty_last qs) (joined_by p qs)
-joined_kept p [] = inl refl
-joined_kept p (q ∷ []) = search rules
-joined_kept p (q ∷ r ∷ []) = search (rules, append-nil)
-joined_kept p (q ∷ r ∷ s ∷ ss) = joined_step p q r (s ∷ ss) (without_empty_last (s ∷ ss)) (joined_kept p (r ∷ s ∷ ss))
+joined_kept p (q ∷ r ∷ s ∷ ss) = search (rules, arith, joined_more, append_assoc, joined_kept p (r ∷ s ∷ ss))
+joined_kept p qs = search (rules, append-nil)
 
 pub joined-lines : (t : List ℕ) → (joined_by newline (lines t) ≡ t) ⊎ (joined_by newline (lines t) ++ newline ≡ t)
-joined-lines t = search (rules, arith, lines-pieces, joined-pieces, joined_kept)
+unfolding lines
+joined-lines t = search (rules, arith, joined_kept newline (cut t newline (no_limit t)), (IsCut-cut t newline (no_limit t)).joined)
