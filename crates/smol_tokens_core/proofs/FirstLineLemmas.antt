@@ -14,13 +14,14 @@ use Rattle.smol_tokens_core.proofs.PieceLemmas.{lines-nil}
 use Rattle.smol_tokens_core.proofs.LineLemmas.{lines-first, lines-last}
 
 none_newline : (cs : List ℕ) → ¬ Occurs newline cs → All (λ c. is_newline c ≡ false) cs
-none_newline [] none = All-nil (λ c. is_newline c ≡ false)
+none_newline [] none = search (rules, All-nil)
 none_newline (c ∷ cs) none =
     All-cons (λ c. is_newline c ≡ false) c cs (ne_eqb c 10 (λ e. none ([], cs, ap (λ x. x ∷ cs) e)))
-    (none_newline cs (λ o. none (c ∷ o.0, o.1, ap (λ x. c ∷ x) o.2)))
+    (none_newline cs (λ o. none (c ∷ o.0, o.1, cc)))
 
-one_line : (cs : List ℕ) → ¬ Occurs newline cs → 0 < length (encode_utf8_all cs) → lines cs ≡ cs ∷ []
-one_line cs none some = search (rules, lines-last, none_newline)
+-- a text without a newline
+pub lines-one : (cs : List ℕ) → ¬ Occurs newline cs → 0 < length (encode_utf8_all cs) → lines cs ≡ cs ∷ []
+lines-one cs none some = search (rules, lines-last, none_newline)
 
 -- the bytes of a newline
 pub chars-newline : chars newline ≡ newline
@@ -31,23 +32,15 @@ one_byte : size newline ≡ 1
 unfolding lib.Utf8.encode
 one_byte = refl
 
--- a text without a newline, by its bytes
-pub lines-one : (bs : List ℕ) → IsUtf8 bs → 0 < length bs → ¬ Occurs newline (chars bs)
-    → lines (chars bs) ≡ chars bs ∷ []
-lines-one bs u some none = one_line (chars bs) none (rw (encodes-chars bs u) some)
-
 pub lines-split : (bs front back : List ℕ) (i : ℕ) → IsUtf8 bs → IsNextMatch [] (chars bs) newline i
     → front ≡ take i bs → back ≡ drop (i + 1) bs
     → lines (chars bs) ≡ chars front ∷ lines (chars back)
 lines-split bs front back i u at is_front is_back =
-    let a = at.before in
-    let r = at.after in
-    let is_a : chars (take i bs) ≡ a = chars-take bs a (10 ∷ r) i u at.reads at.index in
-    let behind : chars bs ≡ (a ++ newline) ++ r = at.reads ∙ sym (append_assoc a newline r) in
-    let is_r : chars (drop (i + 1) bs) ≡ r =
-    chars-drop bs (a ++ newline) r (i + 1) u behind (omega (arith, size-append a newline, one_byte, at.index)) in
-    rw (is_front, is_back, is_a, is_r, at.reads)
-    (lines-first a r (none_newline a (λ o. at.first (rw (append-nil a) o))))
+    let behind = at.reads ∙ sym (append_assoc at.before newline at.after) in
+    let next : size (at.before ++ newline) ≡ i + 1 = omega (arith, size-append, one_byte, at.index) in
+    let is_r = chars-drop bs (at.before ++ newline) at.after (i + 1) u behind next in
+    rw (is_front, is_back, chars-take bs at.before (10 ∷ at.after) i u at.reads at.index, is_r, at.reads)
+    (lines-first at.before at.after (none_newline at.before (rw append-nil at at.first)))
 
 pub lines-none : (bs : List ℕ) → length bs ≡ 0 → lines (chars bs) ≡ []
 lines-none bs none = grind (arith, common_steps, chars-nil, lines-nil)

@@ -46,4 +46,3 @@ lines-nil = lines-pieces []
 
 pub lines-cons : (c : ℕ) (t : List ℕ) → lines (c ∷ t) ≡ cond (c == 10) ([] ∷ lines t) (onto_first c (lines t))
 lines-cons c t = search (rules, arith, lines-pieces, from_tail, length-slice_split)
-

@@ -5,12 +5,13 @@ use Rattle.std.specs.Fmt.{decimal}
 use Rattle.std.specs.List.{flat_map}
 use Rattle.std.specs.Prelude.{slice_get}
 use Rattle.std.proofs.lemmas.List.{append-nil, take_more}
-use Rattle.std.proofs.lemmas.Option.{slice_get_within, get_or_from_slice_get}
+use Rattle.std.proofs.lemmas.Option.{slice_get_within, get_or_from_slice_get, slice_get_cases}
 use Rattle.std.proofs.lemmas.List.Concat.{flat_map-append}
 use Rattle.std.proofs.lemmas.Str.{encodes-append, encodes-IsAscii}
 use Rattle.std.proofs.lemmas.Fmt.{IsAscii-decimal}
 use Rattle.smol_str.specs.declared.value.place.Place.{Place}
 use Rattle.smol_str.specs.Text.{size}
+use Rattle.std.proofs.lemmas.Grind.{take_at_read, common_steps}
 use Rattle.smol_str.specs.Meaning.{Meaning, IsValueOf}
 use Rattle.smol_tokens_core.specs.Report.{place_word, report_line, value_line, count_line}
 
@@ -18,25 +19,22 @@ encodes-place_word : (place : Place) → encode_utf8_all (place_word place) ≡ 
 unfolding lib.Utf8.encode
 encodes-place_word place = search rules
 
-encodes-decimal : (n : ℕ) → n < 2 ^ 64 → encode_utf8_all (decimal n) ≡ decimal n
-encodes-decimal n small = encodes-IsAscii (decimal n) (IsAscii-decimal n small)
-
--- an report line, in bytes
+-- a report line, in bytes
 pub encodes-report_line : (place : Place) (n : ℕ) (t : List ℕ) → n < 2 ^ 64
     → encode_utf8_all (report_line place n t)
     ≡ place_word place ++ (codes " " ++ (decimal n ++ (codes " " ++ (encode_utf8_all t ++ codes "\n"))))
 unfolding lib.Utf8.encode
-encodes-report_line place n t small = simp (encodes-append, encodes-place_word, encodes-decimal n small)
+encodes-report_line place n t small = search (rules, encodes-append, encodes-place_word, encodes-IsAscii, IsAscii-decimal)
 
 -- a count line, in bytes
 pub encodes-count_line : (t : List ℕ) (n : ℕ) → n < 2 ^ 64
     → encode_utf8_all (count_line (t, n)) ≡ decimal n ++ (codes " " ++ (encode_utf8_all t ++ codes "\n"))
 unfolding lib.Utf8.encode
-encodes-count_line t n small = simp (encodes-append, encodes-decimal n small)
+encodes-count_line t n small = search (rules, encodes-append, encodes-IsAscii, IsAscii-decimal)
 
 -- the report line of a value of the text
 pub report_line-value : (t : List ℕ) (v : Meaning) → IsValueOf t v → report_line v.place (size v.text) v.text ≡ value_line t
-report_line-value t v is = rw (is.text, is.place) refl
+report_line-value t v is = search rules
 
 -- what is out, and one item's value_line after it
 pub report-last : {A : Type 0} (f : A → List ℕ) (items : List A) (x : A) (out new : List ℕ)
@@ -49,7 +47,4 @@ pub report-next : {A : Type 0} (f : A → List ℕ) (items : List A) (i : ℕ) (
     → slice_get items i ≡ Some x → out ≡ encode_utf8_all (flat_map f (take i items))
     → new ≡ out ++ encode_utf8_all (f x) → new ≡ encode_utf8_all (flat_map f (take (i + 1) items))
 report-next f items i x out new at so_far is =
-    report-last f (take i items) x out new so_far is
-    ∙ ap (λ xs. encode_utf8_all (flat_map f xs))
-    (sym (take_more items i x (slice_get_within items i x at)
-    ∙ ap (λ y. take i items ++ y ∷ []) (get_or_from_slice_get items i x x at)))
+    search (rules, arith, report-last, slice_get_cases items i, take_at_read)

@@ -7,6 +7,7 @@ use Rattle.std.proofs.lemmas.List.{map-append, append_assoc, length-append}
 use Rattle.std.proofs.lemmas.Bool.{cases_lt}
 use Rattle.std.proofs.lemmas.List.Elements.{All-head, All-tail, All-weaker}
 use Rattle.std.specs.Map.{lookup}
+use Rattle.std.proofs.lemmas.Map.Entries.{All-lookup}
 use Rattle.std.proofs.lemmas.List.Sums.{sum_by-cons, sum_by-append}
 use Rattle.smol_tokens_core.specs.Lines.{lines}
 use Rattle.smol_tokens_core.specs.Tally.{is_same, times_of, tally, seen_once}
@@ -35,8 +36,7 @@ lines-seen f seen x all left rest is next = search (rules, arith, map-append, ap
 -- a text that has a line is not empty
 pub some_text : (t : List ℕ) (seen left rest : List (List ℕ)) (line : List ℕ) → lines t ≡ seen ++ left
     → left ≡ line ∷ rest → 0 < length t
-some_text [] seen left rest line is next =
-    absurd (omega (arith, ap length (sym lines-nil ∙ is), ap length next, length-append seen left))
+some_text [] seen left rest line is next = grind (arith, lines-nil, ap length is, length-append {A = List ℕ})
 some_text (c ∷ cs) seen left rest line is next = omega arith
 
 -- and so is one whose lines have a count
@@ -49,34 +49,18 @@ pub no_report-add : (t line : List ℕ) (seen rest left : List (List ℕ)) (old 
     → old ≡ tally (seen_once seen) → lines t ≡ seen ++ left → left ≡ line ∷ rest → 2 ^ 64 ≤ times_of line old + 1
     → HasALineTooOften t
 no_report-add t line seen rest left old so_far is next full =
-    let before : times_of line old ≡ count_by (is_same line) seen =
-    cc (so_far, times_of-tally line (seen_once seen), times_of-seen_once line seen) in
     let worth : List ℕ → ℕ = λ u. cond (is_same line u) 1 0 in
-    let first : count_by (is_same line) (line ∷ rest) ≡ 1 + count_by (is_same line) rest =
-    sum_by-cons worth line rest ∙ ap (λ b. cond b 1 0 + count_by (is_same line) rest) (is_same_itself line) in
-    let whole : count_by (is_same line) (lines t)
-    ≡ count_by (is_same line) seen + count_by (is_same line) (line ∷ rest) =
-    cc (is, next, sum_by-append worth seen (line ∷ rest)) in
-    (line, omega (arith, before, first, whole))
+    let all : count_by (is_same line) (lines t) ≡ count_by (is_same line) seen + (1 + count_by (is_same line) rest) =
+    rw (is, next, sum_by-append worth seen (line ∷ rest), sum_by-cons worth line rest, is_same_itself line) in
+    (line, omega (arith, all, ap (times_of line) so_far, times_of-tally line (seen_once seen), times_of-seen_once line seen))
 
--- ---- the counts of all lines are `u64`s, exactly where no line stands too often
-
--- a count that is looked up is one of the counts
-lookup-below : (n : ℕ) (line : List ℕ) (es : List (List ℕ × ℕ)) → 0 < n → All (λ e. e.1 < n) es
-    → unwrap_or (lookup (is_same line) es) 0 < n
-lookup-below n line [] some fit = some
-lookup-below n line (e ∷ es) some fit =
-    search (rules, by_same, All-head, All-tail, lookup-below n line es some (All-tail (λ e. e.1 < n) e es fit))
-
+-- the counts of all lines are `u64`s, exactly where no line stands too often
 pub no_line_too_often : (t : List ℕ) → All (λ e. e.1 < 2 ^ 64) (tally (seen_once (lines t))) → ¬ HasALineTooOften t
-no_line_too_often t fit = λ h.
-    let seen = seen_once (lines t) in
-    let count = lookup-tally seen h.0 ∙ times_of-seen_once h.0 (lines t) in
-    omega (arith, h.1, count, lookup-below (2 ^ 64) h.0 (tally seen) (omega arith) fit)
+no_line_too_often t fit h =
+    let below = All-lookup (λ n. n < 2 ^ 64) (is_same h.0) (tally (seen_once (lines t))) fit in
+    grind (arith, below, lookup-tally (seen_once (lines t)) h.0, times_of-seen_once h.0 (lines t))
 
 pub counts_fit : (t : List ℕ) → ¬ HasALineTooOften t → All (λ e. e.1 < 2 ^ 64) (tally (seen_once (lines t)))
 counts_fit t none = All-weaker (λ e. e.1 ≡ times_of e.0 (seen_once (lines t))) (λ e. e.1 < 2 ^ 64)
-    (λ e is. ⊎_elim (λ below. below)
-    (λ above. absurd (none (e.0, omega (arith, above, is, times_of-seen_once e.0 (lines t)))))
-    (cases_lt e.1 (2 ^ 64)))
+    (λ e is. omega (arith, times_of-seen_once e.0 (lines t), (λ (above : 2 ^ 64 ≤ count_by (is_same e.0) (lines t)). none (e.0, above))))
     (tally (seen_once (lines t))) (counts-tally (seen_once (lines t)))

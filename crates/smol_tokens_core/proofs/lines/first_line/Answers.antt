@@ -1,6 +1,6 @@
 use Rattle.std.proofs.Common.{rules, refl, []}
 use Rattle.std.specs.Str.{chars}
-use Rattle.std.proofs.lemmas.Str.{chars-nil}
+use Rattle.std.proofs.lemmas.Str.{chars-nil, encodes-chars}
 use Rattle.smol_tokens_core.proofs.PieceLemmas.{lines-nil}
 use Rattle.smol_tokens_core.proofs.FirstLineLemmas.{lines-none, lines-one, lines-split, chars-newline}
 use Rattle.smol_tokens_core.proofs.lines.first_line.Goals as goal
@@ -15,4 +15,4 @@ returns-in-Some-clause-cut c =
     (rw chars-newline at at) (search rules) (search rules)
 
 pub returns-in-None-clause-cut : goal.returns-in-None-clause-cut
-returns-in-None-clause-cut c = search (rules, chars-nil, lines-nil, lines-one, chars-newline)
+returns-in-None-clause-cut c = search (rules, chars-nil, lines-nil, lines-one, chars-newline, encodes-chars)
