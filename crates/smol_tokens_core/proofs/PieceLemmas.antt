@@ -33,7 +33,7 @@ pub lines-IsCut : (t : List ℕ) (pieces : List (List ℕ)) → IsCut t newline 
     → lines t ≡ without_empty_last pieces
 unfolding lines
 lines-IsCut t pieces h =
-    ap without_empty_last (IsCut-unique t newline (no_limit t) (cut t newline (no_limit t)) pieces (IsCut-cut t newline (no_limit t)) h)
+    ap without_empty_last (IsCut-unique t newline (no_limit t) _ pieces (IsCut-cut t newline (no_limit t)) h)
 
 -- the lines of a text by those of its tail
 from_tail : (c : ℕ) (pieces : List (List ℕ)) → 1 ≤ length pieces → (b : Bool)

@@ -24,7 +24,8 @@ pub encodes-report_line : (place : Place) (n : ℕ) (t : List ℕ) → n < 2 ^ 6
     → encode_utf8_all (report_line place n t)
     ≡ place_word place ++ (codes " " ++ (decimal n ++ (codes " " ++ (encode_utf8_all t ++ codes "\n"))))
 unfolding lib.Utf8.encode
-encodes-report_line place n t small = search (rules, encodes-append, encodes-place_word, encodes-IsAscii, IsAscii-decimal)
+encodes-report_line place n t small =
+    search (rules, encodes-append, encodes-place_word, encodes-IsAscii, IsAscii-decimal)
 
 -- a count line, in bytes
 pub encodes-count_line : (t : List ℕ) (n : ℕ) → n < 2 ^ 64
@@ -33,7 +34,8 @@ unfolding lib.Utf8.encode
 encodes-count_line t n small = search (rules, encodes-append, encodes-IsAscii, IsAscii-decimal)
 
 -- the report line of a value of the text
-pub report_line-value : (t : List ℕ) (v : Meaning) → IsValueOf t v → report_line v.place (size v.text) v.text ≡ value_line t
+pub report_line-value : (t : List ℕ) (v : Meaning) → IsValueOf t v
+    → report_line v.place (size v.text) v.text ≡ value_line t
 report_line-value t v is = search rules
 
 -- what is out, and one item's value_line after it

@@ -30,10 +30,14 @@ other_way s t e = other_from t s (λ same. differ s t e (sym same))
 -- no text stands twice
 pub sights_once : (ts : List (List ℕ)) → AllPairs (λ s t. s ≢ t) (first_sights ts)
 sights_once [] = search (rules, arith)
-sights_once (t ∷ ts) = AllPairs-cons (λ s u. s ≢ u) t (without t (first_sights ts)) (search (rules, arith, All-weaker, filter_passes, not-true, differ)) (AllPairs-filter (λ s u. s ≢ u) (λ u. not (is_same t u)) (first_sights ts) (sights_once ts))
+sights_once (t ∷ ts) =
+    AllPairs-cons (λ s u. s ≢ u) t (without t (first_sights ts))
+    (search (rules, arith, All-weaker, filter_passes, not-true, differ))
+    (AllPairs-filter (λ s u. s ≢ u) (λ u. not (is_same t u)) (first_sights ts) (sights_once ts))
 
 -- the first sights of a list come first, in their order, in those of a longer one
-pub sights-longer : (ts us : List (List ℕ)) → (more : List (List ℕ)) × (first_sights (ts ++ us) ≡ first_sights ts ++ more)
+pub sights-longer : (ts us : List (List ℕ))
+    → (more : List (List ℕ)) × (first_sights (ts ++ us) ≡ first_sights ts ++ more)
 sights-longer [] us = (first_sights us, refl)
 sights-longer (t ∷ ts) us =
     let rest = sights-longer ts us in (without t rest.0, search (rules, arith, rest.1, filter-append))

@@ -14,7 +14,8 @@ use Rattle.smol_tokens_core.proofs.TallyLemmas.{times_here, times_other, without
 new : (t : List ℕ) (es : List (List ℕ × ℕ)) → All (λ u. t ≢ u) (tokens es)
     → (times_of t es ≡ 0) × (without_token t es ≡ es)
 new t [] h = (refl, refl)
-new t (e ∷ es) h = search (rules, times_other, other_from, All-head, new t es (All-tail (λ u. t ≢ u) e.0 (tokens es) h))
+new t (e ∷ es) h =
+    search (rules, times_other, other_from, All-head, new t es (All-tail (λ u. t ≢ u) e.0 (tokens es) h))
 
 pub tally-table : (es : List (List ℕ × ℕ)) → AllPairs (λ s u. s ≢ u) (tokens es) → tally es ≡ es
 tally-table [] h = refl
@@ -42,10 +43,12 @@ put-same : (t : List ℕ) (es : List (List ℕ × ℕ)) (v : ℕ)
 put-same t [] v = search (rules, is_same_itself)
 put-same t (e ∷ es) v = search (rules, by_same, put-same t es v)
 
+-- how often a token stands, by whether the first entry is its own
+ruleset times = (by_same, same_from, tally-cons, times_here, times_other)
+
 pub lookup-tally : (es : List (List ℕ × ℕ)) (t : List ℕ) → unwrap_or (lookup (is_same t) (tally es)) 0 ≡ times_of t es
 lookup-tally [] t = refl
-lookup-tally (e ∷ es) t =
-    search (rules, arith, by_same, tally-cons, times_here, times_other, same_from, lookup-others, lookup-tally es t)
+lookup-tally (e ∷ es) t = search (rules, arith, times, lookup-others, lookup-tally es t)
 
 -- the count of a token in a tally is the sum of its times
 pub times_of-tally : (t : List ℕ) (es : List (List ℕ × ℕ)) → times_of t (tally es) ≡ times_of t es
@@ -55,14 +58,16 @@ pub tally-added : (es : List (List ℕ × ℕ)) (t : List ℕ) (n : ℕ)
     → tally (es ++ (t, n) ∷ []) ≡ insert_entry is_same (tally es) t (times_of t es + n)
 tally-added [] t n = search (rules, times_here, is_same_itself)
 tally-added (e ∷ es) t n =
-    search (rules, arith, by_same, tally-cons, times_here, times_other, sum_by-append, same_from, other_way, put-same, put-others, tally-added es t n)
+    search (rules, arith, times, sum_by-append, other_way, put-same, put-others, tally-added es t n)
 
 -- a tally of a tally and more: a tally takes one more entry, whatever list it is of
 same_so_far : (es fs more : List (List ℕ × ℕ)) → tally es ≡ tally fs → tally (es ++ more) ≡ tally (fs ++ more)
 same_so_far es fs [] h = search (rules, arith, append-nil)
 same_so_far es fs (e ∷ more) h =
-    let first : tally (es ++ e ∷ []) ≡ tally (fs ++ e ∷ []) = cc (tally-added es e.0 e.1, tally-added fs e.0 e.1, lookup-tally es e.0, lookup-tally fs e.0) in
-    let rest = same_so_far (es ++ e ∷ []) (fs ++ e ∷ []) more first in cc (rest, append_assoc es (e ∷ []) more, append_assoc fs (e ∷ []) more)
+    let first : tally (es ++ e ∷ []) ≡ tally (fs ++ e ∷ []) =
+    cc (tally-added es e.0 e.1, tally-added fs e.0 e.1, lookup-tally es e.0, lookup-tally fs e.0) in
+    rw (← append_assoc es (e ∷ []) more, ← append_assoc fs (e ∷ []) more)
+    (same_so_far (es ++ e ∷ []) (fs ++ e ∷ []) more first)
 
 pub tally-again : (es fs : List (List ℕ × ℕ)) → tally (tally es ++ fs) ≡ tally (es ++ fs)
 tally-again es fs = same_so_far (tally es) es fs (tally-table (tally es) (once-tally es))

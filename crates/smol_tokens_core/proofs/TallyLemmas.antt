@@ -36,17 +36,18 @@ pub tally-cons : (e : List ℕ × ℕ) (es : List (List ℕ × ℕ))
 tally-cons e es = search (rules, times_here, is_same_itself, others_counted)
 
 pub counts-tally : (es : List (List ℕ × ℕ)) → All (λ e. e.1 ≡ times_of e.0 es) (tally es)
-counts-tally es = All-map (λ e. e.1 ≡ times_of e.0 es) (λ t. (t, times_of t es)) (first_sights (tokens es)) (λ k d l. refl)
+counts-tally es =
+    All-map (λ e. e.1 ≡ times_of e.0 es) (λ t. (t, times_of t es)) (first_sights (tokens es)) (λ k d l. refl)
 
-tokens_again : (f : List ℕ → ℕ) (us : List (List ℕ)) → tokens (map (λ u. (u, f u)) us) ≡ us
-tokens_again f [] = refl
-tokens_again f (u ∷ us) = ap (λ s. u ∷ s) (tokens_again f us)
+tokens_again : (es : List (List ℕ × ℕ)) (us : List (List ℕ)) → tokens (map (λ u. (u, times_of u es)) us) ≡ us
+tokens_again es [] = refl
+tokens_again es (u ∷ us) = ap (λ s. u ∷ s) (tokens_again es us)
 
 -- no token stands twice
 pub once-tally : (es : List (List ℕ × ℕ)) → AllPairs (λ s t. s ≢ t) (tokens (tally es))
-once-tally es = rw (tokens_again (λ u. times_of u es) (first_sights (tokens es))) (sights_once (tokens es))
+once-tally es = rw (tokens_again es (first_sights (tokens es))) (sights_once (tokens es))
 
 -- the tokens of a longer list begin with those of the shorter
 pub tokens-longer : (es fs : List (List ℕ × ℕ))
     → (more : List (List ℕ)) × (tokens (tally (es ++ fs)) ≡ tokens (tally es) ++ more)
-tokens-longer es fs = simp (tokens_again (λ u. times_of u es), tokens_again (λ u. times_of u (es ++ fs)), map-append) (sights-longer (tokens es) (tokens fs))
+tokens-longer es fs = simp (tokens_again, map-append) (sights-longer (tokens es) (tokens fs))

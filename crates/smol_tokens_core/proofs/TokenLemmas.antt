@@ -52,7 +52,8 @@ no_report-add t line seen rest left old so_far is next full =
     let worth : List ℕ → ℕ = λ u. cond (is_same line u) 1 0 in
     let all : count_by (is_same line) (lines t) ≡ count_by (is_same line) seen + (1 + count_by (is_same line) rest) =
     rw (is, next, sum_by-append worth seen (line ∷ rest), sum_by-cons worth line rest, is_same_itself line) in
-    (line, omega (arith, all, ap (times_of line) so_far, times_of-tally line (seen_once seen), times_of-seen_once line seen))
+    let before = times_of-tally line (seen_once seen) ∙ times_of-seen_once line seen in
+    (line, omega (arith, all, before, ap (times_of line) so_far))
 
 -- the counts of all lines are `u64`s, exactly where no line stands too often
 pub no_line_too_often : (t : List ℕ) → All (λ e. e.1 < 2 ^ 64) (tally (seen_once (lines t))) → ¬ HasALineTooOften t
@@ -62,5 +63,7 @@ no_line_too_often t fit h =
 
 pub counts_fit : (t : List ℕ) → ¬ HasALineTooOften t → All (λ e. e.1 < 2 ^ 64) (tally (seen_once (lines t)))
 counts_fit t none = All-weaker (λ e. e.1 ≡ times_of e.0 (seen_once (lines t))) (λ e. e.1 < 2 ^ 64)
-    (λ e is. omega (arith, times_of-seen_once e.0 (lines t), (λ (above : 2 ^ 64 ≤ count_by (is_same e.0) (lines t)). none (e.0, above))))
+    (λ e is.
+    let below : ¬ (2 ^ 64 ≤ count_by (is_same e.0) (lines t)) = λ above. none (e.0, above) in
+    omega (arith, times_of-seen_once e.0 (lines t)))
     (tally (seen_once (lines t))) (counts-tally (seen_once (lines t)))

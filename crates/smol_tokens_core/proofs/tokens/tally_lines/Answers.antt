@@ -10,8 +10,11 @@ loop-line-preserved-in-Counted g c = grind (arith, common_steps, tally-seen, lin
 
 pub returns-in-Full-clause-fault : goal.returns-in-Full-clause-fault
 returns-in-Full-clause-fault g c =
-    let full = rw c.in-Full.is at c.add_again.ensures in
-    (refl, no_report-add _ (chars c.in-Some.line.now) _ _ _ _ c.loop-line.invariant.0 c.loop-line.invariant.1 c.in-Some.ensures.steps full.1)
+    let full = rw c.in-Full.is at c.add_again.ensures in (
+      refl,
+      no_report-add _ (chars c.in-Some.line.now) _ _ _ _ c.loop-line.invariant.0 c.loop-line.invariant.1
+          c.in-Some.ensures.steps full.1,
+    )
 
 pub returns-in_err-token-in-New-clause-fault : goal.returns-in_err-token-in-New-clause-fault
 returns-in_err-token-in-New-clause-fault g c =

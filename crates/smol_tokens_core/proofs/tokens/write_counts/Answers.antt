@@ -12,6 +12,7 @@ loop-index-preserved g c = elim c.match-at.branch [
       (report-next count_line c.args.tally.now c.loop-index.index _ _ _ (sym w.in-Some.ensures) c.loop-index.invariant
       w.in_ok-push_count.ensures)
   | in_default w ↦
-      let there = slice_get-get_or c.args.tally.now c.loop-index.index ([], 0) (omega (arith, c.len-index-end.ensures.len)) in
+      let there = slice_get-get_or c.args.tally.now c.loop-index.index ([], 0)
+      (omega (arith, c.len-index-end.ensures.len)) in
       absurd (cc (w.in_default.ensures, there))
 ]
