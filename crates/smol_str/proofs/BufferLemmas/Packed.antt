@@ -43,8 +43,8 @@ drop-packed old m h =
     let left : (INLINE_CAP - length old) - m ≡ INLINE_CAP - (length old + m) = omega arith in
     let n : ℕ = INLINE_CAP - length old in
     let zeros = drop-append-le m (replicate {A = ℕ} n 0) (length old ∷ []) (omega (arith, length-replicate {A = ℕ} n 0)) in
-    let fewer = drop-replicate {X = ℕ} m n 0 in
-    cc (drop-drop m (length old) (packed old), packed-behind old, drop_at old (behind old) (length old) refl, zeros, fewer)
+    let front = drop_at old (behind old) (length old) refl in
+    cc (drop-drop m (length old) (packed old), packed-behind old, front, zeros, drop-replicate {X = ℕ} m n 0)
 
 put-packed : (old bytes : List ℕ) → length old + length bytes ≤ INLINE_CAP →
     set (put_at (packed old) (length old) bytes) INLINE_CAP (length old + length bytes) ≡ packed (old ++ bytes)
@@ -67,8 +67,7 @@ module _ (n : ℕ) (old mid bytes t : List ℕ) (h : IsPacked old) (e : chars (u
 
   pub view-append : chars (unpacked (set mid INLINE_CAP (n + length bytes))) ≡ t ++ chars bytes
   view-append =
-      ap chars (unpacked-packed _ (unpacked old ++ bytes) within appended) ∙ chars-append (unpacked old) bytes h.utf8
-      ∙ ap (λ x. x ++ chars bytes) e
+      cc (unpacked-packed _ (unpacked old ++ bytes) within appended, chars-append (unpacked old) bytes h.utf8)
 
 -- the whole buffer
 pub buffer-padded : (all : List ℕ) → IsPacked all →
@@ -81,10 +80,10 @@ buffer-padded all h =
 pub same-texts : (xs ys : List ℕ) → IsPacked xs → IsPacked ys →
     IsTrue (pointwise nat_eq xs ys) ↔ (chars (unpacked xs) ≡ chars (unpacked ys))
 same-texts xs ys h k =
-    let bytes = λ (e : chars (unpacked xs) ≡ chars (unpacked ys)).
-    sym (encodes-chars (unpacked xs) h.utf8) ∙ ap encode_utf8_all e ∙ encodes-chars (unpacked ys) k.utf8 in (
-      (λ b. let s : xs ≡ ys = (bytes_decides xs ys).0 b in rw s),
-      (λ e. (bytes_decides xs ys).1 (h.reads ∙ ap packed (bytes e) ∙ sym k.reads)),
+    let s = encodes-chars (unpacked xs) h.utf8 in
+    let t = encodes-chars (unpacked ys) k.utf8 in (
+      (λ b. let same : xs ≡ ys = (bytes_decides xs ys).0 b in rw same),
+      (λ e. (bytes_decides xs ys).1 (cc (h.reads, k.reads, s, t))),
     )
 
 -- texts are equal exactly where their sizes and padded buffers are
@@ -94,9 +93,6 @@ padded-same s t e h =
     let right = take_at (encode_utf8_all t) (replicate (INLINE_CAP - size t) 0) (size s) (sym e) in
     encodes_same s t (cc)
 
-pub HaveOneBuffer-same : (s t : List ℕ) → (s ≡ t) ↔ HaveOneBuffer s t
-HaveOneBuffer-same s t = search (rules, arith, padded-same)
-
 -- a test for equal texts tests the buffers
 pub test-HaveOneBuffer : (b : Bool) (s t : List ℕ) → IsTrue b ↔ (s ≡ t) → IsTrue b ↔ HaveOneBuffer s t
-test-HaveOneBuffer b s t h = ((λ y. (HaveOneBuffer-same s t).0 (h.0 y)), (λ o. h.1 ((HaveOneBuffer-same s t).1 o)))
+test-HaveOneBuffer b s t h = search (rules, arith, padded-same, h)

@@ -1,5 +1,5 @@
 -- For `order_words` and `InlineText::order`: the order of packed texts is that of their words.
-use Rattle.smol_str.proofs.Common.{◌≡◌, ℕ, suc, ◌+◌, ◌-◌, ◌*◌, ◌^◌, ◌<◌, ◌≤◌, List, [], ◌∷◌, ◌++◌, length, take, drop, get_or, replicate, sym, ◌∙◌, ap, arith, refl, inl, inr, length-drop, w64, from_be_bytes, chars, nat_cmp, ordering_then, ordering_reverse, slice_cmp, nat_list_cmp_total, cases_lt, cases_order, drop_more, drop_all, drop-drop, take-append-drop, encodes-chars, INLINE_CAP, IsPacked, packed, unpacked, tied_itself, common_steps, rules}
+use Rattle.smol_str.proofs.Common.{◌≡◌, ℕ, suc, ◌+◌, ◌-◌, ◌*◌, ◌^◌, ◌<◌, ◌≤◌, List, [], ◌∷◌, ◌++◌, length, take, drop, get_or, replicate, sym, ◌∙◌, ap, arith, refl, ⊎_elim, length-drop, w64, from_be_bytes, chars, nat_cmp, ordering_then, ordering_reverse, slice_cmp, nat_list_cmp_total, cases_lt, cases_order, drop_more, drop_all, drop-drop, take-append-drop, encodes-chars, INLINE_CAP, IsPacked, packed, unpacked, tied_itself, common_steps, rules}
 use Rattle.std.specs.declared.cmp.Ordering.TheVariants.{Less}
 use Rattle.std.specs.declared.cmp.Ordering.{Ordering}
 use Rattle.std.proofs.Math.Nat.{mul-le-mul_right, pow-succ'}
@@ -28,8 +28,8 @@ big-below : (xs : List ℕ) → AreBytes xs → big xs < 256 ^ length xs
 unfolding big
 big-below [] h = omega arith
 big-below (x ∷ xs) h =
-    let more = digit-less x 256 (256 ^ length xs) (big xs) 0 (h 0) (big-below xs (λ i. h (suc i))) in
-    omega (arith, more, pow-succ' 256 (length xs))
+    let rest = big-below xs (λ i. h (suc i)) in
+    grind (arith, h 0, rest, digit-less x 256 (256 ^ length xs) (big xs) 0, pow-succ' 256 (length xs))
 
 -- the first digit decides, or else the rest
 nat_cmp-add : (a b c : ℕ) → nat_cmp (a + b) (a + c) ≡ nat_cmp b c
@@ -37,14 +37,9 @@ nat_cmp-add a b c = grind (arith, common_steps, cases_order, nat_cmp-same, nat_c
 
 digits : (x y p b c : ℕ) → b < p → c < p → ordering_then (nat_cmp x y) (nat_cmp b c) ≡ nat_cmp (x * p + b) (y * p + c)
 digits x y p b c h k =
-    elim (cases_order x y) [
-      | inl e ↦ rw (e, nat_cmp-same y) (sym (nat_cmp-add (y * p) b c))
-      | inr o ↦ elim o [
-        | inl l ↦ rw (nat_cmp-less x y l) (sym (nat_cmp-less (x * p + b) (y * p + c) (digit-less x y p b c l h)))
-        | inr g ↦ rw (nat_cmp-greater x y g)
-            (sym (nat_cmp-greater (x * p + b) (y * p + c) (digit-less y x p c b g k)))
-      ]
-    ]
+    ⊎_elim (λ e. search (rules, arith, e, nat_cmp-same, nat_cmp-add))
+    (⊎_elim (λ l. search (rules, arith, nat_cmp-less, digit-less)) (λ g. search (rules, arith, nat_cmp-greater, digit-less)))
+    (cases_order x y)
 
 then-assoc : (a b c : Ordering) → ordering_then a (ordering_then b c) ≡ ordering_then (ordering_then a b) c
 then-assoc a b c = search rules
@@ -54,14 +49,12 @@ big-order : (xs ys s t : List ℕ) → length xs ≡ length ys → AreBytes xs �
 unfolding big
 big-order [] [] s t e h k = refl
 big-order (x ∷ xs) (y ∷ ys) s t e h k =
-    let long : length xs ≡ length ys = omega arith in
     let bx : AreBytes xs = λ i. h (suc i) in
     let by : AreBytes ys = λ i. k (suc i) in
-    let power : 256 ^ length xs ≡ 256 ^ length ys = ap (λ n. 256 ^ n) long in
-    let last : Ordering = slice_cmp nat_cmp s t in
-    let first = digits x y (256 ^ length ys) (big xs) (big ys) (rw (← power) (big-below xs bx)) (big-below ys by) in
-    rw (big-order xs ys s t long bx by, then-assoc (nat_cmp x y) (nat_cmp (big xs) (big ys)) last, power)
-    (ap (λ o. ordering_then o last) first)
+    let power : 256 ^ length xs ≡ 256 ^ length ys = ap (λ n. 256 ^ n) (omega arith) in
+    let first = digits x y (256 ^ length ys) in
+    let rest = big-order xs ys s t (omega arith) bx by in
+    search (rules, arith, rest, then-assoc (nat_cmp x y), power, first, big-below xs bx, big-below ys by)
 big-order xs ys s t e h k = absurd (omega arith)
 
 -- the step of a loop over words
@@ -75,14 +68,7 @@ order-step xs ys x y at e f h k l m =
     let wide = length-part 8 ys at m in
     let order = big-order _ _ (drop 8 (drop at xs)) (drop 8 (drop at ys)) (long ∙ sym wide) (bytes-part 8 xs at h)
     (bytes-part 8 ys at k) in
-    rw (
-      e,
-      f,
-      big-eight (take 8 (drop at xs)) long,
-      big-eight (take 8 (drop at ys)) wide,
-      ← drop-drop 8 at xs,
-      ← drop-drop 8 at ys,
-    ) (rw (take-append-drop 8 (drop at xs), take-append-drop 8 (drop at ys)) at order)
+    rw (e, f) (grind (arith, order, long, wide, big-eight, drop-drop {A = ℕ}, take-append-drop {A = ℕ}))
 
 then-differ : (a b : ℕ) (o : Ordering) → ¬ (a ≡ b) → ordering_then (nat_cmp a b) o ≡ nat_cmp a b
 then-differ a b o other = grind (arith, common_steps, cases_order, nat_cmp-less, nat_cmp-greater)
@@ -92,14 +78,12 @@ pub order-differ : (xs ys : List ℕ) (at a b : ℕ) → AreBytes xs → AreByte
     a ≡ from_be_bytes w64 (take 8 (drop at xs)) → b ≡ from_be_bytes w64 (take 8 (drop at ys)) → ¬ (a ≡ b) →
     slice_cmp nat_cmp (drop at xs) (drop at ys) ≡ nat_cmp a b
 order-differ xs ys at a b h k l m e f other =
-    order-step xs ys _ _ at refl refl h k l m
-    ∙ rw (← e, ← f) (then-differ a b (slice_cmp nat_cmp (drop (at + 8) xs) (drop (at + 8) ys)) other)
+    search (rules, arith, order-step xs ys _ _ at refl refl h k l m, then-differ)
 
 pub order-same : (xs ys : List ℕ) (at a b : ℕ) → AreBytes xs → AreBytes ys → at + 8 ≤ length xs → at + 8 ≤ length ys →
     a ≡ from_be_bytes w64 (take 8 (drop at xs)) → b ≡ from_be_bytes w64 (take 8 (drop at ys)) → a ≡ b →
     slice_cmp nat_cmp (drop at xs) (drop at ys) ≡ slice_cmp nat_cmp (drop (at + 8) xs) (drop (at + 8) ys)
-order-same xs ys at a b h k l m e f same =
-    order-step xs ys _ _ at refl refl h k l m ∙ rw (← e, ← f, same, nat_cmp-same b)
+order-same xs ys at a b h k l m e f same = cc (order-step xs ys _ _ at refl refl h k l m, nat_cmp-same b)
 
 -- the length behind a text decides where the texts are equal up to zeros
 behind : (ys : List ℕ) (m n k l : ℕ) → m ≡ length ys + n → k < l →
@@ -110,10 +94,7 @@ behind ys m n k l e h = search (rules, slice_cmp-front, less_head)
 order-behind : (xs ys : List ℕ) (m n k l : ℕ) → length xs + m ≡ length ys + n → k + length ys ≡ l + length xs →
     slice_cmp nat_cmp ((xs ++ replicate m 0) ++ (k ∷ []))
     ((ys ++ replicate n 0) ++ (l ∷ [])) ≡ slice_cmp nat_cmp xs ys
-order-behind [] [] m n k l e f =
-    let a : m ≡ n = omega (arith, e) in
-    let b : k ≡ l = omega (arith, f) in
-    rw (a, b) (tied_itself nat_list_cmp_total (replicate n 0 ++ (l ∷ [])))
+order-behind [] [] m n k l e f = grind (arith, common_steps, tied_itself nat_list_cmp_total)
 order-behind [] (y ∷ ys) m n k l e f = behind (y ∷ ys) m n k l (omega arith) (omega arith)
 order-behind (x ∷ xs) [] m n k l e f =
     nat_list_cmp_total.antisymm (((x ∷ xs) ++ replicate m 0) ++ (k ∷ [])) (replicate n 0 ++ (l ∷ []))
@@ -123,11 +104,8 @@ order-behind (x ∷ xs) (y ∷ ys) m n k l e f = search (rules, order-behind xs 
 pub order-packed : (xs ys : List ℕ) → IsPacked xs → IsPacked ys →
     slice_cmp nat_cmp xs ys ≡ slice_cmp nat_cmp (chars (unpacked xs)) (chars (unpacked ys))
 order-packed xs ys h k =
-    let s : List ℕ = unpacked xs in
-    let t : List ℕ = unpacked ys in
-    let m : ℕ = INLINE_CAP - length s in
-    let n : ℕ = INLINE_CAP - length t in
-    let bytes : slice_cmp nat_cmp (packed s) (packed t) ≡ slice_cmp nat_cmp s t =
-    order-behind s t m n (length s) (length t) (omega (arith, h.within, k.within)) (omega arith) in
-    let texts = rw (encodes-chars s h.utf8, encodes-chars t k.utf8) at (order-texts (chars s) (chars t)) in
-    cc (h.reads, k.reads, texts)
+    let s = unpacked xs in
+    let t = unpacked ys in
+    let order = order-behind s t (INLINE_CAP - length s) (INLINE_CAP - length t) (length s) (length t)
+    (omega (arith, h.within, k.within)) (omega arith) in
+    cc (h.reads, k.reads, order, order-texts (chars s) (chars t), encodes-chars s h.utf8, encodes-chars t k.utf8)

@@ -27,9 +27,9 @@ word-none (suc k) xs at h = word-past k xs at (omega (arith, h)) ∙ word-none k
 
 pub word-few : (m k : ℕ) (xs : List ℕ) → length xs ≤ k → word (m + k) xs 0 ≡ word k xs 0
 unfolding word
-word-few zero k xs h = let e : 0 + k ≡ k = omega arith in ap (λ n. word n xs 0) e
+word-few zero k xs h = search (rules, arith)
 word-few (suc m) k xs h =
-    let e : suc m + k ≡ suc (m + k) = omega arith in cc (e, word-past (m + k) xs 0 (omega (arith, h)), word-few m k xs h)
+    let e : suc m + k ≡ suc (m + k) = omega arith in search (rules, arith, e, word-past, word-few m k xs h)
 
 -- without its lowest bytes
 shift_once : (x m p : ℕ) → x < 256 → (x + 256 * m) / (256 * p) ≡ m / p
@@ -42,9 +42,8 @@ pub word-shift : (j k : ℕ) (xs : List ℕ) (at to : ℕ) → AreBytes xs → l
     word k xs at / 2 ^ (8 * j) ≡ word k xs to
 word-shift zero k xs at to b h e = let f : to ≡ at = omega arith in rw f (omega arith)
 word-shift (suc j) k xs at to b h e =
-    let first : word k xs at ≡ get_or xs at 0 + 256 * word k xs (at + 1) = cc (word-past k xs at h, word-first k xs at) in
-    rw (first, power_more j) (shift_once (get_or xs at 0) (word k xs (at + 1)) (2 ^ (8 * j)) (b at))
-    ∙ word-shift j k xs (at + 1) to b (omega (arith, h)) (omega (arith, e))
+    let rest = word-shift j k xs (at + 1) to b (omega (arith, h)) (omega (arith, e)) in
+    grind (arith, power_more, shift_once, b at, word-past k xs at h, word-first k xs at, rest)
 
 pub word-below : (k : ℕ) (xs : List ℕ) (at : ℕ) → AreBytes xs → word k xs at < 256 ^ k
 unfolding word
@@ -55,8 +54,7 @@ word-below (suc k) xs at b = grind (arith, mul-le-mul_left, pow-succ', word-belo
 pub word-halves : (xs : List ℕ) → AreBytes xs → 4 ≤ length xs → length xs < 8 →
     word 8 xs 0 ≡ word 4 xs 0 + 4294967296 * (word 4 xs (length xs - 4) / 2 ^ (8 * (8 - length xs)))
 unfolding word
-word-halves xs b h small = rw (word-shift (8 - length xs) 4 xs (length xs - 4) 4 b (omega arith) (omega arith))
-    (omega arith)
+word-halves xs b h small = grind (arith, word-shift (8 - length xs) 4 xs (length xs - 4) 4)
 
 -- the numbers that std reads, and the bytes that it writes
 part : (n : ℕ) (xs : List ℕ) (at i : ℕ) → i < n → get_or (take n (drop at xs)) i 0 ≡ get_or xs (at + i) 0
@@ -87,7 +85,7 @@ get_or-zeros (x ∷ xs) m (suc k) = get_or-zeros xs m k
 get_or-zeros xs m k = refl
 
 length-with_zeros : (bytes : List ℕ) → length bytes ≤ INLINE_CAP → length (with_zeros bytes) ≡ INLINE_CAP + 1
-length-with_zeros bytes h = omega (arith, length-append {A = ℕ}, length-replicate {A = ℕ} (INLINE_CAP + 1 - length bytes) 0)
+length-with_zeros bytes h = simp (length-append, length-replicate) (omega (arith, h))
 
 word-same : (k : ℕ) (xs ys : List ℕ) (at : ℕ) → ((j : ℕ) → get_or xs j 0 ≡ get_or ys j 0) → word k xs at ≡ word k ys at
 unfolding word
@@ -102,10 +100,8 @@ word-with_zeros : (bytes : List ℕ) (at n : ℕ) → AreBytes bytes → length 
     at + 8 ≤ INLINE_CAP + 1 → n ≡ word 8 bytes at → to_le_bytes w64 n ≡ take 8 (drop at (with_zeros bytes))
 word-with_zeros bytes at n b h within e =
     let zeros = λ (i : ℕ). get_or-zeros bytes (INLINE_CAP + 1 - length bytes) i in
-    let number : n ≡ word 8 (with_zeros bytes) at = e ∙ sym (word-same 8 (with_zeros bytes) bytes at zeros) in
-    let are : AreBytes (with_zeros bytes) = λ i. rw (zeros i) (b i) in
-    ap (to_le_bytes w64) number
-    ∙ write-eight (with_zeros bytes) at are (omega (arith, within, length-with_zeros bytes h))
+    let eight = write-eight (with_zeros bytes) at (λ i. rw (zeros i) (b i)) in
+    search (rules, arith, eight, length-with_zeros, word-same 8 (with_zeros bytes) bytes at zeros)
 
 pub pack-step : (new old bytes : List ℕ) (at n : ℕ) → AreBytes bytes → length bytes ≤ INLINE_CAP →
     at + 8 ≤ INLINE_CAP + 1 → at + 8 ≤ length old → take at old ≡ take at (with_zeros bytes) → n ≡ word 8 bytes at →
@@ -117,43 +113,38 @@ pub all-with_zeros : (buf bytes : List ℕ) → length buf ≡ INLINE_CAP + 1 �
     take (INLINE_CAP + 1) buf ≡ take (INLINE_CAP + 1) (with_zeros bytes) → buf ≡ with_zeros bytes
 all-with_zeros buf bytes long h e =
     let size = length-with_zeros bytes h in
-    rw (take_all (INLINE_CAP + 1) buf (omega arith), take_all (INLINE_CAP + 1) (with_zeros bytes) (omega arith)) at e
+    cc (take_all (INLINE_CAP + 1) buf (omega arith), take_all (INLINE_CAP + 1) (with_zeros bytes) (omega arith))
 
 pub pack-end : (buf bytes : List ℕ) → length bytes ≤ INLINE_CAP → buf ≡ with_zeros bytes →
     set buf INLINE_CAP (length bytes) ≡ packed bytes
 pack-end buf bytes h all =
     let more : INLINE_CAP + 1 - length bytes ≡ (INLINE_CAP - length bytes) + 1 = omega (arith, h) in
-    let last : with_zeros bytes ≡ padded bytes ++ (0 ∷ []) = rw (more, ← replicate_more, append_assoc) in
-    rw (all, last) (set_at (padded bytes) 0 [] (length bytes) INLINE_CAP (length-padded bytes h))
+    rw (all, more, ← replicate_more, ← append_assoc)
+    (set_at (padded bytes) 0 [] (length bytes) INLINE_CAP (length-padded bytes h))
 
 -- at most eight bytes, by one word over zeros
 pub one-word : (buf bytes : List ℕ) (n : ℕ) → AreBytes bytes → length bytes ≤ 8 → n ≡ word 8 bytes 0 →
     buf ≡ put_at (replicate (INLINE_CAP + 1) 0) 0 (to_le_bytes w64 n) → buf ≡ with_zeros bytes
 one-word buf bytes n b h e put =
-    let m : ℕ = INLINE_CAP + 1 - length bytes in
-    let zeros : List ℕ = replicate (INLINE_CAP + 1) 0 in
-    let eight : to_le_bytes w64 n ≡ take 8 (with_zeros bytes) = word-with_zeros bytes 0 n b (omega arith) (omega arith) e in
+    let m = INLINE_CAP + 1 - length bytes in
+    let eight = word-with_zeros bytes 0 n b (omega arith) (omega arith) e in
     let split : length bytes + (8 - length bytes) ≡ 8 = omega (arith, h) in
     let left : m - (8 - length bytes) ≡ INLINE_CAP + 1 - 8 = omega (arith, h) in
-    let rest : drop 8 (with_zeros bytes) ≡ drop 8 zeros =
     let behind = drop-append-add bytes (replicate m 0) (8 - length bytes) in
-    cc (behind, drop-replicate {X = ℕ} (8 - length bytes) m 0, drop-replicate {X = ℕ} 8 (INLINE_CAP + 1) 0) in
-    cc (take-append-drop 8 (with_zeros bytes))
+    search (rules, arith, eight, behind, drop-replicate, take-append-drop 8 (with_zeros bytes))
 
 -- one word of two lists
 same-word : (xs ys : List ℕ) (at : ℕ) → take (at + 8) xs ≡ take (at + 8) ys →
     (take at xs ≡ take at ys) × (word 8 xs at ≡ word 8 ys at)
-same-word xs ys at e =
-    let here : take 8 (drop at xs) ≡ take 8 (drop at ys) = cc (drop-take at 8 xs, drop-take at 8 ys) in (
-      cc (take-take at (at + 8) xs (omega arith), take-take at (at + 8) ys (omega arith)),
-      cc (read-eight xs at, read-eight ys at),
-    )
+same-word xs ys at e = (
+  cc (take-take at (at + 8) xs (omega arith), take-take at (at + 8) ys (omega arith)),
+  cc (drop-take at 8 xs, drop-take at 8 ys, read-eight xs at, read-eight ys at),
+)
 
 pub more-same : (xs ys : List ℕ) (at : ℕ) → AreBytes xs → AreBytes ys → at + 8 ≤ length xs → at + 8 ≤ length ys →
     take at xs ≡ take at ys → word 8 xs at ≡ word 8 ys at → take (at + 8) xs ≡ take (at + 8) ys
 more-same xs ys at b c h k front same =
-    let here : take 8 (drop at xs) ≡ take 8 (drop at ys) = cc (write-eight xs at b h, write-eight ys at c k) in
-    rw (take-add at 8 xs, take-add at 8 ys, front, here)
+    cc (take-add at 8 xs, take-add at 8 ys, write-eight xs at b h, write-eight ys at c k)
 
 -- the step of a loop that compares
 pub same-step : (xs ys : List ℕ) (at : ℕ) → AreBytes xs → AreBytes ys → at + 8 ≤ length xs → at + 8 ≤ length ys →
@@ -165,9 +156,7 @@ same-step xs ys at b c h k = grind (arith, common_steps, Decides-and, bytes_deci
 pub same-last : (xs ys : List ℕ) (at last : ℕ) → AreBytes xs → AreBytes ys → length xs ≡ length ys →
     last + 8 ≡ length xs → last ≤ at → take at xs ≡ take at ys → word 8 xs last ≡ word 8 ys last → xs ≡ ys
 same-last xs ys at last b c long all so_far front same =
-    let before : take last xs ≡ take last ys = cc (take-take last at xs so_far, take-take last at ys so_far) in
-    let whole = more-same xs ys last b c (omega (arith, all)) (omega (arith, all, long)) before same in
-    rw (take_all (last + 8) xs (omega (arith, all)), take_all (last + 8) ys (omega (arith, all, long))) at whole
+    grind (arith, more-same xs ys last b c, take-take {A = ℕ} last at, take_all {A = ℕ})
 
 -- what a comparison finds
 pub same_from : (found : Bool) (xs ys : List ℕ) → (found ≡ true → xs ≡ ys) → (xs ≡ ys → found ≡ true) →
@@ -189,21 +178,19 @@ front-end r bytes s k m e h l = grind (arith, common_steps, length-take-le, part
 back-end : (r bytes : List ℕ) (s k m : ℕ) → length bytes ≡ m + k → s ≤ length r →
     drop k (drop (s + m) (take s r ++ (take k bytes ++ drop k (drop s r)))) ≡ drop (s + length bytes) r
 back-end r bytes s k m e l =
-    let w : List ℕ = take s r ++ (take k bytes ++ drop k (drop s r)) in
-    let part : length (take k bytes) ≡ k = length-take-le k bytes (omega (arith, e)) in
     let turn : (s + m) + k ≡ (s + k) + m = omega arith in
     let all : s + (k + m) ≡ s + length bytes = omega (arith, e) in
+    let part = length-take-le k bytes (omega (arith, e)) in
     let read = drop-end (take s r) (take k bytes) (drop k (drop s r)) s k (length-take-le s r l) part in
-    cc (drop-drop k (s + m) w, drop-drop m (s + k) w, read, drop-drop m k (drop s r), drop-drop (k + m) s r)
+    rw (drop-drop, turn, ← drop-drop, read, drop-drop, drop-drop, all)
 
 pub two-ends : (r bytes y z : List ℕ) (s k m a b : ℕ) → length bytes ≡ m + k → m ≤ k → s ≤ length r →
     y ≡ take k bytes → z ≡ drop m bytes → a ≡ k → b ≡ k →
     take (s + m) (take s r ++ (y ++ drop a (drop s r))) ++
     (z ++ drop b (drop (s + m) (take s r ++ (y ++ drop a (drop s r))))) ≡ put_at r s bytes
 two-ends r bytes y z s k m a b e h l f g p q =
-    let after : List ℕ = drop (s + length bytes) r in
-    let apart = append_assoc (take s r) (take m bytes) (drop m bytes ++ after) in
-    let whole = append_assoc (take m bytes) (drop m bytes) after in
+    let apart = append_assoc (take s r) (take m bytes) (drop m bytes ++ drop (s + length bytes) r) in
+    let whole = append_assoc (take m bytes) (drop m bytes) (drop (s + length bytes) r) in
     cc (front-end r bytes s k m e h l, back-end r bytes s k m e l, apart, whole, take-append-drop m bytes)
 
 -- what is copied behind a front that is there
