@@ -5,7 +5,7 @@ use Rattle.std.proofs.lemmas.Bool.{ne_eqb}
 use Rattle.std.proofs.lemmas.List.Elements.{All-nil, All-cons}
 use Rattle.std.specs.Prelude.{All}
 use Rattle.std.specs.Str.{chars, IsUtf8}
-use Rattle.std.proofs.lemmas.Str.{chars-nil, chars-encodes, encodes-chars}
+use Rattle.std.proofs.lemmas.Str.{chars-nil, chars-encodes}
 use Rattle.smol_str.specs.Text.{size}
 use Rattle.smol_str.specs.Cut.{Occurs, IsNextMatch}
 use Rattle.smol_str.proofs.CallerLemmas.{chars-take, chars-drop, size-append}

@@ -1,12 +1,12 @@
 -- For the laws of lines: std's `split` at newlines gives the unlimited cut, and so the lines from the left.
-use Rattle.std.proofs.Common.{◌≡◌, ◌≢◌, ℕ, ◌<◌, ◌≤◌, ◌==◌, zero, suc, List, [], ◌∷◌, Bool, cond, Option, unwrap_or, rules}
-use Rattle.std.proofs.Common.{length, refl, ap, sym, ⊎_elim, ◌∙◌, arith}
+use Rattle.std.proofs.Common.{◌≡◌, ℕ, ◌<◌, ◌≤◌, ◌==◌, zero, suc, List, [], ◌∷◌, Bool, cond, Option, unwrap_or, rules}
+use Rattle.std.proofs.Common.{length, refl, ap, arith}
 use Rattle.std.specs.Prelude.{option_map}
 use Rattle.std.specs.List.{onto_first, slice_split}
 use Rattle.std.proofs.lemmas.Bool.{cases_eq, ne_eqb}
 use Rattle.std.proofs.lemmas.List.Splits.{length-slice_split}
 use Rattle.smol_str.specs.Cut.{IsCut}
-use Rattle.smol_str.specs.Replace.{cut, cut_at, first_match, no_limit}
+use Rattle.smol_str.specs.Replace.{cut_at, no_limit}
 use Rattle.smol_str.proofs.CallerLemmas.{IsCut-cut, IsCut-unique}
 use Rattle.smol_tokens_core.specs.Lines.{is_newline, newline, lines, without_empty_last}
 

@@ -7,8 +7,7 @@ use Rattle.indexmap.specs.IndexMap.{insert_entry}
 use Rattle.std.proofs.lemmas.List.Sums.{sum_by-append}
 use Rattle.std.proofs.lemmas.List.Elements.{All-head, All-tail}
 use Rattle.smol_tokens_core.specs.Tally.{is_same, tokens, times_of, tally}
-use Rattle.smol_tokens_core.proofs.SightLemmas.{same_from, is_same_itself, by_same, other_from, other_way}
-use Rattle.smol_tokens_core.proofs.TallyLemmas.{times_here, times_other, without_token, tally-cons, once-tally}
+use Rattle.smol_tokens_core.proofs.TallyLemmas.{same_from, is_same_itself, by_same, other_from, other_way, times_here, times_other, without_token, tally-cons, once-tally}
 
 -- a token without an entry
 new : (t : List ℕ) (es : List (List ℕ × ℕ)) → All (λ u. t ≢ u) (tokens es)

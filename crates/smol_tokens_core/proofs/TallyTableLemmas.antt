@@ -7,7 +7,7 @@ use Rattle.smol_str.specs.Keys.{stands_for}
 use Rattle.smol_str.specs.Meaning.{Meaning}
 use Rattle.smol_str.proofs.CallerLemmas.{stands_for-text}
 use Rattle.smol_tokens_core.specs.Tally.{is_same, times_of, tally, HasEachOnce, by_text}
-use Rattle.smol_tokens_core.proofs.SightLemmas.{is_same_itself, by_same}
+use Rattle.smol_tokens_core.proofs.TallyLemmas.{is_same_itself, by_same}
 use Rattle.smol_tokens_core.proofs.TableLemmas.{tally-added, lookup-tally, tally-table}
 
 -- of a list that has each text once, a look-up finds the sum of its times

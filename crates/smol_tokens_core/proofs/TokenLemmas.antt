@@ -1,21 +1,18 @@
 -- For `tally_lines`: lines counted one after another, and what a count that is full says of all lines.
 use Rattle.std.proofs.lemmas.Grind.{common_steps}
-use Rattle.std.proofs.Common.{◌≡◌, ℕ, ◌+◌, ◌<◌, ◌≤◌, ◌^◌, length, List, [], ◌∷◌, ◌++◌, cond, map, All, ⊎_elim, unwrap_or}
-use Rattle.std.proofs.Common.{refl, sym, ap, ◌∙◌, arith, rules}
+use Rattle.std.proofs.Common.{◌≡◌, ℕ, ◌+◌, ◌<◌, ◌≤◌, ◌^◌, length, List, [], ◌∷◌, ◌++◌, cond, map, All}
+use Rattle.std.proofs.Common.{refl, ap, ◌∙◌, arith, rules}
 use Rattle.std.specs.Prelude.{count_by}
 use Rattle.std.proofs.lemmas.List.{map-append, append_assoc, length-append}
-use Rattle.std.proofs.lemmas.Bool.{cases_lt}
-use Rattle.std.proofs.lemmas.List.Elements.{All-head, All-tail, All-weaker}
-use Rattle.std.specs.Map.{lookup}
+use Rattle.std.proofs.lemmas.List.Elements.{All-weaker}
 use Rattle.std.proofs.lemmas.Map.Entries.{All-lookup}
 use Rattle.std.proofs.lemmas.List.Sums.{sum_by-cons, sum_by-append}
 use Rattle.smol_tokens_core.specs.Lines.{lines}
 use Rattle.smol_tokens_core.specs.Tally.{is_same, times_of, tally, seen_once}
 use Rattle.smol_tokens_core.specs.ReportFaults.{HasALineTooOften}
 use Rattle.smol_tokens_core.proofs.PieceLemmas.{lines-nil}
-use Rattle.smol_tokens_core.proofs.SightLemmas.{is_same_itself, by_same}
 use Rattle.smol_tokens_core.proofs.TableLemmas.{lookup-tally, tally-again, times_of-tally}
-use Rattle.smol_tokens_core.proofs.TallyLemmas.{counts-tally}
+use Rattle.smol_tokens_core.proofs.TallyLemmas.{is_same_itself, counts-tally}
 
 -- of texts that were seen once each, the times are how often a text stands
 pub times_of-seen_once : (t : List ℕ) (texts : List (List ℕ))

@@ -1,5 +1,5 @@
 -- For `order_words` and `InlineText::order`: the order of packed texts is that of their words.
-use Rattle.smol_str.proofs.Common.{◌≡◌, ℕ, suc, ◌+◌, ◌-◌, ◌*◌, ◌^◌, ◌<◌, ◌≤◌, List, [], ◌∷◌, ◌++◌, length, take, drop, get_or, replicate, sym, ◌∙◌, ap, arith, refl, ⊎_elim, length-drop, w64, from_be_bytes, chars, nat_cmp, ordering_then, ordering_reverse, slice_cmp, nat_list_cmp_total, cases_lt, cases_order, drop_more, drop_all, drop-drop, take-append-drop, encodes-chars, INLINE_CAP, IsPacked, packed, unpacked, tied_itself, common_steps, rules}
+use Rattle.smol_str.proofs.Common.{◌≡◌, ℕ, suc, ◌+◌, ◌-◌, ◌*◌, ◌^◌, ◌<◌, ◌≤◌, List, [], ◌∷◌, ◌++◌, length, take, drop, get_or, replicate, sym, ◌∙◌, ap, arith, refl, ⊎_elim, length-drop, w64, from_be_bytes, chars, nat_cmp, ordering_then, ordering_reverse, slice_cmp, nat_list_cmp_total, cases_lt, cases_order, drop_more, drop_all, drop-drop, take-append-drop, encodes-chars, INLINE_CAP, IsPacked, unpacked, tied_itself, common_steps, rules}
 use Rattle.std.specs.declared.cmp.Ordering.TheVariants.{Less}
 use Rattle.std.specs.declared.cmp.Ordering.{Ordering}
 use Rattle.std.proofs.Math.Nat.{mul-le-mul_right, pow-succ'}

@@ -1,5 +1,5 @@
 -- For the functions of `buffer::words` that read, pack and overwrite bytes: bytes as words.
-use Rattle.smol_str.proofs.Common.{◌≡◌, ℕ, zero, suc, ◌+◌, ◌-◌, ◌*◌, ◌^◌, ◌/◌, ◌<◌, ◌≤◌, List, [], ◌∷◌, ◌++◌, length, take, drop, get_or, replicate, sym, ◌∙◌, ap, arith, refl, length-take, length-drop, nat_eq, ◌&&◌, Bool, true, set, length-append, w64, w32, to_le_bytes, from_le_bytes, pointwise, bytes_decides, take-add, take-append-add, drop-append-add, le_bytes_8, pow-add, cases_lt, Decides-and, Decides-like, Decides-eqb, same_from_decides, take_at, drop_at, take_all, take-take, drop-take, drop-drop, take-append-le, take-append-drop, append_assoc, length-take-le, get_or-drop, get_or-take, get_or_past, set_at, length-replicate, drop-replicate, INLINE_CAP, packed, padded, put_at, with_zeros, encode, replicate_more, common_steps, rules}
+use Rattle.smol_str.proofs.Common.{◌≡◌, ℕ, zero, suc, ◌+◌, ◌-◌, ◌*◌, ◌^◌, ◌/◌, ◌<◌, ◌≤◌, List, [], ◌∷◌, ◌++◌, length, take, drop, get_or, replicate, ◌∙◌, ap, arith, refl, length-take, length-drop, nat_eq, ◌&&◌, Bool, true, set, length-append, w64, w32, to_le_bytes, from_le_bytes, pointwise, bytes_decides, take-add, take-append-add, drop-append-add, le_bytes_8, pow-add, cases_lt, Decides-and, Decides-like, Decides-eqb, same_from_decides, take_at, drop_at, take_all, take-take, drop-take, drop-drop, take-append-le, take-append-drop, append_assoc, length-take-le, get_or-drop, get_or-take, get_or_past, set_at, length-replicate, drop-replicate, INLINE_CAP, packed, padded, put_at, with_zeros, encode, replicate_more, common_steps, rules}
 use Rattle.std.proofs.Math.Nat.{div-div-eq-div-mul, pow-succ', mul-le-mul_left}
 use Rattle.smol_str.specs.Words.{word}
 use Rattle.smol_str.proofs.BufferLemmas.Packed.{length-padded}
@@ -182,7 +182,7 @@ back-end r bytes s k m e l =
     let all : s + (k + m) ≡ s + length bytes = omega (arith, e) in
     let part = length-take-le k bytes (omega (arith, e)) in
     let read = drop-end (take s r) (take k bytes) (drop k (drop s r)) s k (length-take-le s r l) part in
-    rw (drop-drop, turn, ← drop-drop, read, drop-drop, drop-drop, all)
+    rw (drop-drop k (s + m), turn, ← drop-drop m (s + k), read, drop-drop m k (drop s r), drop-drop (k + m) s r, all)
 
 pub two-ends : (r bytes y z : List ℕ) (s k m a b : ℕ) → length bytes ≡ m + k → m ≤ k → s ≤ length r →
     y ≡ take k bytes → z ≡ drop m bytes → a ≡ k → b ≡ k →
