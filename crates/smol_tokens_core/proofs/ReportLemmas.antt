@@ -4,6 +4,7 @@ use Rattle.std.proofs.Common.{codes, encode_utf8_all}
 use Rattle.std.specs.Fmt.{decimal}
 use Rattle.std.specs.List.{flat_map}
 use Rattle.std.specs.Prelude.{slice_get}
+use Rattle.std.proofs.lemmas.Grind.{take_at_read}
 use Rattle.std.proofs.lemmas.List.{append-nil}
 use Rattle.std.proofs.lemmas.Option.{slice_get_cases}
 use Rattle.std.proofs.lemmas.List.Concat.{flat_map-append}
@@ -11,7 +12,6 @@ use Rattle.std.proofs.lemmas.Str.{encodes-append, encodes-IsAscii}
 use Rattle.std.proofs.lemmas.Fmt.{IsAscii-decimal}
 use Rattle.smol_str.specs.declared.value.place.Place.{Place}
 use Rattle.smol_str.specs.Text.{size}
-use Rattle.std.proofs.lemmas.Grind.{take_at_read}
 use Rattle.smol_str.specs.Meaning.{Meaning, IsValueOf}
 use Rattle.smol_tokens_core.specs.Report.{place_word, report_line, value_line, count_line}
 

@@ -23,14 +23,14 @@ by_same s t same other = ⊎_elim same other (cases_Bool (is_same s t))
 pub other_from : (s t : List ℕ) → s ≢ t → is_same s t ≡ false
 other_from s t ne = false_from_ne_true (is_same s t) (λ e. ne (same_from s t e))
 
-pub differ : (s t : List ℕ) → is_same s t ≡ false → s ≢ t
+differ : (s t : List ℕ) → is_same s t ≡ false → s ≢ t
 differ s t e same = search (rules, bytes_eq-Decides, false≢true)
 
 pub other_way : (s t : List ℕ) → is_same s t ≡ false → is_same t s ≡ false
 other_way s t e = other_from t s (λ same. differ s t e (sym same))
 
 -- no text stands twice
-pub sights_once : (ts : List (List ℕ)) → AllPairs (λ s t. s ≢ t) (first_sights ts)
+sights_once : (ts : List (List ℕ)) → AllPairs (λ s t. s ≢ t) (first_sights ts)
 sights_once [] = search (rules, arith)
 sights_once (t ∷ ts) =
     AllPairs-cons (λ s u. s ≢ u) t (without t (first_sights ts))
@@ -38,7 +38,7 @@ sights_once (t ∷ ts) =
     (AllPairs-filter (λ s u. s ≢ u) (λ u. not (is_same t u)) (first_sights ts) (sights_once ts))
 
 -- the first sights of a list come first, in their order, in those of a longer one
-pub sights-longer : (ts us : List (List ℕ))
+sights-longer : (ts us : List (List ℕ))
     → (more : List (List ℕ)) × (first_sights (ts ++ us) ≡ first_sights ts ++ more)
 sights-longer [] us = (first_sights us, refl)
 sights-longer (t ∷ ts) us =
