@@ -7,14 +7,14 @@ use Rattle.indexmap.specs.IndexMap.{insert_entry}
 use Rattle.std.proofs.lemmas.List.Sums.{sum_by-append}
 use Rattle.std.proofs.lemmas.List.Elements.{All-head, All-tail}
 use Rattle.smol_tokens_core.specs.Tally.{is_same, tokens, times_of, tally}
-use Rattle.smol_tokens_core.proofs.TallyLemmas.{same_from, is_same_itself, by_same, other_from, other_way, times_here, times_other, without_token, tally-cons, once-tally}
+use Rattle.smol_tokens_core.proofs.TallyLemmas.{same_from, is_same_itself, by_same, other_from, other_way, times-cons, without_token, tally-cons, once-tally}
 
 -- a token without an entry
 new : (t : List ℕ) (es : List (List ℕ × ℕ)) → All (λ u. t ≢ u) (tokens es)
     → (times_of t es ≡ 0) × (without_token t es ≡ es)
 new t [] h = (refl, refl)
 new t (e ∷ es) h =
-    search (rules, times_other, other_from, All-head, new t es (All-tail (λ u. t ≢ u) e.0 (tokens es) h))
+    search (rules, arith, times-cons, other_from, All-head, new t es (All-tail (λ u. t ≢ u) e.0 (tokens es) h))
 
 pub tally-table : (es : List (List ℕ × ℕ)) → AllPairs (λ s u. s ≢ u) (tokens es) → tally es ≡ es
 tally-table [] h = refl
@@ -43,7 +43,7 @@ put-same t [] v = search (rules, is_same_itself)
 put-same t (e ∷ es) v = search (rules, by_same, put-same t es v)
 
 -- how often a token stands, by whether the first entry is its own
-ruleset times = (by_same, same_from, tally-cons, times_here, times_other)
+ruleset times = (by_same, same_from, tally-cons, times-cons)
 
 pub lookup-tally : (es : List (List ℕ × ℕ)) (t : List ℕ) → unwrap_or (lookup (is_same t) (tally es)) 0 ≡ times_of t es
 lookup-tally [] t = refl
@@ -55,7 +55,7 @@ times_of-tally t es = cc (tally-table (tally es) (once-tally es), lookup-tally (
 
 pub tally-added : (es : List (List ℕ × ℕ)) (t : List ℕ) (n : ℕ)
     → tally (es ++ (t, n) ∷ []) ≡ insert_entry is_same (tally es) t (times_of t es + n)
-tally-added [] t n = search (rules, times_here, is_same_itself)
+tally-added [] t n = search (rules, times-cons, is_same_itself)
 tally-added (e ∷ es) t n =
     search (rules, arith, times, sum_by-append, other_way, put-same, put-others, tally-added es t n)
 

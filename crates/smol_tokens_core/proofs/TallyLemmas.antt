@@ -1,5 +1,5 @@
 -- For the laws of tallies: whether two texts are one, each text of a list once, and a tally with one entry more in front.
-use Rattle.std.proofs.Common.{◌≡◌, ◌≢◌, ℕ, ◌+◌, List, [], ◌∷◌, ◌++◌, true, false, cond, map, refl, sym, ap, ⊎_elim, ◌∙◌, arith, rules}
+use Rattle.std.proofs.Common.{◌≡◌, ◌≢◌, ℕ, ◌+◌, List, [], ◌∷◌, ◌++◌, true, false, cond, map, refl, ap, ⊎_elim, arith, rules}
 use Rattle.std.specs.Prelude.{not, filter, All}
 use Rattle.std.specs.List.{AllPairs}
 use Rattle.std.proofs.lemmas.Bool.{cases_Bool, false_from_ne_true, false≢true, not-true}
@@ -21,13 +21,13 @@ pub by_same : {P : Type 0} (s t : List ℕ) → (is_same s t ≡ true → P) →
 by_same s t same other = ⊎_elim same other (cases_Bool (is_same s t))
 
 pub other_from : (s t : List ℕ) → s ≢ t → is_same s t ≡ false
-other_from s t ne = false_from_ne_true (is_same s t) (λ e. ne (same_from s t e))
+other_from s t ne = search (rules, false_from_ne_true, same_from)
 
 differ : (s t : List ℕ) → is_same s t ≡ false → s ≢ t
 differ s t e same = search (rules, bytes_eq-Decides, false≢true)
 
 pub other_way : (s t : List ℕ) → is_same s t ≡ false → is_same t s ≡ false
-other_way s t e = other_from t s (λ same. differ s t e (sym same))
+other_way s t e = search (rules, other_from, differ)
 
 -- no text stands twice
 sights_once : (ts : List (List ℕ)) → AllPairs (λ s t. s ≢ t) (first_sights ts)
@@ -45,17 +45,9 @@ sights-longer (t ∷ ts) us =
     let rest = sights-longer ts us in (without t rest.0, search (rules, arith, rest.1, filter-append))
 
 -- what a pair adds to the times of a text
-times-cons : (t : List ℕ) (e : List ℕ × ℕ) (es : List (List ℕ × ℕ))
+pub times-cons : (t : List ℕ) (e : List ℕ × ℕ) (es : List (List ℕ × ℕ))
     → times_of t (e ∷ es) ≡ cond (is_same t e.0) e.1 0 + times_of t es
 times-cons t e es = sum_by-cons (λ e. cond (is_same t e.0) e.1 0) e es
-
-pub times_here : (t : List ℕ) (e : List ℕ × ℕ) (es : List (List ℕ × ℕ)) → is_same t e.0 ≡ true
-    → times_of t (e ∷ es) ≡ e.1 + times_of t es
-times_here t e es h = times-cons t e es ∙ ap (λ b. cond b e.1 0 + times_of t es) h
-
-pub times_other : (t : List ℕ) (e : List ℕ × ℕ) (es : List (List ℕ × ℕ)) → is_same t e.0 ≡ false
-    → times_of t (e ∷ es) ≡ times_of t es
-times_other t e es h = omega (arith, times-cons t e es ∙ ap (λ b. cond b e.1 0 + times_of t es) h)
 
 -- the entries of other tokens
 abbrev pub without_token : List ℕ → List (List ℕ × ℕ) → List (List ℕ × ℕ)
@@ -65,11 +57,11 @@ without_token t es = filter (λ e. not (is_same t e.0)) es
 others_counted : (e : List ℕ × ℕ) (es : List (List ℕ × ℕ)) (us : List (List ℕ))
     → map (λ u. (u, times_of u (e ∷ es))) (without e.0 us) ≡ without_token e.0 (map (λ u. (u, times_of u es)) us)
 others_counted e es [] = refl
-others_counted e es (u ∷ us) = search (rules, by_same, times_other, other_way, others_counted e es us)
+others_counted e es (u ∷ us) = search (rules, arith, by_same, times-cons, other_way, others_counted e es us)
 
 pub tally-cons : (e : List ℕ × ℕ) (es : List (List ℕ × ℕ))
     → tally (e ∷ es) ≡ (e.0, e.1 + times_of e.0 es) ∷ without_token e.0 (tally es)
-tally-cons e es = search (rules, times_here, is_same_itself, others_counted)
+tally-cons e es = search (rules, times-cons, is_same_itself, others_counted)
 
 pub counts-tally : (es : List (List ℕ × ℕ)) → All (λ e. e.1 ≡ times_of e.0 es) (tally es)
 counts-tally es =
