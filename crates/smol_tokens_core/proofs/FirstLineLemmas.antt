@@ -1,16 +1,14 @@
 -- For `first_line`: cutting a text at its first newline.
-use Rattle.std.proofs.lemmas.Grind.{common_steps}
 use Rattle.std.proofs.Common.{◌≡◌, ℕ, ◌<◌, ◌+◌, List, [], ◌∷◌, ◌++◌, length, take, drop, sym, ap, ◌∙◌, arith, encode_utf8_all, false, refl, append_assoc, append-nil, rules}
 use Rattle.std.proofs.lemmas.Bool.{ne_eqb}
 use Rattle.std.proofs.lemmas.List.Elements.{All-nil, All-cons}
 use Rattle.std.specs.Prelude.{All}
 use Rattle.std.specs.Str.{chars, IsUtf8}
-use Rattle.std.proofs.lemmas.Str.{chars-nil, chars-encodes}
+use Rattle.std.proofs.lemmas.Str.{chars-encodes}
 use Rattle.smol_str.specs.Text.{size}
 use Rattle.smol_str.specs.Cut.{Occurs, IsNextMatch}
 use Rattle.smol_str.proofs.CallerLemmas.{chars-take, chars-drop, size-append}
 use Rattle.smol_tokens_core.specs.Lines.{is_newline, newline, lines}
-use Rattle.smol_tokens_core.proofs.PieceLemmas.{lines-nil}
 use Rattle.smol_tokens_core.proofs.LineLemmas.{lines-first, lines-last}
 
 none_newline : (cs : List ℕ) → ¬ Occurs newline cs → All (λ c. is_newline c ≡ false) cs
@@ -41,6 +39,3 @@ lines-split bs front back i u at is_front is_back =
     let is_r = chars-drop bs (at.before ++ newline) at.after (i + 1) u behind next in
     rw (is_front, is_back, chars-take bs at.before (10 ∷ at.after) i u at.reads at.index, is_r, at.reads)
     (lines-first at.before at.after (none_newline at.before (rw append-nil at at.first)))
-
-pub lines-none : (bs : List ℕ) → length bs ≡ 0 → lines (chars bs) ≡ []
-lines-none bs none = grind (arith, common_steps, chars-nil, lines-nil)

@@ -1,12 +1,13 @@
-use Rattle.std.proofs.Common.{rules, refl, []}
+use Rattle.std.proofs.lemmas.Grind.{common_steps}
+use Rattle.std.proofs.Common.{arith, rules, refl, []}
 use Rattle.std.specs.Str.{chars}
 use Rattle.std.proofs.lemmas.Str.{chars-nil, encodes-chars}
 use Rattle.smol_tokens_core.proofs.PieceLemmas.{lines-nil}
-use Rattle.smol_tokens_core.proofs.FirstLineLemmas.{lines-none, lines-one, lines-split, chars-newline}
+use Rattle.smol_tokens_core.proofs.FirstLineLemmas.{lines-one, lines-split, chars-newline}
 use Rattle.smol_tokens_core.proofs.lines.first_line.Goals as goal
 
 pub returns-then-is_empty-clause-cut : goal.returns-then-is_empty-clause-cut
-returns-then-is_empty-clause-cut c = lines-none c.args.text.now (search rules)
+returns-then-is_empty-clause-cut c = grind (arith, common_steps, chars-nil, lines-nil)
 
 pub returns-in-Some-clause-cut : goal.returns-in-Some-clause-cut
 returns-in-Some-clause-cut c =
