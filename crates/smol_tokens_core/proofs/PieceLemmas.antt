@@ -1,5 +1,5 @@
 -- For the laws of lines: std's `split` at newlines gives the unlimited cut, and so the lines from the left.
-use Rattle.std.proofs.Common.{◌≡◌, ℕ, ◌<◌, ◌≤◌, ◌==◌, zero, suc, List, [], ◌∷◌, Bool, cond, Option, unwrap_or, rules}
+use Rattle.std.proofs.Common.{◌≡◌, ℕ, ◌<◌, ◌==◌, zero, suc, List, [], ◌∷◌, cond, Option, unwrap_or, rules}
 use Rattle.std.proofs.Common.{length, refl, ap, arith}
 use Rattle.std.specs.Prelude.{option_map}
 use Rattle.std.specs.List.{onto_first, slice_split}
@@ -33,16 +33,12 @@ pub lines-IsCut : (t : List ℕ) (pieces : List (List ℕ)) → IsCut t newline 
     → lines t ≡ without_empty_last pieces
 unfolding lines
 lines-IsCut t pieces h =
-    ap without_empty_last (IsCut-unique t newline (no_limit t) _ pieces (IsCut-cut t newline (no_limit t)) h)
+    rw (IsCut-unique t newline (no_limit t) _ pieces (IsCut-cut t newline (no_limit t)) h)
 
 -- the lines of a text by those of its tail
-from_tail : (c : ℕ) (pieces : List (List ℕ)) → 1 ≤ length pieces → (b : Bool)
-    → without_empty_last (cond b ([] ∷ pieces) (onto_first c pieces))
-    ≡ cond b ([] ∷ without_empty_last pieces) (onto_first c (without_empty_last pieces))
-from_tail c pieces l b = search rules
-
 pub lines-nil : lines [] ≡ []
 lines-nil = lines-pieces []
 
 pub lines-cons : (c : ℕ) (t : List ℕ) → lines (c ∷ t) ≡ cond (c == 10) ([] ∷ lines t) (onto_first c (lines t))
-lines-cons c t = search (rules, arith, lines-pieces, from_tail, length-slice_split)
+unfolding lines
+lines-cons c t = search (rules, arith, cut-pieces, length-slice_split)

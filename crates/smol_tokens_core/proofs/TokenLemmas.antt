@@ -1,10 +1,9 @@
 -- For `tally_lines`: lines counted one after another, and what a count that is full says of all lines.
 use Rattle.std.proofs.lemmas.Grind.{common_steps}
-use Rattle.std.proofs.Common.{◌≡◌, ℕ, ◌+◌, ◌<◌, ◌≤◌, ◌^◌, length, List, [], ◌∷◌, ◌++◌, cond, map, All}
+use Rattle.std.proofs.Common.{get_or, ◌≡◌, ℕ, ◌+◌, ◌<◌, ◌≤◌, ◌^◌, length, List, [], ◌∷◌, ◌++◌, cond, map, All}
 use Rattle.std.proofs.Common.{refl, ap, ◌∙◌, arith, rules}
 use Rattle.std.specs.Prelude.{count_by}
 use Rattle.std.proofs.lemmas.List.{map-append, append_assoc, length-append}
-use Rattle.std.proofs.lemmas.List.Elements.{All-weaker}
 use Rattle.std.proofs.lemmas.Map.Entries.{All-lookup}
 use Rattle.std.proofs.lemmas.List.Sums.{sum_by-cons, sum_by-append}
 use Rattle.smol_tokens_core.specs.Lines.{lines}
@@ -46,11 +45,9 @@ pub no_report-add : (t line : List ℕ) (seen rest left : List (List ℕ)) (old 
     → old ≡ tally (seen_once seen) → lines t ≡ seen ++ left → left ≡ line ∷ rest → 2 ^ 64 ≤ times_of line old + 1
     → HasALineTooOften t
 no_report-add t line seen rest left old so_far is next full =
-    let worth : List ℕ → ℕ = λ u. cond (is_same line u) 1 0 in
-    let all : count_by (is_same line) (lines t) ≡ count_by (is_same line) seen + (1 + count_by (is_same line) rest) =
-    rw (is, next, sum_by-append worth seen (line ∷ rest), sum_by-cons worth line rest, is_same_itself line) in
     let before = times_of-tally line (seen_once seen) ∙ times_of-seen_once line seen in
-    (line, omega (arith, all, before, ap (times_of line) so_far))
+    let worth : List ℕ → ℕ = λ u. cond (is_same line u) 1 0 in
+    (line, grind (arith, before, is_same_itself line, sum_by-append worth seen left, sum_by-cons worth line rest))
 
 -- the counts of all lines are `u64`s, exactly where no line stands too often
 pub no_line_too_often : (t : List ℕ) → All (λ e. e.1 < 2 ^ 64) (tally (seen_once (lines t))) → ¬ HasALineTooOften t
@@ -59,8 +56,7 @@ no_line_too_often t fit h =
     grind (arith, below, lookup-tally (seen_once (lines t)) h.0, times_of-seen_once h.0 (lines t))
 
 pub counts_fit : (t : List ℕ) → ¬ HasALineTooOften t → All (λ e. e.1 < 2 ^ 64) (tally (seen_once (lines t)))
-counts_fit t none = All-weaker (λ e. e.1 ≡ times_of e.0 (seen_once (lines t))) (λ e. e.1 < 2 ^ 64)
-    (λ e is.
+counts_fit t none k d l =
+    let e : List ℕ × ℕ = get_or (tally (seen_once (lines t))) k d in
     let below : ¬ (2 ^ 64 ≤ count_by (is_same e.0) (lines t)) = λ above. none (e.0, above) in
-    omega (arith, times_of-seen_once e.0 (lines t)))
-    (tally (seen_once (lines t))) (counts-tally (seen_once (lines t)))
+    omega (arith, counts-tally (seen_once (lines t)) k d l, times_of-seen_once e.0 (lines t))
