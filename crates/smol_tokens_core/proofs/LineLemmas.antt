@@ -57,4 +57,5 @@ joined_kept p qs = search (rules, append-nil)
 pub joined-lines : (t : List ℕ) → (joined_by newline (lines t) ≡ t) ⊎ (joined_by newline (lines t) ++ newline ≡ t)
 unfolding lines
 joined-lines t =
-    let is = IsCut-cut t newline (no_limit t) in search (rules, arith, is.joined, joined_kept newline (cut t newline (no_limit t)))
+    let pieces = cut t newline (no_limit t) in
+    search (rules, arith, joined_kept newline pieces, (IsCut-cut t newline (no_limit t)).joined)

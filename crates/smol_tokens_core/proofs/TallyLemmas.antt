@@ -1,4 +1,4 @@
--- For the laws of tallies: whether two texts are one, each text of a list once, and a tally with one entry more in front.
+-- For the laws of tallies: whether two texts are one, each text once, and a tally with one entry more in front.
 use Rattle.std.proofs.Common.{◌≡◌, ◌≢◌, ℕ, ◌+◌, List, [], ◌∷◌, ◌++◌, true, false, cond, map, refl, ap, ⊎_elim, arith, rules}
 use Rattle.std.specs.Prelude.{not, filter, All}
 use Rattle.std.specs.List.{AllPairs}
