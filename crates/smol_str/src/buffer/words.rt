@@ -24,7 +24,7 @@ ghost use Rattle.smol_str.specs.Buffer.{packed};
 ghost use Rattle.smol_str.specs.Words.{word, put_at, with_zeros};
 
 use super::{INLINE_CAP, PACKED_LEN, Packed};
-use crate::bytes::ascii::{load, store};
+use crate::bytes::ascii::load;
 use std::cmp::Ordering;
 
 /// How many words a packed text is.
@@ -108,7 +108,7 @@ fn copy_at<const N: usize>(buf: &mut Packed, packed: &Packed, at: usize)
     requires { at + N ≤ PACKED_LEN }
     ensures { buf.new ≡ put_at buf.old at (take N (drop at packed.now)) }
 {
-    store(buf, at, load::<N>(packed, at));
+    load::<N>(packed, at).copy_to_slice(&mut buf[at..]);
 }
 
 /// Eight bytes from `at` on, with zeros past the end.

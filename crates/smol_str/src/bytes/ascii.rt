@@ -2,7 +2,6 @@
 ghost use Rattle.std.specs.Prelude.{◌≡◌, ◌↔◌, ◌<◌, ◌≤◌, ◌+◌, false, IsTrue, length, take, drop, slice_index};
 ghost use Rattle.std.specs.Str.{IsAscii};
 ghost use Rattle.std.specs.Simd.Lanes.{Each1, put_chunk};
-ghost use Rattle.smol_str.specs.Case.{lower, upper};
 ghost use Rattle.smol_str.specs.InCase.{converted, IsAsciiFront};
 
 use std::simd::prelude::*;
@@ -81,7 +80,10 @@ pub(crate) fn convert_all(bytes: &mut [u8], case: AsciiCase)
         convert_part::<8>(bytes, at, case);
         at += 8;
     }
-    convert_rest(&mut bytes[at..], case);
+    match case {
+        AsciiCase::Lower => bytes[at..].make_ascii_lowercase(),
+        AsciiCase::Upper => bytes[at..].make_ascii_uppercase(),
+    }
 }
 
 /// Maps the `N` bytes from an index on.
@@ -91,18 +93,7 @@ fn convert_part<const N: usize>(bytes: &mut [u8], at: usize, case: AsciiCase)
     ensures { bytes.new ≡ put_chunk at bytes.old (converted case (take N (drop at bytes.old))) }
 {
     let lanes = load::<N>(bytes, at);
-    store(bytes, at, convert_lanes(lanes, case));
-}
-
-/// Maps bytes one by one.
-#[inline(always)]
-fn convert_rest(bytes: &mut [u8], case: AsciiCase)
-    ensures { bytes.new ≡ converted case bytes.old }
-{
-    match case {
-        AsciiCase::Lower => bytes.make_ascii_lowercase(),
-        AsciiCase::Upper => bytes.make_ascii_uppercase(),
-    }
+    convert_lanes(lanes, case).copy_to_slice(&mut bytes[at..]);
 }
 
 /// The lanes in a case.
@@ -113,31 +104,15 @@ fn convert_lanes<const N: usize>(lanes: Simd<u8, N>, case: AsciiCase) -> Simd<u8
     ensures { result ≡ converted case lanes.entry }
 {
     match case {
-        AsciiCase::Lower => lower_lanes(lanes),
-        AsciiCase::Upper => upper_lanes(lanes),
+        AsciiCase::Lower => {
+            let is_capital = lanes.simd_ge(Simd::splat(b'A')) & lanes.simd_le(Simd::splat(b'Z'));
+            is_capital.select(lanes + Simd::splat(32), lanes)
+        }
+        AsciiCase::Upper => {
+            let is_small = lanes.simd_ge(Simd::splat(b'a')) & lanes.simd_le(Simd::splat(b'z'));
+            is_small.select(lanes - Simd::splat(32), lanes)
+        }
     }
-}
-
-/// The lanes with A to Z as a to z.
-#[inline(always)]
-fn lower_lanes<const N: usize>(lanes: Simd<u8, N>) -> Simd<u8, N>
-    requires long { length lanes ≡ N }
-    requires bytes { Each1 (λ x. x < 256) lanes }
-    ensures { result ≡ lower lanes.entry }
-{
-    let is_capital = lanes.simd_ge(Simd::splat(b'A')) & lanes.simd_le(Simd::splat(b'Z'));
-    is_capital.select(lanes + Simd::splat(32), lanes)
-}
-
-/// The lanes with a to z as A to Z.
-#[inline(always)]
-fn upper_lanes<const N: usize>(lanes: Simd<u8, N>) -> Simd<u8, N>
-    requires long { length lanes ≡ N }
-    requires bytes { Each1 (λ x. x < 256) lanes }
-    ensures { result ≡ upper lanes.entry }
-{
-    let is_small = lanes.simd_ge(Simd::splat(b'a')) & lanes.simd_le(Simd::splat(b'z'));
-    is_small.select(lanes - Simd::splat(32), lanes)
 }
 
 /// Whether a lane is past ASCII.
@@ -159,14 +134,4 @@ pub(crate) fn load<const N: usize>(bytes: &[u8], at: usize) -> Simd<u8, N>
     ensures fits { Each1 (λ x. x < 256) result }
 {
     Simd::from_slice(&bytes[at..])
-}
-
-/// Stores the lanes from an index on.
-#[inline(always)]
-pub(crate) fn store<const N: usize>(out: &mut [u8], at: usize, lanes: Simd<u8, N>)
-    requires room { at + N ≤ length out.old }
-    requires long { length lanes ≡ N }
-    ensures { out.new ≡ put_chunk at out.old lanes.entry }
-{
-    lanes.copy_to_slice(&mut out[at..]);
 }

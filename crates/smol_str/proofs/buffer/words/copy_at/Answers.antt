@@ -4,7 +4,6 @@ use Rattle.smol_str.proofs.buffer.words.copy_at.Goals as goal
 pub returns : goal.returns
 returns g c =
     let lanes = c.load.ensures.lanes in
-    let put = c.store.ensures in
     let long = c.told-buf in
     let room = c.requires in
     grind (arith, common_steps, put_chunk_is)
