@@ -1,5 +1,5 @@
 -- For `blank_slice` and the places: the constant's slices, and the test for a run.
-use Rattle.smol_str.proofs.Common.{◌≡◌, ℕ, zero, suc, ◌+◌, ◌-◌, ◌≤◌, List, [], ◌∷◌, length, take, drop, replicate, refl, true, ◌==◌, arith, length-append, ◌++◌, take_at, take-append-drop, length-drop, get_or-take, All-replicate, All-from_get_or, list_all, IsAscii, IsAscii-append, nat_tests, drop_at, blank_run, leading_newlines, all_spaces, IsBlankRun, and_parts, common_steps, ◌⊎◌, rules}
+use Rattle.smol_str.proofs.Common.{◌≡◌, ℕ, zero, suc, ◌+◌, ◌-◌, ◌≤◌, List, [], ◌∷◌, length, take, drop, replicate, refl, true, ◌==◌, arith, length-append, ◌++◌, take_at, take-append-drop, length-drop, get_or-take, All-replicate, All-from_get_or, list_all, IsAscii, IsAscii-append, IsCharBoundary, IsCharBoundary-from_ascii, nat_tests, drop_at, blank_run, leading_newlines, all_spaces, IsBlankRun, and_parts, common_steps, ◌⊎◌, rules}
 use Rattle.std.proofs.Math.ListN.{length-replicate}
 use Rattle.std.proofs.lemmas.List.{replicate-append-replicate}
 use Rattle.std.proofs.lemmas.List.Folds.{length-prefix_len}
@@ -13,8 +13,12 @@ length-blank_run a b = simp (length-append, length-replicate)
 pub IsAscii-blank_run : (a b : ℕ) → IsAscii (blank_run a b)
 IsAscii-blank_run a b = search (rules, arith, IsAscii-append, IsAscii-from_all, All-replicate)
 
+pub blank_boundary : (n : ℕ) (t : List ℕ) → t ≡ blank_run BLANK_NEWLINES BLANK_SPACES → n ≤ BLANK_NEWLINES + BLANK_SPACES
+    → IsCharBoundary t n
+blank_boundary n t e h = rw e (search (rules, arith, IsCharBoundary-from_ascii, IsAscii-blank_run, length-blank_run))
+
 -- the shorter run inside a longer one
-pub slice-blank_run : (n m a b : ℕ) → a ≤ n → b ≤ m → take (a + b) (drop (n - a) (blank_run n m)) ≡ blank_run a b
+pub slice-blank_run : (n m a b : ℕ) → a ≤ n → b ≤ m → take ((n + b) - (n - a)) (drop (n - a) (blank_run n m)) ≡ blank_run a b
 slice-blank_run n m a b la lb =
     let front : replicate {A = ℕ} n 10 ≡ replicate (n - a) 10 ++ replicate a 10 =
     search (rules, arith, replicate-append-replicate) in

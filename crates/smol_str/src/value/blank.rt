@@ -40,21 +40,12 @@ fn find_blank(text: &str) -> Option<&'static str>
     if newlines > BLANK_NEWLINES || spaces > BLANK_SPACES {
         return None;
     }
-    let run = slice_of_blank(newlines, spaces);
+    let run = &blank_constant()[BLANK_NEWLINES - newlines..BLANK_NEWLINES + spaces];
     // std compares many bytes at a time.
     if text != run {
         return None;
     }
     Some(run)
-}
-
-/// So many newlines and then so many spaces, as a slice of the constant.
-fn slice_of_blank(newlines: usize, spaces: usize) -> &'static str
-    requires few_newlines { newlines ≤ BLANK_NEWLINES }
-    requires few_spaces { spaces ≤ BLANK_SPACES }
-    ensures { result.now ≡ blank_run newlines spaces }
-{
-    &blank_constant()[BLANK_NEWLINES - newlines..BLANK_NEWLINES + spaces]
 }
 
 /// The whole constant, behind a call so that no goal shows its bytes.
