@@ -21,7 +21,7 @@ ghost use Rattle.std.specs.Ordering.{nat_cmp};
 ghost use Rattle.std.specs.Cmp.Lexicographic.{pointwise, slice_cmp};
 ghost use Rattle.std.specs.Int.{w64, to_le_bytes, from_be_bytes};
 ghost use Rattle.smol_str.specs.Buffer.{packed};
-ghost use Rattle.smol_str.specs.Words.{word, put_at, with_zeros};
+ghost use Rattle.smol_str.specs.Words.{word, put_at};
 
 use super::{INLINE_CAP, PACKED_LEN, Packed};
 use crate::bytes::ascii::load;
@@ -46,7 +46,9 @@ pub(super) fn pack(bytes: &[u8]) -> Packed
     if bytes.len() < 8 {
         put_word(&mut buf, 0, front_word(bytes));
     } else {
-        put_words(&mut buf, bytes);
+        for i in 0..WORDS {
+            put_word(&mut buf, 8 * i, word_at(bytes, 8 * i));
+        }
     }
     buf[INLINE_CAP] = bytes.len() as u8;
     buf
@@ -79,18 +81,6 @@ pub(super) fn pack_char(character: char) -> Packed
     put_word(&mut buf, PACKED_LEN - 8, 0);
     buf[INLINE_CAP] = character.len_utf8() as u8;
     buf
-}
-
-/// The bytes word by word, and zeros behind them.
-#[inline(always)]
-fn put_words(buf: &mut Packed, bytes: &[u8])
-    requires least { 8 ≤ length bytes.now }
-    requires most { length bytes.now ≤ INLINE_CAP }
-    ensures { buf.new ≡ with_zeros bytes.now }
-{
-    for i in 0..WORDS {
-        put_word(buf, 8 * i, word_at(bytes, 8 * i));
-    }
 }
 
 /// Overwrites eight bytes.
