@@ -1,10 +1,9 @@
 //! Searches for bytes. The needle's first byte is looked for first, since preparing a search for the
 //! whole needle has a cost of its own.
-ghost use Rattle.std.specs.Prelude.{◌≡◌, ◌<◌, ◌≤◌, ◌+◌, None, length, MatchOption};
+ghost use Rattle.std.specs.Prelude.{◌≡◌, ◌<◌, ◌≤◌, ◌+◌, None, length};
 ghost use Rattle.memchr.specs.Find.{FindsNeedle, IsFirst, IsFirstByte, Passes, is_byte};
 
 use crate::bytes::ascii::load;
-use memchr::memmem::Finder;
 use memchr::{memchr, memmem};
 use std::simd::prelude::*;
 
@@ -27,20 +26,10 @@ pub(crate) fn find(bytes: &[u8], needle: &[u8]) -> Option<usize>
     }
 }
 
-/// A search for the needle, prepared once for all its matches; `None` only where there is no match.
-pub(crate) fn prepare<'n>(bytes: &[u8], needle: &'n [u8]) -> Option<Finder<'n>>
-    requires { 0 < length needle.now }
-    ensures { MatchOption result (FindsNeedle bytes.now needle.now 0 None)
-        (λ search. search ≡ needle.now) }
-{
-    first_byte(bytes, needle)?;
-    Some(Finder::new(needle))
-}
-
 /// The index of the needle's first byte; `None` also where the needle is longer than the bytes.
 #[inline(always)]
 #[tactic(auto, using(crate::proofs::CutLemmas::Match::one_byte))]
-fn first_byte(bytes: &[u8], needle: &[u8]) -> Option<usize>
+pub(crate) fn first_byte(bytes: &[u8], needle: &[u8]) -> Option<usize>
     requires { 0 < length needle.now }
     ensures none { (result ≡ None) → FindsNeedle bytes.now needle.now 0 None }
     ensures one { length needle.now ≡ 1 → FindsNeedle bytes.now needle.now 0 result }

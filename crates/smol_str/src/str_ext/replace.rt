@@ -10,7 +10,7 @@ ghost use Rattle.smol_str.specs.Replacing.{IsReplacing};
 use super::ascii::replace_byte;
 use crate::builder::SmolStrBuilder;
 use crate::bytes::bytes_from;
-use crate::bytes::search::prepare;
+use crate::bytes::search::first_byte;
 use crate::value::SmolStr;
 use memchr::memmem::Finder;
 use std::alloc::{AllocError, Global};
@@ -58,8 +58,11 @@ fn push_replaced(
     if from.is_empty() {
         return push_between(builder, text, to, count);
     }
-    match prepare(text.as_bytes(), from.as_bytes()) {
-        Some(search) => push_matches(builder, text, from, &search, to, count),
+    match first_byte(text.as_bytes(), from.as_bytes()) {
+        Some(_) => {
+            let search = Finder::new(from.as_bytes());
+            push_matches(builder, text, from, &search, to, count)
+        }
         None => Ok(0),
     }
 }
