@@ -93,17 +93,7 @@ fn convert_part<const N: usize>(bytes: &mut [u8], at: usize, case: AsciiCase)
     ensures { bytes.new ≡ put_chunk at bytes.old (converted case (take N (drop at bytes.old))) }
 {
     let lanes = load::<N>(bytes, at);
-    convert_lanes(lanes, case).copy_to_slice(&mut bytes[at..]);
-}
-
-/// The lanes in a case.
-#[inline(always)]
-fn convert_lanes<const N: usize>(lanes: Simd<u8, N>, case: AsciiCase) -> Simd<u8, N>
-    requires long { length lanes ≡ N }
-    requires bytes { Each1 (λ x. x < 256) lanes }
-    ensures { result ≡ converted case lanes.entry }
-{
-    match case {
+    let mapped = match case {
         AsciiCase::Lower => {
             let is_capital = lanes.simd_ge(Simd::splat(b'A')) & lanes.simd_le(Simd::splat(b'Z'));
             is_capital.select(lanes + Simd::splat(32), lanes)
@@ -112,7 +102,8 @@ fn convert_lanes<const N: usize>(lanes: Simd<u8, N>, case: AsciiCase) -> Simd<u8
             let is_small = lanes.simd_ge(Simd::splat(b'a')) & lanes.simd_le(Simd::splat(b'z'));
             is_small.select(lanes - Simd::splat(32), lanes)
         }
-    }
+    };
+    mapped.copy_to_slice(&mut bytes[at..]);
 }
 
 /// Whether a lane is past ASCII.
