@@ -1,7 +1,6 @@
 //! The builder of a text.
-ghost use Rattle.std.specs.Prelude.{◌≡◌, ◌↔◌, ◌<◌, ◌≤◌, [], ◌∷◌, ◌++◌, length, IsSome, IfSome, IfOk, IfErr, OnOk, OnErr, IsTrue, false, encode_utf8_all};
+ghost use Rattle.std.specs.Prelude.{◌≡◌, ◌↔◌, ◌<◌, [], ◌∷◌, IsSome, IfSome, IfOk, IfErr, OnOk, OnErr, IsTrue, false, encode_utf8_all};
 ghost use Rattle.std.specs.Str.{IsAscii, chars, all_scalars};
-ghost use Rattle.std.specs.String.{string_bytes};
 ghost use Rattle.smol_str.specs.Text.{size, IsShort, IsResident};
 ghost use Rattle.smol_str.specs.Buffer.{padded};
 ghost use Rattle.smol_str.specs.Meaning.{IsValueOf};
@@ -217,7 +216,10 @@ impl SmolStrBuilder {
             BuilderRepr::Heap(heap) => heap.push_str(text),
             BuilderRepr::Inline(short) => {
                 // Memory first: a refusal leaves the buffer as it is.
-                let heap = both_on_heap(self.alloc, short.as_str(), text)?;
+                let room = short.len() + text.len() + INLINE_CAP;
+                let mut heap = String::with_capacity(self.alloc, room)?;
+                heap.push_str(short.as_str())?;
+                heap.push_str(text)?;
                 self.repr = BuilderRepr::Heap(heap);
                 Ok(())
             }
@@ -325,17 +327,6 @@ impl From<SmolStrBuilder> for AllocError {
     fn from(_builder: SmolStrBuilder) -> AllocError {
         AllocError
     }
-}
-
-/// Both texts, one after the other, on the heap, with room for a short text behind them.
-fn both_on_heap(alloc: Global, first: &str, second: &str) -> Result<String, AllocError>
-    requires { length first.now ≤ INLINE_CAP }
-    ensures { IfOk result (λ s. string_bytes s ≡ first.now ++ second.now) }
-{
-    let mut heap = String::with_capacity(alloc, first.len() + second.len() + INLINE_CAP)?;
-    heap.push_str(first)?;
-    heap.push_str(second)?;
-    Ok(heap)
 }
 
 /// One ASCII byte as a text.
