@@ -23,8 +23,6 @@ module _ (x y : ℕ) (low : x < 128) (small : y < 128) (bs : List ℕ) (u : IsUt
   pub long-each : INLINE_CAP < length bs → ¬ (IsShort (each_replaced x y (chars bs)))
   long-each long short = search (rules, size-mapped, each-moves, low)
 
-pub ruleset refused_where_long = (OnErr-always, long-each)
-
 -- what is read of a vector with these bytes, and room behind them
 pub whole-each : (x y : ℕ) (text new rest : List ℕ) (len : ℕ) → new ≡ each_replaced x y text → len ≡ length text
     → take len (new ++ rest) ≡ each_replaced x y text
@@ -80,4 +78,4 @@ one-byte bs u long = alone (chars bs) refl (encodes-chars bs u)
     alone (c ∷ []) e f = search (rules, form, append-nil, ap length f)
     alone cs e f = absurd (omega (arith, ap length f, length-le-encodes cs))
 
-pub ruleset each_byte = (IsUtf8-each, chars-each, whole-each)
+pub ruleset each_byte = (IsUtf8-each, chars-each, whole-each, long-each, OnErr-always)

@@ -1,5 +1,5 @@
 //! Replacement of one ASCII character by another, byte for byte: no other byte moves.
-ghost use Rattle.std.specs.Prelude.{◌≡◌, ◌<◌, ◌≤◌, length, IfOk, OnErr};
+ghost use Rattle.std.specs.Prelude.{◌≡◌, ◌<◌, IfOk, OnErr};
 ghost use Rattle.std.specs.Str.{chars};
 ghost use Rattle.smol_str.specs.Text.{IsShort};
 ghost use Rattle.smol_str.specs.Meaning.{IsValueOf};
@@ -10,7 +10,7 @@ use crate::value::SmolStr;
 use std::alloc::{AllocError, Global};
 
 /// The text with `to` in place of each character `from`, both ASCII.
-#[tactic(auto, using(crate::proofs::CutLemmas::Bytes::refused_where_long))]
+#[tactic(auto, using(crate::proofs::CutLemmas::Bytes::each_byte))]
 pub(super) fn replace_byte(
     alloc: Global,
     text: &str,
@@ -22,26 +22,14 @@ pub(super) fn replace_byte(
     ensures ok { IfOk result (λ v. IsValueOf (each_replaced from to (chars text.now)) v) }
     ensures refused { OnErr result (¬ (IsShort (each_replaced from to (chars text.now)))) }
 {
-    if text.len() <= INLINE_CAP {
-        Ok(replace_in_buffer(text, from, to))
-    } else {
-        replace_on_heap(alloc, text, from, to)
+    if text.len() > INLINE_CAP {
+        return replace_on_heap(alloc, text, from, to);
     }
-}
-
-/// The same of a short text, in a buffer.
-#[tactic(auto, using(crate::proofs::CutLemmas::Bytes::each_byte))]
-fn replace_in_buffer(text: &str, from: u8, to: u8) -> SmolStr
-    requires short { length text.now ≤ INLINE_CAP }
-    requires ascii_from { from < 128 }
-    requires ascii_to { to < 128 }
-    ensures { IsValueOf (each_replaced from to (chars text.now)) result }
-{
     let mut buffer = [0; INLINE_CAP];
     let bytes = &mut buffer[..text.len()];
     bytes.copy_from_slice(text.as_bytes());
     replace_each(bytes, from, to);
-    SmolStr::new_inline(unsafe { str::from_utf8_unchecked(bytes) })
+    Ok(SmolStr::new_inline(unsafe { str::from_utf8_unchecked(bytes) }))
 }
 
 /// The same of any text, in a copy of it, which the value keeps.

@@ -1,5 +1,5 @@
 use Rattle.smol_str.proofs.CutLemmas.Bytes.{IsUtf8-each}
-use Rattle.smol_str.proofs.str_ext.ascii.replace_in_buffer.Goals as goal
+use Rattle.smol_str.proofs.str_ext.ascii.replace_byte.Goals as goal
 
 pub from_utf8_unchecked-requires : goal.from_utf8_unchecked-requires
 from_utf8_unchecked-requires c =
