@@ -8,7 +8,7 @@ ghost use Rattle.std.specs.Int.{w32, to_le_bytes, from_le_bytes};
 ghost use Rattle.std.specs.Io.KnownBytes.{Appends};
 ghost use Rattle.smol_str.specs.Text.{size, place_of};
 ghost use Rattle.smol_str.specs.Stream.{Gave};
-ghost use Rattle.smol_str.specs.Wire.{HasWire, wire, Holds, HasEndedEarly, body};
+ghost use Rattle.smol_str.specs.Wire.{HasWire, wire, Holds};
 ghost use Rattle.smol_str.specs.declared.borsh.fault.LimitedFault.TheVariants.{Decode};
 ghost use Rattle.smol_str.specs.WireFaults.{AfterEncodeFault, AfterDecodeFault, AfterFromWireFault, AfterLimitedFault};
 ghost use Rattle.smol_str.specs.WireFaults.{HasReadSize, HasReadBody, AfterBodyFault};
@@ -106,12 +106,16 @@ pub fn length_prefix(len: usize) -> Option<[u8; 4]>
 /// let (value, taken) = from_wire(alloc, b"\x02\0\0\0abc")?;
 /// assert!(rt; value.as_str() == "ab" && taken == 6);
 /// ```
+#[tactic(auto, using(crate::proofs::WireLemmas::Borsh::prefix_size_of_bytes))]
 pub fn from_wire(alloc: Global, bytes: &[u8]) -> Result<(SmolStr, usize), DecodeFault>
     ensures ok { IfOk result (λ r. Holds bytes.now r.0.text r.1) }
     ensures place { IfOk result (λ r. r.0.place ≡ place_of r.0.text) }
     ensures fault { IfErr result (AfterFromWireFault bytes.now) }
 {
-    let Some(body) = whole_body(bytes) else {
+    let Some((prefix, rest)) = bytes.split_first_chunk() else {
+        return Err(DecodeFault::Ended);
+    };
+    let Some(body) = rest.get(..size_in(prefix)) else {
         return Err(DecodeFault::Ended);
     };
     let value = SmolStr::from_utf8(alloc, body)?;
@@ -166,16 +170,6 @@ pub fn deserialize_limited<R: Read>(
     Ok(read_body(alloc, reader, size)?)
 }
 
-/// The body, as long as the prefix says; `None` if the input is truncated.
-#[tactic(auto, using(crate::proofs::WireLemmas::Borsh::prefix_size_of_bytes))]
-fn whole_body(bytes: &[u8]) -> Option<&[u8]>
-    ensures { MatchOption result (HasEndedEarly bytes.now)
-        (λ found. (¬ (HasEndedEarly bytes.now)) × (found.now ≡ body bytes.now)) }
-{
-    let (prefix, rest) = bytes.split_first_chunk()?;
-    rest.get(..size_in(prefix))
-}
-
 /// The size that four bytes state.
 fn size_in(prefix: &[u8; 4]) -> usize
     ensures fits { result < 2 ^ 32 }
@@ -183,17 +177,6 @@ fn size_in(prefix: &[u8; 4]) -> usize
     ensures read { result ≡ from_le_bytes w32 prefix.now }
 {
     u32::from_le_bytes(*prefix) as usize
-}
-
-/// A prefix and a whole buffer, so that a short text is written at once.
-#[inline(always)]
-fn short_form(prefix: &[u8; 4], buffer: &InlineBuffer) -> [u8; SHORT_FORM]
-    ensures { result ≡ prefix.now ++ buffer.now }
-{
-    let mut form = zeros::<SHORT_FORM>();
-    form[..4].copy_from_slice(prefix);
-    form[4..].copy_from_slice(buffer);
-    form
 }
 
 /// Reads the length prefix; an early end if fewer than its four bytes are left.
@@ -277,7 +260,11 @@ impl BorshSerialize for SmolStr {
             return Err(EncodeFault::TooLong);
         };
         if let Some(buffer) = self.inline_buffer() {
-            write_steps(writer, &short_form(&prefix, buffer)[..4 + bytes.len()])?;
+            // With the whole buffer behind the prefix a short text is written at once.
+            let mut form = zeros::<SHORT_FORM>();
+            form[..4].copy_from_slice(&prefix);
+            form[4..].copy_from_slice(buffer);
+            write_steps(writer, &form[..4 + bytes.len()])?;
             return Ok(());
         }
         write_steps(writer, &prefix)?;

@@ -1,16 +1,21 @@
-use Rattle.smol_str.proofs.Common.{◌∙◌, rules}
+use Rattle.smol_str.proofs.Common.{◌∙◌}
 use Rattle.smol_str.proofs.WireLemmas.Borsh.{begun-in_short, begun-in_prefix, begun-in_bytes, short-form}
 use Rattle.smol_str.proofs.WireLemmas.Stream.{IfErr-is}
 use Rattle.smol_str.proofs.borsh.SmolStrBorshSerialize.serialize.Goals as goal
 
 pub returns-in_err-write_steps-clause-fault : goal.returns-in_err-write_steps-clause-fault
 returns-in_err-write_steps-clause-fault g c =
+    let bytes = c.as_bytes-bytes.ensures.value ∙ c.as_str.ensures.bytes in
+    let form = short-form _ _ _ bytes c.in-Some.ensures c.zeros-form.result _ c.zeros-form.ensures c.in-Some-inline_buffer.ensures.buffer in
     IfErr-is _ _ _ c.from_residual.ensures.1
-    (begun-in_short _ _ _ (c.as_bytes-bytes.ensures.value ∙ c.as_str.ensures.bytes) c.in-Some.ensures _ _ _ _
-    c.short_form.ensures c.in-Some-inline_buffer.ensures.buffer c.in_err-write_steps.ensures.beginning)
+    (begun-in_short _ _ _ bytes c.in-Some.ensures _ _ _ form
+    (rw (c.copy_from_slice.ensures.after, c.copy_from_slice-in-Some-inline_buffer.ensures.after) at c.in_err-write_steps.ensures.beginning))
 
 pub returns-in-Some-inline_buffer-clause-ok : goal.returns-in-Some-inline_buffer-clause-ok
-returns-in-Some-inline_buffer-clause-ok g c = search (rules, short-form)
+returns-in-Some-inline_buffer-clause-ok g c =
+    let form = short-form _ _ _ (c.as_bytes-bytes.ensures.value ∙ c.as_str.ensures.bytes) c.in-Some.ensures
+    c.zeros-form.result _ c.zeros-form.ensures c.in-Some-inline_buffer.ensures.buffer in
+    rw form at (rw (c.copy_from_slice.ensures.after, c.copy_from_slice-in-Some-inline_buffer.ensures.after) at c.in_ok-write_steps.ensures.ok)
 
 pub returns-in_err-write_steps-2-clause-fault : goal.returns-in_err-write_steps-2-clause-fault
 returns-in_err-write_steps-2-clause-fault g c =
