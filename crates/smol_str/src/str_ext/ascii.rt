@@ -22,23 +22,14 @@ pub(super) fn replace_byte(
     ensures ok { IfOk result (λ v. IsValueOf (each_replaced from to (chars text.now)) v) }
     ensures refused { OnErr result (¬ (IsShort (each_replaced from to (chars text.now)))) }
 {
-    if text.len() > INLINE_CAP {
-        return replace_on_heap(alloc, text, from, to);
+    if text.len() <= INLINE_CAP {
+        let mut buffer = [0; INLINE_CAP];
+        let bytes = &mut buffer[..text.len()];
+        bytes.copy_from_slice(text.as_bytes());
+        replace_each(bytes, from, to);
+        return Ok(SmolStr::new_inline(unsafe { str::from_utf8_unchecked(bytes) }));
     }
-    let mut buffer = [0; INLINE_CAP];
-    let bytes = &mut buffer[..text.len()];
-    bytes.copy_from_slice(text.as_bytes());
-    replace_each(bytes, from, to);
-    Ok(SmolStr::new_inline(unsafe { str::from_utf8_unchecked(bytes) }))
-}
-
-/// The same of any text, in a copy of it, which the value keeps.
-#[tactic(auto, using(crate::proofs::CutLemmas::Bytes::each_byte))]
-fn replace_on_heap(alloc: Global, text: &str, from: u8, to: u8) -> Result<SmolStr, AllocError>
-    requires ascii_from { from < 128 }
-    requires ascii_to { to < 128 }
-    ensures { IfOk result (λ v. IsValueOf (each_replaced from to (chars text.now)) v) }
-{
+    // In a copy, which the value keeps.
     let mut bytes = Vec::from_slice(alloc, text.as_bytes())?;
     replace_each(&mut bytes, from, to);
     SmolStr::from_owned(unsafe { String::from_utf8_unchecked(bytes) })
