@@ -213,21 +213,6 @@ fn read_into<R: Read>(
     Ok(SmolStr::from_utf8(alloc, buffer)?)
 }
 
-/// Reads a longer body by chunks, and tests UTF-8 when all of it is there.
-fn read_long<R: Read>(alloc: Global, reader: &mut R, size: usize) -> Result<SmolStr, DecodeFault>
-    requires inline { INLINE_CAP < size }
-    requires stack { STACK_BODY < size }
-    ensures ok { IfOk result (HasReadBody (R.remaining reader.old) (R.remaining reader.new) size) }
-    ensures fault { IfErr result
-        (AfterBodyFault (R.remaining reader.old) (R.remaining reader.new) size) }
-{
-    let body = read_up_to(alloc, reader, size)?;
-    if body.len() < size {
-        return Err(DecodeFault::Ended);
-    }
-    Ok(SmolStr::from_utf8(alloc, body.as_slice())?)
-}
-
 /// Reads a body of `size` bytes.
 fn read_body<R: Read>(alloc: Global, reader: &mut R, size: usize) -> Result<SmolStr, DecodeFault>
     ensures ok { IfOk result (HasReadBody (R.remaining reader.old) (R.remaining reader.new) size) }
@@ -236,13 +221,18 @@ fn read_body<R: Read>(alloc: Global, reader: &mut R, size: usize) -> Result<Smol
 {
     if size <= INLINE_CAP {
         let mut buffer = zeros::<INLINE_CAP>();
-        read_into(alloc, reader, &mut buffer[..size])
-    } else if size <= STACK_BODY {
-        let mut buffer = zeros::<STACK_BODY>();
-        read_into(alloc, reader, &mut buffer[..size])
-    } else {
-        read_long(alloc, reader, size)
+        return read_into(alloc, reader, &mut buffer[..size]);
     }
+    if size <= STACK_BODY {
+        let mut buffer = zeros::<STACK_BODY>();
+        return read_into(alloc, reader, &mut buffer[..size]);
+    }
+    // By chunks; UTF-8 is tested when all of it is there.
+    let body = read_up_to(alloc, reader, size)?;
+    if body.len() < size {
+        return Err(DecodeFault::Ended);
+    }
+    Ok(SmolStr::from_utf8(alloc, body.as_slice())?)
 }
 
 /// The wire form of the text; every text of at most 4294967295 bytes has one.
