@@ -1,5 +1,5 @@
 -- For `str_ext::case` and `str_ext::full`: the ASCII front of a text and the rest of it, in a case.
-use Rattle.smol_str.proofs.Common.{◌≡◌, ℕ, List, [], ◌++◌, length, take, drop, sym, ap, ◌∙◌, arith, length-append, IsUtf8, IsAscii, IsCharBoundary, chars, encode_utf8_all, take_at, IsUtf8-from_ascii, chars-IsAscii, encodes-IsAscii, IsAscii-from_all, AsciiCase, Lower, Upper, size, IsShort, padded, front, converted, Draft, InBuffer, OnHeap, empty_draft, appended, common_steps, rules, suc, ◌<◌, ◌∷◌, Bool, false, Option, None, flat_map, refl, append-nil, ne_eqb, to_ascii_lowercase, chars-encodes, INLINE_CAP, Occurs, lower, upper, lowercased, uppercased, IsAsciiText, HasSigma, letter, letters, full_case, mapped, IsMappedAlone, length-map, map-append, IsUtf8-string_bytes, nat_tests, lowercase_is, uppercase_is}
+use Rattle.smol_str.proofs.Common.{◌≡◌, ℕ, List, [], ◌++◌, length, take, drop, sym, ap, ◌∙◌, arith, append_assoc, length-append, IsUtf8, IsAscii, IsCharBoundary, chars, encode_utf8_all, take_at, IsUtf8-from_ascii, chars-IsAscii, encodes-IsAscii, IsAscii-from_all, AsciiCase, Lower, Upper, size, IsShort, padded, front, converted, Draft, InBuffer, OnHeap, empty_draft, appended, common_steps, rules, suc, ◌<◌, ◌∷◌, Bool, false, Option, None, flat_map, refl, append-nil, ne_eqb, to_ascii_lowercase, chars-encodes, INLINE_CAP, Occurs, lower, upper, lowercased, uppercased, IsAsciiText, HasSigma, letter, letters, full_case, mapped, IsMappedAlone, length-map, map-append, IsUtf8-string_bytes, nat_tests, lowercase_is, uppercase_is}
 use Rattle.smol_str.proofs.CaseLemmas.Letters.{lowercase_moves, uppercase_moves}
 use Rattle.smol_str.proofs.CaseLemmas.Ascii.{front-parts, size-converted, front-append, IsAscii-converted, IsAscii-chars, ascii-converted}
 use Rattle.smol_str.proofs.BuilderLemmas.Push.{appended-heap, new-appended}
@@ -137,6 +137,14 @@ pub letters-listed : (s : CaseChanged) (a b c : Option ℕ)
     → case_mapping_chars s ≡ option_to_list a ++ (option_to_list b ++ option_to_list c)
 letters-listed s a b c p q r = search (rules, arith)
 
+-- the second of them is refused
+pub second-refused : (s : CaseChanged) (a b : Option ℕ) (old d : Draft) → a ≡ case_mapping_first s → b ≡ case_mapping_second s
+    → d ≡ appended old (option_to_list a) → (appended d (option_to_list b)).kind ≡ OnHeap
+    → (appended old (case_mapping_chars s)).kind ≡ OnHeap
+second-refused s a b old d p q was heap =
+    let two = appended-heap old (option_to_list a ++ option_to_list b) (option_to_list (case_mapping_third s)) in
+    search (rules, append_assoc, appended-twice, letters-listed, two)
+
 pub mapped-append : (case : AsciiCase) (a b : List ℕ) → mapped case (a ++ b) ≡ mapped case a ++ mapped case b
 mapped-append case a b = flat_map-append (letters case) a b
 
@@ -169,7 +177,7 @@ pub ruleset fronts = (IsUtf8-front, chars-front, front-boundary, front-rest, OnE
 
 pub ruleset ascii_texts = (IsAscii-chars, full-ascii, full-alone)
 
-pub ruleset three_letters = (common_steps, letters-listed, OnErr-always, new-appended, appended-twice, appended-heap)
+pub ruleset three_letters = (common_steps, letters-listed, second-refused, OnErr-always, new-appended, appended-twice, appended-heap)
 
 pub ruleset short_texts = (OnErr-always, long-refused, ascii-converted, full-ascii)
 

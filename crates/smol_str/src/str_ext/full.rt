@@ -3,7 +3,6 @@
 ghost use Rattle.std.specs.Prelude.{◌≡◌, ◌<◌, ◌≤◌, [], ◌∷◌, false, length, IfOk, OnOk, OnErr, IsTrue};
 ghost use Rattle.std.specs.Option.{option_to_list};
 ghost use Rattle.std.specs.Str.{chars};
-ghost use Rattle.std.specs.Char.Iter.{case_mapping_chars};
 ghost use Rattle.smol_str.specs.Text.{IsShort};
 ghost use Rattle.smol_str.specs.Meaning.{IsValueOf};
 ghost use Rattle.smol_str.specs.Draft.{InBuffer, OnHeap, empty_draft, appended};
@@ -17,7 +16,6 @@ use crate::builder::SmolStrBuilder;
 use crate::kernel::{AsciiCase, next_match};
 use crate::value::SmolStr;
 use std::alloc::{AllocError, Global};
-use std::char::ToLowercase;
 
 /// The text in a case, as Unicode maps it.
 #[inline(always)]
@@ -115,6 +113,7 @@ fn push_mapped(builder: &mut SmolStrBuilder, text: &str, case: AsciiCase) -> Res
 /// Appends what one character is mapped to. It is not part of the loop, whose proof does not close
 /// with this `match` in it.
 #[inline(always)]
+#[tactic(auto, using(crate::proofs::CaseLemmas::Full::three_letters))]
 fn push_one(
     builder: &mut SmolStrBuilder,
     character: char,
@@ -125,30 +124,14 @@ fn push_one(
     ensures refused { OnErr result
         ((appended builder.old (mapped case (character ∷ []))).kind ≡ OnHeap) }
 {
-    match letter_of(character, case) {
-        Some(letter) => builder.push(letter),
-        None => push_letters(builder, letters_of(character, case)),
+    if let Some(letter) = letter_of(character, case) {
+        return builder.push(letter);
     }
-}
-
-/// What a character is mapped to; std has one type for both cases.
-fn letters_of(character: char, case: AsciiCase) -> ToLowercase
-    ensures { case_mapping_chars result ≡ mapped case (character ∷ []) }
-{
-    match case {
+    // At most three letters; std has one type for both cases.
+    let mut letters = match case {
         AsciiCase::Lower => character.to_lowercase(),
         AsciiCase::Upper => character.to_uppercase(),
-    }
-}
-
-/// Appends the letters that one character is mapped to: at most three.
-#[tactic(auto, using(crate::proofs::CaseLemmas::Full::three_letters))]
-fn push_letters(builder: &mut SmolStrBuilder, mut letters: ToLowercase) -> Result<(), AllocError>
-    requires { builder.old ≡ appended (empty_draft InBuffer) builder.old.text }
-    ensures ok { OnOk result (builder.new ≡ appended builder.old (case_mapping_chars letters)) }
-    ensures refused { OnErr result
-        ((appended builder.old (case_mapping_chars letters)).kind ≡ OnHeap) }
-{
+    };
     push_some(builder, letters.next())?;
     push_some(builder, letters.next())?;
     push_some(builder, letters.next())

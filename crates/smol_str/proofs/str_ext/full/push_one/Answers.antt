@@ -1,5 +1,5 @@
 use Rattle.smol_str.proofs.BuilderLemmas.Push.{new-appended}
-use Rattle.smol_str.proofs.str_ext.full.push_letters.Goals as goal
+use Rattle.smol_str.proofs.str_ext.full.push_one.Goals as goal
 
 pub push_some-requires-3 : goal.push_some-requires-3
 push_some-requires-3 c =
