@@ -4,9 +4,9 @@ use Rattle.smol_str.proofs.CaseLemmas.Letters.{lowercase_moves, uppercase_moves}
 use Rattle.smol_str.proofs.CaseLemmas.Ascii.{front-parts, size-converted, front-append, IsAscii-converted, IsAscii-chars, ascii-converted}
 use Rattle.smol_str.proofs.BuilderLemmas.Push.{appended-heap, new-appended}
 use Rattle.smol_str.proofs.TextLemmas.Split.{boundary-parts, chars-drop}
-use Rattle.std.specs.Option.{option_to_list, is_some}
+use Rattle.std.specs.Option.{is_some}
 use Rattle.std.specs.declared.char.ToLowercase.{CaseChanged}
-use Rattle.std.specs.Char.Iter.{case_mapping_first, case_mapping_second, case_mapping_third, case_mapping_chars}
+use Rattle.std.specs.Char.Iter.{case_mapping_first, case_mapping_second, case_mapping_third}
 use Rattle.std.specs.Char.Unicode.ToLowercase.{to_lowercase}
 use Rattle.std.specs.StrCase.Upper.{str_to_uppercase}
 use Rattle.std.specs.StrCase.Lower.{lowercase_chars, is_in_word_after, str_to_lowercase}
@@ -131,19 +131,9 @@ long-refused bs u l h = omega (arith, size-chars bs u)
 
 pub ruleset sizes_of_bytes = (OnErr-always, size-chars)
 
--- the letters that one character is mapped to
-pub letters-listed : (s : CaseChanged) (a b c : Option ℕ)
-    → case_mapping_first s ≡ a → case_mapping_second s ≡ b → case_mapping_third s ≡ c
-    → case_mapping_chars s ≡ option_to_list a ++ (option_to_list b ++ option_to_list c)
-letters-listed s a b c p q r = search (rules, arith)
-
--- the second of them is refused
-pub second-refused : (s : CaseChanged) (a b : Option ℕ) (old d : Draft) → a ≡ case_mapping_first s → b ≡ case_mapping_second s
-    → d ≡ appended old (option_to_list a) → (appended d (option_to_list b)).kind ≡ OnHeap
-    → (appended old (case_mapping_chars s)).kind ≡ OnHeap
-second-refused s a b old d p q was heap =
-    let two = appended-heap old (option_to_list a ++ option_to_list b) (option_to_list (case_mapping_third s)) in
-    search (rules, append_assoc, appended-twice, letters-listed, two)
+-- no letter is missing before another
+abbrev pub IsPacked : CaseChanged → Type 0
+IsPacked s = (case_mapping_first s ≡ None → case_mapping_second s ≡ None) × (case_mapping_second s ≡ None → case_mapping_third s ≡ None)
 
 pub mapped-append : (case : AsciiCase) (a b : List ℕ) → mapped case (a ++ b) ≡ mapped case a ++ mapped case b
 mapped-append case a b = flat_map-append (letters case) a b
@@ -177,7 +167,7 @@ pub ruleset fronts = (IsUtf8-front, chars-front, front-boundary, front-rest, OnE
 
 pub ruleset ascii_texts = (IsAscii-chars, full-ascii, full-alone)
 
-pub ruleset three_letters = (common_steps, letters-listed, second-refused, OnErr-always, new-appended, appended-twice, appended-heap)
+pub ruleset letters_appended = (common_steps, OnErr-always, appended-twice, appended-heap)
 
 pub ruleset short_texts = (OnErr-always, long-refused, ascii-converted, full-ascii)
 

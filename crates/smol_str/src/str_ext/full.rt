@@ -1,7 +1,6 @@
 //! Full case. ASCII text takes ASCII case. Of any other text each character is mapped by itself,
 //! and a short text's ASCII front by lanes, unless a character is mapped by what stands around it.
 ghost use Rattle.std.specs.Prelude.{◌≡◌, ◌<◌, ◌≤◌, [], ◌∷◌, false, length, IfOk, OnOk, OnErr, IsTrue};
-ghost use Rattle.std.specs.Option.{option_to_list};
 ghost use Rattle.std.specs.Str.{chars};
 ghost use Rattle.smol_str.specs.Text.{IsShort};
 ghost use Rattle.smol_str.specs.Meaning.{IsValueOf};
@@ -110,10 +109,9 @@ fn push_mapped(builder: &mut SmolStrBuilder, text: &str, case: AsciiCase) -> Res
     Ok(())
 }
 
-/// Appends what one character is mapped to. It is not part of the loop, whose proof does not close
-/// with this `match` in it.
+/// Appends what one character is mapped to: at most three letters.
 #[inline(always)]
-#[tactic(auto, using(crate::proofs::CaseLemmas::Full::three_letters))]
+#[tactic(auto, using(crate::proofs::CaseLemmas::Full::letters_appended))]
 fn push_one(
     builder: &mut SmolStrBuilder,
     character: char,
@@ -127,25 +125,12 @@ fn push_one(
     if let Some(letter) = letter_of(character, case) {
         return builder.push(letter);
     }
-    // At most three letters; std has one type for both cases.
-    let mut letters = match case {
+    let letters = match case {
         AsciiCase::Lower => character.to_lowercase(),
         AsciiCase::Upper => character.to_uppercase(),
     };
-    push_some(builder, letters.next())?;
-    push_some(builder, letters.next())?;
-    push_some(builder, letters.next())
-}
-
-/// Appends a character where there is one.
-#[inline(always)]
-fn push_some(builder: &mut SmolStrBuilder, letter: Option<char>) -> Result<(), AllocError>
-    requires { builder.old ≡ appended (empty_draft InBuffer) builder.old.text }
-    ensures ok { OnOk result (builder.new ≡ appended builder.old (option_to_list letter)) }
-    ensures refused { OnErr result ((appended builder.old (option_to_list letter)).kind ≡ OnHeap) }
-{
-    match letter {
-        Some(letter) => builder.push(letter),
-        None => Ok(()),
+    for letter in letters {
+        builder.push(letter)?;
     }
+    Ok(())
 }
