@@ -5,8 +5,6 @@ use Rattle.smol_str.proofs.CaseLemmas.Ascii.{front-parts, size-converted, front-
 use Rattle.smol_str.proofs.BuilderLemmas.Push.{appended-heap, new-appended}
 use Rattle.smol_str.proofs.TextLemmas.Split.{boundary-parts, chars-drop}
 use Rattle.std.specs.Option.{is_some}
-use Rattle.std.specs.declared.char.ToLowercase.{CaseChanged}
-use Rattle.std.specs.Char.Iter.{case_mapping_first, case_mapping_second, case_mapping_third}
 use Rattle.std.specs.Char.Unicode.ToLowercase.{to_lowercase}
 use Rattle.std.specs.StrCase.Upper.{str_to_uppercase}
 use Rattle.std.specs.StrCase.Lower.{lowercase_chars, is_in_word_after, str_to_lowercase}
@@ -130,10 +128,6 @@ pub long-refused : (bs : List ℕ) → IsUtf8 bs → INLINE_CAP < length bs → 
 long-refused bs u l h = omega (arith, size-chars bs u)
 
 pub ruleset sizes_of_bytes = (OnErr-always, size-chars)
-
--- no letter is missing before another
-abbrev pub IsPacked : CaseChanged → Type 0
-IsPacked s = (case_mapping_first s ≡ None → case_mapping_second s ≡ None) × (case_mapping_second s ≡ None → case_mapping_third s ≡ None)
 
 pub mapped-append : (case : AsciiCase) (a b : List ℕ) → mapped case (a ++ b) ≡ mapped case a ++ mapped case b
 mapped-append case a b = flat_map-append (letters case) a b
