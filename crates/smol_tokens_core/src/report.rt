@@ -14,7 +14,7 @@ use crate::fault::RunFault;
 use crate::lines::Lines;
 use crate::mode::Mode;
 use crate::tokens::count_lines;
-use smol_str::{FormatError, INLINE_CAP, Place, SmolStr, StrExt, format_smolstr};
+use smol_str::{INLINE_CAP, Place, SmolStr, SmolStrBuilder, StrExt};
 use std::alloc::{AllocError, Global};
 use std::hash::BuildHasher;
 
@@ -95,8 +95,8 @@ fn join(alloc: Global, text: &str) -> Result<String, AllocError>
 
 /// Appends the report line of a value.
 ///
-/// One that fits in a value is made as one first, which takes no memory. Any other is printed into the report, since as a
-/// value it would be one more copy.
+/// One that fits in a builder's own buffer is printed there first. Any other is printed into the report, since it would be
+/// copied once more.
 fn push_line(alloc: Global, out: &mut String, value: &SmolStr) -> Result<(), AllocError>
     ensures { OnOk result (string_bytes out.new ≡ string_bytes out.old
         ++ encode_utf8_all (report_line value.now.place (size value.now.text) value.now.text)) }
@@ -117,16 +117,15 @@ fn print_line(out: &mut String, value: &SmolStr) -> Result<(), AllocError>
     write!(out, "{place} {size} {value}\n")
 }
 
-/// The same of an inline value, as a value first.
+/// The same of an inline value, printed into a builder first.
 fn push_inline(alloc: Global, out: &mut String, value: &SmolStr) -> Result<(), AllocError>
     ensures { OnOk result (string_bytes out.new ≡ string_bytes out.old
         ++ encode_utf8_all (report_line Inline (size value.now.text) value.now.text)) }
 {
     let size = value.len();
-    match format_smolstr!(alloc; "inline {size} {value}\n") {
-        Ok(line) => out.push_str(line.as_str()),
-        Err(FormatError) => Err(AllocError),
-    }
+    let mut line = SmolStrBuilder::new(alloc);
+    write!(line, "inline {size} {value}\n").or(Err(AllocError))?;
+    out.push_str(line.as_str())
 }
 
 /// The word that a report line has for a place.

@@ -27,8 +27,7 @@ pub(super) fn to_ascii_case(
     if text.len() <= INLINE_CAP {
         return Ok(SmolStr::new_inline_in_case(text, case));
     }
-    // Returned as it comes, the value would lie in memory for a short text, too.
-    Ok(to_ascii_case_on_heap(alloc, text, case)?)
+    to_ascii_case_on_heap(alloc, text, case)
 }
 
 /// The same of any text, in a copy of it. Slow path, kept out of line so that the fast path

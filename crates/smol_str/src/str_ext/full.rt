@@ -27,15 +27,14 @@ pub(super) fn to_full_case(
     ensures ok { IfOk result (λ v. IsValueOf (full_case case (chars text.now)) v) }
     ensures refused { OnErr result (¬ (IsAsciiText (chars text.now) × IsShort (chars text.now))) }
 {
-    // Returned as it comes, a slow value would lie in memory for short ASCII, too.
     if text.len() > INLINE_CAP {
-        return Ok(long_full_case(alloc, text, case)?);
+        return long_full_case(alloc, text, case);
     }
     let short = SmolStr::new_inline_in_case(text, case);
     if short.is_ascii() {
         return Ok(short);
     }
-    Ok(short_full_case(alloc, text, case)?)
+    short_full_case(alloc, text, case)
 }
 
 /// The same of any text. Slow path, kept out of line so that the fast path inlines.
