@@ -73,6 +73,9 @@ order-step xs ys x y at e f h k l m =
 then-differ : (a b : ℕ) (o : Ordering) → ¬ (a ≡ b) → ordering_then (nat_cmp a b) o ≡ nat_cmp a b
 then-differ a b o other = grind (arith, common_steps, cases_order, nat_cmp-less, nat_cmp-greater)
 
+then-same : (a b : ℕ) → ordering_then (nat_cmp a b) (slice_cmp nat_cmp [] []) ≡ nat_cmp a b
+then-same a b = grind (arith, common_steps, cases_order, nat_cmp-same, nat_cmp-less, nat_cmp-greater)
+
 pub order-differ : (xs ys : List ℕ) (at a b : ℕ) → AreBytes xs → AreBytes ys → at + 8 ≤ length xs →
     at + 8 ≤ length ys →
     a ≡ from_be_bytes w64 (take 8 (drop at xs)) → b ≡ from_be_bytes w64 (take 8 (drop at ys)) → ¬ (a ≡ b) →
@@ -84,6 +87,12 @@ pub order-same : (xs ys : List ℕ) (at a b : ℕ) → AreBytes xs → AreBytes 
     a ≡ from_be_bytes w64 (take 8 (drop at xs)) → b ≡ from_be_bytes w64 (take 8 (drop at ys)) → a ≡ b →
     slice_cmp nat_cmp (drop at xs) (drop at ys) ≡ slice_cmp nat_cmp (drop (at + 8) xs) (drop (at + 8) ys)
 order-same xs ys at a b h k l m e f same = cc (order-step xs ys _ _ at refl refl h k l m, nat_cmp-same b)
+
+pub order-last : (xs ys : List ℕ) (at a b : ℕ) → AreBytes xs → AreBytes ys → length xs ≡ at + 8 → length ys ≡ at + 8 →
+    a ≡ from_be_bytes w64 (take 8 (drop at xs)) → b ≡ from_be_bytes w64 (take 8 (drop at ys)) →
+    slice_cmp nat_cmp (drop at xs) (drop at ys) ≡ nat_cmp a b
+order-last xs ys at a b h k l m e f =
+    search (rules, arith, order-step xs ys _ _ at refl refl h k (omega arith) (omega arith), drop_all, then-same)
 
 -- the length behind a text decides where the texts are equal up to zeros
 behind : (ys : List ℕ) (m n k l : ℕ) → m ≡ length ys + n → k < l →

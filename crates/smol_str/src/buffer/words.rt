@@ -238,13 +238,14 @@ fn same_two(left: &[u8], right: &[u8], first: usize, second: usize) -> bool
 pub(super) fn order_words(left: &Packed, right: &Packed) -> Ordering
     ensures { result ≡ slice_cmp nat_cmp left.now right.now }
 {
-    for i in 0..WORDS {
+    for i in 0..WORDS - 1 {
         let (a, b) = (read_ordered(left, 8 * i), read_ordered(right, 8 * i));
         if a != b {
             return a.cmp(&b);
         }
     }
-    Ordering::Equal
+    let (a, b) = (read_ordered(left, PACKED_LEN - 8), read_ordered(right, PACKED_LEN - 8));
+    a.cmp(&b)
 }
 
 /// Eight bytes as one number, the first the highest, so that it is ordered as they are.

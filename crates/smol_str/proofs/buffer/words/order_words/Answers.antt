@@ -1,5 +1,5 @@
-use Rattle.smol_str.proofs.Common.{◌≡◌, ◌*◌, ◌+◌, ◌∙◌, arith, rules}
-use Rattle.smol_str.proofs.BufferLemmas.WordOrder.{order-differ, order-same}
+use Rattle.smol_str.proofs.Common.{◌≡◌, ◌*◌, ◌+◌, ◌-◌, ◌∙◌, arith, rules, PACKED_LEN}
+use Rattle.smol_str.proofs.BufferLemmas.WordOrder.{order-differ, order-last, order-same}
 use Rattle.smol_str.proofs.buffer.words.order_words.Goals as goal
 
 pub returns-then-a-b : goal.returns-then-a-b
@@ -12,3 +12,9 @@ loop-i-preserved c =
     ∙ order-same c.args.left.now c.args.right.now (8 * c.loop-i.i) _ _ c.fits-left c.fits-right
     (omega (arith, c.told-left, c.loop-i-test.true))
     (omega (arith, c.told-right, c.loop-i-test.true)) c.read_ordered-a.ensures c.read_ordered-b.ensures c.if-a-b.false)
+
+pub returns : goal.returns
+returns c =
+    let last : 8 * c.loop-i.i ≡ PACKED_LEN - 8 = omega arith in
+    grind (arith, last, c.loop-i.invariant, c.cmp-2.ensures, order-last c.args.left.now c.args.right.now (PACKED_LEN - 8) _ _
+    c.fits-left c.fits-right c.told-left c.told-right c.read_ordered-a-2.ensures c.read_ordered-b-2.ensures)
