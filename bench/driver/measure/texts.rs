@@ -115,16 +115,14 @@ pub fn run<T: Text>(operation: &str, all: &[Case<T>], n: Turns) -> Option<u64> {
         "get" => looked_up::<T, BuildHasherDefault<DefaultHasher>>(all, n),
         "get by default" => looked_up::<T, RandomState>(all, n),
         "new into a Vec" => batches(all, n, |all, at| last_of(kept(all, |it| T::from(it.text.as_str())), at)),
-        "clone into a Vec" => {
-            let values = kept(all, |it| it.value.clone());
-            batches(&values, n, |values, at| last_of(kept(values, T::clone), at))
-        }
-        "sort" => {
+        "clone into a Vec" | "sort" => {
             let values = kept(all, |it| it.value.clone());
             batches(&values, n, |values, at| {
-                let mut values = kept(values, T::clone);
-                values.sort();
-                last_of(values, at)
+                let mut copies = kept(values, T::clone);
+                if operation == "sort" {
+                    copies.sort();
+                }
+                last_of(copies, at)
             })
         }
         "count" => batches(all, n, |all, at| told(count(all), at)),
