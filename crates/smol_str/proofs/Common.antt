@@ -11,7 +11,7 @@ pub use Rattle.smol_str.specs.Replace.{replaced, replaced_all, first_match, cut,
 pub use Rattle.smol_str.specs.Replacing.{IsReplacing}
 pub use Rattle.smol_str.specs.Text.{IsShort, size, is_short, place_of, blank_run, leading_newlines, all_spaces, IsBlankRun, IsResident}
 pub use Rattle.smol_str.specs.Wire.{HasWire, wire, Holds, HasEndedEarly, body}
-pub use Rattle.smol_str.specs.Words.{put_at, with_zeros}
+pub use Rattle.smol_str.specs.Words.{put_at}
 pub use Rattle.smol_str.specs.declared.buffer.TheConstants.{INLINE_CAP, PACKED_LEN}
 pub use Rattle.smol_str.specs.declared.bytes.ascii.AsciiCase.{AsciiCase}
 pub use Rattle.smol_str.specs.declared.bytes.ascii.AsciiCase.TheVariants.{Lower, Upper}

@@ -15,7 +15,7 @@ ghost use Rattle.smol_str.specs.WireFaults.{HasReadSize, HasReadBody, AfterBodyF
 
 mod fault;
 
-use crate::buffer::{INLINE_CAP, InlineBuffer};
+use crate::buffer::INLINE_CAP;
 use crate::bytes::zeros;
 use crate::stream::{fill, read_up_to, write_steps};
 use crate::value::SmolStr;

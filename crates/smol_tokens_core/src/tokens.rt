@@ -1,9 +1,8 @@
 //! The report of mode tokens: how often each line stands.
-ghost use Rattle.std.specs.Prelude.{◌≡◌, ◌<◌, ◌+◌, ◌++◌, length, IfOk, IfErr, OnOk, OnErr, encode_utf8_all};
+ghost use Rattle.std.specs.Prelude.{◌≡◌, ◌<◌, ◌++◌, length, IfOk, IfErr, OnOk, OnErr, encode_utf8_all};
 ghost use Rattle.std.specs.List.{flat_map};
 ghost use Rattle.std.specs.Str.{chars};
 ghost use Rattle.std.specs.String.{string_bytes};
-ghost use Rattle.smol_tokens_core.specs.declared.fault.RunFault.TheVariants.{OutOfMemory, Full};
 ghost use Rattle.smol_tokens_core.specs.declared.mode.Mode.TheVariants.{Tokens};
 ghost use Rattle.smol_tokens_core.specs.Lines.{lines};
 ghost use Rattle.smol_tokens_core.specs.Tally.{tally, seen_once};

@@ -1,5 +1,5 @@
 //! Callers of the program's core: the report on some bytes, behind what a `Vec` has, and words counted.
-ghost use Rattle.std.specs.Prelude.{◌≡◌, ◌<◌, ◌⊎◌, ◌+◌, ◌^◌, ℕ, List, [], ◌++◌, length, None, IfOk, IsOk, OnOk, OnErr, IfErr, encode_utf8_all};
+ghost use Rattle.std.specs.Prelude.{◌≡◌, ◌<◌, ◌⊎◌, ◌+◌, ◌^◌, ℕ, List, [], ◌++◌, length, None, IsOk, OnOk, OnErr, IfErr, encode_utf8_all};
 ghost use Rattle.std.specs.Map.{lookup};
 ghost use Rattle.std.specs.Str.{chars, IsUtf8};
 ghost use Rattle.smol_tokens_core.specs.Report.{report};

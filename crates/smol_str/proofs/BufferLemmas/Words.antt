@@ -1,5 +1,5 @@
 -- For the functions of `buffer::words` that read, pack and overwrite bytes: bytes as words.
-use Rattle.smol_str.proofs.Common.{◌≡◌, ℕ, zero, suc, ◌+◌, ◌-◌, ◌*◌, ◌^◌, ◌/◌, ◌<◌, ◌≤◌, List, [], ◌∷◌, ◌++◌, length, take, drop, get_or, replicate, ◌∙◌, ap, arith, refl, length-take, length-drop, nat_eq, ◌&&◌, Bool, true, set, length-append, w64, w32, to_le_bytes, from_le_bytes, pointwise, bytes_decides, take-add, take-append-add, drop-append-add, le_bytes_8, pow-add, cases_lt, Decides-and, Decides-like, Decides-eqb, same_from_decides, take_at, drop_at, take_all, take-take, drop-take, drop-drop, take-append-le, take-append-drop, append_assoc, length-take-le, get_or-drop, get_or-take, get_or_past, set_at, length-replicate, drop-replicate, INLINE_CAP, packed, padded, put_at, with_zeros, encode, replicate_more, common_steps, rules}
+use Rattle.smol_str.proofs.Common.{◌≡◌, ℕ, zero, suc, ◌+◌, ◌-◌, ◌*◌, ◌^◌, ◌/◌, ◌<◌, ◌≤◌, List, [], ◌∷◌, ◌++◌, length, take, drop, get_or, replicate, ◌∙◌, ap, arith, refl, length-take, length-drop, nat_eq, ◌&&◌, Bool, true, set, length-append, w64, w32, to_le_bytes, from_le_bytes, pointwise, bytes_decides, take-add, take-append-add, drop-append-add, le_bytes_8, pow-add, cases_lt, Decides-and, Decides-like, Decides-eqb, same_from_decides, take_at, drop_at, take_all, take-take, drop-take, drop-drop, take-append-le, take-append-drop, append_assoc, length-take-le, get_or-drop, get_or-take, get_or_past, set_at, length-replicate, drop-replicate, INLINE_CAP, packed, padded, put_at, encode, replicate_more, common_steps, rules}
 use Rattle.std.proofs.Math.Nat.{div-div-eq-div-mul, pow-succ', mul-le-mul_left}
 use Rattle.smol_str.specs.Words.{word}
 use Rattle.smol_str.proofs.BufferLemmas.Packed.{length-padded}
@@ -83,6 +83,10 @@ get_or-zeros : (xs : List ℕ) (m k : ℕ) → get_or (xs ++ replicate m 0) k 0 
 get_or-zeros [] (suc m) (suc k) = get_or-zeros [] m k
 get_or-zeros (x ∷ xs) m (suc k) = get_or-zeros xs m k
 get_or-zeros xs m k = refl
+
+-- bytes, and zeros after them up to where the length is to stand, and there
+abbrev pub with_zeros : List ℕ → List ℕ
+with_zeros bytes = bytes ++ replicate (INLINE_CAP + 1 - length bytes) 0
 
 length-with_zeros : (bytes : List ℕ) → length bytes ≤ INLINE_CAP → length (with_zeros bytes) ≡ INLINE_CAP + 1
 length-with_zeros bytes h = simp (length-append, length-replicate) (omega (arith, h))

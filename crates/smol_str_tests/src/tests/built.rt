@@ -1,5 +1,5 @@
 //! Values by a builder's calls and by lists of steps.
-use smol_str::{INLINE_CAP, Place, SmolStr, SmolStrBuilder, Step, build};
+use smol_str::{INLINE_CAP, Place, SmolStrBuilder, Step, build};
 use std::test::Fail;
 use test_support::refuse::{can_refuse, end_refusals, refuse_all};
 use test_support::test::{

@@ -1,5 +1,6 @@
 -- The words so far are those of the text and zeros behind it.
-use Rattle.smol_str.proofs.Common.{◌≡◌, ◌*◌, length, take, PACKED_LEN, with_zeros}
+use Rattle.smol_str.proofs.Common.{◌≡◌, ◌*◌, length, take, PACKED_LEN}
+use Rattle.smol_str.proofs.BufferLemmas.Words.{with_zeros}
 use Rattle.smol_str.proofs.buffer.words.pack.Given as goal
 
 abbrev pub invariant-loop-i : goal.invariant-loop-i
