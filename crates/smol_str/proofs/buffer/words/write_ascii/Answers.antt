@@ -39,4 +39,4 @@ returns-then-code-ge128-clause-drew g c =
 pub returns-clause-drew : goal.returns-clause-drew
 returns-clause-drew g c =
     let now = c.loop-character in
-    (now.yielded, (now.iter, now.yielded_by, said g.I.Iterator.next_gives (cc) c.next.ensures.steps), now.invariant.0, now.invariant.1, now.invariant.3)
+    (now.yielded, (now.iter, now.yielded_by, said g.I.Iterator.next_gives {t = c.next.new.self} (cc) c.next.ensures.steps), now.invariant.0, now.invariant.1, now.invariant.3)

@@ -27,4 +27,4 @@ returns-clause-ok c =
     let characters = YieldsList-from_chars c.args.text.now c.utf8.text cc in
     let all = YieldsList-end characters c.loop-character.yielded _ c.loop-character.yielded_by _ _
     c.in-None.is c.next.ensures.steps in
-    cc (all.0, map-id c.loop-character.yielded)
+    rw (← all.0) (rw (map-id c.loop-character.yielded) c.loop-character.invariant)
