@@ -118,9 +118,17 @@ impl Ord for SmolStr {
     {
         match (&self.repr, &other.repr) {
             (Repr::Inline(left), Repr::Inline(right)) => left.order(right),
-            _ => self.as_str().cmp(other.as_str()),
+            _ => order_as_str(self, other),
         }
     }
+}
+
+/// The order where a text is not inline. It is out of line, so that a comparison is small enough to be inlined in a sort.
+#[inline(never)]
+fn order_as_str(left: &SmolStr, right: &SmolStr) -> Ordering
+    ensures { result ≡ slice_cmp nat_cmp left.now.text right.now.text }
+{
+    left.as_str().cmp(right.as_str())
 }
 
 /// Hashing a value makes the writes that hashing its text as a `str` makes.

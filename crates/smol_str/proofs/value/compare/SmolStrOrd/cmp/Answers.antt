@@ -5,5 +5,5 @@ use Rattle.smol_str.proofs.value.compare.SmolStrOrd.cmp.Goals as goal
 pub returns-in-Inline-Inline-clause-bytes : goal.returns-in-Inline-Inline-clause-bytes
 returns-in-Inline-Inline-clause-bytes c = search (rules, order-texts)
 
-pub returns-in_default-clause-texts : goal.returns-in_default-clause-texts
-returns-in_default-clause-texts c = search (rules, order-texts)
+pub returns-in_default-clause-bytes : goal.returns-in_default-clause-bytes
+returns-in_default-clause-bytes c = search (rules, order-texts)
