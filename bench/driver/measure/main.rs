@@ -121,15 +121,17 @@ extern "C" fn counted(bench: &Bench, side: &Side, rounds: usize) -> u64 {
     black_box(bench.run(*side, black_box(rounds)).unwrap_or(0))
 }
 
-/// Counts a row in a process of its own, so that it does not matter what other rows left in the heap.
+/// Counts a row that the side has, in a process of its own, so that it does not matter what other rows left in the heap.
 fn count(bench: &Bench, side: Side) {
     if fork() > 0 {
         wait(None);
         return;
     }
-    // what is bound late is bound now, and the heap comes into a state that lasts
-    (0..3).for_each(|_| drop(black_box(bench.run(side, 8))));
-    [8, 8 + 160].map(|rounds| counted(bench, &side, rounds));
+    if bench.run(side, 8).is_some() {
+        // what is bound late is bound now, and the heap comes into a state that lasts
+        (0..2).for_each(|_| drop(black_box(bench.run(side, 8))));
+        [8, 8 + 160].map(|rounds| counted(bench, &side, rounds));
+    }
     std::process::exit(0);
 }
 
@@ -188,8 +190,7 @@ fn main() {
         }),
         _ => {
             let (_, side) = *sides().iter().find(|side| side.0 == words[0]).expect("a side");
-            let is_counted = |kind: &str, it: &Bench| kind != "many" && it.run(side, 1).is_some();
-            for_each_row(&words[1..], |kind, _, it| if is_counted(kind, it) { count(it, side) });
+            for_each_row(&words[1..], |kind, _, it| if kind != "many" { count(it, side) });
         }
     }
 }
