@@ -245,7 +245,10 @@ pub(super) fn order_words(left: &Packed, right: &Packed) -> Ordering
             return a.cmp(&b);
         }
     }
-    let (a, b) = (read_ordered(left, PACKED_LEN - 8), read_ordered(right, PACKED_LEN - 8));
+    let (a, b) = (
+        read_ordered(left, PACKED_LEN - 8),
+        read_ordered(right, PACKED_LEN - 8),
+    );
     a.cmp(&b)
 }
 
