@@ -245,11 +245,8 @@ pub(super) fn order_words(left: &Packed, right: &Packed) -> Ordering
             return a.cmp(&b);
         }
     }
-    let (a, b) = (
-        read_ordered(left, PACKED_LEN - 8),
-        read_ordered(right, PACKED_LEN - 8),
-    );
-    a.cmp(&b)
+    let last = PACKED_LEN - 8;
+    read_ordered(left, last).cmp(&read_ordered(right, last))
 }
 
 /// Eight bytes as one number, the first the highest, so that it is ordered as they are.

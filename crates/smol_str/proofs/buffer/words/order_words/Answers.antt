@@ -15,12 +15,7 @@ loop-i-preserved c =
 
 pub returns : goal.returns
 returns c =
-    let last : 8 * c.loop-i.i ≡ PACKED_LEN - 8 = omega arith in
-    grind (
-      arith,
-      last,
-      c.loop-i.invariant,
-      c.cmp-2.ensures,
-      order-last c.args.left.now c.args.right.now (PACKED_LEN - 8) _ _
-          c.fits-left c.fits-right c.told-left c.told-right c.read_ordered-a-2.ensures c.read_ordered-b-2.ensures,
-    )
+    let end : 8 * c.loop-i.i ≡ PACKED_LEN - 8 = omega arith in
+    let order = order-last c.args.left.now c.args.right.now (PACKED_LEN - 8) _ _ c.fits-left c.fits-right c.told-left
+    c.told-right c.read_ordered.ensures c.read_ordered-2.ensures in
+    grind (arith, end, c.loop-i.invariant, c.cmp-2.ensures, order)
