@@ -14,16 +14,14 @@ use Input::*;
 /// and of others; and what the text is. A name in brackets is no operation of the crate.
 type Row = (&'static str, &'static str, &'static [usize], &'static [usize], Input);
 
-/// More texts than stay in the first cache.
-const MANY: usize = 65_536;
-
-/// The rows by kinds, with how many texts each has. Those of 128 texts stay in the first cache on all sides.
+/// The rows by kinds, with how many texts each has. 128 texts stay in the first cache on all sides, and 65,536 on none.
 pub const KINDS: &[(&str, usize, &[Row])] =
-    &[("short", 128, ROWS), ("short", 2_000, WORDS), ("short", 1_000, DOCUMENT), ("long", 128, ROWS), ("many", MANY, OF_MANY)];
+    &[("short", 128, ROWS), ("short", 2_000, WORDS), ("short", 1_000, DOCUMENT), ("long", 128, ROWS), ("many", 65_536, MANY)];
 
 const WORDS: &[Row] = &[
     ("words into a Vec", "new into a Vec", &[0], &[], Lexemes),
-    ("words cloned", "clone into a Vec", &[0], &[], Lexemes),
+    ("words cloned", "clone a Vec", &[0], &[], Lexemes),
+    ("(words cloned one by one)", "clone into a Vec", &[0], &[], Lexemes),
     ("words cloned and sorted", "sort", &[0], &[], Lexemes),
     ("words counted", "count", &[0], &[], Lexemes),
     ("words and four keywords", "keywords", &[0], &[], Lexemes),
@@ -31,7 +29,7 @@ const WORDS: &[Row] = &[
 
 const DOCUMENT: &[Row] = &[("document of JSON, {} letters", "document", &[10], &[], Same)];
 
-const OF_MANY: &[Row] = &[
+const MANY: &[Row] = &[
     ("new {}, 65,536 of them", "new", &[], &[20], Distinct),
     ("new {} into a Vec, 65,536", "new into a Vec", &[], &[20], Distinct),
     ("clone {} into a Vec, 65,536", "clone into a Vec", &[], &[20], Distinct),

@@ -115,10 +115,11 @@ pub fn run<T: Text>(operation: &str, all: &[Case<T>], n: Turns) -> Option<u64> {
         "get" => looked_up::<T, BuildHasherDefault<DefaultHasher>>(all, n),
         "get by default" => looked_up::<T, RandomState>(all, n),
         "new into a Vec" => batches(all, n, |all, at| last_of(kept(all, |it| T::from(it.text.as_str())), at)),
-        "clone into a Vec" | "sort" => {
+        "clone into a Vec" => batches(all, n, |all, at| last_of(kept(all, |it| it.value.clone()), at)),
+        "clone a Vec" | "sort" => {
             let values = kept(all, |it| it.value.clone());
-            batches(&values, n, |values, at| {
-                let mut copies = kept(values, T::clone);
+            batches(all, n, |_, at| {
+                let mut copies = values.clone();
                 if operation == "sort" {
                     copies.sort();
                 }

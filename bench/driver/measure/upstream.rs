@@ -80,9 +80,7 @@ pub fn run(operation: &str, all: &[Case<SmolStr>], n: Turns) -> Option<u64> {
         "format" => rounds(all, n, |it, at| seen(&format_smolstr!("{}-{}", it.text, number_of(&it.text, at)), at)),
         "number" => rounds(all, n, |it, at| seen(&number_of(&it.text, at).to_smolstr(), at)),
         "to_smolstr" => rounds(all, n, |it, at| seen(&it.text.as_str().to_smolstr(), at)),
-        "from_chars into a Vec" => {
-            batches(all, n, |all, at| last_of::<SmolStr>(kept(all, |it| it.text.chars().collect()), at))
-        }
+        "from_chars into a Vec" => batches(all, n, |all, at| last_of::<SmolStr>(kept(all, |it| it.text.chars().collect()), at)),
         "format into a Vec" => {
             let format = |it: &Case<SmolStr>| format_smolstr!("{}-{}", it.text, number_of(&it.text, 0));
             batches(all, n, |all, at| last_of(kept(all, format), at))
