@@ -20,8 +20,8 @@ pub const KINDS: &[(&str, usize, &[Row])] =
 
 const WORDS: &[Row] = &[
     ("words into a Vec", "new into a Vec", &[0], &[], Lexemes),
-    ("words cloned", "clone a Vec", &[0], &[], Lexemes),
-    ("(words cloned one by one)", "clone into a Vec", &[0], &[], Lexemes),
+    ("words cloned", "clone into a Vec", &[0], &[], Lexemes),
+    ("words cloned by one call", "clone a Vec", &[0], &[], Lexemes),
     ("words cloned and sorted", "sort", &[0], &[], Lexemes),
     ("words counted", "count", &[0], &[], Lexemes),
     ("words and four keywords", "keywords", &[0], &[], Lexemes),
