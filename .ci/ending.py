@@ -4,7 +4,6 @@ import os
 import signal
 import subprocess
 import sys
-import tempfile
 import time
 
 
@@ -41,21 +40,3 @@ def run(words, **how):
             end_group(started)
             raise
     return subprocess.CompletedProcess(words, started.returncode, *said)
-
-
-def run_all(commands, **how):
-    """Runs commands at once, and returns what each of them wrote; where the script ends meanwhile, so do they."""
-    with contextlib.ExitStack() as files:
-        said = [files.enter_context(tempfile.TemporaryFile("w+", encoding="utf-8", errors="replace")) for _ in commands]
-        started = []
-        try:
-            for words, file in zip(commands, said):
-                how |= {"stdin": subprocess.DEVNULL, "stdout": file, "stderr": subprocess.STDOUT, "start_new_session": True}
-                started.append(subprocess.Popen(words, **how))
-            for it in started:
-                it.wait()
-        except BaseException:
-            for it in started:
-                end_group(it)
-            raise
-        return [file.seek(0) or file.read() for file in said]
