@@ -3,7 +3,7 @@ ghost use Rattle.std.specs.Prelude.{◌≡◌, ℕ, List, IfOk, OnErr};
 ghost use Rattle.std.specs.Str.{chars};
 ghost use Rattle.smol_str.specs.Text.{IsShort};
 ghost use Rattle.smol_str.specs.Meaning.{IsValueOf};
-ghost use Rattle.smol_str.specs.Case.{lower, upper, lowercased, uppercased, IsAsciiText};
+ghost use Rattle.smol_str.specs.Case.{lower, upper, lowercased, uppercased};
 ghost use Rattle.smol_str.specs.Cut.{IsOnlyCut, joined_by};
 ghost use Rattle.smol_str.specs.Replace.{no_limit, replaced, replaced_all};
 
@@ -12,6 +12,7 @@ mod case;
 mod full;
 mod letters;
 mod replace;
+mod sigma;
 
 use crate::kernel::AsciiCase;
 use crate::value::SmolStr;
@@ -23,11 +24,9 @@ use std::alloc::{AllocError, Global};
 /// Calls of a `str` that return a new text, as a [`SmolStr`].
 ///
 /// Each returns the text that the method of Rust's `str` does whose name it begins with, in the
-/// place of that text. A replacement or a text in ASCII case takes no memory if it is short,
-/// however long the text is that the call reads. Full case takes none for short ASCII text; the
-/// lower case of a text with `Σ` takes memory of its own, even if the result is short. A call that
-/// is refused memory returns [`AllocError`] and makes nothing. Case follows the toolchain's
-/// Unicode, 18.0.
+/// place of that text. A short result takes no memory, however long the text is that the call
+/// reads. A call that is refused memory returns [`AllocError`] and makes nothing. Case follows the
+/// toolchain's Unicode, 18.0.
 ///
 /// ```
 /// let line = "Let x = 1";
@@ -91,8 +90,7 @@ pub trait StrExt {
     /// becomes `ς`, in short texts too. The ASCII front of a text is in lower case of ASCII
     /// ([`laws::full_case`](crate::laws::full_case)).
     ///
-    /// No short ASCII text is refused. Any other may be, one with `Σ` even where the result is
-    /// short.
+    /// No short result is refused.
     ///
     /// ```
     /// let word = "ΟΔΟΣ".to_lowercase_smolstr(alloc)?;
@@ -100,16 +98,14 @@ pub trait StrExt {
     /// ```
     fn to_lowercase_smolstr(&self, alloc: Global) -> Result<SmolStr, AllocError>
         ensures ok { IfOk result (λ v. IsValueOf (lowercased (content self.now)) v) }
-        ensures refused { OnErr result
-            (¬ (IsAsciiText (content self.now) × IsShort (content self.now))) };
+        ensures refused { OnErr result (¬ (IsShort (lowercased (content self.now)))) };
 
     /// The text in upper case as Unicode maps it, as `str::to_uppercase`: `ß` becomes `SS`.
     ///
-    /// No short ASCII text is refused.
+    /// No short result is refused.
     fn to_uppercase_smolstr(&self, alloc: Global) -> Result<SmolStr, AllocError>
         ensures ok { IfOk result (λ v. IsValueOf (uppercased (content self.now)) v) }
-        ensures refused { OnErr result
-            (¬ (IsAsciiText (content self.now) × IsShort (content self.now))) };
+        ensures refused { OnErr result (¬ (IsShort (uppercased (content self.now)))) };
 }
 
 impl StrExt for &str {

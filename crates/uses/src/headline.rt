@@ -17,7 +17,7 @@ ghost use Rattle.smol_str.specs.Meaning.{IsValueOf};
 ghost use Rattle.smol_str.specs.Joined.{joined, joined_strs, joined_strings, joined_string_refs, string_text};
 ghost use Rattle.smol_str.specs.Collect.{Collected, Outgrown, AppendedAll, StoppedAt};
 ghost use Rattle.smol_str.specs.Steps.{step_text};
-ghost use Rattle.smol_str.specs.Case.{lower, upper, lowercased, uppercased, IsAsciiText};
+ghost use Rattle.smol_str.specs.Case.{lower, upper, lowercased, uppercased};
 ghost use Rattle.smol_str.specs.InCase.{converted};
 ghost use Rattle.smol_str.specs.Replace.{replaced, replaced_all};
 
@@ -312,18 +312,18 @@ pub fn in_upper_case(alloc: Global, text: &str) -> Result<SmolStr, AllocError>
     text.to_ascii_uppercase_smolstr(alloc)
 }
 
-/// A text in lower case, as Unicode maps it; only short ASCII text is never refused.
+/// A text in lower case, as Unicode maps it.
 pub fn in_full_lower_case(alloc: Global, text: &str) -> Result<SmolStr, AllocError>
     ensures value { IfOk result (λ v. IsValueOf (lowercased (chars text.now)) v) }
-    ensures refused { OnErr result (¬ (IsAsciiText (chars text.now) × IsShort (chars text.now))) }
+    ensures refused { OnErr result (¬ (IsShort (lowercased (chars text.now)))) }
 {
     text.to_lowercase_smolstr(alloc)
 }
 
-/// A text in upper case, as Unicode maps it; only short ASCII text is never refused.
+/// A text in upper case, as Unicode maps it.
 pub fn in_full_upper_case(alloc: Global, text: &str) -> Result<SmolStr, AllocError>
     ensures value { IfOk result (λ v. IsValueOf (uppercased (chars text.now)) v) }
-    ensures refused { OnErr result (¬ (IsAsciiText (chars text.now) × IsShort (chars text.now))) }
+    ensures refused { OnErr result (¬ (IsShort (uppercased (chars text.now)))) }
 {
     text.to_uppercase_smolstr(alloc)
 }

@@ -4,11 +4,12 @@
 ghost use Rattle.std.specs.Prelude.{◌≡◌, [], codes, IsOk, IfOk, OnErr, encode_utf8_all};
 ghost use Rattle.std.specs.Str.{chars};
 ghost use Rattle.std.specs.String.{string_bytes};
-ghost use Rattle.smol_str.specs.Text.{IsResident};
+ghost use Rattle.smol_str.specs.Text.{IsShort, IsResident};
+ghost use Rattle.smol_str.specs.Case.{IsAsciiText};
 ghost use Rattle.smol_str.specs.Meaning.{IsValueOf};
 ghost use Rattle.smol_str.specs.declared.value.place.Place.TheVariants.{Heap};
 
-use smol_str::{SmolStr, laws};
+use smol_str::{SmolStr, StrExt, laws};
 use std::alloc::{AllocError, Global};
 
 /// A constant: the condition of `new_inline` is computed.
@@ -24,6 +25,15 @@ pub fn off_the_heap(alloc: Global, text: &str) -> Result<SmolStr, AllocError>
 {
     laws::places();
     SmolStr::new(alloc, text)
+}
+
+/// Full case of short ASCII text, which is never refused; by the laws it is as long as the text.
+pub fn ascii_in_full_case(alloc: Global, text: &str) -> Result<(SmolStr, SmolStr), AllocError>
+    ensures { OnErr result (¬ (IsAsciiText (chars text.now) × IsShort (chars text.now))) }
+{
+    laws::full_case();
+    laws::ascii_case();
+    Ok((text.to_lowercase_smolstr(alloc)?, text.to_uppercase_smolstr(alloc)?))
 }
 
 /// A clone of a value that is not on the heap.

@@ -1,5 +1,5 @@
 -- For the loops of `str_ext`: what is appended to a builder, and a text mapped character by character.
-use Rattle.smol_str.proofs.Common.{◌≡◌, ℕ, ◌+◌, ◌<◌, List, [], ◌∷◌, ◌++◌, length, map, get_or, take, drop, sym, ap, ◌∙◌, take-append-drop, take_more, map-id, IsShort, Draft, InBuffer, OnHeap, kind_with, empty_draft, appended}
+use Rattle.smol_str.proofs.Common.{◌≡◌, ℕ, ◌+◌, ◌<◌, List, [], ◌∷◌, ◌++◌, length, map, get_or, take, drop, sym, ap, ◌∙◌, take-append-drop, take_more, map-id, append_assoc, IsShort, Draft, InBuffer, OnHeap, kind_with, empty_draft, appended}
 use Rattle.smol_str.proofs.BuilderLemmas.Draft.{OnHeap-long, appended-twice}
 
 -- a builder that a front outgrows is outgrown by the whole
@@ -26,3 +26,14 @@ module _ (f : List ℕ → List ℕ) (parts : (a b : List ℕ) → f (a ++ b) �
       let begun : take (length ys + 1) t ≡ ys ++ c ∷ [] = cc (take_more t (length ys) c more, map-id ys) in
       let whole = appended-heap old (f ys ++ v) (f rest) (cc (appended-twice old (f ys) v)) in
       cc (whole, take-append-drop (length ys + 1) t, parts (take (length ys + 1) t) rest, parts ys (c ∷ []))
+
+-- a builder that was new, with the front of a text in it, before the text's next part
+pub new-part : (b : Draft) (v r t : List ℕ) → b ≡ appended (empty_draft InBuffer) b.text → b.text ++ (v ++ r) ≡ t
+    → ((appended b v).kind ≡ OnHeap → (appended (empty_draft InBuffer) t).kind ≡ OnHeap)
+    × ((e : Draft) → e ≡ appended b v → (e ≡ appended (empty_draft InBuffer) e.text) × (e.text ++ r ≡ t))
+new-part b v r t new whole =
+    let twice = appended-twice (empty_draft InBuffer) b.text v in
+    let parts = append_assoc b.text v r in (
+      λ heap. cc (appended-heap (empty_draft InBuffer) (b.text ++ v) r (cc (twice, new, heap)), parts, whole),
+      λ e put. (new-appended b e v new put, ap (λ d. d.text ++ r) put ∙ parts ∙ whole),
+    )

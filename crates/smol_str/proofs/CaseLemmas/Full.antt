@@ -1,15 +1,14 @@
 -- For `str_ext::case` and `str_ext::full`: the ASCII front of a text and the rest of it, in a case.
-use Rattle.smol_str.proofs.Common.{◌≡◌, ℕ, List, [], ◌++◌, length, take, drop, sym, ap, ◌∙◌, arith, append_assoc, length-append, IsUtf8, IsAscii, IsCharBoundary, chars, encode_utf8_all, take_at, IsUtf8-from_ascii, chars-IsAscii, encodes-IsAscii, IsAscii-from_all, AsciiCase, Lower, Upper, size, IsShort, padded, front, converted, Draft, InBuffer, OnHeap, empty_draft, appended, common_steps, rules, suc, ◌<◌, ◌∷◌, Bool, false, Option, None, flat_map, refl, append-nil, ne_eqb, to_ascii_lowercase, chars-encodes, INLINE_CAP, Occurs, lower, upper, lowercased, uppercased, IsAsciiText, HasSigma, letter, letters, full_case, mapped, IsMappedAlone, length-map, map-append, IsUtf8-string_bytes, nat_tests, lowercase_is, uppercase_is}
+use Rattle.smol_str.proofs.Common.{◌≡◌, ℕ, List, [], ◌++◌, length, take, drop, sym, ap, ◌∙◌, arith, append_assoc, length-append, IsUtf8, IsAscii, IsCharBoundary, chars, encode_utf8_all, take_at, IsUtf8-from_ascii, chars-IsAscii, encodes-IsAscii, IsAscii-from_all, AsciiCase, Lower, Upper, size, IsShort, padded, front, converted, Draft, InBuffer, OnHeap, empty_draft, appended, common_steps, rules, suc, ◌<◌, ◌∷◌, Bool, false, Option, None, flat_map, refl, append-nil, ne_eqb, to_ascii_lowercase, chars-encodes, INLINE_CAP, Occurs, lower, upper, lowercased, uppercased, IsAsciiText, HasSigma, letter, letters, full_case, mapped, IsMappedAlone, length-map, nat_tests, lowercase_is, uppercase_is}
 use Rattle.smol_str.proofs.CaseLemmas.Letters.{lowercase_moves, uppercase_moves}
 use Rattle.smol_str.proofs.CaseLemmas.Ascii.{front-parts, size-converted, front-append, IsAscii-converted, IsAscii-chars, ascii-converted}
-use Rattle.smol_str.proofs.BuilderLemmas.Push.{appended-heap, new-appended}
+use Rattle.smol_str.proofs.BuilderLemmas.Push.{appended-heap}
 use Rattle.smol_str.proofs.TextLemmas.Split.{boundary-parts, chars-drop}
 use Rattle.std.specs.Option.{is_some}
 use Rattle.std.specs.Char.Unicode.ToLowercase.{to_lowercase}
-use Rattle.std.specs.StrCase.Upper.{str_to_uppercase}
-use Rattle.std.specs.StrCase.Lower.{lowercase_chars, is_in_word_after, str_to_lowercase}
+use Rattle.std.specs.StrCase.Lower.{lowercase_chars, is_in_word_after}
 use Rattle.std.proofs.lemmas.Grind.{flat_map-append}
-use Rattle.smol_str.proofs.TextLemmas.Places.{OnErr-always, size-chars, chars-of}
+use Rattle.smol_str.proofs.TextLemmas.Places.{OnErr-always, size-chars}
 use Rattle.smol_str.proofs.BuilderLemmas.Draft.{OnHeap-long, appended-twice}
 use Rattle.smol_str.proofs.CutLemmas.Cut.{not_later}
 use Rattle.smol_str.proofs.CutLemmas.Match.{some_char}
@@ -41,24 +40,6 @@ module _ (bs : List ℕ) (index : ℕ) (u : IsUtf8 bs) (e : index ≡ length (fr
 
   pub front-rest : front (chars bs) ++ chars (drop index bs) ≡ chars bs
   front-rest = let h = front-parts (chars bs) in grind (arith, common_steps, h.1, chars-drop, size-front)
-
--- a builder that the front outgrows is outgrown by the text
-pub front-heap : (case : AsciiCase) (t : List ℕ) (b : Draft) → (appended b (converted case (front t))).kind ≡ OnHeap
-    → (appended b (converted case t)).kind ≡ OnHeap
-front-heap case t b heap = let p = front-parts t in search (rules, p.1, map-append, appended-heap)
-
--- a text that outgrows the buffer in a case is not short itself
-pub converted-heap : (case : AsciiCase) (t : List ℕ) → (appended (empty_draft InBuffer) (converted case t)).kind ≡ OnHeap
-    → ¬ (IsShort t)
-converted-heap case t heap short = search (rules, OnHeap-long, size-converted)
-
-pub lower_is : (bs : List ℕ) → str_to_lowercase bs ≡ encode_utf8_all (lowercased (chars bs))
-unfolding str_to_lowercase
-lower_is bs = refl
-
-pub upper_is : (bs : List ℕ) → str_to_uppercase bs ≡ encode_utf8_all (uppercased (chars bs))
-unfolding str_to_uppercase
-upper_is bs = refl
 
 -- std maps an ASCII character as its case of ASCII does
 letters_ascii : (case : AsciiCase) (c : ℕ) → c < 128 → letters case c ≡ letter case c ∷ []
@@ -116,16 +97,20 @@ full-ascii case t h =
     let k = front_first case t [] (IsAscii-from_all t h) in
     cc (k.1, k.2 (alone-nil case), append-nil t, append-nil (converted case t))
 
--- the rest of an ASCII text is empty
-pub rest-none : (t r : List ℕ) → front t ++ r ≡ t → IsAsciiText t → r ≡ []
-rest-none t r e h = grind (arith, common_steps, front-append t [] h tt, append-nil, length-append)
+-- an ASCII text that is not short is not short in a case
+pub ascii-refused : (case : AsciiCase) (bs : List ℕ) → IsUtf8 bs → IsAsciiText (chars bs) → INLINE_CAP < length bs
+    → ¬ (IsShort (full_case case (chars bs)))
+ascii-refused case bs u ascii long = search (rules, arith, full-ascii, size-converted, size-chars)
 
--- an ASCII text whose full case outgrows the buffer is not short
-pub full-long : (case : AsciiCase) (t : List ℕ) → ¬ (IsShort (full_case case t)) → ¬ (IsAsciiText t × IsShort t)
-full-long case t long h = search (rules, full-ascii, size-converted)
+-- a text that outgrows a new builder in a case is not short in it, nor is one whose front does
+module _ (case : AsciiCase) (t : List ℕ) (b : Draft) (begins : b ≡ empty_draft InBuffer) where
+  pub full-refused : (appended b (full_case case t)).kind ≡ OnHeap → ¬ (IsShort (full_case case t))
+  full-refused heap = OnHeap-long (full_case case t) (rw begins at heap)
 
-pub long-refused : (bs : List ℕ) → IsUtf8 bs → INLINE_CAP < length bs → ¬ (IsAsciiText (chars bs) × IsShort (chars bs))
-long-refused bs u l h = omega (arith, size-chars bs u)
+  pub front-refused : (appended b (converted case (front t))).kind ≡ OnHeap → ¬ (IsShort (full_case case t))
+  front-refused heap =
+      let k = full-front case t in
+      full-refused (cc (appended-heap b (converted case (front t)) k.0 heap, k.1))
 
 pub ruleset sizes_of_bytes = (OnErr-always, size-chars)
 
@@ -152,19 +137,19 @@ module _ (case : AsciiCase) (t r : List ℕ) (e : front t ++ r ≡ t) (alone : I
   pub short-text : (f : Draft) → f ≡ appended d (mapped case r) → f.text ≡ full_case case t
   short-text f put = ap (λ x. x.text) (put ∙ appended-full_case)
 
-  pub short-refused : (appended d (mapped case r)).kind ≡ OnHeap → ¬ (IsAsciiText t × IsShort t)
-  short-refused heap = search (rules, full-long, OnHeap-long, appended-full_case)
+  pub short-refused : (appended d (mapped case r)).kind ≡ OnHeap → ¬ (IsShort (full_case case t))
+  short-refused heap = search (rules, OnHeap-long, appended-full_case)
 
-pub ruleset whole_texts = (chars-of, IsUtf8-string_bytes, lower_is, upper_is)
+pub ruleset whole_texts = (OnErr-always, full-refused, full-alone)
 
 pub ruleset fronts = (IsUtf8-front, chars-front, front-boundary, front-rest, OnErr-always)
 
-pub ruleset ascii_texts = (IsAscii-chars, full-ascii, full-alone)
+pub ruleset ascii_texts = (IsAscii-chars, OnErr-always, full-ascii, ascii-refused)
 
 pub ruleset letters_appended = (common_steps, OnErr-always, appended-twice, appended-heap)
 
-pub ruleset short_texts = (OnErr-always, long-refused, ascii-converted, full-ascii)
+pub ruleset short_texts = (OnErr-always, ascii-converted, full-ascii)
 
-pub ruleset short_fronts = (OnErr-always, front-heap, converted-heap, rest-none, short-text, short-refused, full-long)
+pub ruleset short_fronts = (OnErr-always, front-refused, short-text, short-refused)
 
-pub ruleset contexts = (none-found, alone-nil, alone-lower, some_char, chars-empty, nat_tests)
+pub ruleset contexts = (none-found, alone-nil, alone-lower, chars-empty, some_char, nat_tests)

@@ -5,11 +5,12 @@ ghost use Rattle.std.specs.Str.{chars};
 ghost use Rattle.smol_str.specs.Text.{IsShort};
 ghost use Rattle.smol_str.specs.Meaning.{IsValueOf};
 ghost use Rattle.smol_str.specs.Draft.{InBuffer, OnHeap, empty_draft, appended};
-ghost use Rattle.smol_str.specs.Case.{IsAsciiText};
 ghost use Rattle.smol_str.specs.InCase.{full_case, mapped, IsMappedAlone};
+ghost use Rattle.smol_str.specs.declared.bytes.ascii.AsciiCase.TheVariants.{Lower};
 
 use super::case::{push_front, to_ascii_case_on_heap};
 use super::letters::letter_of;
+use super::sigma::push_lowercase;
 use crate::buffer::INLINE_CAP;
 use crate::builder::SmolStrBuilder;
 use crate::kernel::{AsciiCase, next_match};
@@ -25,7 +26,7 @@ pub(super) fn to_full_case(
     case: AsciiCase,
 ) -> Result<SmolStr, AllocError>
     ensures ok { IfOk result (λ v. IsValueOf (full_case case (chars text.now)) v) }
-    ensures refused { OnErr result (¬ (IsAsciiText (chars text.now) × IsShort (chars text.now))) }
+    ensures refused { OnErr result (¬ (IsShort (full_case case (chars text.now)))) }
 {
     if text.len() > INLINE_CAP {
         return long_full_case(alloc, text, case);
@@ -37,61 +38,75 @@ pub(super) fn to_full_case(
     short_full_case(alloc, text, case)
 }
 
-/// The same of any text. Slow path, kept out of line so that the fast path inlines.
+/// The same of a long text. Slow path, kept out of line so that the fast path inlines.
 #[inline(never)]
 #[tactic(auto, using(crate::proofs::CaseLemmas::Full::ascii_texts))]
 fn long_full_case(alloc: Global, text: &str, case: AsciiCase) -> Result<SmolStr, AllocError>
-    ensures { IfOk result (λ v. IsValueOf (full_case case (chars text.now)) v) }
+    requires { INLINE_CAP < length text.now }
+    ensures ok { IfOk result (λ v. IsValueOf (full_case case (chars text.now)) v) }
+    ensures refused { OnErr result (¬ (IsShort (full_case case (chars text.now)))) }
 {
     if text.is_ascii() {
         return to_ascii_case_on_heap(alloc, text, case);
     }
-    if has_context(text, case) {
-        return whole_full_case(alloc, text, case);
-    }
-    let mut builder = SmolStrBuilder::new(alloc);
-    push_mapped(&mut builder, text, case)?;
-    builder.into_value()
+    by_characters(alloc, text, case)
 }
 
-/// The same of a short text. A short result takes no memory, unless a character is mapped by what
-/// stands around it.
+/// The same of a short text.
 #[inline(never)]
 #[tactic(auto, using(crate::proofs::CaseLemmas::Full::short_fronts))]
 fn short_full_case(alloc: Global, text: &str, case: AsciiCase) -> Result<SmolStr, AllocError>
     requires { length text.now ≤ INLINE_CAP }
     ensures ok { IfOk result (λ v. IsValueOf (full_case case (chars text.now)) v) }
-    ensures refused { OnErr result (¬ (IsAsciiText (chars text.now) × IsShort (chars text.now))) }
+    ensures refused { OnErr result (¬ (IsShort (full_case case (chars text.now)))) }
 {
     let mut builder = SmolStrBuilder::new(alloc);
     let rest = push_front(&mut builder, text, case)?;
     if has_context(rest, case) {
-        return whole_full_case(alloc, text, case);
+        return by_characters(alloc, text, case);
     }
     push_mapped(&mut builder, rest, case)?;
     builder.into_value()
+}
+
+/// The same of any text, character by character.
+#[tactic(auto, using(crate::proofs::CaseLemmas::Full::whole_texts))]
+fn by_characters(alloc: Global, text: &str, case: AsciiCase) -> Result<SmolStr, AllocError>
+    ensures ok { IfOk result (λ v. IsValueOf (full_case case (chars text.now)) v) }
+    ensures refused { OnErr result (¬ (IsShort (full_case case (chars text.now)))) }
+{
+    let mut builder = SmolStrBuilder::new(alloc);
+    push_full_case(&mut builder, text, case)?;
+    builder.into_value()
+}
+
+/// Appends a text in a case to a new builder.
+#[tactic(auto, using(crate::proofs::CaseLemmas::Full::whole_texts))]
+fn push_full_case(
+    builder: &mut SmolStrBuilder,
+    text: &str,
+    case: AsciiCase,
+) -> Result<(), AllocError>
+    requires { builder.old ≡ empty_draft InBuffer }
+    ensures ok { OnOk result (builder.new ≡ appended builder.old (full_case case (chars text.now))) }
+    ensures refused { OnErr result
+        ((appended builder.old (full_case case (chars text.now))).kind ≡ OnHeap) }
+{
+    if has_context(text, case) {
+        return push_lowercase(builder, text);
+    }
+    push_mapped(builder, text, case)
 }
 
 /// Whether a character is mapped by what stands around it.
 #[tactic(auto, using(crate::proofs::CaseLemmas::Full::contexts))]
 fn has_context(text: &str, case: AsciiCase) -> bool
     ensures alone { result ≡ false → IsMappedAlone case (chars text.now) }
-    ensures some { IsTrue result → 0 < length (chars text.now) }
+    ensures lower { IsTrue result → case ≡ Lower }
 {
     match case {
         AsciiCase::Lower => !text.is_empty() && next_match(text, 0, "Σ").is_some(),
         AsciiCase::Upper => false,
-    }
-}
-
-/// The text in a case by std's mapping of a whole text, which takes memory.
-#[tactic(auto, using(crate::proofs::CaseLemmas::Full::whole_texts))]
-fn whole_full_case(alloc: Global, text: &str, case: AsciiCase) -> Result<SmolStr, AllocError>
-    ensures { IfOk result (λ v. IsValueOf (full_case case (chars text.now)) v) }
-{
-    match case {
-        AsciiCase::Lower => SmolStr::new(alloc, text.to_lowercase(alloc)?.as_str()),
-        AsciiCase::Upper => SmolStr::new(alloc, text.to_uppercase(alloc)?.as_str()),
     }
 }
 
@@ -111,7 +126,7 @@ fn push_mapped(builder: &mut SmolStrBuilder, text: &str, case: AsciiCase) -> Res
 /// Appends what one character is mapped to: at most three letters.
 #[inline(always)]
 #[tactic(auto, using(crate::proofs::CaseLemmas::Full::letters_appended))]
-fn push_one(
+pub(super) fn push_one(
     builder: &mut SmolStrBuilder,
     character: char,
     case: AsciiCase,

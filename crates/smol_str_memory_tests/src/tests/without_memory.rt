@@ -49,7 +49,7 @@ fn maker_rows(test: &Test, alloc: Global) {
         "SmolStr::default": SmolStr::default().is_empty();
         "SmolStrBuilder::new": SmolStrBuilder::new(alloc).is_empty();
         "ValueAlloc::builder": alloc.builder().is_empty();
-        "StrExt::to_lowercase_smolstr": "aßΔC".to_lowercase_smolstr(alloc).is_ok();
+        "StrExt::to_lowercase_smolstr": "aßΣC".to_lowercase_smolstr(alloc).is_ok();
         "StrExt::to_uppercase_smolstr": "aßΣC".to_uppercase_smolstr(alloc).is_ok();
     }
 }

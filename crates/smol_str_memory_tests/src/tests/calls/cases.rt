@@ -112,23 +112,18 @@ fn each_request(rt: HostRuntime) -> Result<(), Fail> {
     check_calls(rt, &CALLS)
 }
 
-// A text with a capital sigma is mapped in memory of its own, also a short one.
+// A capital sigma is mapped by what stands around it, in the builder that other text is mapped in.
 #[test]
 fn sigma(rt: HostRuntime) -> Result<(), Fail> {
     let test = Test::begin(rt);
-    check_sigma(&test, "ΑΣ");
-    check_sigma(&test, leaked(test.repeated("ΑΣ", 2000)));
-    test.end()
-}
-
-fn check_sigma(test: &Test, text: &'static str) {
-    let (call, shape) = (Call::Lower, shape_of("a capital sigma", text));
+    let shape = shape_of("a capital sigma", leaked(test.repeated("ΑΣ", 2000)));
     let on = On {
-        call,
+        call: Call::Lower,
         name: LOWER,
         shape,
     };
-    made_requests(test, each_refused(test, LOWER, &on), &text.len())
+    made_requests(&test, each_refused(&test, LOWER, &on), &shape.text.len());
+    test.end()
 }
 
 impl super::Call for Call {

@@ -1,13 +1,11 @@
-use Rattle.smol_str.proofs.Common.{inl, chars, on_err_weaker}
+use Rattle.smol_str.proofs.Common.{inl, on_err_weaker}
 use Rattle.smol_str.proofs.TextLemmas.Places.{OnErr-always}
-use Rattle.smol_str.proofs.CaseLemmas.Full.{front-heap, converted-heap, short-text, full-long}
+use Rattle.smol_str.proofs.CaseLemmas.Full.{front-refused, short-text}
 use Rattle.smol_str.proofs.str_ext.full.short_full_case.Goals as goal
 
 pub returns-in_err-rest-clause-refused : goal.returns-in_err-rest-clause-refused
 returns-in_err-rest-clause-refused c =
-    let t = chars c.args.text.now in
-    let heap = front-heap c.args.case t c.new-builder.result c.in_err-rest.ensures.refused in
-    OnErr-always c.from_residual.result _ (λ h. converted-heap c.args.case t (rw c.new-builder.ensures at heap) h.1)
+    OnErr-always c.from_residual.result _ (front-refused c.args.case _ _ c.new-builder.ensures c.in_err-rest.ensures.refused)
 
 pub returns : goal.returns
 returns c =
@@ -16,8 +14,5 @@ returns c =
     c.in_ok-rest.ensures.ok _ c.in_ok-push_mapped.ensures.ok in
     record {
       ok = rw text at c.into_value.ensures.ok;
-      refused =
-          on_err_weaker c.into_value.result
-          (λ away. full-long c.args.case (chars c.args.text.now) (λ short. away (inl short)))
-          (rw text at c.into_value.ensures.refused);
+      refused = on_err_weaker c.into_value.result (λ away short. away (inl short)) (rw text at c.into_value.ensures.refused);
     }
