@@ -13,7 +13,8 @@ use Rattle.std.proofs.lemmas.Fmt.{IsAscii-decimal}
 use Rattle.smol_str.specs.declared.value.place.Place.{Place}
 use Rattle.smol_str.specs.Text.{size}
 use Rattle.smol_str.specs.Meaning.{Meaning, IsValueOf}
-use Rattle.smol_tokens_core.specs.Report.{place_word, report_line, value_line, count_line}
+use Rattle.smol_tokens_core.specs.Counts.{count_line}
+use Rattle.smol_tokens_core.specs.Report.{place_word, report_line, value_line}
 
 encodes-place_word : (place : Place) → encode_utf8_all (place_word place) ≡ place_word place
 unfolding lib.Utf8.encode

@@ -1,6 +1,7 @@
 pub mod Lines
 pub mod Tally
 pub mod TallyFaults
+pub mod Counts
 pub mod Report
 pub mod ReportFaults
 pub mod ModeWords

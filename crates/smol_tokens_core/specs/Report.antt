@@ -1,7 +1,6 @@
 -- What the program writes of a text, as characters.
 --     place_word p       the word for a place
 --     value_line t       the report line of a text
---     count_line e       the count line of a token and how often it stands
 --     show_report t, join_report t, lower_report t, upper_report t, replace_report from to t, tokens_report t
 --                        what is written of t in the mode of that name
 --     report mode t      what the program writes in a mode
@@ -18,6 +17,7 @@ use Rattle.smol_str.specs.Case.{lower, upper}
 use Rattle.smol_str.specs.Replace.{replaced_all}
 use Rattle.smol_tokens_core.specs.Lines.{lines}
 use Rattle.smol_tokens_core.specs.Tally.{tally, seen_once}
+use Rattle.smol_tokens_core.specs.Counts.{count_line}
 use Rattle.smol_tokens_core.specs.declared.mode.Mode.{Mode}
 use Rattle.smol_tokens_core.specs.declared.mode.Mode.TheVariants.{Show, Join, Lower, Upper, Replace, Tokens}
 use Rattle.smol_tokens_core.specs.declared.report.LineMap.{LineMap}
@@ -56,10 +56,6 @@ upper_report t = flat_map (λ line. value_line (upper line)) (lines t)
 -- the report line of each line, with `to` in place of each match of `from`
 abbrev pub replace_report : List ℕ → List ℕ → List ℕ → List ℕ
 replace_report from to t = flat_map (λ line. value_line (replaced_all line from to)) (lines t)
-
--- a count in decimal, a space, the token, and a newline
-abbrev pub count_line : List ℕ × ℕ → List ℕ
-count_line e = decimal e.1 ++ (codes " " ++ (e.0 ++ codes "\n"))
 
 -- the count line of each different line, in order of first sight
 abbrev pub tokens_report : List ℕ → List ℕ

@@ -1,12 +1,14 @@
 //! What the definitions in `specs/` mean: laws over every text and every list of pairs, each the
 //! contract of a function that does nothing.
 ghost use Rattle.std.specs.Prelude.{◌≡◌, ◌≢◌, ◌⊎◌, ◌↔◌, ◌+◌, ◌<◌, ◌^◌, ℕ, List, [], ◌∷◌, ◌++◌, All, AllPairs, unwrap_or, count_by};
-ghost use Rattle.std.specs.List.{onto_first, slice_split};
+ghost use Rattle.std.specs.List.{flat_map, onto_first, slice_split};
 ghost use Rattle.std.specs.Map.{lookup};
 ghost use Rattle.indexmap.specs.IndexMap.{insert_entry};
 ghost use Rattle.smol_str.specs.Cut.{IsCut, joined_by};
 ghost use Rattle.smol_str.specs.Replace.{no_limit};
+ghost use Rattle.smol_tokens_core.specs.Counts.{count_line, IsCounts, IsMerge, IsWhole, HasATokenTooOften};
 ghost use Rattle.smol_tokens_core.specs.Lines.{is_newline, newline, lines, without_empty_last, HasNoNewline, ended};
+ghost use Rattle.smol_tokens_core.specs.Report.{tokens_report};
 ghost use Rattle.smol_tokens_core.specs.ReportFaults.{HasALineTooOften};
 ghost use Rattle.smol_tokens_core.specs.Tally.{is_same, tokens, times_of, tally, seen_once};
 
@@ -71,4 +73,35 @@ pub fn tally_by_steps()
 pub fn lines_too_often()
     ensures { (t : List ℕ) →
         All (λ entry. entry.1 < 2 ^ 64) (tally (seen_once (lines t))) ↔ ¬ HasALineTooOften t }
+{}
+
+/// A text is the count lines of one list of pairs at most, and has one merge at most.
+pub fn counts_read_back()
+    ensures once { (t : List ℕ) (pairs others : List (List ℕ × ℕ)) →
+        IsCounts t pairs → IsCounts t others → pairs ≡ others }
+    ensures merge { (t out other : List ℕ) → IsMerge t out → IsMerge t other → out ≡ other }
+{}
+
+/// A text that is cut at line ends can be counted in parts: the merge of their reports is the report on the whole text.
+///
+/// Cut inside a line it cannot: the two halves count as two lines.
+pub fn counted_by_parts()
+    ensures lines { (a b : List ℕ) → IsWhole a → lines (a ++ b) ≡ lines a ++ lines b }
+    ensures tally { (a b : List ℕ) → IsWhole a →
+        tally (seen_once (lines (a ++ b))) ≡ tally (tally (seen_once (lines a)) ++ tally (seen_once (lines b))) }
+    ensures read { (t : List ℕ) → ¬ HasALineTooOften t → IsCounts (tokens_report t) (tally (seen_once (lines t))) }
+    ensures report { (a b : List ℕ) → IsWhole a → ¬ HasALineTooOften (a ++ b) →
+        IsMerge (tokens_report a ++ tokens_report b) (tokens_report (a ++ b)) }
+    ensures full { (a b : List ℕ) → IsWhole a →
+        HasATokenTooOften (tally (seen_once (lines a)) ++ tally (seen_once (lines b))) ↔ HasALineTooOften (a ++ b) }
+{}
+
+/// Merges can be merged: the merge of two merges is that of all their count lines.
+pub fn merged_again()
+    ensures behind { (a b : List ℕ) (pairs more : List (List ℕ × ℕ)) →
+        IsCounts a pairs → IsCounts b more → IsCounts (a ++ b) (pairs ++ more) }
+    ensures tally { (pairs more : List (List ℕ × ℕ)) → tally (tally pairs ++ tally more) ≡ tally (pairs ++ more) }
+    ensures read { (t : List ℕ) (pairs : List (List ℕ × ℕ)) → IsCounts t pairs → ¬ HasATokenTooOften pairs →
+        IsMerge t (flat_map count_line (tally pairs)) }
+    ensures again { (a b x y out : List ℕ) → IsMerge a x → IsMerge b y → IsMerge (x ++ y) out ↔ IsMerge (a ++ b) out }
 {}

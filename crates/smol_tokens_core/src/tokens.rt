@@ -3,10 +3,11 @@ ghost use Rattle.std.specs.Prelude.{◌≡◌, ◌<◌, ◌++◌, length, IfOk, 
 ghost use Rattle.std.specs.List.{flat_map};
 ghost use Rattle.std.specs.Str.{chars};
 ghost use Rattle.std.specs.String.{string_bytes};
+ghost use Rattle.smol_tokens_core.specs.Counts.{count_line};
 ghost use Rattle.smol_tokens_core.specs.declared.mode.Mode.TheVariants.{Tokens};
 ghost use Rattle.smol_tokens_core.specs.Lines.{lines};
 ghost use Rattle.smol_tokens_core.specs.Tally.{tally, seen_once};
-ghost use Rattle.smol_tokens_core.specs.Report.{count_line, tokens_report};
+ghost use Rattle.smol_tokens_core.specs.Report.{tokens_report};
 ghost use Rattle.smol_tokens_core.specs.ReportFaults.{HasNoReport};
 
 use crate::fault::RunFault;

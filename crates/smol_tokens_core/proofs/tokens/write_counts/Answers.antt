@@ -1,6 +1,6 @@
 use Rattle.std.proofs.Common.{arith, sym, []}
 use Rattle.std.proofs.lemmas.Option.{slice_get-get_or}
-use Rattle.smol_tokens_core.specs.Report.{count_line}
+use Rattle.smol_tokens_core.specs.Counts.{count_line}
 use Rattle.smol_tokens_core.proofs.ReportLemmas.{report-next}
 use Rattle.smol_tokens_core.proofs.tokens.write_counts.Goals as goal
 use Rattle.smol_tokens_core.proofs.tokens.write_counts.Goals.{in-Some+in_ok-push_count, in_default}

@@ -2,7 +2,7 @@
 use Rattle.std.proofs.Common.{◌≡◌, take, encode_utf8_all}
 use Rattle.std.specs.List.{flat_map}
 use Rattle.std.specs.String.{string_bytes}
-use Rattle.smol_tokens_core.specs.Report.{count_line}
+use Rattle.smol_tokens_core.specs.Counts.{count_line}
 use Rattle.smol_tokens_core.proofs.tokens.write_counts.Given as goal
 
 abbrev pub invariant-loop-index : goal.invariant-loop-index
