@@ -98,7 +98,7 @@ impl InlineText {
 
     /// The text with its ASCII letters in a case.
     ///
-    /// It is mapped where it lies: in a copy, the last word would be written in parts.
+    /// In place: a copy would be written in parts.
     #[inline(always)]
     pub(crate) fn in_case(mut self, case: AsciiCase) -> InlineText
         ensures text { result ≡ converted case self }
@@ -160,8 +160,7 @@ impl InlineText {
         same_words(&self.packed, &other.packed)
     }
 
-    /// The order of the texts, by their whole buffers and lengths: where one text begins with the
-    /// other, the bytes behind it are no less than zeros.
+    /// The order of the texts. A prefix is followed by zeros, so it sorts first or ties; then the length decides.
     #[inline(always)]
     pub(crate) fn order(&self, other: &InlineText) -> Ordering
         ensures { result ≡ slice_cmp nat_cmp self.now other.now }

@@ -190,8 +190,7 @@ impl SmolStrBuilder {
         false
     }
 
-    /// Appends an ASCII character with which the builder is on the heap: apart, so that its byte lies in memory here
-    /// alone, and not at each call of [`SmolStrBuilder::push`].
+    /// Slow path of [`SmolStrBuilder::push`]; only here is the byte spilled to memory.
     #[inline(never)]
     fn push_ascii_on_heap(&mut self, byte: u8) -> Result<(), AllocError>
         requires ascii { byte < 128 }
@@ -203,8 +202,7 @@ impl SmolStrBuilder {
         self.push_on_heap(ascii_text(&[byte]))
     }
 
-    /// Appends a text with which the builder is on the heap: apart, so that the short way is small
-    /// enough to stand at each call.
+    /// Slow path of the appends, kept out of line so that the fast path inlines.
     #[inline(never)]
     fn push_on_heap(&mut self, text: &str) -> Result<(), AllocError>
         requires { (appended self.old (chars text.now)).kind ≡ OnHeap }
@@ -291,7 +289,7 @@ impl SmolStrBuilder {
         let SmolStrBuilder { alloc: _, repr } = self;
         match repr {
             BuilderRepr::Inline(text) => Ok(SmolStr::from_inline(text.duplicate())),
-            // Returned as it comes, the value would lie in memory in the other arm, too.
+            // `Ok(x?)`: returning x as it comes would build the value in memory in both arms.
             BuilderRepr::Heap(text) => Ok(SmolStr::from_owned(text)?),
         }
     }

@@ -5,7 +5,7 @@ ghost use Rattle.std.specs.Prelude.{◌≡◌, ◌≤◌, length, drop};
 pub(crate) mod ascii;
 pub(crate) mod search;
 
-/// The bytes of a text from an index on, as the end of a list of bytes.
+/// `text[from..]` as bytes, stated with `drop`.
 #[inline(always)]
 pub(crate) fn bytes_from(text: &str, from: usize) -> &[u8]
     requires { from ≤ length text.now }

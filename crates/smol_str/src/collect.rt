@@ -85,11 +85,10 @@ impl<'a> Piece for &'a String {
     }
 }
 
-/// An allocator that collects values: `Global`.
+/// An allocator that collects values: `Global`. You never name it.
 ///
-/// The collecting calls return its `Value`, which is [`SmolStr`]. One that named [`SmolStr`] could not
-/// be called, for the borrow checker, with an iterator whose type names several lifetimes;
-/// `iter.collect(alloc)` can, in a function that is not generic.
+/// The collecting calls return its `Value`, which is [`SmolStr`]. It puts the result type behind a
+/// trait: the borrow checker refuses `SmolStr` here if the iterator's type has several lifetimes.
 pub trait ValueAlloc {
     type Value;
 

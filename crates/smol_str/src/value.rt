@@ -319,8 +319,8 @@ impl Clone for SmolStr {
     }
 }
 
-/// A copy of a text on the heap: apart, and with a result of few words. Room for a whole value that comes back
-/// would be cleared on the short way too.
+/// Slow path of `new`, out of line. Returns the pointer: a returned `SmolStr` would make `new` clear 48 bytes on the fast
+/// path.
 #[inline(never)]
 fn shared(alloc: Global, text: &str) -> Result<SharedText, AllocError>
     ensures { IfOk result (λ heap. shared_bytes heap ≡ text.now) }

@@ -54,8 +54,8 @@ pub(super) fn pack(bytes: &[u8]) -> Packed
     buf
 }
 
-/// A copy by three registers, where the limit is 39. Of the whole block, or in a loop, the compiler leaves the copy in memory,
-/// and loads it again at each move; and `copy_from_slice` compares where the two slices lie.
+/// Copies 40 bytes as 8+16+16, one load and one store each. `*packed` would stay in memory and be loaded again;
+/// `copy_from_slice` adds a test for overlap.
 #[inline(always)]
 pub(super) fn copy_packed(packed: &Packed) -> Packed
     ensures { result ≡ packed.now }
@@ -77,7 +77,7 @@ pub(super) fn pack_char(character: char) -> Packed
 {
     let mut buf = [0; PACKED_LEN];
     put_word(&mut buf, 0, char_word(character));
-    // The length's word is written whole, too: else the zeros before it are moved byte by byte.
+    // The last word is written whole, or LLVM moves its zeros byte by byte.
     put_word(&mut buf, PACKED_LEN - 8, 0);
     buf[INLINE_CAP] = character.len_utf8() as u8;
     buf
@@ -173,7 +173,7 @@ fn char_word(character: char) -> u64
     0xf0 + code / 0x4_0000 + second + middle * 0x100 + last * 0x1_0000
 }
 
-/// Whether the words are equal: no word decides alone, so that nothing branches.
+/// Whether the words are equal. `&=` without an early exit: no branch.
 #[inline(always)]
 pub(super) fn same_words(left: &Packed, right: &Packed) -> bool
     ensures { result ≡ pointwise nat_eq left.now right.now }
@@ -233,8 +233,8 @@ fn same_two(left: &[u8], right: &[u8], first: usize, second: usize) -> bool
         & (read_u64(left, second) == read_u64(right, second))
 }
 
-/// The order of the bytes: of the first words that differ. The last words are not tested for that, since an arm that
-/// returns a constant makes a sort branch on each comparison, and half of these branches are mispredicted.
+/// The order of the bytes: the first words that differ decide. The last ones are compared without a test, since an arm
+/// that returns a constant makes `sort` branch.
 #[inline(always)]
 pub(super) fn order_words(left: &Packed, right: &Packed) -> Ordering
     ensures { result ≡ slice_cmp nat_cmp left.now right.now }
@@ -295,8 +295,8 @@ fn put_ends<const K: usize>(buf: &mut Packed, start: usize, bytes: &[u8])
     buf[start + rest..start + bytes.len()].copy_from_slice(&last);
 }
 
-/// Writes the characters of an iterator to `buf[start..]` while they are ASCII and there is room: the end of what is
-/// written, and the first other character. The length is left as it is, since it is kept in a register here.
+/// Writes the characters of an iterator to `buf[start..]` while they are ASCII and there is room. Returns the new end and
+/// the first character that was not written; the caller stores the length.
 #[inline(always)]
 pub(super) fn write_ascii<I: Iterator<Item = char>>(
     buf: &mut Packed,

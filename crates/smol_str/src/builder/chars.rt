@@ -48,7 +48,7 @@ impl SmolStrBuilder {
         }
     }
 
-    /// Appends a character, and then those of an iterator: apart, since most texts are short and ASCII.
+    /// Slow path, kept out of line so that the fast path inlines: appends a character, and then those of an iterator.
     #[inline(never)]
     fn extend_rest<I: Iterator<Item = char>>(
         &mut self,

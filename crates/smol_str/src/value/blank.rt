@@ -20,7 +20,7 @@ pub(crate) fn blank_slice(text: &str) -> Option<&'static str>
     ensures run { MatchOption result (¬ (IsBlankRun text.now)) (λ _. IsBlankRun text.now) }
     ensures reads { IfSome result (λ run. run.now ≡ text.now) }
 {
-    // The first byte tells of most texts that they are no run.
+    // Most texts fail at the first byte.
     if let Some(byte) = text.as_bytes().first() {
         if *byte != b'\n' && *byte != b' ' {
             return None;
@@ -29,7 +29,7 @@ pub(crate) fn blank_slice(text: &str) -> Option<&'static str>
     find_blank(text)
 }
 
-/// The same by all of the text.
+/// The whole test.
 #[inline(never)]
 fn find_blank(text: &str) -> Option<&'static str>
     ensures run { MatchOption result (¬ (IsBlankRun text.now)) (λ _. IsBlankRun text.now) }

@@ -223,7 +223,7 @@ impl Default for SmolStr {
     }
 }
 
-/// The same as std's `str::from_utf8`: short ASCII is found here, at each call.
+/// `str::from_utf8` with an inlined fast path for short ASCII.
 #[inline(always)]
 fn utf8_text(bytes: &[u8]) -> Result<&str, Utf8Error>
     ensures ok { IfOk result (λ text. IsUtf8 bytes.now × (text.now ≡ bytes.now)) }
