@@ -1,6 +1,7 @@
 //! The builder of a text.
 ghost use Rattle.std.specs.Prelude.{◌≡◌, ◌↔◌, ◌<◌, [], ◌∷◌, IsSome, IfSome, IfOk, IfErr, OnOk, OnErr, IsTrue, false, encode_utf8_all};
 ghost use Rattle.std.specs.Str.{IsAscii, chars, all_scalars};
+ghost use Rattle.std.specs.String.{string_bytes};
 ghost use Rattle.smol_str.specs.Text.{size, IsShort, IsResident};
 ghost use Rattle.smol_str.specs.Buffer.{padded};
 ghost use Rattle.smol_str.specs.Meaning.{IsValueOf};
@@ -168,10 +169,20 @@ impl SmolStrBuilder {
         ensures unchanged { OnErr result (self.new ≡ self.old) }
         ensures refused { OnErr result ((appended self.old (chars text.now)).kind ≡ OnHeap) }
     {
+        self.push_with_spare(text, INLINE_CAP)
+    }
+
+    /// The same; a builder that moves to the heap asks for room for `spare` bytes more.
+    #[inline(always)]
+    pub(crate) fn push_with_spare(&mut self, text: &str, spare: usize) -> Result<(), AllocError>
+        ensures ok { OnOk result (self.new ≡ appended self.old (chars text.now)) }
+        ensures unchanged { OnErr result (self.new ≡ self.old) }
+        ensures refused { OnErr result ((appended self.old (chars text.now)).kind ≡ OnHeap) }
+    {
         if self.push_short(text) {
             return Ok(());
         }
-        self.push_on_heap(text)
+        self.push_on_heap(text, spare)
     }
 
     /// Appends a text with which the builder stays in its buffer; `false` where it would not.
@@ -199,12 +210,13 @@ impl SmolStrBuilder {
         ensures unchanged { OnErr result (self.new ≡ self.old) }
         ensures refused { OnErr result ((appended self.old (byte ∷ [])).kind ≡ OnHeap) }
     {
-        self.push_on_heap(ascii_text(&[byte]))
+        self.push_on_heap(ascii_text(&[byte]), INLINE_CAP)
     }
 
-    /// Slow path of the appends, kept out of line so that the fast path inlines.
+    /// Slow path of the appends, kept out of line so that the fast path inlines. A builder that moves to the heap asks for
+    /// room for `spare` bytes more.
     #[inline(never)]
-    fn push_on_heap(&mut self, text: &str) -> Result<(), AllocError>
+    fn push_on_heap(&mut self, text: &str, spare: usize) -> Result<(), AllocError>
         requires { (appended self.old (chars text.now)).kind ≡ OnHeap }
         ensures ok { OnOk result (self.new ≡ appended self.old (chars text.now)) }
         ensures unchanged { OnErr result (self.new ≡ self.old) }
@@ -214,8 +226,7 @@ impl SmolStrBuilder {
             BuilderRepr::Heap(heap) => heap.push_str(text),
             BuilderRepr::Inline(short) => {
                 // Memory first: a refusal leaves the buffer as it is.
-                let room = short.len() + text.len() + INLINE_CAP;
-                let mut heap = String::with_capacity(self.alloc, room)?;
+                let mut heap = with_spare(self.alloc, short.len() + text.len(), spare)?;
                 heap.push_str(short.as_str())?;
                 heap.push_str(text)?;
                 self.repr = BuilderRepr::Heap(heap);
@@ -325,6 +336,14 @@ impl From<SmolStrBuilder> for AllocError {
     fn from(_builder: SmolStrBuilder) -> AllocError {
         AllocError
     }
+}
+
+/// An empty `String` with room for `len` bytes and `spare` more.
+#[inline(always)]
+fn with_spare(alloc: Global, len: usize, spare: usize) -> Result<String, AllocError>
+    ensures { IfOk result (λ heap. string_bytes heap ≡ []) }
+{
+    String::with_capacity(alloc, len.saturating_add(spare))
 }
 
 /// One ASCII byte as a text.

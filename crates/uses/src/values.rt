@@ -33,7 +33,10 @@ pub fn ascii_in_full_case(alloc: Global, text: &str) -> Result<(SmolStr, SmolStr
 {
     laws::full_case();
     laws::ascii_case();
-    Ok((text.to_lowercase_smolstr(alloc)?, text.to_uppercase_smolstr(alloc)?))
+    Ok((
+        text.to_lowercase_smolstr(alloc)?,
+        text.to_uppercase_smolstr(alloc)?,
+    ))
 }
 
 /// A clone of a value that is not on the heap.

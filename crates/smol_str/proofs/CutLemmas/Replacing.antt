@@ -1,6 +1,8 @@
 -- For `str_ext::replace`: replacing match by match.
-use Rattle.smol_str.proofs.Common.{◌≡◌, ℕ, ◌+◌, ◌-◌, ◌<◌, ◌≤◌, List, [], ◌∷◌, ◌++◌, length, take, drop, None, Some, refl, sym, ap, ◌∙◌, subst, arith, append_assoc, append-nil, length-append, Option, MatchOption, Result, IfOk, IsUtf8, IsCharBoundary, chars, encode_utf8_all, len_utf8, slice_get, encode, length-encode, length-le-encodes, chars-nil, size, IsShort, Occurs, IsNextMatch, IsOnlyCut, joined_by, cut, Meaning, IsValueOf, replaced, replaced_all, IsReplacing, Draft, InBuffer, OnHeap, empty_draft, appended, nil_from_length, IfOk-weaker, nat_tests, common_steps, rules}
+use Rattle.smol_str.proofs.Common.{◌≡◌, ℕ, ◌+◌, ◌-◌, ◌<◌, ◌≤◌, List, [], ◌∷◌, ◌++◌, length, take, drop, None, Some, refl, sym, ap, ◌∙◌, subst, arith, append_assoc, append-nil, length-append, Option, MatchOption, Bool, true, not, Result, IfOk, IsUtf8, IsCharBoundary, chars, encode_utf8_all, len_utf8, slice_get, encode, length-encode, length-le-encodes, chars-nil, size, IsShort, Occurs, IsNextMatch, IsOnlyCut, joined_by, cut, Meaning, IsValueOf, replaced, replaced_all, IsReplacing, Draft, InBuffer, OnHeap, empty_draft, appended, nil_from_length, IfOk-weaker, nat_tests, common_steps, rules}
 use Rattle.smol_str.proofs.TextLemmas.Places.{size-append, size-chars, IsShort-front, OnErr-always}
+use Rattle.std.specs.Option.{is_some}
+use Rattle.std.proofs.lemmas.Bool.{true≢false}
 use Rattle.memchr.specs.Find.{FindsNeedle}
 use Rattle.smol_str.proofs.BuilderLemmas.Draft.{appended-twice}
 use Rattle.smol_str.proofs.BuilderLemmas.Push.{new-heap, appended-heap}
@@ -31,9 +33,11 @@ module _ (bs p w : List ℕ) (n m : ℕ) (b : Draft) (i : ℕ) (h : IsReplacing 
       let one = length-append (encode c) (encode_utf8_all r) in
       omega (arith, ap size h.parts, size-append h.done h.rest, size-chars bs u, ap size reads, one, length-encode c)
 
--- nothing is replaced in a text without a match
-pub replacing-nothing : (t p w : List ℕ) (n : ℕ) (b : Draft) → b ≡ empty_draft InBuffer → ¬ Occurs p t → IsReplacing t p w n 0 b 0
-replacing-nothing t p w n b empty none = search (rules, arith, replaced-none, replaced-unmatched)
+-- a text in which the search finds none stays as it is
+pub replaced-absent : (bs nd w : List ℕ) (n : ℕ) → IsUtf8 bs → IsUtf8 nd → (r : Option ℕ) (b : Bool) → is_some r ≡ not b → b ≡ true
+    → (r ≡ None → FindsNeedle bs nd 0 None) → replaced (chars bs) (chars nd) w n ≡ chars bs
+replaced-absent bs nd w n u v None b e f none = replaced-unmatched (chars bs) (chars nd) w n (not_found bs nd u v (none refl))
+replaced-absent bs nd w n u v (Some k) b e f none = absurd (true≢false (e ∙ ap not f))
 
 -- the next match, found in the bytes of the rest
 pub replacing-found : (bs nd w : List ℕ) (n m : ℕ) (b : Draft) (i k : ℕ) (rest needle : List ℕ)
@@ -171,6 +175,6 @@ only_cut r t p w n is =
 
 pub ruleset replacements = (replaced-unlimited, only_cut)
 
-pub ruleset first_steps = (chars-empty, replacing-nothing, not_found, nat_tests)
+pub ruleset first_steps = (chars-empty, nat_tests)
 
-pub ruleset last_steps = (OnErr-always, replacing-boundary, rest-whole, rest-refused)
+pub ruleset last_steps = (OnErr-always, replacing-boundary, rest-whole, rest-refused, replaced-absent)

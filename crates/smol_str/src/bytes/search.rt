@@ -1,9 +1,11 @@
 //! Searches for bytes. The needle's first byte is looked for first, since preparing a search for the
 //! whole needle has a cost of its own.
-ghost use Rattle.std.specs.Prelude.{◌≡◌, ◌<◌, ◌≤◌, ◌+◌, None, length};
-ghost use Rattle.memchr.specs.Find.{FindsNeedle, IsFirst, IsFirstByte, Passes, is_byte};
+ghost use Rattle.std.specs.Prelude.{◌≡◌, ◌↔◌, ◌<◌, ◌≤◌, ◌+◌, ℕ, None, length, MatchOption};
+ghost use Rattle.std.specs.Int.{bit_at};
+ghost use Rattle.memchr.specs.Find.{FindsNeedle, OccursAt, IsFirst, IsFirstByte, Passes, is_byte};
 
 use crate::bytes::ascii::load;
+use memchr::memmem::Finder;
 use memchr::{memchr, memmem};
 use std::simd::prelude::*;
 
@@ -22,8 +24,16 @@ pub(crate) fn find(bytes: &[u8], needle: &[u8]) -> Option<usize>
     if needle.len() == 1 {
         Some(first)
     } else {
-        memmem::find(bytes, needle)
+        find_whole(bytes, needle)
     }
+}
+
+/// The same by all of the needle. Slow path, kept out of line so that the fast path inlines.
+#[inline(never)]
+fn find_whole(bytes: &[u8], needle: &[u8]) -> Option<usize>
+    ensures { FindsNeedle bytes.now needle.now 0 result }
+{
+    memmem::find(bytes, needle)
 }
 
 /// The index of the needle's first byte; `None` also where the needle is longer than the bytes.
@@ -61,11 +71,107 @@ fn index_in_lanes(byte: u8, bytes: &[u8], at: usize) -> Option<usize>
     requires { at + LANES ≤ length bytes.now }
     ensures { IsFirst (Passes (is_byte byte) bytes.now) at (at + LANES) result }
 {
-    let same = load::<LANES>(bytes, at)
-        .simd_eq(Simd::splat(byte))
-        .to_bitmask();
+    let same = marks::<LANES>(byte, bytes, at);
     if same == 0 {
         return None;
     }
     Some(at + same.trailing_zeros() as usize)
+}
+
+/// A bit for each of the `N` bytes from an index on, set where the byte is `byte`.
+#[inline(always)]
+fn marks<const N: usize>(byte: u8, bytes: &[u8], at: usize) -> u64
+    requires few { N ≤ 64 }
+    requires within { at + N ≤ length bytes.now }
+    ensures { (k : ℕ) →
+        (bit_at result k ≡ 1) ↔ ((k < N) × Passes (is_byte byte) bytes.now (at + k)) }
+{
+    load::<N>(bytes, at).simd_eq(Simd::splat(byte)).to_bitmask()
+}
+
+/// The index of the first match of the needle, by the search that was prepared for it; one or two
+/// bytes need none.
+#[inline(always)]
+pub(crate) fn next_index(bytes: &[u8], needle: &[u8], search: Option<&Finder<'_>>) -> Option<usize>
+    requires some { 0 < length needle.now }
+    requires search { MatchOption search (length needle.now ≤ 2) (λ search. search.now ≡ needle.now) }
+    ensures { FindsNeedle bytes.now needle.now 0 result }
+{
+    match search {
+        Some(search) => search.find(bytes),
+        None if needle.len() == 1 => first_byte(bytes, needle),
+        None => find_two(bytes, needle),
+    }
+}
+
+/// The index of the first match of two bytes. The last lanes may overlap those before them.
+fn find_two(bytes: &[u8], needle: &[u8]) -> Option<usize>
+    requires { length needle.now ≡ 2 }
+    ensures { FindsNeedle bytes.now needle.now 0 result }
+{
+    let len = bytes.len();
+    if len <= 8 {
+        return find_two_by_one(bytes, needle);
+    }
+    if len <= 16 {
+        return two_in_ends::<8>(bytes, needle);
+    }
+    if len <= 32 {
+        return two_in_ends::<16>(bytes, needle);
+    }
+    let last = len - 33;
+    let mut at = 0;
+    while at < last {
+        if let Some(index) = two_in_lanes::<32>(bytes, needle, at) {
+            return Some(index);
+        }
+        at += 32;
+    }
+    two_in_lanes::<32>(bytes, needle, last)
+}
+
+/// The same where a match can begin only at the first `N` places or at the last `N`.
+#[inline(always)]
+fn two_in_ends<const N: usize>(bytes: &[u8], needle: &[u8]) -> Option<usize>
+    requires two { length needle.now ≡ 2 }
+    requires few { N ≤ 64 }
+    requires least { N + 1 ≤ length bytes.now }
+    requires most { length bytes.now ≤ N + N + 1 }
+    ensures { FindsNeedle bytes.now needle.now 0 result }
+{
+    if let Some(index) = two_in_lanes::<N>(bytes, needle, 0) {
+        return Some(index);
+    }
+    two_in_lanes::<N>(bytes, needle, bytes.len() - N - 1)
+}
+
+/// The same in a few bytes.
+fn find_two_by_one(bytes: &[u8], needle: &[u8]) -> Option<usize>
+    requires { length needle.now ≡ 2 }
+    ensures { FindsNeedle bytes.now needle.now 0 result }
+{
+    let mut at = 1;
+    while at < bytes.len() {
+        if bytes[at - 1] == needle[0] && bytes[at] == needle[1] {
+            return Some(at - 1);
+        }
+        at += 1;
+    }
+    None
+}
+
+/// The index of the first match of two bytes among those that begin at one of `N` places from an
+/// index on.
+#[inline(always)]
+fn two_in_lanes<const N: usize>(bytes: &[u8], needle: &[u8], at: usize) -> Option<usize>
+    requires two { length needle.now ≡ 2 }
+    requires few { N ≤ 64 }
+    requires within { at + N + 1 ≤ length bytes.now }
+    ensures { IsFirst (OccursAt bytes.now needle.now) at (at + N) result }
+{
+    let both = marks::<N>(needle[0], bytes, at) & marks::<N>(needle[1], bytes, at + 1);
+    if both == 0 {
+        return None;
+    }
+    Some(at + both.trailing_zeros() as usize)
 }

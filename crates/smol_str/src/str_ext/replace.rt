@@ -1,5 +1,5 @@
 //! Replacement: byte for byte, or by pieces pushed into one builder.
-ghost use Rattle.std.specs.Prelude.{◌≡◌, ◌<◌, [], length, IfOk, OnErr};
+ghost use Rattle.std.specs.Prelude.{◌≡◌, ◌<◌, ◌≤◌, [], length, IfOk, OnErr, MatchOption};
 ghost use Rattle.std.specs.Str.{chars};
 ghost use Rattle.smol_str.specs.Text.{IsShort};
 ghost use Rattle.smol_str.specs.Meaning.{IsValueOf};
@@ -8,16 +8,17 @@ ghost use Rattle.smol_str.specs.Replace.{replaced};
 ghost use Rattle.smol_str.specs.Replacing.{IsReplacing};
 
 use super::ascii::replace_byte;
+use crate::buffer::INLINE_CAP;
 use crate::builder::SmolStrBuilder;
 use crate::bytes::bytes_from;
-use crate::bytes::search::first_byte;
+use crate::bytes::search::{first_byte, next_index};
 use crate::value::SmolStr;
 use memchr::memmem::Finder;
 use std::alloc::{AllocError, Global};
 
 /// The text with the first `count` matches of a pattern replaced. Where the limit leaves none out,
-/// one byte for another is replaced in place; else the pieces between matches are pushed into one
-/// builder.
+/// one byte for another is replaced in place. A text without the pattern's first byte, or shorter
+/// than the pattern, is copied. Else the pieces between matches are pushed into one builder.
 #[tactic(auto, using(crate::proofs::CutLemmas::Replacing::last_steps))]
 pub(super) fn replace(
     alloc: Global,
@@ -34,9 +35,12 @@ pub(super) fn replace(
     if from.len() == 1 && to.len() == 1 && count >= text.len() {
         return replace_byte(alloc, text, from.as_bytes()[0], to.as_bytes()[0]);
     }
+    if !from.is_empty() && first_byte(text.as_bytes(), from.as_bytes()).is_none() {
+        return SmolStr::new(alloc, text);
+    }
     let mut builder = SmolStrBuilder::new(alloc);
     let index = push_replaced(&mut builder, text, from, to, count)?;
-    builder.push_str(&text[index..])?;
+    builder.push_with_spare(&text[index..], 0)?;
     builder.into_value()
 }
 
@@ -58,13 +62,11 @@ fn push_replaced(
     if from.is_empty() {
         return push_between(builder, text, to, count);
     }
-    match first_byte(text.as_bytes(), from.as_bytes()) {
-        Some(_) => {
-            let search = Finder::new(from.as_bytes());
-            push_matches(builder, text, from, &search, to, count)
-        }
-        None => Ok(0),
+    if from.len() <= 2 {
+        return push_matches(builder, text, from, None, to, count);
     }
+    let search = Finder::new(from.as_bytes());
+    push_matches(builder, text, from, Some(&search), to, count)
 }
 
 /// Appends the new text before each of the first `count` characters, and at the end where the limit
@@ -99,11 +101,11 @@ fn push_matches(
     builder: &mut SmolStrBuilder,
     text: &str,
     from: &str,
-    search: &Finder<'_>,
+    search: Option<&Finder<'_>>,
     to: &str,
     count: usize,
 ) -> Result<usize, AllocError>
-    requires search { search.now ≡ from.now }
+    requires search { MatchOption search (length from.now ≤ 2) (λ search. search.now ≡ from.now) }
     requires some { 0 < length from.now }
     requires empty { builder.old ≡ empty_draft InBuffer }
     ensures ok { IfOk result (λ index.
@@ -111,14 +113,18 @@ fn push_matches(
     ensures refused { OnErr result
         (¬ (IsShort (replaced (chars text.now) (chars from.now) (chars to.now) count))) }
 {
+    // A builder that leaves its buffer asks for room for the rest of the text at once, and for some
+    // more where the text grows.
+    let growth = if to.len() > from.len() { INLINE_CAP } else { 0 };
     let mut index = 0;
     for taken in 0..count {
-        let Some(skipped) = search.find(bytes_from(text, index)) else {
+        let Some(skipped) = next_index(bytes_from(text, index), from.as_bytes(), search) else {
             return Ok(index);
         };
         let found = index + skipped;
-        builder.push_str(&text[index..found])?;
-        builder.push_str(to)?;
+        let rest = (text.len() - found).saturating_add(growth);
+        builder.push_with_spare(&text[index..found], rest)?;
+        builder.push_with_spare(to, rest.saturating_sub(from.len()))?;
         index = found + from.len();
     }
     Ok(index)

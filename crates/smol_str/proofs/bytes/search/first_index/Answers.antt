@@ -1,4 +1,5 @@
-use Rattle.smol_str.proofs.Common.{arith}
+use Rattle.smol_str.proofs.Common.{length, arith}
+use Rattle.smol_str.proofs.CutLemmas.Near.{then-first}
 use Rattle.memchr.proofs.lemmas.FindLemmas.{Nowhere-then}
 use Rattle.smol_str.proofs.bytes.search.first_index.Goals as goal
 
@@ -7,14 +8,8 @@ loop-at-init c = (omega arith, λ k low high. absurd (omega arith))
 
 pub returns-in-Some : goal.returns-in-Some
 returns-in-Some c =
-    let found = c.in-Some.ensures.0 in (
-      record {
-        low = omega arith;
-        high = omega (arith, found.high, c.if-bytes-at-ge-LANES.true);
-        before = Nowhere-then c.loop-at.invariant.1 found.before;
-      },
-      c.in-Some.ensures.1,
-    )
+    then-first (length c.args.bytes.now) (omega arith) (omega (arith, c.if-bytes-at-ge-LANES.true)) c.loop-at.invariant.1
+    c.in-Some.ensures
 
 pub loop-at-preserved : goal.loop-at-preserved
 loop-at-preserved c =

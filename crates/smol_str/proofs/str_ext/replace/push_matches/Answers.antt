@@ -10,7 +10,7 @@ bytes_from-requires c = replacing-inside _ _ _ _ _ _ _ c.loop-taken.invariant c.
 pub returns-in_default-clause-ok : goal.returns-in_default-clause-ok
 returns-in_default-clause-ok c =
     replacing-none _ _ _ _ _ _ _ _ _ c.loop-taken.invariant c.utf8.text c.utf8.from c.bytes_from.ensures
-    c.requires.search c.in_default.ensures
+    c.as_bytes.ensures.value c.in_default.ensures
 
 pub overflow_add-found : goal.overflow_add-found
 overflow_add-found c = grind (arith, common_steps, replacing-found, match-end)
@@ -22,29 +22,29 @@ pub range-requires-clause-end_boundary : goal.range-requires-clause-end_boundary
 range-requires-clause-end_boundary c =
     let h = c.loop-taken.invariant in
     let k = replacing-found _ _ _ _ _ _ _ _ _ _ h c.utf8.text c.utf8.from c.requires.some c.bytes_from.ensures
-    c.requires.search c.in-Some.ensures in
+    c.as_bytes.ensures.value c.in-Some.ensures in
     match-boundary _ _ _ _ _ _ _ _ h k c.utf8.text
 
-pub returns-in_err-push_str-clause-refused : goal.returns-in_err-push_str-clause-refused
-returns-in_err-push_str-clause-refused c =
+pub returns-in_err-push_with_spare-clause-refused : goal.returns-in_err-push_with_spare-clause-refused
+returns-in_err-push_with_spare-clause-refused c =
     let h = c.loop-taken.invariant in
     let k = replacing-found _ _ _ _ _ _ _ _ _ _ h c.utf8.text c.utf8.from c.requires.some c.bytes_from.ensures
-    c.requires.search c.in-Some.ensures in
-    let heap = rw (c.range.ensures.value, match-piece _ _ _ _ _ _ _ _ h k c.utf8.text) at c.in_err-push_str.ensures.refused in
+    c.as_bytes.ensures.value c.in-Some.ensures in
+    let heap = rw (c.range.ensures.value, match-piece _ _ _ _ _ _ _ _ h k c.utf8.text) at c.in_err-push_with_spare.ensures.refused in
     OnErr-always c.from_residual.result _
     (match-refused _ _ _ _ _ _ _ _ h k (c.args.count - (c.loop-taken.taken + 1)) (omega arith)
     (appended-heap c.loop-taken.builder k.before (chars c.args.to.now) heap))
 
-pub returns-in_err-push_str-2-clause-refused : goal.returns-in_err-push_str-2-clause-refused
-returns-in_err-push_str-2-clause-refused c =
+pub returns-in_err-push_with_spare-2-clause-refused : goal.returns-in_err-push_with_spare-2-clause-refused
+returns-in_err-push_with_spare-2-clause-refused c =
     let h = c.loop-taken.invariant in
     let k = replacing-found _ _ _ _ _ _ _ _ _ _ h c.utf8.text c.utf8.from c.requires.some c.bytes_from.ensures
-    c.requires.search c.in-Some.ensures in
-    let first = rw (c.range.ensures.value, match-piece _ _ _ _ _ _ _ _ h k c.utf8.text) at c.in_ok-push_str.ensures.ok in
-    OnErr-always c.from_residual-in_err-push_str-2.result _
+    c.as_bytes.ensures.value c.in-Some.ensures in
+    let first = rw (c.range.ensures.value, match-piece _ _ _ _ _ _ _ _ h k c.utf8.text) at c.in_ok-push_with_spare.ensures.ok in
+    OnErr-always c.from_residual-in_err-push_with_spare-2.result _
     (match-refused _ _ _ _ _ _ _ _ h k (c.args.count - (c.loop-taken.taken + 1)) (omega arith)
-    (second-heap c.loop-taken.builder c.push_str.new.self k.before (chars c.args.to.now) first
-    c.in_err-push_str-2.ensures.refused))
+    (second-heap c.loop-taken.builder c.push_with_spare.new.self k.before (chars c.args.to.now) first
+    c.in_err-push_with_spare-2.ensures.refused))
 
 pub overflow_add-index : goal.overflow_add-index
 overflow_add-index c = grind (arith, common_steps, replacing-found, match-end)
@@ -53,7 +53,7 @@ pub loop-taken-preserved : goal.loop-taken-preserved
 loop-taken-preserved c =
     let h = c.loop-taken.invariant in
     let k = replacing-found _ _ _ _ _ _ _ _ _ _ h c.utf8.text c.utf8.from c.requires.some c.bytes_from.ensures
-    c.requires.search c.in-Some.ensures in
-    let first = rw (c.range.ensures.value, match-piece _ _ _ _ _ _ _ _ h k c.utf8.text) at c.in_ok-push_str.ensures.ok in
+    c.as_bytes.ensures.value c.in-Some.ensures in
+    let first = rw (c.range.ensures.value, match-piece _ _ _ _ _ _ _ _ h k c.utf8.text) at c.in_ok-push_with_spare.ensures.ok in
     match-step _ _ _ _ _ _ _ _ h k (c.args.count - (c.loop-taken.taken + 1)) (omega arith)
-    c.utf8.from _ (appended-both _ _ _ _ _ first c.in_ok-push_str-2.ensures.ok)
+    c.utf8.from _ (appended-both _ _ _ _ _ first c.in_ok-push_with_spare-2.ensures.ok)
