@@ -94,6 +94,7 @@ impl Draw {
             Words => (0..size).map(|at| if at % 4 == 3 { ' ' } else { char::from(b'a' + self.below(25) as u8) }).collect(),
             FewLetters => self.letters(size, 5),
             BothCases => (0..size).map(|_| if self.below(2) == 0 { 'a' } else { 'Z' }).collect(),
+            Escaped => format!("{}\"{}", self.letters(size / 2, 25), self.letters(size - size / 2 - 1, 25)),
             Lexemes if self.below(8) == 0 => ["if", "else", "while", "return"][self.below(4)].to_string(),
             Lexemes => pool[self.below(pool.len())].clone(),
             Distinct => format!("{at:0size$}"),

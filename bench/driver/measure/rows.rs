@@ -6,7 +6,7 @@
 #[derive(Clone, Copy)]
 pub enum Input {
     Same, Differs, DiffersEarly, DiffersLate,
-    Words, Spaces, BlankRun, TwoByteCharacters, FewLetters, BothCases, Lexemes, Distinct,
+    Words, Spaces, BlankRun, TwoByteCharacters, FewLetters, BothCases, Escaped, Lexemes, Distinct,
 }
 use Input::*;
 
@@ -91,8 +91,11 @@ const ROWS: &[Row] = &[
     ("serialize {} into a Vec", "serialize", &[10], &[], Same),
     ("(from_wire of a slice {})", "from_wire", &[10], &[100], Same),
     ("deserialize_reader {}", "reader", &[10], &[30, 100], Same),
-    ("to_json {}", "to_json", &[10], &[100], Same),
-    ("from_json {}", "from_json", &[10], &[100], Same),
+    ("to_json {}", "to_json", &[5, 10, 20], &[100], Same),
+    ("to_json {}, escaped", "to_json", &[5, 20], &[100], Escaped),
+    ("from_json {}", "from_json", &[5, 10, 20], &[100], Same),
+    ("from_json {}, spaced", "from_json spaced", &[5, 20], &[100], Same),
+    ("from_json {}, escaped", "from_json", &[5, 20], &[100], Escaped),
     ("ASCII lower {}", "ascii_lower", &[20], &[100], BothCases),
     ("ASCII upper {}", "ascii_upper", &[20], &[100], BothCases),
     ("lower {}", "lower", &[20], &[], BothCases),

@@ -69,8 +69,9 @@ pub fn run(operation: &str, all: &[Case<SmolStr>], n: Turns) -> Option<u64> {
         // its reader for our call on a slice too
         "from_wire" | "reader" => rounds(&kept(all, |it| form_of(&it.value)), n, |form, at| reader(form, at)),
         "to_json" => rounds(all, n, |it, at| seen(&serde_json::to_string(&it.value).unwrap(), at)),
-        "from_json" => {
-            let jsons = kept(all, |it| serde_json::to_string(&it.value).unwrap());
+        "from_json" | "from_json spaced" => {
+            let space = if operation == "from_json" { "" } else { " \n" };
+            let jsons = kept(all, |it| format!("{space}{}{space}", serde_json::to_string(&it.value).unwrap()));
             rounds(&jsons, n, |it, at| serde_json::from_str(it).map_or(0, |value: SmolStr| seen(&value, at)))
         }
         "document" => {

@@ -1,14 +1,14 @@
--- JSON strings, for module `json`.
-use Rattle.smol_str.proofs.Common.{String, Global, string_bytes, rules, ◌≡◌, ℕ, ◌<◌, List, [], ◌∷◌, length, Some, Result, sym, ap, ◌∙◌, IsResident, chars, encodes-chars, encodes_same, IsUtf8-string_bytes, place_of, Meaning, IsValueOf, common_steps, arith}
+-- JSON strings, for module `json_string`.
+use Rattle.smol_str.proofs.Common.{String, Global, string_bytes, rules, ◌≡◌, ℕ, List, Some, Result, sym, ap, ◌∙◌, IsResident, chars, encodes-chars, encodes_same, IsUtf8-string_bytes, place_of, Meaning, IsValueOf, common_steps, arith}
 use Rattle.std.specs.Result.{IfOk, IfErr}
 use Rattle.serde_json.specs.Data as json
 use Rattle.serde_json.specs.Read.{read}
 use Rattle.serde_json.specs.View.{view}
-use Rattle.serde_json.proofs.OnLiterals.{serde_json_on_literals}
 use Rattle.serde_json.specs.declared.value.Value as value
-use Rattle.smol_str.specs.declared.json.JsonFault.{JsonFault}
-use Rattle.smol_str.specs.declared.json.JsonFault.TheVariants.{OutOfMemory}
+use Rattle.smol_str.specs.declared.json_string.JsonFault.{JsonFault}
+use Rattle.smol_str.specs.declared.json_string.JsonFault.TheVariants.{OutOfMemory}
 use Rattle.smol_str.specs.Json.{json_value, IsJsonText, IsJsonOf, AfterValueFault, AfterJsonFault}
+use Rattle.smol_str.proofs.QuotedLemmas.{some_bytes}
 use Rattle.smol_str.proofs.WireLemmas.Stream.{IfErr-is}
 
 -- a string value is the JSON value of its text
@@ -26,12 +26,6 @@ IsJsonOf-IsValueOf t v h = record { text = ap json_value (sym h.text); place = h
 -- the string of a text that is not resident: so is each text of which it is the string
 pub not_resident : (d : json.Data) (s : List ℕ) → d ≡ json_value s → ¬ (IsResident s) → AfterValueFault d OutOfMemory
 not_resident d s is long = search (rules, json_value-same)
-
--- no bytes are no JSON text
-some_bytes : (bs : List ℕ) (d : json.Data) → read bs ≡ Some d → 0 < length bs
-unfolding serde_json_on_literals
-some_bytes [] d e = cc
-some_bytes (b ∷ bs) d e = omega arith
 
 -- a fault of the value that bytes read as
 pub AfterJsonFault-read : {T : Type 0} (r : Result T JsonFault) (bs : List ℕ) (d : json.Data) → read bs ≡ Some d

@@ -8,4 +8,6 @@ pub mod TextLemmas
 pub mod WireLemmas
 mod IteratorLemmas
 mod PieceLemmas
+mod PlainLemmas
+mod QuotedLemmas
 mod JsonLemmas

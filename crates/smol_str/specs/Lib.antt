@@ -21,6 +21,7 @@ pub mod Replace
 pub mod Replacing
 pub mod InCase
 pub mod Wire
+pub mod Plain
 pub mod Json
 pub mod CutExamples
 pub mod CaseExamples

@@ -1,7 +1,7 @@
 -- The sentences of the faults, as a user reads them.
 use Rattle.std.specs.Prelude.{◌≡◌, codes, Some, refl}
 use Rattle.smol_str.specs.declared.value.convert.FromUtf8Fault.TheVariants as utf8
-use Rattle.smol_str.specs.declared.json.JsonFault.TheVariants as json
+use Rattle.smol_str.specs.declared.json_string.JsonFault.TheVariants as json
 use Rattle.smol_str.specs.declared.stream.ReadFault.TheVariants as stream
 use Rattle.smol_str.specs.declared.borsh.fault.EncodeFault.TheVariants as encode
 use Rattle.smol_str.specs.declared.borsh.fault.DecodeFault.{DecodeFault}

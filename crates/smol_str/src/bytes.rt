@@ -3,6 +3,7 @@
 ghost use Rattle.std.specs.Prelude.{◌≡◌, ◌≤◌, length, drop};
 
 pub(crate) mod ascii;
+pub(crate) mod plain;
 pub(crate) mod search;
 
 /// `text[from..]` as bytes, stated with `drop`.

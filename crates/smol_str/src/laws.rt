@@ -16,6 +16,8 @@ ghost use Rattle.smol_str.specs.Case.{lower, upper, front, lowercased, uppercase
 ghost use Rattle.smol_str.specs.Cut.{Occurs, StandsAt, IsFirstAfter, IsNextMatch, IsCut, joined_by};
 ghost use Rattle.smol_str.specs.Replace.{cut, no_limit, match_count, replaced, replaced_all, each_replaced};
 ghost use Rattle.smol_str.specs.Wire.{HasWire, wire, Holds, HasEndedEarly, body};
+ghost use Rattle.smol_str.specs.Plain.{IsPlain, IsPlainJson, in_quotes};
+ghost use Rattle.smol_str.specs.Json.{json_value, IsJsonText, compact_text};
 
 use crate::value::place::Place;
 
@@ -158,6 +160,16 @@ pub fn wire_forms()
         Holds (wire t ++ x) t (size t + 4) }
     ensures stated { (b t : List ℕ) → All (λ c. c < 2 ^ 8) b → ¬ HasEndedEarly b →
         body b ≡ encode_utf8_all t → IsTrue (all_scalars t) → Holds b t (size t + 4) }
+{}
+
+/// The JSON that is written for a text is read as that text. A plain text is written in quotes as it
+/// stands, and so it is read, with white space around it or without.
+pub fn json_strings()
+    ensures back { (t : List ℕ) → IsJsonText (compact_text (json_value t)) t }
+    ensures plain { (t : List ℕ) → IsPlain t →
+        compact_text (json_value t) ≡ in_quotes (encode_utf8_all t) }
+    ensures quoted { (t : List ℕ) → IsPlain t → IsPlainJson (in_quotes (encode_utf8_all t)) t }
+    ensures read { (b t : List ℕ) → IsPlainJson b t → IsJsonText b t }
 {}
 
 /// Texts are ordered by their bytes as they are by their characters.

@@ -7,7 +7,7 @@
 //! The modules lie in layers, and each uses those below it:
 //!
 //! ```text
-//!     json  serde_impls  borsh  str_ext  format  collect    by public items alone, as users do; `.ci/api` looks
+//!     json_string  serde_impls  borsh  str_ext  format  collect    by public items alone, as users do; `.ci/api` looks
 //!     builder            a text that grows
 //!     value              a text and its place; what makes, lends, compares and prints it
 //!     shared             the shared text of a value on the heap: the one line to change for several threads
@@ -24,7 +24,7 @@ mod builder;
 mod bytes;
 mod collect;
 mod format;
-pub mod json;
+pub mod json_string;
 pub mod kernel;
 pub mod laws;
 mod serde_impls;

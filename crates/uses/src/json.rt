@@ -4,11 +4,12 @@ ghost use Rattle.std.specs.Str.{chars};
 ghost use Rattle.serde_json.specs.View.{view};
 ghost use Rattle.smol_str.specs.Json.{json_value, IsJsonText, IsOther};
 ghost use Rattle.smol_str.specs.Meaning.{IsValueOf};
-ghost use Rattle.smol_str.specs.Text.{IsResident};
+ghost use Rattle.smol_str.specs.Plain.{IsPlainJson};
+ghost use Rattle.smol_str.specs.Text.{IsShort, IsResident};
 
 use serde_json::Value;
-use smol_str::SmolStr;
-use smol_str::json::{JsonFault, from_json, from_value, to_json, to_value};
+use smol_str::json_string::{JsonFault, from_json, from_value, to_json, to_value};
+use smol_str::{SmolStr, laws};
 use std::alloc::{AllocError, Global};
 
 /// What `to_json` writes, `from_json` reads as the same text.
@@ -27,6 +28,33 @@ pub fn known(alloc: Global, json: &str, name: &str) -> Result<SmolStr, JsonFault
     ensures refused { IfErr result (λ fault. fault ≡ JsonFault.OutOfMemory) }
 {
     from_json(alloc, json)
+}
+
+/// The value of a text from its plain JSON: only memory can be refused, and that not for resident text.
+pub fn of_plain(alloc: Global, json: &str, text: &str) -> Result<SmolStr, AllocError>
+    requires { IsPlainJson json.now (chars text.now) }
+    ensures value { IfOk result (λ v. IsValueOf (chars text.now) v) }
+    ensures refused { OnErr result (¬ (IsResident (chars text.now))) }
+{
+    laws::json_strings();
+    match from_json(alloc, json) {
+        Ok(value) => Ok(value),
+        Err(JsonFault::OutOfMemory) => Err(AllocError),
+        Err(JsonFault::NotString) => unreachable!(),
+        Err(JsonFault::Json(_)) => unreachable!(),
+    }
+}
+
+/// The same of a short text, which never fails.
+pub fn of_short_plain(alloc: Global, json: &str, text: &str) -> SmolStr
+    requires json { IsPlainJson json.now (chars text.now) }
+    requires short { IsShort (chars text.now) }
+    ensures value { IsValueOf (chars text.now) result }
+{
+    match from_json(alloc, json) {
+        Ok(value) => value,
+        Err(_) => unreachable!(),
+    }
 }
 
 /// The value of a JSON string that is known to be `text`: only memory can be refused, and that not for resident text.

@@ -8,7 +8,7 @@ ghost use Rattle.uses.specs.declared.log_records.Record.{Record};
 ghost use Rattle.uses.specs.LogRecords.{HasForm, form, forms, texts, AfterRecordFault, AfterNextFault, AfterReadFault};
 
 use smol_str::borsh::{BorshSerialize, EncodeFault, LimitedFault, deserialize_limited};
-use smol_str::json::to_json;
+use smol_str::json_string::to_json;
 use smol_str::{SmolStr, laws};
 use std::alloc::{AllocError, Global};
 use std::io::{Read, Write};

@@ -1,6 +1,6 @@
 //! Values of what is printed: the texts, prints that give up, and memory refused.
 use smol_str::borsh::{DecodeFault, EncodeFault, LimitedFault};
-use smol_str::json::JsonFault;
+use smol_str::json_string::JsonFault;
 use smol_str::stream::ReadFault;
 use smol_str::{
     FormatError, FromUtf8Fault, INLINE_CAP, Place, SmolStr, SmolStrBuilder, ToSmolStr,

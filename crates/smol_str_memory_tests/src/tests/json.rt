@@ -1,7 +1,7 @@
 //! JSON strings: texts, and what is none.
 use serde_json::{Error, Value};
 use smol_str::SmolStr;
-use smol_str::json::{self, JsonFault, from_json, to_json};
+use smol_str::json_string::{self, JsonFault, from_json, to_json};
 use std::alloc::{AllocError, Global};
 use std::test::Fail;
 use test_support::expect_eq;
@@ -46,10 +46,23 @@ fn check_written(test: &Test, value: &SmolStr, json: &str) {
 }
 
 /// JSON strings, and what is read of them.
-static READ: [(&str, &str); 8] = [
+static READ: [(&str, &str); 15] = [
     ("\"Hello, World\"", "Hello, World"),
     ("\"\"", ""),
     (" \t\n\r\"ab\" ", "ab"),
+    ("\"a\"\n", "a"),
+    ("\"a b\u{7f}\"", "a b\u{7f}"),
+    ("\"é🦀\"", "é🦀"),
+    ("\"abcdefg\\n\"", "abcdefg\n"),
+    ("\"\\nabcdefghijklmno\"", "\nabcdefghijklmno"),
+    (
+        "\"abcdefghijklmnopqr\\\"stuvwxyz\"",
+        "abcdefghijklmnopqr\"stuvwxyz",
+    ),
+    (
+        "\"abcdefghijklmnopqrstuvwxyzabcdefghijklmnopqrstuvwxyz\"",
+        "abcdefghijklmnopqrstuvwxyzabcdefghijklmnopqrstuvwxyz",
+    ),
     ("\"a\\/\\\"b\"", "a/\"b"),
     ("\"\\u00e9\"", "é"),
     ("\"\\ud83e\\udd80\"", "🦀"),
@@ -91,8 +104,15 @@ static NOT_STRINGS: [&str; 14] = [
     "{\"a\": 1, \"b\": {}}",
 ];
 
-static NOT_JSON: [&str; 17] = [
+static NOT_JSON: [&str; 24] = [
     "",
+    "\"",
+    "\"\"\"",
+    "\"\\\"",
+    "\"abcdefg\\\"",
+    "\"abcdefghijk\u{1f}lmnop\"",
+    "\"abcdefghijklmnopqrst\"uvwxyz\"",
+    "\"abcdefghijklmnopqrstuvwxyz\tabcdefghijklmnopqrstuvwxyz\"",
     "[1",
     "\"ab",
     "\"ab\" 1",
@@ -201,19 +221,19 @@ fn examples(rt: HostRuntime) -> Result<(), Fail> {
 
 fn to_value_example(rt: &Test, alloc: Global) -> Result<(), AllocError> {
     let name = SmolStr::new_inline("if");
-    let value = json::to_value(alloc, &name)?;
+    let value = json_string::to_value(alloc, &name)?;
     expect_eq!(rt; value.as_str(), Some("if"));
     Ok(())
 }
 
 fn to_json_example(rt: &Test, alloc: Global) -> Result<(), AllocError> {
-    let quoted = json::to_json(alloc, &SmolStr::new_inline("a\"b"))?;
+    let quoted = json_string::to_json(alloc, &SmolStr::new_inline("a\"b"))?;
     expect_eq!(rt; quoted.as_str(), "\"a\\\"b\"");
     Ok(())
 }
 
 fn from_json_example(rt: &Test, alloc: Global) -> Result<(), JsonFault> {
-    let name = json::from_json(alloc, "\"if\"")?;
+    let name = json_string::from_json(alloc, "\"if\"")?;
     expect_eq!(rt; name.as_str(), "if");
     Ok(())
 }

@@ -5,10 +5,11 @@ use super::things::{Thing, things_of};
 use super::{Row, SHARED, Wants, check_calls};
 use serde_json::Value;
 use smol_str::SmolStr;
-use smol_str::json::{from_json, from_value, to_json, to_value};
+use smol_str::json_string::{from_json, from_value, to_json, to_value};
 use std::alloc::Global;
 use std::test::Fail;
 use test_support::test::{Test, ok_string};
+use test_support::texts::joined;
 
 #[derive(Clone, Copy)]
 enum Call {
@@ -18,28 +19,49 @@ enum Call {
     /// Of a pinned value.
     ToJsonPinned,
     FromJson,
+    /// With a space before it.
+    FromJsonSpaced,
+    /// Of the text with an escape before it.
+    FromJsonEscaped,
 }
 
 const TO_JSON: Wants = Exactly(
-    [1, 2, 4, 2, 3, 3, 3],
-    [128, 167, 1216, 168, 10_131, 10_131, 140_131],
+    [1, 1, 4, 1, 1, 1, 1],
+    [2, 41, 1216, 42, 5_002, 5_002, 70_002],
 );
 
-const FROM_JSON: Wants = Exactly(
-    [1, 2, 2, 4, 4, 4, 4],
-    [8, 80, 706, 162, 15_042, 15_042, 210_042],
+const FROM_JSON: Wants = Exactly([0, 0, 2, 2, 2, 2, 2], [0, 0, 706, 80, 5_040, 5_040, 70_040]);
+
+const FROM_JSON_SPACED: Wants = Exactly(
+    [0, 0, 2, 2, 2, 2, 2],
+    [0, 0, 707, 80, 5_040, 5_040, 70_040],
 );
 
-static CALLS: [Row<Call>; 5] = [
+const FROM_JSON_ESCAPED: Wants = Exactly(
+    [2, 4, 4, 4, 4, 4, 4],
+    [9, 163, 1070, 166, 15_046, 15_046, 210_046],
+);
+
+static CALLS: [Row<Call>; 7] = [
     (
         Call::ToValue,
-        "json::to_value",
+        "json_string::to_value",
         AsStd(Nothing, Owned, Owned, Owned),
     ),
-    (Call::FromValue, "json::from_value", SHARED),
-    (Call::ToJson, "json::to_json", TO_JSON),
-    (Call::ToJsonPinned, "json::to_json", TO_JSON),
-    (Call::FromJson, "json::from_json", FROM_JSON),
+    (Call::FromValue, "json_string::from_value", SHARED),
+    (Call::ToJson, "json_string::to_json", TO_JSON),
+    (Call::ToJsonPinned, "json_string::to_json", TO_JSON),
+    (Call::FromJson, "json_string::from_json", FROM_JSON),
+    (
+        Call::FromJsonSpaced,
+        "json_string::from_json",
+        FROM_JSON_SPACED,
+    ),
+    (
+        Call::FromJsonEscaped,
+        "json_string::from_json",
+        FROM_JSON_ESCAPED,
+    ),
 ];
 
 #[test]
@@ -55,17 +77,29 @@ struct Input {
     json: String,
 }
 
+/// A text and another one behind it.
+fn followed(test: &Test, front: &str, back: &str) -> String {
+    ok_string(test, joined(test.alloc, front, back))
+}
+
 impl super::Call for Call {
     type Input = Input;
 
     fn input(self, test: &Test, text: &'static str) -> Input {
         let tree = Value::String(test.string(text));
+        let json = ok_string(test, tree.to_string(test.alloc));
         Input {
             value: match self {
                 Call::ToJsonPinned => SmolStr::new_static(text),
                 _ => test.value(text),
             },
-            json: ok_string(test, tree.to_string(test.alloc)),
+            json: match self {
+                Call::FromJsonSpaced => followed(test, " ", json.as_str()),
+                Call::FromJsonEscaped => {
+                    followed(test, "\"\\/", json.as_str().get(1..).unwrap_or(""))
+                }
+                _ => json,
+            },
             tree,
         }
     }
@@ -75,7 +109,9 @@ impl super::Call for Call {
             Call::ToValue => things_of(to_value(alloc, &input.value)),
             Call::FromValue => things_of(from_value(alloc, &input.tree)),
             Call::ToJson | Call::ToJsonPinned => things_of(to_json(alloc, &input.value)),
-            Call::FromJson => things_of(from_json(alloc, input.json.as_str())),
+            Call::FromJson | Call::FromJsonSpaced | Call::FromJsonEscaped => {
+                things_of(from_json(alloc, input.json.as_str()))
+            }
         }
     }
 }

@@ -1,7 +1,7 @@
 //! What calls make and leave.
 use serde_json::Value;
 use smol_str::borsh::{DecodeFault, LimitedFault};
-use smol_str::json::JsonFault;
+use smol_str::json_string::JsonFault;
 use smol_str::stream::ReadFault;
 use smol_str::{FormatError, FromUtf8Fault, SmolStr, SmolStrBuilder};
 use std::alloc::AllocError;

@@ -1,10 +1,10 @@
 use Rattle.smol_str.proofs.Common.{◌∙◌, sym}
 use Rattle.smol_str.proofs.WireLemmas.Stream.{IfErr-is}
-use Rattle.smol_str.specs.declared.json.JsonFault.TheVariants.{OutOfMemory}
+use Rattle.smol_str.specs.declared.json_string.JsonFault.TheVariants.{OutOfMemory}
 use Rattle.smol_str.specs.Json.{AfterValueFault}
 use Rattle.serde_json.specs.View.{view}
 use Rattle.smol_str.proofs.JsonLemmas.{view-chars, json_value-same, not_resident}
-use Rattle.smol_str.proofs.json.from_value.Goals as goal
+use Rattle.smol_str.proofs.json_string.from_value.Goals as goal
 
 pub returns-in_ok-from_string_ref-in-String-clause-of_text :
     goal.returns-in_ok-from_string_ref-in-String-clause-of_text

@@ -3,14 +3,20 @@
 //! serde's traits write and read a value too, in any format; the contracts of these calls speak of the
 //! JSON value and of the bytes. What a JSON value is, and which text reads as which value, is
 //! `serde_json`'s own.
-ghost use Rattle.std.specs.Prelude.{◌≡◌, ℕ, List, IfOk, IfErr};
+ghost use Rattle.std.specs.Prelude.{◌≡◌, ℕ, List, IfOk, IfErr, IsOkAnd, IfSome, None, Some, encode_utf8_all};
+ghost use Rattle.std.specs.Str.{IsUtf8};
 ghost use Rattle.std.specs.String.{string_bytes};
+ghost use Rattle.serde_json.specs.Data.{string};
+ghost use Rattle.serde_json.specs.Read.{read};
 ghost use Rattle.serde_json.specs.View.{view};
 ghost use Rattle.serde_json.specs.Written.{compact_text};
+ghost use Rattle.smol_str.specs.Text.{IsResident};
 ghost use Rattle.smol_str.specs.Meaning.{IsValueOf};
+ghost use Rattle.smol_str.specs.Plain.{IsPlain, IsPlainJson, in_quotes};
 ghost use Rattle.smol_str.specs.Said.{json_said};
 ghost use Rattle.smol_str.specs.Json.{json_value, IsJsonText, IsJsonOf, AfterValueFault, AfterJsonFault};
 
+use crate::bytes::plain::{split_plain, without_spaces};
 use crate::value::SmolStr;
 use serde_json::Value;
 use std::alloc::{AllocError, AllocFailed, Global};
@@ -31,7 +37,7 @@ pub enum JsonFault {
 
 impl From<AllocError> for JsonFault {
     ghost use Rattle.std.specs.Prelude.{◌≡◌};
-    ghost use Rattle.smol_str.specs.declared.json.JsonFault.TheVariants.{OutOfMemory};
+    ghost use Rattle.smol_str.specs.declared.json_string.JsonFault.TheVariants.{OutOfMemory};
 
     ghost from_gives = { λ error fault. fault ≡ OutOfMemory };
 
@@ -43,7 +49,7 @@ impl From<AllocError> for JsonFault {
 /// For `?` after a refused `push`; the item that comes back is dropped.
 impl<T: Drop> From<AllocFailed<T>> for JsonFault {
     ghost use Rattle.std.specs.Prelude.{◌≡◌};
-    ghost use Rattle.smol_str.specs.declared.json.JsonFault.TheVariants.{OutOfMemory};
+    ghost use Rattle.smol_str.specs.declared.json_string.JsonFault.TheVariants.{OutOfMemory};
 
     ghost from_gives = { λ error fault. fault ≡ OutOfMemory };
 
@@ -72,7 +78,7 @@ impl Error for JsonFault {}
 ///
 /// ```
 /// let name = SmolStr::new_inline("if");
-/// let value = json::to_value(alloc, &name)?;
+/// let value = json_string::to_value(alloc, &name)?;
 /// assert_eq!(rt; value.as_str(), Some("if"));
 /// ```
 pub fn to_value(alloc: Global, value: &SmolStr) -> Result<Value, AllocError>
@@ -99,34 +105,103 @@ pub fn from_value(alloc: Global, value: &Value) -> Result<SmolStr, JsonFault>
     }
 }
 
-/// The JSON text of a value: its text in quotes, escaped as `serde_json` does in its compact form.
+/// The JSON text of a value: its text in quotes, escaped as `serde_json` does in its compact form. No
+/// escape is needed where the text has no control character, quote or backslash.
 /// It is refused with [`AllocError`] where memory is.
 ///
 /// ```
-/// let quoted = json::to_json(alloc, &SmolStr::new_inline("a\"b"))?;
+/// let quoted = json_string::to_json(alloc, &SmolStr::new_inline("a\"b"))?;
 /// assert_eq!(rt; quoted.as_str(), "\"a\\\"b\"");
 /// ```
+#[tactic(auto, using(crate::proofs::QuotedLemmas::texts_written))]
 pub fn to_json(alloc: Global, value: &SmolStr) -> Result<String, AllocError>
     ensures compact { IfOk result (λ json.
         string_bytes json ≡ compact_text (json_value value.now.text)) }
     ensures reads_back { IfOk result (λ json. IsJsonText (string_bytes json) value.now.text) }
+    ensures plain { IsPlain value.now.text →
+        IfOk result (λ json. string_bytes json ≡ in_quotes (encode_utf8_all value.now.text)) }
 {
-    to_value(alloc, value)?.to_string(alloc)
+    written(alloc, value.as_str())
+}
+
+/// The compact JSON of a text.
+fn written(alloc: Global, text: &str) -> Result<String, AllocError>
+    ensures { IfOk result (λ json. string_bytes json ≡ compact_text (string text.now)) }
+{
+    if split_plain(text).1.is_empty() {
+        in_quotes(alloc, text)
+    } else {
+        escaped(alloc, text)
+    }
+}
+
+/// A text in quotes, as plain text is written.
+#[inline(always)]
+fn in_quotes(alloc: Global, text: &str) -> Result<String, AllocError>
+    ensures { IfOk result (λ json. string_bytes json ≡ in_quotes text.now) }
+{
+    let mut json = Vec::with_capacity(alloc, text.len() + 2)?;
+    json.push(b'"')?;
+    json.extend_from_slice(text.as_bytes())?;
+    json.push(b'"')?;
+    Ok(unsafe { String::from_utf8_unchecked(json) })
+}
+
+/// The compact JSON of a text that needs escapes.
+#[inline(never)]
+fn escaped(alloc: Global, text: &str) -> Result<String, AllocError>
+    ensures { IfOk result (λ json. string_bytes json ≡ compact_text (string text.now)) }
+{
+    Value::String(String::from_str(alloc, text)?).to_string(alloc)
 }
 
 /// The value of a JSON text that is one string, with nothing but white space around it.
 ///
 /// The whole text is read first: one that is no JSON is [`JsonFault::Json`], one that is another
 /// JSON value [`JsonFault::NotString`]. Lists and objects may nest 127 deep, as `serde_json` reads
-/// them. Reading needs memory for a copy of the text, so any call may be refused with
-/// [`JsonFault::OutOfMemory`].
+/// them. Reading needs memory for a copy of the text, so the call may be refused with
+/// [`JsonFault::OutOfMemory`]. It never is where the text is resident and *plain*: no control character,
+/// quote or backslash stands between the quotes.
 ///
 /// ```
-/// let name = json::from_json(alloc, "\"if\"")?;
+/// let name = json_string::from_json(alloc, "\"if\"")?;
 /// assert_eq!(rt; name.as_str(), "if");
 /// ```
-#[tactic(auto, using(crate::proofs::JsonLemmas::read_texts))]
+#[tactic(auto, using(crate::proofs::QuotedLemmas::values_read))]
 pub fn from_json(alloc: Global, text: &str) -> Result<SmolStr, JsonFault>
+    ensures text { IfOk result (λ v. IsJsonText text.now v.text) }
+    ensures of_text { (t : List ℕ) → IsJsonText text.now t → IfOk result (λ v. IsValueOf t v) }
+    ensures fault { IfErr result (AfterJsonFault text.now) }
+    ensures plain { (t : List ℕ) → IsPlainJson text.now t → IsResident t →
+        IsOkAnd result (IsValueOf t) }
+{
+    match plain_text(text) {
+        Some(plain) => Ok(SmolStr::new(alloc, plain)?),
+        None => read_value(alloc, text),
+    }
+}
+
+/// The text in a JSON text that is one plain string, with nothing but white space around it.
+#[inline(always)]
+fn plain_text(text: &str) -> Option<&str>
+    ensures some { IfSome result (λ s. read text.now ≡ Some (string s.now)) }
+    ensures utf8 { IfSome result (λ s. IsUtf8 s.now) }
+    ensures none { result ≡ None → (t : List ℕ) → ¬ (IsPlainJson text.now t) }
+{
+    let rest = without_spaces(text).strip_prefix('"')?;
+    let (plain, rest) = split_plain(rest);
+    let behind = rest.strip_prefix('"')?;
+    if without_spaces(behind).is_empty() {
+        Some(plain)
+    } else {
+        None
+    }
+}
+
+/// The value of any JSON text, as `serde_json` reads it.
+#[inline(never)]
+#[tactic(auto, using(crate::proofs::JsonLemmas::read_texts))]
+fn read_value(alloc: Global, text: &str) -> Result<SmolStr, JsonFault>
     ensures text { IfOk result (λ v. IsJsonText text.now v.text) }
     ensures of_text { (t : List ℕ) → IsJsonText text.now t → IfOk result (λ v. IsValueOf t v) }
     ensures fault { IfErr result (AfterJsonFault text.now) }

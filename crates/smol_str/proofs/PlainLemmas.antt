@@ -1,0 +1,98 @@
+-- Plain bytes: how many come first, by lanes, and what JSON writes for them.
+use Rattle.smol_str.proofs.Common.{◌≡◌, drop_at, take-append-drop, append-nil, ℕ, zero, suc, ◌+◌, ◌-◌, ◌%◌, ◌^◌, ◌<◌, ◌≤◌, List, [], ◌∷◌, ◌++◌, Bool, true, false, cond, ltb, length, map, replicate, take, drop, refl, arith, subst, rules, get_or, get_or-take, common_steps, nat_tests, mask_l-mod, length-map, zip2, mask_l, top, ne_eqb, min, list_all, IsUtf8, IsCharBoundary}
+use Rattle.std.proofs.Common.{eqb, ◌||◌, bit_or, true≢false}
+use Rattle.std.specs.List.{prefix_len}
+use Rattle.std.proofs.lemmas.List.Sums.{prefix_len_passes, prefix_len_stops, prefix_len-le-length, list_all-from_AllPass}
+use Rattle.std.proofs.lemmas.List.Folds.{length-prefix_len, prefix_len-append}
+use Rattle.std.proofs.lemmas.Str.{IsCharBoundary-after_ascii}
+use Rattle.std.proofs.lemmas.Simd.{first_set_mask_l}
+use Rattle.std.specs.Int.Count.{count_trailing_zeros}
+use Rattle.smol_str.specs.Plain.{is_plain, is_space}
+
+-- ---- a run is the longest front that passes a test
+
+module _ (p : ℕ → Bool) where
+  -- a part of the bytes behind a part of the run
+  pub run-part : (bytes : List ℕ) (at n : ℕ) → at ≤ prefix_len p bytes
+      → at + prefix_len p (take n (drop at bytes)) ≡ min (at + n) (prefix_len p bytes)
+  run-part [] at n h = grind (arith, common_steps)
+  run-part (x ∷ bytes) zero zero h = omega arith
+  run-part (x ∷ bytes) zero (suc n) h = grind (arith, common_steps, run-part bytes zero n)
+  run-part (x ∷ bytes) (suc at) n h = grind (arith, common_steps, run-part bytes at n)
+
+  pub run-passes : (xs : List ℕ) → list_all p (take (prefix_len p xs) xs) ≡ true
+  run-passes xs = list_all-from_AllPass p _ (λ k d low. search (rules, get_or-take, prefix_len_passes, length-prefix_len))
+
+  pub run-whole : (xs : List ℕ) → drop (prefix_len p xs) xs ≡ [] → list_all p xs ≡ true
+  run-whole xs none =
+      let n = prefix_len p xs in
+      let whole : take n xs ≡ xs = cc (take-append-drop n xs, append-nil (take n xs)) in
+      subst (λ ys. list_all p ys ≡ true) whole (run-passes xs)
+
+  pub run-all : (xs : List ℕ) → list_all p xs ≡ true → prefix_len p xs ≡ length xs
+  run-all [] h = refl
+  run-all (x ∷ xs) h = grind (arith, common_steps, run-all xs)
+
+  pub cut-run : (xs ys : List ℕ) (y : ℕ) → list_all p xs ≡ true → p y ≡ false → drop (prefix_len p (xs ++ y ∷ ys)) (xs ++ y ∷ ys) ≡ y ∷ ys
+  cut-run xs ys y h stop = drop_at xs (y ∷ ys) _ (grind (arith, common_steps, prefix_len-append p xs (y ∷ ys), run-all xs h))
+
+  -- one more of the run, and its end
+  pub run-more : (xs : List ℕ) (k : ℕ) → k ≤ prefix_len p xs → k < length xs → p (get_or xs k 0) ≡ true → k + 1 ≤ prefix_len p xs
+  run-more xs k h low pass = grind (arith, prefix_len_stops p xs 0)
+
+  pub run-end : (xs : List ℕ) (k : ℕ) → k ≤ prefix_len p xs → (k < length xs → p (get_or xs k 0) ≡ false) → prefix_len p xs ≡ k
+  run-end xs k h stop = grind (arith, prefix_len_passes p xs k 0, prefix_len-le-length p xs)
+
+pub ruleset runs = (run-part, run-more, run-end, prefix_len-le-length)
+
+-- ---- by lanes
+
+abbrev equal_mask : ℕ → ℕ → ℕ
+equal_mask a b = cond (eqb a b) 255 0
+
+abbrev below_mask : ℕ → ℕ → ℕ
+below_mask a b = cond (ltb a b) 255 0
+
+abbrev is_stop : ℕ → Bool
+is_stop x = eqb x 34 || eqb x 92 || ltb x 32
+
+abbrev pub marks : List ℕ → ℕ → List ℕ
+marks v n = zip2 bit_or (zip2 bit_or (zip2 equal_mask v (replicate n 34)) (zip2 equal_mask v (replicate n 92))) (zip2 below_mask v (replicate n 32))
+
+one_lane : (a b c : Bool) → top 7 (bit_or (bit_or (cond a 255 0) (cond b 255 0)) (cond c 255 0)) ≡ (a || b || c)
+one_lane a b c = grind (arith, common_steps)
+
+tops : (v : List ℕ) (n : ℕ) → length v ≡ n → map (top 7) (marks v n) ≡ map is_stop v
+tops [] zero long = refl
+tops (x ∷ v) (suc n) long = λ i. one_lane (eqb x 34) (eqb x 92) (ltb x 32) i ∷ tops v n (omega arith) i
+tops v n long = absurd (omega arith)
+
+-- how many lanes come before the first stop, by the mask of the stops
+module _ (v : List ℕ) (n : ℕ) (long : length v ≡ n) (few : n ≤ 64) where
+  abbrev pub mask : ℕ
+  mask = mask_l (map (top 7) (marks v n)) % 2 ^ 64
+
+  first : cond (eqb mask 0) n (count_trailing_zeros 64 mask) ≡ prefix_len is_plain v
+  first =
+      rw (tops v n long, mask_l-mod (map is_stop v) 64 (omega (arith, length-map v is_stop))) (first_set_mask_l is_stop v n long few)
+
+  pub no_stop : mask ≡ 0 → n ≡ prefix_len is_plain v
+  no_stop none = rw none at first
+
+  pub first_stop : ¬ (mask ≡ 0) → count_trailing_zeros 64 mask ≡ prefix_len is_plain v
+  first_stop some = rw (ne_eqb mask 0 some) at first
+
+-- ---- where a text may be cut
+
+-- white space and what is not plain are ASCII
+pub boundary-spaces : (bs : List ℕ) (k : ℕ) → 0 < k → IsUtf8 bs → k ≤ prefix_len is_space bs → IsCharBoundary bs k
+boundary-spaces bs k some u h =
+    let last = prefix_len_passes is_space bs (k - 1) 0 (omega arith) in
+    subst (IsCharBoundary bs) (omega arith)
+    (IsCharBoundary-after_ascii bs (k - 1) u (omega (arith, prefix_len-le-length is_space bs)) (grind (arith, nat_tests, last)))
+
+pub boundary-plain : (bs : List ℕ) (k : ℕ) → k ≡ prefix_len is_plain bs → IsCharBoundary bs k
+boundary-plain bs k is = (
+  omega (arith, prefix_len-le-length is_plain bs),
+  λ low high. absurd (true≢false (grind (arith, nat_tests, common_steps, prefix_len_stops is_plain bs 0))),
+)

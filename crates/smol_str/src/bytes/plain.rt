@@ -1,0 +1,93 @@
+//! The front of bytes that JSON writes as they stand, and that of its white space.
+ghost use Rattle.std.specs.Prelude.{◌≡◌, ◌<◌, ◌≤◌, ◌+◌, length, take, drop};
+ghost use Rattle.std.specs.List.{prefix_len};
+ghost use Rattle.smol_str.specs.Plain.{is_plain, is_space};
+
+use crate::bytes::ascii::load;
+use std::simd::prelude::*;
+
+/// The plain text before the first character that is not, and the rest.
+#[inline(always)]
+pub(crate) fn split_plain(text: &str) -> (&str, &str)
+    ensures plain { result.0.now ≡ take (prefix_len is_plain text.now) text.now }
+    ensures rest { result.1.now ≡ drop (prefix_len is_plain text.now) text.now }
+{
+    text.split_at(plain_len(text.as_bytes()))
+}
+
+/// How many plain bytes come first. Where there are few, few are tested at a time.
+#[inline(always)]
+fn plain_len(bytes: &[u8]) -> usize
+    ensures { result ≡ prefix_len is_plain bytes.now }
+{
+    match bytes.len() {
+        0 => 0,
+        1..=3 => plain_len_by::<1>(bytes),
+        4..=7 => plain_len_by::<4>(bytes),
+        8..=15 => plain_len_by::<8>(bytes),
+        _ => plain_len_by::<16>(bytes),
+    }
+}
+
+/// The same, `N` bytes at a time. The last block may overlap the one before it.
+#[inline(always)]
+#[tactic(auto, using(crate::proofs::PlainLemmas::runs))]
+fn plain_len_by<const N: usize>(bytes: &[u8]) -> usize
+    requires few { (0 < N) × (N ≤ 64) }
+    requires enough { N ≤ length bytes.now }
+    ensures { result ≡ prefix_len is_plain bytes.now }
+{
+    let last = bytes.len() - N;
+    let mut at = 0;
+    while at < last {
+        let run = plain_lanes::<N>(bytes, at);
+        if run < N {
+            return at + run;
+        }
+        at += N;
+    }
+    last + plain_lanes::<N>(bytes, last)
+}
+
+/// How many of `N` bytes from an index on come before the first that is not plain.
+#[inline(always)]
+fn plain_lanes<const N: usize>(bytes: &[u8], at: usize) -> usize
+    requires few { N ≤ 64 }
+    requires within { at + N ≤ length bytes.now }
+    ensures { result ≡ prefix_len is_plain (take N (drop at bytes.now)) }
+{
+    let lanes = load::<N>(bytes, at);
+    let stops = lanes.simd_eq(Simd::splat(b'"'))
+        | lanes.simd_eq(Simd::splat(b'\\'))
+        | lanes.simd_lt(Simd::splat(b' '));
+    let marks = stops.to_bitmask();
+    if marks == 0 {
+        return N;
+    }
+    marks.trailing_zeros() as usize
+}
+
+/// The text without the white space before it.
+#[inline(always)]
+pub(crate) fn without_spaces(text: &str) -> &str
+    ensures { result.now ≡ drop (prefix_len is_space text.now) text.now }
+{
+    &text[spaces_len(text.as_bytes())..]
+}
+
+/// How many bytes of white space come first.
+#[inline(always)]
+#[tactic(auto, using(crate::proofs::PlainLemmas::runs))]
+fn spaces_len(bytes: &[u8]) -> usize
+    ensures { result ≡ prefix_len is_space bytes.now }
+{
+    let mut at = 0;
+    while at < bytes.len() {
+        let byte = bytes[at];
+        if byte != b' ' && byte != b'\t' && byte != b'\n' && byte != b'\r' {
+            return at;
+        }
+        at += 1;
+    }
+    at
+}
