@@ -1,6 +1,6 @@
 //! Tests of what no clause says: memory refused and counted, printing, JSON, and values by serde's traits.
-
 mod calls;
+mod dropped;
 mod faulty_calls;
 mod format;
 mod json;

@@ -77,8 +77,8 @@ pub fn leaked(text: String) -> &'static str {
 /// A call, its name as the library's documentation has it, and what it asks for.
 pub type Row<C> = (C, &'static str, Wants);
 
-/// Each call asks for what it is to ask for on a text of each shape; and once on texts of each length up to 400 bytes, about
-/// the ends of buffers and far above them, where memory is counted.
+/// Each call asks for what it is to ask for on a text of each shape. Where memory is counted, it does not give up on texts of
+/// each length below 400 bytes, about the ends of buffers and far above; nor where a wide character is the last.
 pub fn check_calls<C: Call>(rt: HostRuntime, rows: &[Row<C>]) -> Result<(), Fail> {
     let test = Test::begin(rt);
     for (index, &shape) in shapes(&test).iter().enumerate() {
@@ -89,11 +89,22 @@ pub fn check_calls<C: Call>(rt: HostRuntime, rows: &[Row<C>]) -> Result<(), Fail
         }
     }
     if can_refuse(test.alloc) {
+        for wide in ["é", "€", "🦀"] {
+            check_wide(&test, rows, wide);
+        }
         check_lengths(&test, rows, leaked(test.repeated("a", HUGE)));
         let all_sizes = test.repeated("\0\n\"\\Σ€🦀", HUGE / 13);
         check_lengths(&test, rows, leaked(all_sizes));
     }
     test.end()
+}
+
+/// Each call on texts of which the last character ends about the end of a buffer.
+fn check_wide<C: Call>(test: &Test, rows: &[Row<C>], wide: &str) {
+    for count in 30..45 {
+        let text = leaked(ok_string(test, repeated_and(test.alloc, "a", count, wide)));
+        check_length(test, rows, text, text.len());
+    }
 }
 
 /// A multiple of 13, which the characters of one to four bytes above have.
@@ -129,12 +140,13 @@ fn check_once<C: Call>(test: &Test, on: &On<C>, wants: Wants) {
     }
 }
 
-/// The two halves of a text, of which the second may not fit where the first does.
-pub fn halves(text: &str) -> [&str; 2] {
+/// The two halves of a text, of which the second may not fit where the first does, and no text behind them.
+pub fn pieces(text: &str) -> [&str; 3] {
     let half = text.len() / 2;
     [
         text.get(..half).unwrap_or(""),
         text.get(half..).unwrap_or(""),
+        "",
     ]
 }
 

@@ -3,8 +3,8 @@ use super::replace::{assert_rows, upstream_rows};
 use smol_str::{Place, SmolStr, StrExt};
 use std::alloc::{AllocError, Global};
 use std::test::Fail;
-use test_support::test::{Test, ok_value, same_value};
-use test_support::texts::{long_blank, long_capitals, long_text};
+use test_support::test::{Test, ok_string, ok_value, same_text, same_value};
+use test_support::texts::{long_blank, long_capitals, long_text, repeated_and};
 
 /// A case call.
 #[derive(Clone, Copy)]
@@ -88,4 +88,30 @@ fn long_rows(rt: HostRuntime) -> Result<(), Fail> {
 fn assert_answer(test: &Test, call: Call, text: &str, wanted: &str, place: Place) {
     let value = ok_value(test, answer(test.alloc, call, text));
     same_value(test, &value, wanted, place, &text);
+}
+
+/// Letters whose case has more bytes, fewer, or more letters.
+static LETTERS: [&str; 7] = ["ΐ", "ǅ", "ß", "İ", "ŉ", "ﬃ", "Σ"];
+
+// Far above the buffer, and about its end.
+#[test]
+fn full_case_as_std(rt: HostRuntime) -> Result<(), Fail> {
+    let test = Test::begin(rt);
+    for letter in &LETTERS {
+        check_as_std(&test, test.repeated(letter, 100).as_str());
+        for count in 30..45 {
+            let text = ok_string(&test, repeated_and(test.alloc, "a", count, letter));
+            check_as_std(&test, text.as_str());
+        }
+    }
+    test.end()
+}
+
+fn check_as_std(test: &Test, text: &str) {
+    let lower = ok_string(test, text.to_lowercase(test.alloc));
+    let value = ok_value(test, text.to_lowercase_smolstr(test.alloc));
+    same_text(test, value.as_str(), lower.as_str(), &text);
+    let upper = ok_string(test, text.to_uppercase(test.alloc));
+    let value = ok_value(test, text.to_uppercase_smolstr(test.alloc));
+    same_text(test, value.as_str(), upper.as_str(), &text)
 }

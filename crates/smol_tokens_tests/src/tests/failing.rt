@@ -4,8 +4,10 @@ ghost use Rattle.std.specs.Prelude.{Some, ◌≡◌, []};
 
 use smol_str::stream::CHUNK;
 use std::alloc::Global;
+use std::fmt::Debug;
 use std::io;
 use std::io::{ErrorKind, Read, Write};
+use test_support::refuse::{count_blocks, start_counts};
 use test_support::test::{Test, holds, same};
 
 /// How many bytes a call the readers and writers give and take at most.
@@ -36,8 +38,7 @@ fn is_tried(place: usize, size: usize) -> bool {
 
 /// A reader that gives its bytes, at most `step` a call, and returns the error `failure` at the call
 /// `fails_at`, counted from 1. It keeps the least and the greatest length of the buffers that it was
-/// given.
-#[derive(Drop)]
+/// given. It cannot be dropped, so that no test forgets its `end`, which looks for leaks.
 pub struct Trickle<'a> {
     pub rest: &'a [u8],
     pub step: usize,
@@ -66,10 +67,32 @@ impl Read for Trickle<'_> {
     }
 }
 
+impl Trickle<'_> {
+    /// No memory is left that was asked for since the reader was made.
+    pub fn end(self, test: &Test, row: &impl Debug) {
+        let Trickle {
+            rest: _,
+            step: _,
+            calls: _,
+            fails_at: _,
+            failure: _,
+            least: _,
+            most: _,
+        } = self;
+        no_blocks(test, row);
+    }
+}
+
+/// All memory is freed that was asked for since the counts began.
+fn no_blocks(test: &Test, row: &impl Debug) {
+    holds(test, count_blocks(test.alloc) == 0, &(row, "leaks"));
+}
+
 /// A reader of these bytes; it never fails where `fails_at` is 0, and else returns EINTR.
-pub fn trickle_of(rest: &[u8], step: usize, fails_at: usize) -> Trickle<'_>
+pub fn trickle_of<'a>(test: &Test, rest: &'a [u8], step: usize, fails_at: usize) -> Trickle<'a>
     ensures { result.rest.now ≡ rest.now }
 {
+    start_counts(test.alloc);
     Trickle {
         rest,
         step,
@@ -162,14 +185,14 @@ pub trait Reading {
 /// which that fails.
 pub fn fails_at_each_read<C: Reading>(test: &Test, call: &C, bytes: &[u8], wanted: &[u8]) {
     for step in STEPS {
-        let calls = count_reads(test, call, trickle_of(bytes, step, 0), wanted);
+        let calls = count_reads(test, call, trickle_of(test, bytes, step, 0), wanted);
         for fails_at in 1..calls.saturating_add(1) {
             if is_tried(fails_at.saturating_mul(step), bytes.len()) {
                 fails_at_read(test, call, bytes, (step, fails_at));
             }
         }
         // a failure after the last read is not met
-        let after = trickle_of(bytes, step, calls.saturating_add(1));
+        let after = trickle_of(test, bytes, step, calls.saturating_add(1));
         let row = (call.name(), bytes.len(), step, calls);
         same(test, &count_reads(test, call, after, wanted), &calls, &row);
     }
@@ -187,7 +210,9 @@ fn count_reads<C: Reading>(test: &Test, call: &C, mut reader: Trickle<'_>, wante
         let at_end = usize::from(call.reads_the_end());
         same(test, &reader.calls.saturating_sub(at_end), &row.1, &row);
     }
-    reader.calls
+    let calls = reader.calls;
+    reader.end(test, &row);
+    calls
 }
 
 /// No buffer was empty or too large.
@@ -203,7 +228,7 @@ fn fails_at_read<C: Reading>(
     (step, fails_at): (usize, usize),
 ) {
     let row = (call.name(), bytes.len(), step, fails_at);
-    let mut reader = trickle_of(bytes, step, fails_at);
+    let mut reader = trickle_of(test, bytes, step, fails_at);
     if let Some(error) = failure_at(place_of(row)) {
         reader.failure = error;
     }
@@ -212,6 +237,7 @@ fn fails_at_read<C: Reading>(
     same(test, &kind, &Some(wanted), &row);
     same(test, &reader.calls, &fails_at, &row);
     has_read(test, call, &reader, &row);
+    reader.end(test, &row);
 }
 
 /// Another number at the next place, and in the next row.
@@ -253,13 +279,17 @@ fn count_writes<C: Writing>(
     (step, fails_at): (usize, usize),
 ) -> usize {
     let row = (call.name(), bytes.len(), step, fails_at);
+    start_counts(test.alloc);
     let mut writer = empty_drip(test.alloc, step, fails_at, None);
     same(test, &call.write(test, &mut writer), &None, &row);
     holds(test, writer.taken.as_slice() == bytes, &row);
     if step == 1 {
         same(test, &writer.calls, &bytes.len(), &row);
     }
-    writer.calls
+    let calls = writer.calls;
+    drop(writer);
+    no_blocks(test, &row);
+    calls
 }
 
 /// By single bytes, each call before the failure took one.
@@ -272,6 +302,7 @@ fn fails_at_write<C: Writing>(
     let row = (call.name(), bytes.len(), step, fails_at);
     let failure = failure_at(place_of(row));
     let wanted = failure.unwrap_or(io::Error::from(ErrorKind::WriteZero));
+    start_counts(test.alloc);
     let mut writer = empty_drip(test.alloc, step, fails_at, failure);
     let kind = call.write(test, &mut writer);
     same(test, &kind, &Some(Kind::Io(cause_of(&wanted))), &row);
@@ -279,4 +310,6 @@ fn fails_at_write<C: Writing>(
     let taken = writer.taken.as_slice();
     let is_as_long = step != 1 || taken.len() == fails_at.saturating_sub(1);
     holds(test, bytes.starts_with(taken) && is_as_long, &row);
+    drop(writer);
+    no_blocks(test, &row);
 }

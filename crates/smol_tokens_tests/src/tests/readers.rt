@@ -153,13 +153,14 @@ fn end_after_each_byte(rt: HostRuntime) -> Result<(), Fail> {
 
 fn check_end(test: &Test, reads: &Reads, front: &[u8]) {
     let row = (reads.name(), front.len());
-    let mut reader = trickle_of(front, 1, 0);
+    let mut reader = trickle_of(test, front, 1, 0);
     let is_of_a_value = matches!(reads.call, Call::WireForm | Call::LimitedForm);
     let is_right = match reads.read(test, &mut reader) {
         Ok(all) => all.as_slice() == front && !is_of_a_value,
         Err(kind) => kind == Kind::Ended && is_of_a_value,
     };
     holds(test, is_right && reader.rest.is_empty(), &row);
+    reader.end(test, &row);
 }
 
 #[test]
@@ -171,7 +172,8 @@ fn no_read_into_nothing(rt: HostRuntime) -> Result<(), Fail> {
 }
 
 fn check_no_read(test: &Test, call: Call) {
-    let (reads, mut reader) = (Reads { call, size: 0 }, trickle_of(b"ab", 1, 1));
+    let (reads, mut reader) = (Reads { call, size: 0 }, trickle_of(test, b"ab", 1, 1));
     let is_done = reads.read(test, &mut reader).is_ok();
     is_so(test, is_done && reader.calls == 0, reads.name());
+    reader.end(test, &reads.name());
 }

@@ -1,5 +1,5 @@
 //! `run` with memory refused: nothing is written, or all.
-use super::failing::{Drip, Kind, empty_drip, trickle_of};
+use super::failing::{Drip, Kind, empty_drip};
 use super::reports::report_by;
 use super::runs::{Words, fixed_state, kind_of};
 use super::words::mode_by;
@@ -95,7 +95,7 @@ impl Refusable for Run<'_> {
         alloc: Global,
         (mode, mut writer): (Mode, Drip),
     ) -> Result<Vec<u8>, (Kind, Vec<u8>)> {
-        let mut reader = trickle_of(self.input, CHUNK, 0);
+        let mut reader = self.input;
         match run(alloc, fixed_state(), mode, &mut reader, &mut writer) {
             Ok(()) => Ok(writer.taken),
             Err(fault) => Err((kind_of(&fault), writer.taken)),

@@ -6,7 +6,7 @@ use test_support::test::{Test, holds, ok_bytes, ok_string};
 use test_support::texts::{full_text, joined, long_blank, long_capitals, long_text, repeated_and};
 
 /// The words of a mode, an input, and the report on it.
-static REPORTS: [(Words, &[u8], &[u8]); 26] = [
+static REPORTS: [(Words, &[u8], &[u8]); 27] = [
     (&[], b"abc", b"inline 3 abc\n"),
     (
         &["show"],
@@ -34,6 +34,11 @@ static REPORTS: [(Words, &[u8], &[u8]); 26] = [
     ),
     (&["join"], b"", b"inline 0 \n"),
     (&["join"], b"\n", b"inline 0 \n"),
+    (
+        &["join"],
+        b"aaaaaaaaaaaaaaaaaaaaaaaaaaaaaaaaaaaaaaaa\n\n",
+        b"heap 40 aaaaaaaaaaaaaaaaaaaaaaaaaaaaaaaaaaaaaaaa\n",
+    ),
     (
         &["join"],
         b"aaaaaaaaaaaa\nbbbbbbbbbbb\n",

@@ -110,10 +110,12 @@ fn end_after_each_byte(rt: HostRuntime) -> Result<(), Fail> {
 
 /// What is returned after the whole input came.
 fn check_ended(test: &Test, words: Words, input: &[u8], step: usize, wanted: Option<Kind>) {
-    let mut reader = trickle_of(input, step, 0);
+    let mut reader = trickle_of(test, input, step, 0);
     let ended = Runs { words }.read(test, &mut reader).err();
-    same(test, &ended, &wanted, &(words, input.len()));
-    holds(test, reader.rest.is_empty(), &(words, input.len()));
+    let row = (words, input.len());
+    same(test, &ended, &wanted, &row);
+    holds(test, reader.rest.is_empty(), &row);
+    reader.end(test, &row);
 }
 
 // The only byte, the last of whole pieces and of a part of one, and a surrogate.

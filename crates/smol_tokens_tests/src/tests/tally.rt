@@ -1,5 +1,6 @@
 //! Tallies: rows, many tokens, and memory refused.
 use smol_str::{Place, SmolStr};
+use smol_tokens_core::fault::RunFault;
 use smol_tokens_core::tally::{AddFault, Tally};
 use std::alloc::Global;
 use std::test::Fail;
@@ -229,6 +230,16 @@ fn check_no_request(test: &Test, mut tally: Tally) {
     is_so(test, !was_refused && is_last, "no request");
     same_times(test, added, Some(6), "add");
     same_times(test, count, Some(2), "count")
+}
+
+#[test]
+fn a_fault_of_a_run_drops_the_token(rt: HostRuntime) -> Result<(), Fail> {
+    let test = Test::begin(rt);
+    start_counts(test.alloc);
+    drop(RunFault::from(AddFault::OutOfMemory(test.value(long_text()))));
+    drop(RunFault::from(AddFault::Full(test.value(long_text()))));
+    is_so(&test, count_blocks(test.alloc) == 0, "blocks");
+    test.end()
 }
 
 /// The example in the documentation of `Tally`.

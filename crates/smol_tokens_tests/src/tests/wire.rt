@@ -111,10 +111,12 @@ fn check_found(test: &Test, bytes: &[u8], text: &str, place: Place) {
 
 /// A reader of single bytes gives the text.
 fn check_read(test: &Test, bytes: &[u8], text: &str, place: Place) {
-    let mut reader = trickle_of(bytes, 1, 0);
+    let mut reader = trickle_of(test, bytes, 1, 0);
     let value = ok(test, SmolStr::deserialize_reader(test.alloc, &mut reader));
     same_value(test, &value, text, place, &"read");
     same_bytes(test, reader.rest, b"a\xff", text);
+    drop(value);
+    reader.end(test, &text);
 }
 
 fn same_bytes(test: &Test, found: &[u8], wanted: &[u8], row: &str) {

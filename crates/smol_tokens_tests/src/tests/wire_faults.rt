@@ -105,14 +105,16 @@ fn assert_refused_by(test: &Test, bytes: &[u8], step: usize, (kind, left): (Kind
     let row = (bytes.len(), step);
     same_fault(test, from_wire(test.alloc, bytes).err(), kind, row);
     same_fault(test, split_wire(test.alloc, bytes).err(), kind, row);
-    let mut reader = trickle_of(bytes, step, 0);
+    let mut reader = trickle_of(test, bytes, step, 0);
     let read = SmolStr::deserialize_reader(test.alloc, &mut reader);
     same_fault(test, read.err(), kind, row);
     same(test, &reader.rest.len(), &left, &row);
-    let mut reader = trickle_of(bytes, step, 0);
+    reader.end(test, &row);
+    let mut reader = trickle_of(test, bytes, step, 0);
     let read = deserialize_limited(test.alloc, &mut reader, usize::MAX);
     same_limited_fault(test, read.err(), kind, row);
     same(test, &reader.rest.len(), &left, &row);
+    reader.end(test, &row);
 }
 
 fn same_fault(test: &Test, found: Option<DecodeFault>, kind: Kind, row: (usize, usize)) {

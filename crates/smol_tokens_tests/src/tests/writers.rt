@@ -2,11 +2,11 @@
 use super::failing::{Drip, Kind, Writing, cause_of, empty_drip, fails_at_each_write};
 use super::readers::forms;
 use super::wire::ok_found;
-use smol_str::SmolStr;
 use smol_str::borsh::{BorshSerialize, EncodeFault, from_wire};
 use smol_str::stream::write_steps;
+use smol_str::{INLINE_CAP, SmolStr};
 use std::test::Fail;
-use test_support::test::{Test, same, same_count};
+use test_support::test::{Test, same};
 
 /// A call that writes a wire form.
 #[derive(Drop)]
@@ -58,13 +58,21 @@ fn fails_at_each_call(rt: HostRuntime) -> Result<(), Fail> {
     test.end()
 }
 
-// The size goes out by one call, and then the text by another.
+// An inline text goes out by one call. Of a longer one the size does, and then the text by another.
 #[test]
 fn few_calls(rt: HostRuntime) -> Result<(), Fail> {
     let test = Test::begin(rt);
-    let value = test.value(test.repeated("a", 5_000_000).as_str());
-    let mut writer = empty_drip(test.alloc, usize::MAX, 0, None);
-    same(&test, &serialized(&value, &mut writer), &None, &"serialize");
-    same_count(&test, writer.calls, 2, "calls");
+    for len in 0..=INLINE_CAP {
+        check_calls(&test, len, 1);
+    }
+    check_calls(&test, INLINE_CAP + 1, 2);
+    check_calls(&test, 5_000_000, 2);
     test.end()
+}
+
+fn check_calls(test: &Test, len: usize, wanted: usize) {
+    let value = test.value(test.repeated("a", len).as_str());
+    let mut writer = empty_drip(test.alloc, usize::MAX, 0, None);
+    same(test, &serialized(&value, &mut writer), &None, &len);
+    same(test, &writer.calls, &wanted, &len);
 }

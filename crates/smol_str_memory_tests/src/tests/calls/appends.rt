@@ -2,7 +2,7 @@
 use super::Wants::{AsStd, Exactly};
 use super::by_std::Asks::{AndChar, ByChar, ByText, Nothing, Twice, WithRoom};
 use super::things::{Thing, changed};
-use super::{Row, Wants, check_calls, halves};
+use super::{Row, Wants, check_calls, pieces};
 use smol_str::{Piece, SmolStrBuilder};
 use std::alloc::Global;
 use std::fmt::Write;
@@ -96,15 +96,15 @@ impl super::Call for Call {
         (mut builder, string): (SmolStrBuilder, String),
     ) -> Result<Thing, Thing> {
         match self {
-            Call::Push | Call::PushToFull => changed(builder.push('a'), builder),
+            Call::Push | Call::PushToFull => changed(builder.push('€'), builder),
             Call::PushStr | Call::PushStrToEmpty => changed(builder.push_str(text), builder),
             Call::WriteStr => changed(builder.write_str(text), builder),
             Call::WriteFmt => changed(builder.write_fmt(text), builder),
             Call::AppendTo => changed(text.append_to(&mut builder), builder),
             Call::ExtendChars => changed(builder.extend_chars(text.chars()), builder),
-            Call::ExtendStrs => changed(builder.extend_strs(halves(text).into_iter()), builder),
+            Call::ExtendStrs => changed(builder.extend_strs(pieces(text).into_iter()), builder),
             Call::ExtendStrings => changed(builder.extend_strings([string].iter()), builder),
-            Call::Extend => changed(builder.extend(halves(text)), builder),
+            Call::Extend => changed(builder.extend(pieces(text)), builder),
             Call::ExtendByRefs => changed(builder.extend([string].iter()), builder),
         }
     }

@@ -17,13 +17,13 @@ pub enum Asks {
     Owned,
     /// A `String` with room for the text and a short text.
     WithRoom,
-    /// A `String` with room for the text, one ASCII character and a short text.
+    /// A `String` with room for the text, a character of three bytes and a short text.
     AndChar,
     /// A `String` with room for the text twice and a short text.
     Twice,
     /// The text appended to a `String` of it that has room for a short text.
     ByText,
-    /// An ASCII character appended to a `String` of the text that has no room.
+    /// A character of three bytes appended to a `String` of the text that has no room.
     ByChar,
     /// A `String` with room, and a shared text.
     Built,
@@ -82,7 +82,7 @@ fn asked_by_std(alloc: Global, asks: Asks, text: &str) -> Option<Asked> {
         Asks::Kept => asked_to_keep(alloc, text),
         Asks::Owned => asked_for_room(alloc, text.len()),
         Asks::WithRoom => asked_for_room(alloc, room),
-        Asks::AndChar => asked_for_room(alloc, room.saturating_add(1)),
+        Asks::AndChar => asked_for_room(alloc, room.saturating_add(3)),
         Asks::Twice => asked_for_room(alloc, room.saturating_add(text.len())),
         Asks::ByText => asked_to_append(alloc, text),
         Asks::ByChar => asked_to_push(alloc, text),
@@ -120,6 +120,6 @@ fn asked_to_append(alloc: Global, text: &str) -> Option<Asked> {
 fn asked_to_push(alloc: Global, text: &str) -> Option<Asked> {
     let mut owned = String::from_str(alloc, text).ok()?;
     let before = count_asked(alloc);
-    owned.push('a').ok()?;
+    owned.push('€').ok()?;
     Some(count_asked(alloc).since(before))
 }

@@ -2,7 +2,7 @@
 use super::Wants::{AsStd, Exactly};
 use super::by_std::Asks::{Nothing, Owned};
 use super::things::{Thing, things_of};
-use super::{PRINTED, Row, SHARED, Wants, check_calls, halves};
+use super::{PRINTED, Row, SHARED, Wants, check_calls, pieces};
 use smol_str::{SmolStr, SmolStrBuilder, ToSmolStr, format_smolstr};
 use std::alloc::{AllocError, Global};
 use std::borrow::CowStr;
@@ -75,7 +75,7 @@ impl super::Call for Call {
             )),
             Call::FromBorrowed => things_of(SmolStr::from_cow_str(alloc, CowStr::Borrowed(text))),
             Call::FromChars => things_of(SmolStr::from_chars(alloc, text.chars())),
-            Call::FromStrs => things_of(SmolStr::from_strs(alloc, halves(text).into_iter())),
+            Call::FromStrs => things_of(SmolStr::from_strs(alloc, pieces(text).into_iter())),
             Call::Collect => things_of(collected(alloc, text)),
             Call::ToSmolStr => things_of(text.to_smolstr(alloc)),
             Call::Format => things_of(format_smolstr!(alloc; "{}", text)),
