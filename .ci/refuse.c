@@ -1,8 +1,8 @@
 /* Refuses memory to a test program, and counts what it asks for, where its tests want that.
 
-   Preloaded, this library stands before the C library's malloc, realloc and free. A test sends it
-   messages: requests for sizes that no allocation can have, so that without the library each is
-   refused and the same program runs as it is. Message k is BASE + k * WORD, plus its argument n:
+   Preloaded, this library stands before the C library's malloc, realloc and free. A test sends it messages: requests for
+   sizes that no allocation can have, so that without the library each is refused and the same program runs as it is. Message
+   k is BASE + k * WORD, plus its argument n:
 
        0   the nth request from here on is refused, and no other
        1   the nth request from here on is refused, and each later one
@@ -14,12 +14,12 @@
        7   the same of the blocks that were handed out and not freed
        8   the same of the bytes of these blocks, as the C library has made room for them
        9   nothing is refused from here on, but a block that is to give back more than SPARE bytes stays as it is
+      10   a test has ended that made n comparisons
 
    A block that is made smaller is no request: it needs no memory, so it is not counted, and refused by message 9 alone.
 
-   crates/test_support/src/refuse.rt sends these messages. At the process's end one line goes to the
-   file that REFUSE_LOG names: how often the program asked for refusals, and how many requests were
-   refused. */
+   crates/test_support/src/refuse.rt sends these messages. At the end of the process one line goes to the file that REFUSE_LOG
+   names: how often refusals were asked for, how many requests were refused, how many tests ended, and their comparisons. */
 #include <malloc.h>
 #include <stddef.h>
 #include <stdint.h>
@@ -42,7 +42,7 @@ static _Alignas(max_align_t) char granted_block[sizeof(max_align_t)];
 static enum { NONE, ONE, FROM, SMALLER } mode = NONE;
 static size_t nth;                     /* the first request to refuse, from 1 */
 static size_t seen, met;               /* requests and refusals since the mode was set */
-static size_t armed, total;            /* the same two numbers for the whole process */
+static size_t armed, total, ended, compared; /* of the whole process: the same two numbers, and its tests' */
 /* The counts; the last two wrap where blocks of before are freed. */
 static uint32_t requests, bytes, blocks, held;
 
@@ -55,7 +55,7 @@ static void arm(int new_mode, size_t n) {
 
 /* Whether the size is a message; then *block is what malloc returns. */
 static int is_message(size_t size, void **block) {
-    if (size < BASE || size >= BASE + 10 * WORD) return 0;
+    if (size < BASE || size >= BASE + 11 * WORD) return 0;
     size_t n = (size - BASE) % WORD;
     int granted = 0;
     switch ((size - BASE) / WORD) {
@@ -69,6 +69,7 @@ static int is_message(size_t size, void **block) {
     case 7: granted = blocks >> n & 1; break;
     case 8: granted = held >> n & 1; break;
     case 9: arm(SMALLER, 0); break;
+    case 10: ended++; compared += n; break;
     }
     *block = granted ? granted_block : NULL;
     return 1;
@@ -114,9 +115,9 @@ void free(void *block) {
 __attribute__((destructor)) static void log_counts(void) {
     const char *name = getenv("REFUSE_LOG");
     mode = NONE;
-    if (name == NULL || armed == 0) return;
+    if (name == NULL || armed + ended == 0) return;
     FILE *log = fopen(name, "a");
     if (log == NULL) return;
-    fprintf(log, "%zu %zu\n", armed, total);
+    fprintf(log, "%zu %zu %zu %zu\n", armed, total, ended, compared);
     fclose(log);
 }

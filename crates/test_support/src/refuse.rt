@@ -200,6 +200,11 @@ pub fn count_held(alloc: Global) -> u32 {
     count(alloc, 8)
 }
 
+/// A test ends, and has made so many comparisons.
+pub fn tell_compared(alloc: Global, compared: u32) {
+    let _ = is_granted(alloc, BASE + 10 * WORD + compared as usize);
+}
+
 /// A count, bit by bit; 0 without the library.
 fn count(alloc: Global, message: usize) -> u32
     requires { message < 9 }

@@ -3,7 +3,8 @@
 //! The first row that is wrong is kept, and the test ends with it; the rows behind it are gone through all the same. So no
 //! helper gives up, and all that a row holds is dropped at one place, which costs the proof of a test far less than an
 //! assertion or a `?` does. A helper of one type costs its caller less than one of any type. A test that compares nothing
-//! fails.
+//! fails, and `.ci/refused` pins how many comparisons the tests of a crate make.
+use crate::refuse::tell_compared;
 use crate::texts::repeated;
 use smol_str::{Place, SmolStr, SmolStrBuilder};
 use std::alloc::{AllocError, Global};
@@ -19,7 +20,7 @@ const TOLD: usize = 480;
 pub struct Test {
     pub alloc: Global,
     wrong: Cell<Option<InlineText<TOLD>>>,
-    has_compared: Cell<bool>,
+    compared: Cell<u32>,
 }
 
 impl Test {
@@ -33,7 +34,7 @@ impl Test {
         Test {
             alloc,
             wrong: Cell::new(None),
-            has_compared: Cell::new(false),
+            compared: Cell::new(0),
         }
     }
 
@@ -76,19 +77,20 @@ impl Test {
 
     /// The first wrong row, where there is one, or that nothing was compared.
     pub fn first_wrong(self) -> Option<InlineText<TOLD>> {
-        if !self.has_compared.get() {
+        if self.compared.get() == 0 {
             self.fail(&"nothing was compared");
         }
         let Test {
             alloc: _,
             wrong,
-            has_compared: _,
+            compared: _,
         } = self;
         wrong.into_inner()
     }
 
     /// The test's result: its first wrong row, where there is one.
     pub fn end(self) -> Result<(), Fail> {
+        tell_compared(self.alloc, self.compared.get());
         match self.first_wrong() {
             Some(row) => Err(Fail::new(row.as_str())),
             None => Ok(()),
@@ -114,7 +116,7 @@ macro_rules! expect_eq {
 
 /// It is so, in a row of any type.
 pub fn holds(test: &Test, is_so: bool, row: &impl Debug) {
-    test.has_compared.set(true);
+    test.compared.set(test.compared.get().saturating_add(1));
     if !is_so {
         test.fail(row);
     }
