@@ -114,6 +114,10 @@ fn read_entry(alloc: Global, json: &str) -> Result<Entry, Error> {
     serde_json::from_str(alloc, json)
 }
 
+fn read_tree(alloc: Global) -> Result<Entry, Error> {
+    serde_json::from_value(alloc, serde_json::from_str(alloc, JSON)?)
+}
+
 fn check_entry(test: &Test, entry: &Entry) {
     has_text(test, &entry.name, "é\n", Place::Inline, "name");
     let alias = entry.aliases.last().map(|alias| alias.place());
@@ -144,14 +148,19 @@ static FIELDS_NOT_READ: [&str; 4] = [
 #[test]
 fn each_request_in_turn(rt: HostRuntime) -> Result<(), Fail> {
     let test = Test::begin(rt);
-    let asked = each_refused(&test, "an entry there and back", &Rewritten);
+    let asked = each_refused(&test, "SmolStr::deserialize", &Rewritten::OfText);
     made_requests(&test, asked, &"an entry");
+    let asked = each_refused(&test, "SmolStr::deserialize_owned", &Rewritten::OfTree);
+    made_requests(&test, asked, &"an entry of a tree");
     test.end()
 }
 
-/// The entry, read and written again.
+/// The entry, read by the calls of its values, and written again.
 #[derive(Drop)]
-struct Rewritten;
+enum Rewritten {
+    OfText,
+    OfTree,
+}
 
 impl Refusable for Rewritten {
     type Input = ();
@@ -163,7 +172,11 @@ impl Refusable for Rewritten {
     fn input(&self, _test: &Test) {}
 
     fn call(&self, alloc: Global, _input: ()) -> Result<String, Error> {
-        serde_json::to_string(alloc, &read_entry(alloc, JSON)?)
+        let entry = match self {
+            Rewritten::OfText => read_entry(alloc, JSON)?,
+            Rewritten::OfTree => read_tree(alloc)?,
+        };
+        serde_json::to_string(alloc, &entry)
     }
 
     fn check(&self, test: &Test, made: Result<String, Error>) {
