@@ -7,14 +7,14 @@
 //! The modules lie in layers, and each uses those below it:
 //!
 //! ```text
-//!     json_string  serde_impls  borsh  str_ext  format  collect    by public items alone, as users do; `.ci/api` looks
+//!     laws               what holds of the definitions, by functions that do nothing
+//!     json_string  serde_impls  borsh  str_ext  format  collect    by public items and `bytes`; `.ci/api` looks
 //!     builder            a text that grows
 //!     value              a text and its place; what makes, lends, compares and prints it
-//!     shared             the shared text of a value on the heap: the one line to change for several threads
 //!     kernel             building blocks for loops of your own
 //!     buffer  stream     a short text in its own bytes; reading and writing by single calls
-//!     bytes              slices, zeroed arrays, searches and ASCII
-//!     laws               what holds of the definitions, by functions that do nothing
+//!     shared             the shared text of a value on the heap: the one line to change for several threads
+//!     bytes              slices, zeroed arrays, searches, ASCII and plain JSON
 //! ```
 #![tactic(auto)]
 
