@@ -2,7 +2,8 @@
 -- and `Consumes` of std say it of a whole list.
 --     Gave remaining old new bytes         the reader gave the bytes, where `remaining` says what a reader has left
 --     AppendsBeginning held holds bytes    the writer took a beginning of the bytes, but not all of them
---     GaveAllBelow input left n            the reader gave all that it had, fewer than n bytes
+--     GaveAll input left                   the reader gave all that it had
+--     GaveAllBelow input left n            the same, and that were fewer than n bytes
 --     GaveBelow input left n               it gave fewer than n bytes, and may have more
 --     GaveUpTo input left n                it gave at least one byte, and n at the most
 --     AfterReadFault limit input left      what it gave where not all bytes were read up to a limit
@@ -19,6 +20,10 @@ Gave remaining old new bytes = Consumes (remaining old) (remaining new) bytes
 abbrev pub AppendsBeginning : Option (List ℕ) → Option (List ℕ) → List ℕ → Type 0
 AppendsBeginning held holds bytes =
     (front : List ℕ) × (rest : List ℕ) × (bytes ≡ front ++ rest) × (0 < length rest) × Appends held holds front
+
+-- the reader gave some bytes, and has no more
+abbrev pub GaveAll : Option (List ℕ) → Option (List ℕ) → Type 0
+GaveAll input left = (bytes : List ℕ) × Consumes input left bytes × IsAtEnd left
 
 -- the reader gave fewer than n bytes, and has no more
 abbrev pub GaveAllBelow : Option (List ℕ) → Option (List ℕ) → ℕ → Type 0

@@ -18,7 +18,7 @@ use Rattle.std.specs.Prelude.{◌≡◌, ℕ, ◌+◌, ◌<◌, ◌≤◌, ◌^�
 use Rattle.std.specs.Int.{to_le_bytes, w32}
 use Rattle.std.specs.Str.{chars, IsUtf8}
 use Rattle.std.specs.declared.str.Utf8Error.{Utf8Error}
-use Rattle.std.specs.Io.KnownBytes.{Consumes, IsAtEnd, Keeps}
+use Rattle.std.specs.Io.KnownBytes.{Consumes, Keeps}
 use Rattle.smol_str.specs.declared.borsh.fault.EncodeFault.{EncodeFault}
 use Rattle.smol_str.specs.declared.borsh.fault.EncodeFault.TheVariants.{TooLong, Io as WriteFailed}
 use Rattle.smol_str.specs.declared.borsh.fault.DecodeFault.{DecodeFault}
@@ -34,7 +34,7 @@ use Rattle.smol_str.specs.declared.borsh.TheConstants.{STACK_BODY}
 use Rattle.smol_str.specs.Text.{IsResident}
 use Rattle.smol_str.specs.Meaning.{Meaning, IsValueOf}
 use Rattle.smol_str.specs.Faults.{IsUtf8FaultOf}
-use Rattle.smol_str.specs.Stream.{AppendsBeginning, GaveAllBelow, GaveBelow, GaveUpTo}
+use Rattle.smol_str.specs.Stream.{AppendsBeginning, GaveAll, GaveAllBelow, GaveBelow, GaveUpTo}
 use Rattle.smol_str.specs.Wire.{prefix_size, HasEndedEarly, body}
 
 -- too long: the value has no form, and nothing was written; else it has, and a beginning of it was written, but not all
@@ -59,11 +59,11 @@ GaveSomeOfBody input left =
 abbrev pub NeedsMemory : List ℕ → Type 0
 NeedsMemory b = (¬ (HasEndedEarly b)) × IsUtf8 (body b) × (¬ (IsResident (chars (body b))))
 
--- ended: the bytes had ended early, and none is left; not UTF-8: the size and the whole body were consumed and no more,
--- and the body is not UTF-8; out of memory: the size that was stated is above INLINE_CAP, and some of the body came; if it
--- is at most STACK_BODY, all of it came, and no more, and it needs memory; the reader failed before the whole form had come
+-- ended: the bytes end early, and all were consumed; not UTF-8: the form is whole, its body is not UTF-8, and the form was
+-- consumed; out of memory: the stated size is above INLINE_CAP, and some of the body was consumed; where it is at most
+-- STACK_BODY, the form is whole and needs memory, and it was consumed; io: less than the form was consumed
 abbrev pub AfterDecodeFault : Option (List ℕ) → Option (List ℕ) → DecodeFault → Type 0
-AfterDecodeFault input left Ended = IfSome input HasEndedEarly × IsAtEnd left
+AfterDecodeFault input left Ended = IfSome input HasEndedEarly × GaveAll input left
 AfterDecodeFault input left (NotUtf8 e) =
     IfSome input (λ b. (¬ (HasEndedEarly b)) × IsRefusedBody (body b) e × Consumes input left (take (4 + prefix_size b) b))
 AfterDecodeFault input left OutOfMemory =

@@ -3,7 +3,7 @@
 //! std's `read_exact`, `read_to_end` and `write_all` try again after `Interrupted`, which a reader
 //! or writer may return for ever. These functions return every error at once. Nothing is claimed of
 //! a reader or writer whose bytes are not known.
-ghost use Rattle.std.specs.Prelude.{◌≡◌, ◌<◌, ◌≤◌, ◌-◌, ◌^◌, length, take, IfOk, OnOk, IfErr, OnErr, IfSome};
+ghost use Rattle.std.specs.Prelude.{◌≡◌, ◌<◌, ◌≤◌, ◌-◌, ◌^◌, length, take, IfOk, OnOk, IfErr, OnErr};
 ghost use Rattle.std.specs.Io.KnownBytes.{Appends, IsAtEnd};
 ghost use Rattle.smol_str.specs.Stream.{Gave, GaveBelow, AppendsBeginning, AfterReadFault};
 ghost use Rattle.smol_str.specs.Said.{read_said};
@@ -123,9 +123,9 @@ pub fn read_up_to<R: Read>(
 
 /// Reads to the end, in chunks of at most [`CHUNK`] bytes.
 pub fn read_all<R: Read>(alloc: Global, reader: &mut R) -> Result<Vec<u8>, ReadFault>
+    ensures bytes { IfOk result (λ all.
+        Gave R.remaining reader.old reader.new all.items) }
     ensures end { OnOk result (IsAtEnd (R.remaining reader.new)) }
-    ensures whole { IfOk result (λ all.
-        IfSome (R.remaining reader.old) (λ input. all.items ≡ input)) }
     ensures fault { IfErr result
         (AfterReadFault (2 ^ 64 - 1) (R.remaining reader.old) (R.remaining reader.new)) }
 {

@@ -1,9 +1,8 @@
 -- What stands where an input was not read, or where there is no report on it.
 use Rattle.std.proofs.Common.{◌≡◌, ℕ, List, Option, Result, IsUtf8, arith, rules}
-use Rattle.std.specs.Prelude.{IfSome}
 use Rattle.std.specs.Result.{IsErrAnd, IfErr, OnErr}
 use Rattle.std.specs.Str.{chars}
-use Rattle.std.specs.Io.KnownBytes.{IsAtEnd, Keeps}
+use Rattle.std.specs.Io.KnownBytes.{Consumes, IsAtEnd, Keeps}
 use Rattle.std.proofs.lemmas.Option.{IfSome_then}
 use Rattle.std.proofs.lemmas.Result.{err_from_is_err_and}
 use Rattle.smol_tokens_core.specs.Faults.{AfterFault}
@@ -17,9 +16,9 @@ Keeps-itself known = search rules
 
 -- the whole input came, is a text, and there is no report on it: nothing was written
 pub after-no_report : (mode : Mode) (input left held : Option (List ℕ)) (bytes : List ℕ) (fault : RunFault)
-    → IsAtEnd left → IfSome input (λ all. bytes ≡ all) → IsUtf8 bytes → HasNoReport mode (chars bytes) fault
+    → Consumes input left bytes → IsAtEnd left → IsUtf8 bytes → HasNoReport mode (chars bytes) fault
     → AfterFault mode (record { input = input; left = left; held = held; holds = held }) fault
-after-no_report mode input left held bytes fault end whole utf8 none = search (rules, Keeps-itself, IfSome_then)
+after-no_report mode input left held bytes fault came end utf8 none = search (rules, Keeps-itself, IfSome_then)
 
 -- memory was refused
 pub no_report-refused : {T : Type 0} (r : Result T RunFault) (mode : Mode) (t : List ℕ)

@@ -6,14 +6,14 @@
 --     AfterFault        what stands after a fault
 use Rattle.std.specs.Prelude.{ℕ, ◌≡◌, ◌<◌, ◌⊎◌, List, length, Option, IfSome, IsUtf8, encode_utf8_all}
 use Rattle.std.specs.Str.{chars}
-use Rattle.std.specs.Io.KnownBytes.{Appends, Consumes, IsAtEnd, Keeps}
+use Rattle.std.specs.Io.KnownBytes.{Appends, Consumes, Keeps}
 use Rattle.smol_tokens_core.specs.declared.mode.Mode.{Mode}
 use Rattle.smol_tokens_core.specs.declared.mode.Mode.TheVariants.{Tokens}
 use Rattle.smol_tokens_core.specs.declared.fault.RunFault.{RunFault}
 use Rattle.smol_tokens_core.specs.declared.fault.RunFault.TheVariants.{NotUtf8, OutOfMemory, Full, Io}
 use Rattle.smol_tokens_core.specs.Report.{report}
 use Rattle.smol_tokens_core.specs.ReportFaults.{HasALineTooOften, WantsMemory}
-use Rattle.smol_str.specs.Stream.{AppendsBeginning}
+use Rattle.smol_str.specs.Stream.{AppendsBeginning, GaveAll}
 
 -- of the reader what it had, and what it has left; of the writer what it held, and what it holds now
 pub record Streams : Type 0 where
@@ -29,16 +29,16 @@ streams remaining reader read contents writer written =
     record { input = remaining reader; left = remaining read; held = contents writer; holds = contents written }
 
 module _ (mode : Mode) (s : Streams) where
-  -- the reader is at its end, its bytes are the UTF-8 of a text, and exactly the report on that text was written
+  -- the reader gave all its bytes, they are the UTF-8 of a text, and exactly the report on that text was written
   abbrev pub WroteReport : Type 0
   WroteReport =
-      IsAtEnd s.left
+      GaveAll s.input s.left
       × IfSome s.input (λ bytes. IsUtf8 bytes × Appends s.held s.holds (encode_utf8_all (report mode (chars bytes))))
 
   -- the same, but only a beginning of the report was written, and not all of it
   abbrev pub WroteBeginning : Type 0
   WroteBeginning =
-      IsAtEnd s.left
+      GaveAll s.input s.left
       × IfSome s.input
       (λ bytes. IsUtf8 bytes × AppendsBeginning s.held s.holds (encode_utf8_all (report mode (chars bytes))))
 
@@ -51,14 +51,14 @@ module _ (mode : Mode) (s : Streams) where
   -- text that has a line too often, and nothing was written; after a failed read nothing either, and after a failed write
   -- a beginning of the report
   abbrev pub AfterFault : RunFault → Type 0
-  AfterFault NotUtf8 = IsAtEnd s.left × IfSome s.input (λ bytes. ¬ (IsUtf8 bytes)) × Keeps s.held s.holds
+  AfterFault NotUtf8 = GaveAll s.input s.left × IfSome s.input (λ bytes. ¬ (IsUtf8 bytes)) × Keeps s.held s.holds
   AfterFault OutOfMemory =
       Keeps s.held s.holds
       × (StopsReading
-      ⊎ (IsAtEnd s.left × IfSome s.input (λ bytes. IsUtf8 bytes × WantsMemory mode (chars bytes))))
+      ⊎ (GaveAll s.input s.left × IfSome s.input (λ bytes. IsUtf8 bytes × WantsMemory mode (chars bytes))))
   AfterFault Full =
       (mode ≡ Tokens)
-      × IsAtEnd s.left
+      × GaveAll s.input s.left
       × IfSome s.input (λ bytes. IsUtf8 bytes × HasALineTooOften (chars bytes))
       × Keeps s.held s.holds
   AfterFault (Io e) =

@@ -49,7 +49,7 @@ within b l (Io e) (bytes, inl few, any, is) = inside b l bytes is (inl few)
 within b l (Io e) (bytes, inr few, any, is) = inside b l bytes is (inr (omega (arith, few)))
 
 pub nothing_left : (b l : List ℕ) (fault : DecodeFault) → AfterDecodeFault (Some b) (Some l) fault → fault ≡ Ended → l ≡ []
-nothing_left b l fault h is = (subst (AfterDecodeFault (Some b) (Some l)) is h).1
+nothing_left b l fault h is = (subst (AfterDecodeFault (Some b) (Some l)) is h).1.2
 
 pub some_came : (b l : List ℕ) (fault : DecodeFault) → AfterDecodeFault (Some b) (Some l) fault → fault ≡ OutOfMemory
     → length l + 4 < length b

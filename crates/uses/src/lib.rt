@@ -26,6 +26,7 @@ pub mod replacing;
 pub mod runs;
 pub mod settings;
 pub mod slicing;
+pub mod streams;
 pub mod symbols;
 pub mod values;
 pub mod wire;

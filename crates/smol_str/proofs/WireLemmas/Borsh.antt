@@ -10,7 +10,7 @@ use Rattle.smol_str.specs.Wire.{wire, prefix_size}
 use Rattle.std.specs.Prelude.{⊤}
 use Rattle.std.proofs.Common.{drop_of_length-le}
 use borrow.Rule.Slice.PartMut.{put_mid}
-use Rattle.smol_str.specs.Stream.{AppendsBeginning, GaveBelow, GaveUpTo}
+use Rattle.smol_str.specs.Stream.{AppendsBeginning, GaveAllBelow, GaveBelow, GaveUpTo}
 use Rattle.smol_str.specs.WireFaults.{AfterDecodeFault, GaveTooFew, GaveSomeOfBody, HasReadBody, HasReadLarge, NeedsMemory, AfterBodyFault, StatesAtMost, AfterLimitedFault, of_utf8_fault}
 use Rattle.smol_str.proofs.TextLemmas.Places.{size-chars}
 use Rattle.smol_str.proofs.WireLemmas.Stream.{IfErr-is, beginning-of_first, beginning-of_second, Consumes-full}
@@ -106,6 +106,10 @@ module _ (n : ℕ) (fits : n < 2 ^ 32) where
       let both = Consumes-trans a b c (to_le_bytes w32 n) bs p consumed in
       search (rules, arith, holds bs, length-append, prefix_size-front)
 
+  -- and then fewer bytes, with no others left
+  ended-of_body : (a b c : Option (List ℕ)) → Consumes a b (to_le_bytes w32 n) → GaveAllBelow b c n → IfSome a HasEndedEarly
+  ended-of_body a b c p h = search (rules, append-nil, prefix_size-front, length-append)
+
   -- and then some bytes, n of them at the most
   within-of_body : (a b c : Option (List ℕ)) → Consumes a b (to_le_bytes w32 n) → GaveUpTo b c n → GaveSomeOfBody a c
   within-of_body a b c p (bs, some, most, consumed) =
@@ -122,7 +126,8 @@ module _ (n : ℕ) (fits : n < 2 ^ 32) where
 
   pub AfterDecodeFault-of_body : (a b c : Option (List ℕ)) (fault : DecodeFault) → Consumes a b (to_le_bytes w32 n)
       → AfterBodyFault b c n fault → AfterDecodeFault a c fault
-  AfterDecodeFault-of_body a b c Ended p h = search (rules, append-nil, prefix_size-front, length-append)
+  AfterDecodeFault-of_body a b c Ended p (bs, short, consumed, end) =
+      (ended-of_body a b c p (bs, short, consumed, end), (to_le_bytes w32 n ++ bs, Consumes-trans a b c _ bs p consumed, end))
   AfterDecodeFault-of_body a b c (NotUtf8 e) p h =
       grind (arith, common_steps, whole_front, body_front, append_assoc, taken_front)
   AfterDecodeFault-of_body a b c OutOfMemory p h = (long-of_body a b c p h, within-of_body a b c p h.1)
