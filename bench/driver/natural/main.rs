@@ -1,4 +1,4 @@
-//! The six modes of `smol_tokens` in natural Rust over upstream's `SmolStr`: `bench/program` builds it, and holds the
+//! The modes of `smol_tokens` in natural Rust over upstream's `SmolStr`: `bench/program` builds it, and holds the
 //! program's instructions and time against its. The tokens lie in an `IndexMap`, hashed by std's `RandomState`.
 use indexmap::IndexMap;
 use smol_str::{SmolStr, StrExt};
@@ -20,6 +20,7 @@ fn main() -> Result<(), Box<dyn Error>> {
         ["replace", from, to] => rows(lines.map(|line| line.replace_smolstr(from, to)))?,
         ["join"] => rows([lines.collect()])?,
         ["tokens"] => counts(lines)?,
+        ["merge"] => merge(lines)?,
         _ => return Err("usage".into()),
     };
     io::stdout().write_all(report.as_bytes())?;
@@ -40,12 +41,29 @@ fn rows(values: impl IntoIterator<Item = SmolStr>) -> Result<String, fmt::Error>
     Ok(report)
 }
 
+type Counts = IndexMap<SmolStr, u64, RandomState>;
+
 /// How often each different line stands, in order of first sight.
 fn counts<'a>(lines: impl Iterator<Item = &'a str>) -> Result<String, fmt::Error> {
-    let mut counts: IndexMap<SmolStr, u64, RandomState> = IndexMap::default();
+    let mut counts = Counts::default();
     for line in lines {
         *counts.entry(SmolStr::new(line)).or_insert(0) += 1;
     }
+    count_lines(counts)
+}
+
+/// The sums of such counts, in order of first sight.
+fn merge<'a>(lines: impl Iterator<Item = &'a str>) -> Result<String, Box<dyn Error>> {
+    let mut counts = Counts::default();
+    for line in lines {
+        let (count, token) = line.split_once(' ').ok_or("not a count line")?;
+        let sum = counts.entry(SmolStr::new(token)).or_insert(0);
+        *sum = sum.checked_add(count.parse()?).ok_or("full")?;
+    }
+    Ok(count_lines(counts)?)
+}
+
+fn count_lines(counts: Counts) -> Result<String, fmt::Error> {
     let mut report = String::new();
     for (token, count) in counts {
         writeln!(report, "{count} {token}")?;

@@ -1,10 +1,10 @@
-//! Reads text from standard input and writes, for each line, where a `SmolStr` would keep it.
+//! Reads text from standard input and writes, for each line, where a `SmolStr` would keep it; or how often each line stands.
 //!
 //! `main` gathers the words, calls [`run`] and reports the fault; the promise of the whole program is
 //! the contract of `run`.
 #![tactic(auto)]
 
-use smol_tokens_core::fault::{RunFault, fault_line};
+use smol_tokens_core::fault::RunFault;
 use smol_tokens_core::mode::{Mode, mode_of};
 use smol_tokens_core::run::run;
 use std::hash::{BuildHasher, BuildHasherDefault, FoldHasher, RandomState};
@@ -32,7 +32,7 @@ fn run_on_standard<S: BuildHasher + Drop>(
 
 /// Reports a fault in one line, and returns the status of a failed run.
 fn failed(rt: &HostRuntime, fault: &RunFault) -> ExitCode {
-    let _ = rt.eprintln(fault_line(fault));
+    let _ = rt.eprintln(fault);
     ExitCode::from(1)
 }
 
@@ -45,7 +45,7 @@ fn main(rt: HostRuntime) -> ExitCode {
         let _ = rt.eprintln("usage");
         return ExitCode::from(2);
     };
-    let ended = if matches!(&mode, Mode::Tokens) {
+    let ended = if matches!(&mode, Mode::Tokens | Mode::Merge) {
         // A seed of the system: whoever writes the input cannot pick lines that all have one hash.
         match RandomState::new(&rt) {
             Ok(state) => run_on_standard(&rt, state, mode),

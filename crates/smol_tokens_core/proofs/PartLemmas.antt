@@ -1,5 +1,5 @@
 -- For the laws of parts: the lines, the tally and the report of a text by those of its parts, and merges of merges.
-use Rattle.std.proofs.Common.{◌≡◌, ℕ, ◌<◌, ◌≤◌, ◌==◌, ◌+◌, ◌^◌, List, [], ◌∷◌, ◌++◌, Bool, true, false, cond, length, get_or, map, refl, ap, sym, subst, ◌∙◌, arith, ⊎_elim}
+use Rattle.std.proofs.Common.{◌≡◌, ℕ, ◌<◌, ◌≤◌, ◌==◌, ◌+◌, ◌^◌, List, [], ◌∷◌, ◌++◌, Bool, true, false, cond, length, get_or, refl, ap, sym, subst, ◌∙◌, arith, ⊎_elim}
 use Rattle.std.specs.Prelude.{All, not, count_by, ◌↔◌}
 use Rattle.std.specs.List.{flat_map, onto_first}
 use Rattle.std.proofs.lemmas.List.{map-append}
@@ -15,7 +15,7 @@ use Rattle.smol_tokens_core.proofs.PieceLemmas.{lines-nil, lines-cons}
 use Rattle.smol_tokens_core.proofs.TallyLemmas.{tally-cons, once-tally}
 use Rattle.smol_tokens_core.proofs.TableLemmas.{tally-table, tally-again, times_of-tally}
 use Rattle.smol_tokens_core.proofs.TokenLemmas.{times_of-seen_once}
-use Rattle.smol_tokens_core.proofs.CountLemmas.{IsCounts-once, IsCounts-append}
+use Rattle.smol_tokens_core.proofs.CountLemmas.{IsMerge-of, IsCounts-append}
 
 -- a character goes to the first line, where there is one
 onto : (c : ℕ) (b : Bool) (ps qs : List (List ℕ)) → 0 < length ps
@@ -90,22 +90,25 @@ reports-read t fits = (
       (All-map (λ (e : List ℕ × ℕ). HasNoNewline e.0) (λ line. (line, 1)) (lines t) (HasNoNewline-lines t)),
 )
 
-pub reports-merged : (a b : List ℕ) → IsWhole a → ¬ HasALineTooOften (a ++ b)
-    → IsMerge (tokens_report a ++ tokens_report b) (tokens_report (a ++ b))
-reports-merged a b whole fits =
+pub reports-both : (a b : List ℕ) → IsWhole a → ¬ HasALineTooOften (a ++ b)
+    → IsCounts (tokens_report a ++ tokens_report b) (tally (seen_once (lines a)) ++ tally (seen_once (lines b)))
+reports-both a b whole fits =
     let both : (line : List ℕ) → ¬ (2 ^ 64 ≤ count_by (is_same line) (lines a) + count_by (is_same line) (lines b)) =
     λ line above. fits (
       line,
       rw (lines-parts a b whole)
           (omega (arith, above, sum_by-append (λ (u : List ℕ). cond (is_same line u) 1 0) (lines a) (lines b))),
     ) in
-    let es = tally (seen_once (lines a)) in
-    let fs = tally (seen_once (lines b)) in (
-      es ++ fs,
-      IsCounts-append (tokens_report a) (tokens_report b) es fs (reports-read a (λ h. both h.0 (omega (arith, h.1))))
-          (reports-read b (λ h. both h.0 (omega (arith, h.1)))),
-      rw (← tally-lines a b whole) (reports-read (a ++ b) fits),
-    )
+    IsCounts-append (tokens_report a) (tokens_report b) (tally (seen_once (lines a))) (tally (seen_once (lines b)))
+    (reports-read a (λ h. both h.0 (omega (arith, h.1)))) (reports-read b (λ h. both h.0 (omega (arith, h.1))))
+
+pub reports-merged : (a b : List ℕ) → IsWhole a → ¬ HasALineTooOften (a ++ b)
+    → IsMerge (tokens_report a ++ tokens_report b) (tokens_report (a ++ b))
+reports-merged a b whole fits = (
+  tally (seen_once (lines a)) ++ tally (seen_once (lines b)),
+  reports-both a b whole fits,
+  rw (← tally-lines a b whole) (reports-read (a ++ b) fits),
+)
 
 -- merges of merges
 pub IsMerge-read : (t : List ℕ) (es : List (List ℕ × ℕ)) → IsCounts t es → ¬ HasATokenTooOften es
@@ -114,12 +117,7 @@ IsMerge-read t es is fits = (es, is, (refl, tally-entries es fits (λ k d l. (is
 
 pub merged-again : (a b x y out : List ℕ) → IsMerge a x → IsMerge b y → IsMerge (x ++ y) out ↔ IsMerge (a ++ b) out
 merged-again a b x y out h k =
-    let all = IsCounts-append a b h.0 k.0 h.1 k.1 in
-    let sums = IsCounts-append x y (tally h.0) (tally k.0) h.2 k.2 in (
-      λ m. (h.0 ++ k.0, all, subst (IsCounts out) (ap tally (IsCounts-once (x ++ y) m.0 _ m.1 sums) ∙ tally-parts h.0 k.0) m.2),
-      λ m. (
-        tally h.0 ++ tally k.0,
-        sums,
-        subst (IsCounts out) (ap tally (IsCounts-once (a ++ b) m.0 _ m.1 all) ∙ sym (tally-parts h.0 k.0)) m.2,
-      ),
-    )
+    let sums = IsMerge-of (x ++ y) out (tally h.0 ++ tally k.0) (IsCounts-append x y (tally h.0) (tally k.0) h.2 k.2) in
+    let all = IsMerge-of (a ++ b) out (h.0 ++ k.0) (IsCounts-append a b h.0 k.0 h.1 k.1) in
+    let same = tally-parts h.0 k.0 in
+    (λ m. all.1 (subst (IsCounts out) same (sums.0 m)), λ m. sums.1 (subst (IsCounts out) (sym same) (all.0 m)))

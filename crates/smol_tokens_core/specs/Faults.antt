@@ -8,11 +8,12 @@ use Rattle.std.specs.Prelude.{ℕ, ◌≡◌, ◌<◌, ◌⊎◌, List, length, 
 use Rattle.std.specs.Str.{chars}
 use Rattle.std.specs.Io.KnownBytes.{Appends, Consumes, Keeps}
 use Rattle.smol_tokens_core.specs.declared.mode.Mode.{Mode}
-use Rattle.smol_tokens_core.specs.declared.mode.Mode.TheVariants.{Tokens}
+use Rattle.smol_tokens_core.specs.declared.mode.Mode.TheVariants.{Tokens, Merge}
 use Rattle.smol_tokens_core.specs.declared.fault.RunFault.{RunFault}
-use Rattle.smol_tokens_core.specs.declared.fault.RunFault.TheVariants.{NotUtf8, OutOfMemory, Full, Io}
-use Rattle.smol_tokens_core.specs.Report.{report}
-use Rattle.smol_tokens_core.specs.ReportFaults.{HasALineTooOften, WantsMemory}
+use Rattle.smol_tokens_core.specs.declared.fault.RunFault.TheVariants.{NotUtf8, OutOfMemory, NotCounts, Full, Io}
+use Rattle.smol_tokens_core.specs.Report.{IsReport}
+use Rattle.smol_tokens_core.specs.ReportFaults.{WantsMemory, CountsTooFar}
+use Rattle.smol_tokens_core.specs.Counts.{IsFirstOther}
 use Rattle.smol_str.specs.Stream.{AppendsBeginning, GaveAll}
 
 -- of the reader what it had, and what it has left; of the writer what it held, and what it holds now
@@ -33,33 +34,39 @@ module _ (mode : Mode) (s : Streams) where
   abbrev pub WroteReport : Type 0
   WroteReport =
       GaveAll s.input s.left
-      × IfSome s.input (λ bytes. IsUtf8 bytes × Appends s.held s.holds (encode_utf8_all (report mode (chars bytes))))
+      × IfSome s.input (λ bytes. IsUtf8 bytes
+      × ((report : List ℕ) × IsReport mode (chars bytes) report × Appends s.held s.holds (encode_utf8_all report)))
 
   -- the same, but only a beginning of the report was written, and not all of it
   abbrev pub WroteBeginning : Type 0
   WroteBeginning =
       GaveAll s.input s.left
-      × IfSome s.input
-      (λ bytes. IsUtf8 bytes × AppendsBeginning s.held s.holds (encode_utf8_all (report mode (chars bytes))))
+      × IfSome s.input (λ bytes. IsUtf8 bytes
+      × ((report : List ℕ) × IsReport mode (chars bytes) report × AppendsBeginning s.held s.holds (encode_utf8_all report)))
 
   -- some bytes came
   abbrev pub StopsReading : Type 0
   StopsReading = (bytes : List ℕ) × (0 < length bytes) × Consumes s.input s.left bytes
 
   -- not UTF-8: the whole input came and is not UTF-8, and nothing was written; out of memory: nothing was written either,
-  -- and the input was being read, or the whole of it came, is UTF-8 and asks for a report; full: only in mode tokens, of a
-  -- text that has a line too often, and nothing was written; after a failed read nothing either, and after a failed write
-  -- a beginning of the report
+  -- and the input was being read, or the whole of it came, is UTF-8 and asks for a report; not counts, only in mode merge,
+  -- and full, only in the modes that count: the whole of it came, and nothing was written; after a failed read nothing
+  -- either, and after a failed write a beginning of the report
   abbrev pub AfterFault : RunFault → Type 0
   AfterFault NotUtf8 = GaveAll s.input s.left × IfSome s.input (λ bytes. ¬ (IsUtf8 bytes)) × Keeps s.held s.holds
   AfterFault OutOfMemory =
       Keeps s.held s.holds
       × (StopsReading
       ⊎ (GaveAll s.input s.left × IfSome s.input (λ bytes. IsUtf8 bytes × WantsMemory mode (chars bytes))))
-  AfterFault Full =
-      (mode ≡ Tokens)
+  AfterFault (NotCounts n) =
+      (mode ≡ Merge)
       × GaveAll s.input s.left
-      × IfSome s.input (λ bytes. IsUtf8 bytes × HasALineTooOften (chars bytes))
+      × IfSome s.input (λ bytes. IsUtf8 bytes × IsFirstOther (chars bytes) n)
+      × Keeps s.held s.holds
+  AfterFault Full =
+      ((mode ≡ Tokens) ⊎ (mode ≡ Merge))
+      × GaveAll s.input s.left
+      × IfSome s.input (λ bytes. IsUtf8 bytes × CountsTooFar mode (chars bytes))
       × Keeps s.held s.holds
   AfterFault (Io e) =
       (Keeps s.held s.holds × ((bytes : List ℕ) × Consumes s.input s.left bytes)) ⊎ WroteBeginning

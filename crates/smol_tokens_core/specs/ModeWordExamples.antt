@@ -6,7 +6,7 @@ use Rattle.std.specs.String.{string_bytes}
 use Rattle.std.specs.declared.string.String.{String}
 use Rattle.std.specs.declared.alloc.Global.{Global}
 use Rattle.smol_tokens_core.specs.ModeWords.{asked_mode, mode_of_word}
-use Rattle.smol_tokens_core.specs.declared.mode.Mode.TheVariants.{Show, Join, Lower, Upper, Replace, Tokens}
+use Rattle.smol_tokens_core.specs.declared.mode.Mode.TheVariants.{Show, Join, Lower, Upper, Replace, Tokens, Merge}
 
 no_word : asked_mode [] ≡ Some Show
 no_word = refl
@@ -25,6 +25,9 @@ upper_word = refl
 
 tokens_word : mode_of_word (codes "tokens") ≡ Some Tokens
 tokens_word = refl
+
+merge_word : mode_of_word (codes "merge") ≡ Some Merge
+merge_word = refl
 
 -- `replace` wants two words more
 replace_alone : mode_of_word (codes "replace") ≡ None

@@ -5,7 +5,7 @@ use Rattle.std.specs.String.{string_bytes}
 use Rattle.std.specs.declared.string.String.{String}
 use Rattle.std.specs.declared.alloc.Global.{Global}
 use Rattle.smol_tokens_core.specs.declared.mode.Mode.{Mode}
-use Rattle.smol_tokens_core.specs.declared.mode.Mode.TheVariants.{Show, Join, Lower, Upper, Replace, Tokens}
+use Rattle.smol_tokens_core.specs.declared.mode.Mode.TheVariants.{Show, Join, Lower, Upper, Replace, Tokens, Merge}
 
 -- one word, by its bytes
 abbrev pub mode_of_word : List ℕ → Option Mode
@@ -14,7 +14,8 @@ mode_of_word word =
     else (if bytes_eq word (codes "join") then Some Join
     else (if bytes_eq word (codes "lower") then Some Lower
     else (if bytes_eq word (codes "upper") then Some Upper
-    else (if bytes_eq word (codes "tokens") then Some Tokens else None))))
+    else (if bytes_eq word (codes "tokens") then Some Tokens
+    else (if bytes_eq word (codes "merge") then Some Merge else None)))))
 
 -- the words after the program's name; no word at all asks for the same as `show`
 abbrev pub asked_mode : List (String Global) → Option Mode

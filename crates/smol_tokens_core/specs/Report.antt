@@ -3,9 +3,9 @@
 --     value_line t       the report line of a text
 --     show_report t, join_report t, lower_report t, upper_report t, replace_report from to t, tokens_report t
 --                        what is written of t in the mode of that name
---     report mode t      what the program writes in a mode
+--     IsReport mode t out    out is what the program writes of t in a mode
 --     mapped map l       what a line is made to, in the modes with a report line for each
-use Rattle.std.specs.Prelude.{ℕ, List, ◌++◌, codes}
+use Rattle.std.specs.Prelude.{◌≡◌, ℕ, List, ◌++◌, codes}
 use Rattle.std.specs.List.{concat, flat_map}
 use Rattle.std.specs.Fmt.{decimal}
 use Rattle.std.specs.Str.{chars}
@@ -17,9 +17,9 @@ use Rattle.smol_str.specs.Case.{lower, upper}
 use Rattle.smol_str.specs.Replace.{replaced_all}
 use Rattle.smol_tokens_core.specs.Lines.{lines}
 use Rattle.smol_tokens_core.specs.Tally.{tally, seen_once}
-use Rattle.smol_tokens_core.specs.Counts.{count_line}
+use Rattle.smol_tokens_core.specs.Counts.{count_line, IsMerge}
 use Rattle.smol_tokens_core.specs.declared.mode.Mode.{Mode}
-use Rattle.smol_tokens_core.specs.declared.mode.Mode.TheVariants.{Show, Join, Lower, Upper, Replace, Tokens}
+use Rattle.smol_tokens_core.specs.declared.mode.Mode.TheVariants.{Show, Join, Lower, Upper, Replace, Tokens, Merge}
 use Rattle.smol_tokens_core.specs.declared.report.LineMap.{LineMap}
 use Rattle.smol_tokens_core.specs.declared.report.LineMap.TheVariants as to
 
@@ -61,14 +61,15 @@ replace_report from to t = flat_map (λ line. value_line (replaced_all line from
 abbrev pub tokens_report : List ℕ → List ℕ
 tokens_report t = flat_map count_line (tally (seen_once (lines t)))
 
--- what is written in each mode
-abbrev pub report : Mode → List ℕ → List ℕ
-report Show t = show_report t
-report Join t = join_report t
-report Lower t = lower_report t
-report Upper t = upper_report t
-report (Replace from to) t = replace_report (chars (string_bytes from)) (chars (string_bytes to)) t
-report Tokens t = tokens_report t
+-- what is written in each mode; in mode merge, of count lines alone
+abbrev pub IsReport : Mode → List ℕ → List ℕ → Type 0
+IsReport Show t out = out ≡ show_report t
+IsReport Join t out = out ≡ join_report t
+IsReport Lower t out = out ≡ lower_report t
+IsReport Upper t out = out ≡ upper_report t
+IsReport (Replace from to) t out = out ≡ replace_report (chars (string_bytes from)) (chars (string_bytes to)) t
+IsReport Tokens t out = out ≡ tokens_report t
+IsReport Merge t out = IsMerge t out
 
 -- what a line is made to
 abbrev pub mapped : LineMap → List ℕ → List ℕ

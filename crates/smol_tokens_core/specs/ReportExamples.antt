@@ -10,8 +10,8 @@ use Rattle.smol_str.specs.declared.buffer.TheConstants.{INLINE_CAP}
 use Rattle.smol_str.specs.declared.value.blank.TheConstants.{BLANK_SPACES}
 use Rattle.smol_str.specs.Text.{place_of, is_blank_run}
 use Rattle.smol_tokens_core.specs.Lines.{lines}
-use Rattle.smol_tokens_core.specs.Report.{value_line, report, join_report, lower_report, upper_report, replace_report}
-use Rattle.smol_tokens_core.specs.Report.{tokens_report}
+use Rattle.smol_tokens_core.specs.Report.{value_line, show_report, join_report, lower_report, upper_report, replace_report}
+use Rattle.smol_tokens_core.specs.Report.{tokens_report, IsReport}
 use Rattle.smol_tokens_core.specs.ReportFaults.{HasNoReport}
 use Rattle.smol_tokens_core.specs.declared.mode.Mode.{Mode}
 use Rattle.smol_tokens_core.specs.declared.mode.Mode.TheVariants.{Show, Join, Lower, Upper, Replace, Tokens}
@@ -30,23 +30,23 @@ unfolding place_of is_blank_run digits lib.Utf8.encode
 value_line_of_empty = refl
 
 -- a line that fits the buffer, an empty one, and one that is too long
-report_of_lines : report Show (codes "if\n\n" ++ too_many 97)
+report_of_lines : show_report (codes "if\n\n" ++ too_many 97)
     ≡ codes "inline 2 if\ninline 0 \nheap " ++ (decimal (INLINE_CAP + 1) ++ (codes " " ++ (too_many 97 ++ codes "\n")))
 unfolding lines place_of is_blank_run digits lib.Utf8.encode
 report_of_lines = refl
 
 -- the size counts bytes
-report_past_ascii : report Show (codes "é🦀") ≡ codes "inline 6 é🦀\n"
+report_past_ascii : show_report (codes "é🦀") ≡ codes "inline 6 é🦀\n"
 unfolding lines place_of is_blank_run digits lib.Utf8.encode
 report_past_ascii = refl
 
 -- too long for the buffer, and blank
-report_of_spaces : report Show (too_many 32)
+report_of_spaces : show_report (too_many 32)
     ≡ place_of_spaces ++ (decimal (INLINE_CAP + 1) ++ (codes " " ++ (too_many 32 ++ codes "\n")))
 unfolding lines place_of is_blank_run digits lib.Utf8.encode
 report_of_spaces = refl
 
-report_of_nothing : report Show [] ≡ []
+report_of_nothing : show_report [] ≡ []
 unfolding lines
 report_of_nothing = refl
 
@@ -117,26 +117,15 @@ unfolding lines
 counted_nothing = refl
 
 -- each mode has the report of its name
-report_joined : report Join (codes "a\nb") ≡ codes "inline 2 ab\n"
-unfolding lines place_of is_blank_run digits lib.Utf8.encode
-report_joined = refl
-
-report_lower : report Lower (codes "Ab") ≡ codes "inline 2 ab\n"
-unfolding lines place_of is_blank_run digits lib.Utf8.encode
-report_lower = refl
-
-report_upper : report Upper (codes "Ab") ≡ codes "inline 2 AB\n"
-unfolding lines place_of is_blank_run digits lib.Utf8.encode
-report_upper = refl
+each_report : (t : List ℕ)
+    → IsReport Show t (show_report t) × IsReport Join t (join_report t) × IsReport Lower t (lower_report t)
+    × IsReport Upper t (upper_report t) × IsReport Tokens t (tokens_report t)
+each_report t = (refl, refl, refl, refl, refl)
 
 -- what is replaced comes first
 report_replaced : (from to : String Global) (t : List ℕ)
-    → report (Replace from to) t ≡ replace_report (chars (string_bytes from)) (chars (string_bytes to)) t
+    → IsReport (Replace from to) t (replace_report (chars (string_bytes from)) (chars (string_bytes to)) t)
 report_replaced from to t = refl
-
-report_tokens : report Tokens (codes "a\na") ≡ codes "2 a\n"
-unfolding lines digits
-report_tokens = refl
 
 -- a report is made of a text, and nothing is read or written meanwhile
 no_other_text : (mode : Mode) (t : List ℕ) → ¬ (HasNoReport mode t NotUtf8)

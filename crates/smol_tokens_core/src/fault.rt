@@ -19,7 +19,9 @@ pub enum RunFault {
     NotUtf8,
     /// Memory was refused.
     OutOfMemory,
-    /// A token stands more than `u64::MAX` times in the input.
+    /// The line of this number, from 1, is the first that is no count line.
+    NotCounts(usize),
+    /// A count would pass `u64::MAX`.
     Full,
     /// The reader or the writer failed, or the writer took no byte.
     Io(io::Error),
@@ -63,25 +65,19 @@ impl From<AddFault> for RunFault {
     }
 }
 
-/// The line of [`fault_line`].
+/// The line that reports the fault on standard error, without its newline.
 impl Display for RunFault {
     ghost output = { λ fault. Some (fault_line fault) };
 
     fn fmt<W: Write>(&self, f: &mut Formatter<W>) -> fmt::Result {
-        f.write_str(fault_line(self))
+        match self {
+            RunFault::NotUtf8 => f.write_str("not UTF-8"),
+            RunFault::OutOfMemory => f.write_str("out of memory"),
+            RunFault::NotCounts(line) => write!(f, "not a count line: {line}"),
+            RunFault::Full => f.write_str("full"),
+            RunFault::Io(_) => f.write_str("read or write failed"),
+        }
     }
 }
 
 impl Error for RunFault {}
-
-/// The line that reports a fault on standard error, without its newline.
-pub fn fault_line(fault: &RunFault) -> &'static str
-    ensures { result.now ≡ fault_line fault.now }
-{
-    match fault {
-        RunFault::NotUtf8 => "not UTF-8",
-        RunFault::OutOfMemory => "out of memory",
-        RunFault::Full => "full",
-        RunFault::Io(_) => "read or write failed",
-    }
-}

@@ -6,7 +6,7 @@ ghost use Rattle.std.specs.Map.{lookup};
 ghost use Rattle.indexmap.specs.IndexMap.{insert_entry};
 ghost use Rattle.smol_str.specs.Cut.{IsCut, joined_by};
 ghost use Rattle.smol_str.specs.Replace.{no_limit};
-ghost use Rattle.smol_tokens_core.specs.Counts.{count_line, IsCounts, IsMerge, IsWhole, HasATokenTooOften};
+ghost use Rattle.smol_tokens_core.specs.Counts.{count_line, IsCounts, IsMerge, IsFirstOther, IsWhole, HasATokenTooOften};
 ghost use Rattle.smol_tokens_core.specs.Lines.{is_newline, newline, lines, without_empty_last, HasNoNewline, ended};
 ghost use Rattle.smol_tokens_core.specs.Report.{tokens_report};
 ghost use Rattle.smol_tokens_core.specs.ReportFaults.{HasALineTooOften};
@@ -75,11 +75,13 @@ pub fn lines_too_often()
         All (λ entry. entry.1 < 2 ^ 64) (tally (seen_once (lines t))) ↔ ¬ HasALineTooOften t }
 {}
 
-/// A text is the count lines of one list of pairs at most, and has one merge at most.
+/// A text is the count lines of one list of pairs at most, and has one merge at most; it has none where a line is no count
+/// line.
 pub fn counts_read_back()
     ensures once { (t : List ℕ) (pairs others : List (List ℕ × ℕ)) →
         IsCounts t pairs → IsCounts t others → pairs ≡ others }
     ensures merge { (t out other : List ℕ) → IsMerge t out → IsMerge t other → out ≡ other }
+    ensures other { (t : List ℕ) (n : ℕ) (pairs : List (List ℕ × ℕ)) → IsFirstOther t n → ¬ IsCounts t pairs }
 {}
 
 /// A text that is cut at line ends can be counted in parts: the merge of their reports is the report on the whole text.

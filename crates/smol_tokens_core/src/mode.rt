@@ -17,6 +17,8 @@ pub enum Mode {
     Replace(String, String),
     /// For each different line how often it stands, and the line, in order of first sight.
     Tokens,
+    /// The same of count lines, as mode tokens writes them: for each different token the sum of its counts.
+    Merge,
 }
 
 // By hand it is one call in each proof; a derived one would be a case for each mode there.
@@ -24,7 +26,7 @@ impl Drop for Mode {
     fn drop(self) {
         match self {
             Mode::Replace(_from, _to) => {}
-            Mode::Show | Mode::Join | Mode::Lower | Mode::Upper | Mode::Tokens => {}
+            Mode::Show | Mode::Join | Mode::Lower | Mode::Upper | Mode::Tokens | Mode::Merge => {}
         }
     }
 }
@@ -57,6 +59,7 @@ fn mode_of_word(word: &str) -> Option<Mode>
         "lower" => Some(Mode::Lower),
         "upper" => Some(Mode::Upper),
         "tokens" => Some(Mode::Tokens),
+        "merge" => Some(Mode::Merge),
         _ => None,
     }
 }

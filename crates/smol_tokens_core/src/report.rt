@@ -1,5 +1,5 @@
 //! The report on a text.
-ghost use Rattle.std.specs.Prelude.{◌≡◌, ◌<◌, ◌++◌, length, IfOk, IfErr, OnOk, OnErr, encode_utf8_all};
+ghost use Rattle.std.specs.Prelude.{◌≡◌, ◌<◌, ℕ, List, ◌++◌, length, IfOk, IfErr, OnOk, OnErr, encode_utf8_all};
 ghost use Rattle.std.specs.List.{flat_map};
 ghost use Rattle.std.specs.Str.{chars};
 ghost use Rattle.std.specs.String.{string_bytes};
@@ -7,11 +7,12 @@ ghost use Rattle.smol_str.specs.Text.{size};
 ghost use Rattle.smol_str.specs.Meaning.{IsValueOf};
 ghost use Rattle.smol_str.specs.declared.value.place.Place.TheVariants.{Inline};
 ghost use Rattle.smol_tokens_core.specs.Lines.{lines};
-ghost use Rattle.smol_tokens_core.specs.Report.{place_word, report_line, value_line, join_report, report, mapped};
+ghost use Rattle.smol_tokens_core.specs.Report.{place_word, report_line, value_line, join_report, IsReport, mapped};
 ghost use Rattle.smol_tokens_core.specs.ReportFaults.{HasNoReport};
 
 use crate::fault::RunFault;
 use crate::lines::Lines;
+use crate::merge::merge_counts;
 use crate::mode::Mode;
 use crate::tokens::count_lines;
 use smol_str::{INLINE_CAP, Place, SmolStr, SmolStrBuilder, StrExt};
@@ -44,15 +45,15 @@ impl LineMap<'_> {
 
 /// The whole report on a text.
 ///
-/// Mode tokens alone hashes lines, by `state`, and no report depends on it. It is [`RunFault::Full`] only in mode tokens,
-/// where a line stands more than `u64::MAX` times.
+/// Modes tokens and merge alone hash, by `state`, and no report depends on it.
 pub fn make_report<S: BuildHasher + Drop>(
     alloc: Global,
     state: S,
     mode: &Mode,
     text: &str,
 ) -> Result<String, RunFault>
-    ensures ok { IfOk result (λ out. string_bytes out ≡ encode_utf8_all (report mode.now (chars text.now))) }
+    ensures ok { IfOk result (λ out. (report : List ℕ) × IsReport mode.now (chars text.now) report
+        × (string_bytes out ≡ encode_utf8_all report)) }
     ensures fault { IfErr result (HasNoReport mode.now (chars text.now)) }
 {
     let report = match mode {
@@ -66,6 +67,7 @@ pub fn make_report<S: BuildHasher + Drop>(
             text,
         )?,
         Mode::Tokens => count_lines(alloc, state, text)?,
+        Mode::Merge => merge_counts(alloc, state, text)?,
     };
     Ok(report)
 }

@@ -14,10 +14,9 @@ use std::io::{Read, Write};
 ///
 /// This is the promise of the program. After `Ok` the reader is at its end, its bytes are the UTF-8
 /// of some text, and exactly the report on that text was written. Nothing is written before the
-/// whole report is there. So after [`RunFault::NotUtf8`], [`RunFault::OutOfMemory`] and
-/// [`RunFault::Full`] nothing was written, and after [`RunFault::Io`] nothing, or a beginning of the
-/// report. All this holds for every `state`, by which mode tokens hashes the lines. Of a reader or
-/// writer whose bytes are not known nothing is claimed.
+/// whole report is there. So after [`RunFault::Io`] nothing was written, or a beginning of the report, and after every
+/// other fault nothing. All this holds for every `state`, by which modes tokens and merge hash. Of a reader or writer
+/// whose bytes are not known nothing is claimed.
 pub fn run<S: BuildHasher + Drop, R: Read, W: Write>(
     alloc: Global,
     state: S,

@@ -1,5 +1,5 @@
 //! How often each token was seen.
-ghost use Rattle.std.specs.Prelude.{◌≡◌, ◌<◌, ◌+◌, ◌^◌, [], ◌∷◌, ◌++◌, Some, None, IfOk, IfErr, OnOk, OnErr, length, slice_get, option_map};
+ghost use Rattle.std.specs.Prelude.{◌≡◌, ◌<◌, ◌≤◌, ◌+◌, ◌^◌, [], ◌∷◌, ◌++◌, Some, None, IfOk, IfErr, OnOk, OnErr, MatchBool, length, slice_get, option_map};
 ghost use Rattle.std.specs.Map.{lookup};
 ghost use Rattle.std.specs.Str.{chars};
 ghost use Rattle.smol_str.specs.KeyLaws.{stands_for-hash, stands_for-same};
@@ -9,7 +9,7 @@ ghost use Rattle.smol_tokens_core.specs.TallyFaults.{AfterAddFault, AfterAgain, 
 
 use indexmap::{Equivalent, IndexMap};
 use smol_str::SmolStr;
-use std::alloc::Global;
+use std::alloc::{AllocError, Global};
 use std::error::Error;
 use std::fmt;
 use std::fmt::{Display, Formatter, Write};
@@ -152,6 +152,31 @@ impl<S: BuildHasher> Tally<S> {
             return Err(refused.value.0);
         }
         Ok(())
+    }
+
+    /// Counts a text so many `times` more; false where its count would pass `u64::MAX`. A value is made only of a text that
+    /// is not in the tally.
+    #[inline(always)]
+    pub(crate) fn add_text(
+        &mut self,
+        alloc: Global,
+        text: &str,
+        times: u64,
+    ) -> Result<bool, AllocError>
+        ensures { IfOk result (λ fits. MatchBool fits
+            ((self.new ≡ tally (self.old ++ (chars text.now, times) ∷ []))
+            × (times_of (chars text.now) self.old + times < 2 ^ 64))
+            (2 ^ 64 ≤ times_of (chars text.now) self.old + times)) }
+    {
+        match self.add_again(text, times) {
+            Again::Counted(_) => Ok(true),
+            Again::Full => Ok(false),
+            Again::New => {
+                let token = SmolStr::new(alloc, text)?;
+                self.add_new(token, times)?;
+                Ok(true)
+            }
+        }
     }
 
     /// The count of a token, by its text; `None` where it was never added.

@@ -12,7 +12,7 @@ ghost use Rattle.smol_tokens_core.specs.ReportFaults.{HasNoReport};
 
 use crate::fault::RunFault;
 use crate::lines::Lines;
-use crate::tally::{Again, Tally};
+use crate::tally::Tally;
 use smol_str::SmolStr;
 use std::alloc::{AllocError, Global};
 use std::hash::BuildHasher;
@@ -43,23 +43,18 @@ fn tally_lines<S: BuildHasher + Drop>(
 {
     let mut tally = Tally::with_hasher(alloc, state);
     for line in Lines::of(text) {
-        // Most lines stand more than once: a value is made of a new one alone.
-        match tally.add_again(line, 1) {
-            Again::Counted(_) => {}
-            Again::Full => return Err(RunFault::Full),
-            Again::New => {
-                let token = SmolStr::new(alloc, line)?;
-                let Ok(()) = tally.add_new(token, 1) else {
-                    return Err(RunFault::OutOfMemory);
-                };
-            }
+        if !tally.add_text(alloc, line, 1)? {
+            return Err(RunFault::Full);
         }
     }
     Ok(tally)
 }
 
 /// The count line of each token.
-fn write_counts<S: BuildHasher>(alloc: Global, tally: &Tally<S>) -> Result<String, AllocError>
+pub(crate) fn write_counts<S: BuildHasher>(
+    alloc: Global,
+    tally: &Tally<S>,
+) -> Result<String, AllocError>
     ensures ok { IfOk result (λ out. string_bytes out ≡ encode_utf8_all (flat_map count_line tally.now)) }
     ensures refused { OnErr result (0 < length tally.now) }
 {

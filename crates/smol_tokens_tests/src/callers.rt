@@ -1,14 +1,16 @@
 //! Callers of the program's core: the report on some bytes, behind what a `Vec` has, and words counted.
-ghost use Rattle.std.specs.Prelude.{◌≡◌, ◌<◌, ◌⊎◌, ◌+◌, ◌^◌, ℕ, List, [], ◌++◌, length, None, IsOk, OnOk, OnErr, IfErr, encode_utf8_all};
+ghost use Rattle.std.specs.Prelude.{◌≡◌, ◌≢◌, ◌<◌, ◌⊎◌, ◌+◌, ◌^◌, ℕ, List, [], ◌++◌, length, None, IsOk, OnOk, OnErr, IfErr, encode_utf8_all};
 ghost use Rattle.std.specs.Map.{lookup};
 ghost use Rattle.std.specs.Str.{chars, IsUtf8};
-ghost use Rattle.smol_tokens_core.specs.Report.{report};
-ghost use Rattle.smol_tokens_core.specs.ReportFaults.{HasALineTooOften};
+ghost use Rattle.smol_tokens_core.specs.Counts.{IsWhole, IsFirstOther};
+ghost use Rattle.smol_tokens_core.specs.Report.{IsReport, tokens_report};
+ghost use Rattle.smol_tokens_core.specs.ReportFaults.{HasALineTooOften, CountsTooFar};
 ghost use Rattle.smol_tokens_core.specs.Tally.{is_same, times_of};
-ghost use Rattle.smol_tokens_core.specs.declared.mode.Mode.TheVariants.{Join, Tokens};
+ghost use Rattle.smol_tokens_core.specs.declared.mode.Mode.TheVariants.{Join, Merge};
 
 use smol_str::SmolStr;
 use smol_tokens_core::fault::RunFault;
+use smol_tokens_core::laws;
 use smol_tokens_core::mode::Mode;
 use smol_tokens_core::run::run;
 use smol_tokens_core::tally::{AddFault, Tally};
@@ -26,20 +28,55 @@ pub fn append_report<S: BuildHasher + Drop>(
 ) -> Result<(), RunFault>
     ensures text { OnOk result (IsUtf8 bytes.old.now) }
     ensures end { OnOk result (bytes.new.now ≡ []) }
-    ensures report { OnOk result (out.new.items ≡ out.old.items ++ encode_utf8_all (report mode (chars bytes.old.now))) }
+    ensures report { OnOk result ((report : List ℕ) × IsReport mode (chars bytes.old.now) report
+        × (out.new.items ≡ out.old.items ++ encode_utf8_all report)) }
 
     ensures not_text { IfErr result (λ fault. fault ≡ RunFault.NotUtf8 →
         (¬ (IsUtf8 bytes.old.now)) × (bytes.new.now ≡ []) × (out.new.items ≡ out.old.items)) }
     ensures memory { IfErr result (λ fault. fault ≡ RunFault.OutOfMemory →
         ((mode ≡ Join) ⊎ (0 < length bytes.old.now)) × (out.new.items ≡ out.old.items)) }
+    ensures not_counts { IfErr result (λ fault. (n : ℕ) → fault ≡ RunFault.NotCounts n →
+        (mode ≡ Merge) × IsFirstOther (chars bytes.old.now) n × (bytes.new.now ≡ []) × (out.new.items ≡ out.old.items)) }
     ensures full { IfErr result (λ fault. fault ≡ RunFault.Full →
-        (mode ≡ Tokens) × HasALineTooOften (chars bytes.old.now) × (out.new.items ≡ out.old.items)) }
+        CountsTooFar mode (chars bytes.old.now) × (out.new.items ≡ out.old.items)) }
     ensures beginning { OnErr result ((out.new.items ≡ out.old.items)
-        ⊎ ((bytes.new.now ≡ []) × IsUtf8 bytes.old.now × ((front : List ℕ) × (rest : List ℕ)
-        × (encode_utf8_all (report mode (chars bytes.old.now)) ≡ front ++ rest)
-        × (0 < length rest) × (out.new.items ≡ out.old.items ++ front)))) }
+        ⊎ ((bytes.new.now ≡ []) × IsUtf8 bytes.old.now × ((report : List ℕ) × IsReport mode (chars bytes.old.now) report
+        × ((front : List ℕ) × (rest : List ℕ) × (encode_utf8_all report ≡ front ++ rest)
+        × (0 < length rest) × (out.new.items ≡ out.old.items ++ front))))) }
 {
     run(alloc, state, mode, bytes, out)
+}
+
+/// Appends the report of mode tokens.
+pub fn append_counts<S: BuildHasher + Drop>(
+    alloc: Global,
+    state: S,
+    bytes: &mut &[u8],
+    out: &mut Vec<u8>,
+) -> Result<(), RunFault>
+    ensures report { OnOk result (out.new.items ≡ out.old.items ++ encode_utf8_all (tokens_report (chars bytes.old.now))) }
+    ensures full { IfErr result (λ fault. fault ≡ RunFault.Full → HasALineTooOften (chars bytes.old.now)) }
+{
+    run(alloc, state, Mode::Tokens, bytes, out)
+}
+
+/// Merges the reports of mode tokens on two parts of a text, cut at a line end: that is the report on the whole text.
+pub fn append_merge<S: BuildHasher + Drop>(
+    alloc: Global,
+    state: S,
+    reports: &mut &[u8],
+    out: &mut Vec<u8>,
+) -> Result<(), RunFault>
+    ensures whole { (a b : List ℕ) → IsWhole a → ¬ HasALineTooOften (a ++ b) →
+        chars reports.old.now ≡ tokens_report a ++ tokens_report b →
+        OnOk result (out.new.items ≡ out.old.items ++ encode_utf8_all (tokens_report (a ++ b))) }
+    ensures counts { (a b : List ℕ) → IsWhole a → ¬ HasALineTooOften (a ++ b) →
+        chars reports.old.now ≡ tokens_report a ++ tokens_report b →
+        IfErr result (λ fault. (fault ≢ RunFault.Full) × ((n : ℕ) → fault ≢ RunFault.NotCounts n)) }
+{
+    laws::counted_by_parts();
+    laws::counts_read_back();
+    run(alloc, state, Mode::Merge, reports, out)
 }
 
 /// The report on the bytes, in a function whose error is any error.

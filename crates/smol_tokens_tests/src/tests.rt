@@ -2,6 +2,7 @@
 //! the program with memory refused, and tallies.
 mod doc_examples;
 mod failing;
+mod merges;
 mod readers;
 mod refused;
 mod reports;

@@ -158,6 +158,8 @@ pub enum Kind {
     NotUtf8,
     OutOfMemory,
     TooLong,
+    /// A merge: the number of the first line that is no count line.
+    NotCounts(usize),
     Full,
     Io(Cause),
 }

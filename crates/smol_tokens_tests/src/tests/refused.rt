@@ -9,7 +9,7 @@ use smol_tokens_core::run::run;
 use std::alloc::Global;
 use std::test::Fail;
 use test_support::refuse::{Refusable, can_refuse, each_refused, run_once};
-use test_support::test::{Test, holds, ok_bytes, same};
+use test_support::test::{Test, holds, ok_bytes, ok_string, same};
 use test_support::texts::{long_blank, long_text};
 
 /// The words of a mode, and how many requests a run makes on each of the inputs.
@@ -42,6 +42,19 @@ fn each_request_in_turn(rt: HostRuntime) -> Result<(), Fail> {
             check_once(&test, words, long.as_str().get(..len).unwrap_or(""));
         }
     }
+    test.end()
+}
+
+/// A token that is there already asks for nothing.
+#[test]
+fn each_request_of_a_merge(rt: HostRuntime) -> Result<(), Fail> {
+    let test = Test::begin(rt);
+    check_run(&test, &["merge"], "", 0);
+    check_run(&test, &["merge"], "3 a\n", 5);
+    check_run(&test, &["merge"], "1 a\n1 a\n1 a\n", 5);
+    let token = long_text();
+    let counts = ok_string(&test, format!(in test.alloc; "1 {token}\n2 a\n3 {token}\n"));
+    check_run(&test, &["merge"], counts.as_str(), 9);
     test.end()
 }
 

@@ -6,7 +6,7 @@ use test_support::test::{Test, holds, ok_bytes, ok_string};
 use test_support::texts::{full_text, joined, long_blank, long_capitals, long_text, repeated_and};
 
 /// The words of a mode, an input, and the report on it.
-static REPORTS: [(Words, &[u8], &[u8]); 27] = [
+static REPORTS: [(Words, &[u8], &[u8]); 34] = [
     (&[], b"abc", b"inline 3 abc\n"),
     (
         &["show"],
@@ -82,6 +82,21 @@ static REPORTS: [(Words, &[u8], &[u8]); 27] = [
     (&["tokens"], b"if\nx\nif", b"2 if\n1 x\n"),
     (&["tokens"], b"\n\n", b"2 \n"),
     (&["tokens"], b"", b""),
+    (&["merge"], b"2 a\n1 b\n3 a\n", b"5 a\n1 b\n"),
+    (&["merge"], b"", b""),
+    (&["merge"], b"1 \n2 \n", b"3 \n"),
+    (&["merge"], b"1 a b\n4 a\n1 a b\n", b"2 a b\n4 a\n"),
+    (&["merge"], b"0 a\n10 a\n0 0\n", b"10 a\n0 0\n"),
+    (
+        &["merge"],
+        b"1 \xc3\xa9\r\n1 \xc3\xa9\n",
+        b"1 \xc3\xa9\r\n1 \xc3\xa9\n",
+    ),
+    (
+        &["merge"],
+        b"18446744073709551614 a\n1 a\n",
+        b"18446744073709551615 a\n",
+    ),
 ];
 
 /// The table, behind a function: one that names it is dear to prove.

@@ -38,6 +38,7 @@ pub fn kind_of(fault: &RunFault) -> Kind {
     match fault {
         RunFault::NotUtf8 => Kind::NotUtf8,
         RunFault::OutOfMemory => Kind::OutOfMemory,
+        RunFault::NotCounts(line) => Kind::NotCounts(*line),
         RunFault::Full => Kind::Full,
         RunFault::Io(error) => Kind::Io(cause_of(error)),
     }

@@ -1,10 +1,10 @@
 //! The words of a command line, and the lines that report a fault.
-use smol_tokens_core::fault::{RunFault, fault_line};
+use smol_tokens_core::fault::RunFault;
 use smol_tokens_core::mode::{Mode, mode_of};
 use std::io;
 use std::io::ErrorKind;
 use std::test::Fail;
-use test_support::test::{Test, holds, same_str};
+use test_support::test::{Test, holds, ok_string, same_str};
 
 fn strings(test: &Test, words: &[&str]) -> Vec<String> {
     let mut all = Vec::new(test.alloc);
@@ -33,10 +33,11 @@ fn name_of(mode: &Mode) -> &'static str {
         Mode::Upper => "upper",
         Mode::Replace(_, _) => "replace",
         Mode::Tokens => "tokens",
+        Mode::Merge => "merge",
     }
 }
 
-static WORDS: [&str; 5] = ["show", "join", "lower", "upper", "tokens"];
+static WORDS: [&str; 6] = ["show", "join", "lower", "upper", "tokens", "merge"];
 
 #[test]
 fn modes(rt: HostRuntime) -> Result<(), Fail> {
@@ -74,7 +75,7 @@ fn is_replacement(mode: &Mode, from: &str, to: &str) -> bool {
     }
 }
 
-static WRONG: [&[&str]; 20] = [
+static WRONG: [&[&str]; 21] = [
     &["Show"],
     &[""],
     &["show", "x"],
@@ -89,6 +90,7 @@ static WRONG: [&[&str]; 20] = [
     &["tokens", "x"],
     &["tokens", "x", "y"],
     &["token"],
+    &["merge", "x"],
     &["replace"],
     &["replace", "x"],
     &["replace", "x", "y", "z"],
@@ -116,6 +118,7 @@ fn fault_lines(rt: HostRuntime) -> Result<(), Fail> {
     let test = Test::begin(rt);
     check_line(&test, &RunFault::NotUtf8, "not UTF-8");
     check_line(&test, &RunFault::OutOfMemory, "out of memory");
+    check_line(&test, &RunFault::NotCounts(17), "not a count line: 17");
     check_line(&test, &RunFault::Full, "full");
     let io = RunFault::Io(io::Error::from(ErrorKind::WriteZero));
     check_line(&test, &io, "read or write failed");
@@ -123,5 +126,6 @@ fn fault_lines(rt: HostRuntime) -> Result<(), Fail> {
 }
 
 fn check_line(test: &Test, fault: &RunFault, line: &str) {
-    same_str(test, fault_line(fault), line, line);
+    let told = ok_string(test, format!(in test.alloc; "{fault}"));
+    same_str(test, told.as_str(), line, line);
 }

@@ -1,0 +1,11 @@
+use Rattle.std.proofs.Common.{subst}
+use Rattle.std.specs.Str.{chars}
+use Rattle.std.proofs.lemmas.Result.{on_ok_weaker, IfErr-weaker}
+use Rattle.smol_tokens_tests.proofs.MergedLemmas.{merged-whole, not-other, not-full}
+use Rattle.smol_tokens_tests.proofs.callers.append_merge.Goals as goal
+
+pub returns-clause-whole : goal.returns-clause-whole
+returns-clause-whole g c = λ a b whole fits is.
+    on_ok_weaker c.run.result
+    (λ wrote. rw (← merged-whole a b (chars c.args.reports.now.now) whole fits is wrote.1.1.0 wrote.1.1.1) wrote.1.1.2)
+    c.run.ensures.ok
