@@ -60,7 +60,7 @@ impl<T: Drop> From<AllocFailed<T>> for JsonFault {
 
 /// The fault in a sentence, so that `?` may turn it into an `anyhow::Error`.
 impl Display for JsonFault {
-    ghost output = { json_said };
+    ghost output = { json_said ⟦<serde_json::Error as Display>⟧.output };
 
     fn fmt<W: Write>(&self, f: &mut Formatter<W>) -> fmt::Result {
         match self {

@@ -46,7 +46,7 @@ impl From<AllocError> for ReadFault {
 
 /// The fault in a sentence, so that `?` may turn it into an `anyhow::Error`.
 impl Display for ReadFault {
-    ghost output = { read_said };
+    ghost output = { read_said ⟦<io::Error as Display>⟧.output };
 
     fn fmt<W: fmt::Write>(&self, f: &mut Formatter<W>) -> fmt::Result {
         match self {

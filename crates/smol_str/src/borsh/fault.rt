@@ -135,7 +135,7 @@ impl<T: Drop> From<AllocFailed<T>> for LimitedFault {
 
 /// The fault in a sentence, so that `?` may turn it into an `anyhow::Error`.
 impl Display for EncodeFault {
-    ghost output = { encode_said };
+    ghost output = { encode_said ⟦<io::Error as Display>⟧.output };
 
     fn fmt<W: Write>(&self, f: &mut Formatter<W>) -> fmt::Result {
         match self {
@@ -149,7 +149,7 @@ impl Error for EncodeFault {}
 
 /// The fault in a sentence, so that `?` may turn it into an `anyhow::Error`.
 impl Display for DecodeFault {
-    ghost output = { decode_said };
+    ghost output = { decode_said ⟦<Utf8Error as Display>⟧.output ⟦<io::Error as Display>⟧.output };
 
     fn fmt<W: Write>(&self, f: &mut Formatter<W>) -> fmt::Result {
         match self {
@@ -165,7 +165,7 @@ impl Error for DecodeFault {}
 
 /// The fault in a sentence, so that `?` may turn it into an `anyhow::Error`.
 impl Display for LimitedFault {
-    ghost output = { limited_said };
+    ghost output = { limited_said ⟦<DecodeFault as Display>⟧.output };
 
     fn fmt<W: Write>(&self, f: &mut Formatter<W>) -> fmt::Result {
         match self {

@@ -55,7 +55,7 @@ impl<T: Drop> From<AllocFailed<T>> for FromUtf8Fault {
 
 /// The fault in a sentence, so that `?` may turn it into an `anyhow::Error`.
 impl Display for FromUtf8Fault {
-    ghost output = { utf8_said };
+    ghost output = { utf8_said ⟦<Utf8Error as Display>⟧.output };
 
     fn fmt<W: Write>(&self, f: &mut Formatter<W>) -> fmt::Result {
         match self {

@@ -1,4 +1,5 @@
 //! Values of what is printed: the texts, prints that give up, and memory refused.
+use serde_json::Value;
 use smol_str::borsh::{DecodeFault, EncodeFault, LimitedFault};
 use smol_str::json_string::JsonFault;
 use smol_str::stream::ReadFault;
@@ -9,6 +10,7 @@ use smol_str::{
 use std::alloc::Global;
 use std::error::Error;
 use std::fmt::{self, Display, Formatter, Write};
+use std::io;
 use std::test::Fail;
 use test_support::refuse::{Refusable, each_refused, made_requests};
 use test_support::test::{Test, holds, in_place, ok, ok_string, same_count, same_flag, same_str};
@@ -196,19 +198,52 @@ fn faults_print(rt: HostRuntime) -> Result<(), Fail> {
     let memory = "memory allocation failed";
     prints(&test, &FormatError, "formatting failed or memory ran out");
     prints(&test, &FromUtf8Fault::OutOfMemory, memory);
+    prints(&test, &JsonFault::OutOfMemory, memory);
     prints(
         &test,
         &JsonFault::NotString,
         "the JSON value is not a string",
     );
     prints(&test, &ReadFault::OutOfMemory, memory);
+    prints(&test, &DecodeFault::OutOfMemory, memory);
     let ended = "the bytes end before the text does";
     prints(&test, &DecodeFault::Ended, ended);
+    prints(&test, &LimitedFault::Decode(DecodeFault::Ended), ended);
     let too_long = "the text has more than 4294967295 bytes";
     prints(&test, &EncodeFault::TooLong, too_long);
     let above_limit = "the stated length exceeds the limit";
     prints(&test, &LimitedFault::TooLong, above_limit);
+    print_io(&test, || io::Error::from_raw_os_error(28));
+    print_not_utf8(&test);
+    print_no_json(&test);
     test.end()
+}
+
+// An error that a fault holds is printed as it prints itself.
+fn print_io(test: &Test, error: impl Fn() -> io::Error) {
+    let own = ok_string(test, error().to_string(test.alloc));
+    prints(test, &ReadFault::Io(error()), own.as_str());
+    prints(test, &EncodeFault::Io(error()), own.as_str());
+    prints(test, &DecodeFault::Io(error()), own.as_str());
+    let limited = LimitedFault::Decode(DecodeFault::Io(error()));
+    prints(test, &limited, own.as_str());
+}
+
+fn print_not_utf8(test: &Test) {
+    let Err(error) = str::from_utf8(b"ab\xff") else {
+        return test.fail(&"UTF-8");
+    };
+    let own = ok_string(test, error.to_string(test.alloc));
+    prints(test, &FromUtf8Fault::NotUtf8(error), own.as_str());
+    prints(test, &DecodeFault::NotUtf8(error), own.as_str());
+}
+
+fn print_no_json(test: &Test) {
+    let Err(error) = Value::from_str(test.alloc, "[1") else {
+        return test.fail(&"JSON");
+    };
+    let own = ok_string(test, error.to_string(test.alloc));
+    prints(test, &JsonFault::Json(error), own.as_str());
 }
 
 fn prints<E: Error>(test: &Test, fault: &E, text: &str) {
