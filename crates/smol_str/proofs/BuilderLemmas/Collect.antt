@@ -1,8 +1,7 @@
 -- For collecting, extending and building by steps: items drawn and appended one after another.
 use Rattle.smol_str.proofs.Common.{true, false, false≢true, ◌⊎◌, inr, ◌≡◌, ℕ, ◌<◌, List, [], ◌∷◌, ◌++◌, length, take, drop, map, Option, Some, Result, Ok, Err, IfOk, OnOk, OnErr, refl, ap, ◌∙◌, subst, arith, rules, inl, length-append, length-take, YieldsList, items_from_drains, append-nil, length-map, IsShort, IsResident, but_last, Draft, InBuffer, OnHeap, empty_draft, appended, joined, Meaning, IsValueOf, on_err_weaker, IfOk-weaker}
-use Rattle.std.specs.Iterator.{Yields, YieldsThen, Drains, DrainsIf}
+use Rattle.std.specs.Iterator.{Yields, YieldsThen, Drains, DrainsIf, ExtendsWithItems}
 use Rattle.std.specs.Iterator.Runs.{Run}
-use Rattle.std.specs.Result.{MatchResult}
 use Rattle.std.proofs.iter.runs.Lists.{Yields-both}
 use Rattle.std.proofs.iter.runs.Made.{run, took, to_end, to_item}
 use Rattle.std.proofs.lemmas.Grind.{flat_map-append}
@@ -60,15 +59,6 @@ module _ {S A : Type 0} (steps : S → Option A → S → Type 0) (s : S) where
   run-drains p from whole = let end = (took p).2 whole in (end.0, ((took p).0, run-yields p from, end.1))
 
   module _ (texts : List A → List ℕ) (new : Draft) where
-    -- what std says of an extension
-    pub extended-run : {E : Type 0} (r : Result (Unit {0}) E) (old : Draft) → OnOk r (AppendedAll texts steps s old new)
-        → OnErr r (StoppedAt texts steps s old new) → (xs : List A) × (new ≡ appended old (texts xs))
-        × MatchResult r (λ _. Drains steps s xs) (λ _. (t : S) × Yields steps s xs t)
-    unfolding AppendedAll StoppedAt
-    extended-run (Ok u) old (p, from, whole, all) stopped = (p.items, all, run-drains p from whole)
-    extended-run (Err e) old all (p, from, (some, front, heap)) =
-        (but_last p.items, front, came-before steps s _ p.items (run-yields p from))
-
     -- a new builder that the items put on the heap, or whose value is made
     pub outgrown-stopped : StoppedAt texts steps s (empty_draft InBuffer) new → Outgrown texts steps s
     unfolding StoppedAt Outgrown
@@ -84,6 +74,18 @@ module _ {S A : Type 0} (steps : S → Option A → S → Type 0) (s : S) where
         → OnErr r (¬ (IsResident new.text)) → OnErr r (Outgrown texts steps s)
     unfolding AppendedAll Outgrown
     outgrown-value r (p, from, whole, all) away = on_err_weaker r (λ away. (p, from, search rules)) away
+
+-- what std says of an extension
+pub extended : {U S A E : Type 0} (becomes : U → S → Type 0) (steps : S → Option A → S → Type 0) (texts : List A → List ℕ)
+    (iter : U) (old new : Draft) (r : Result (Unit {0}) E)
+    → OnOk r ((it : S) × becomes iter it × AppendedAll texts steps it old new)
+    → OnErr r ((it : S) × becomes iter it × StoppedAt texts steps it old new)
+    → ExtendsWithItems becomes steps (λ old items new. new ≡ appended old (texts items)) iter old new r
+unfolding AppendedAll StoppedAt
+extended becomes steps texts iter old new (Ok u) (it, is, (p, from, whole, all)) stopped =
+    (it, p.items, is, all, run-drains steps it p from whole)
+extended becomes steps texts iter old new (Err e) all (it, is, (p, from, (some, front, heap))) =
+    (it, but_last p.items, is, front, came-before steps it _ p.items (run-yields steps it p from))
 
 module _ {S : Type 0} (steps : S → Option ℕ → S → Type 0) (s : S) (xs : List ℕ) (old now new : Draft)
     (is : now ≡ appended old xs) (t : S) (x : ℕ) (came : YieldsThen steps s xs (Some x) t) where

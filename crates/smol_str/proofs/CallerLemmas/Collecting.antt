@@ -126,20 +126,25 @@ came : {A B : Type 0} {texts : List A → List ℕ} {whole : List B → List ℕ
 came {whole} reads all xs (S, steps, s, t, u, runs, ends, gives) =
     reads.is xs ∙ ap whole (items_from_drains xs (t, runs, λ _. (u, ends)) gives)
 
--- by std's `collect` and `extend`, in forms that `grind` finds
+-- by std's `collect`, in a form that `grind` finds
 pub chars_came : {E : Type 0} (r : Result Meaning E) (all : List ℕ)
     → ((xs : List ℕ) × CameFrom (λ c. c) all xs × IfOk r (λ y. y.text ≡ xs) × IfOk r (λ y. y.place ≡ place_of xs))
     → IfOk r (λ y. IsValueOf all y)
 chars_came r all (xs, from, text, place) = let is = came characters all xs from in search rules
 
-pub chars_grown : {E : Type 0} (r : Result (Unit {0}) E) (old new : Draft) (all : List ℕ)
-    → ((xs : List ℕ) × CameFrom (λ c. c) all xs × (new ≡ appended old xs)) → OnOk r (new ≡ appended old all)
-chars_grown r old new all (xs, from, is) = let text = came characters all xs from in search rules
+-- and by its `extend` with an iterator
+pub chars_grown : {S E : Type 0} {steps : S → Option ℕ → S → Type 0} {s : S} {all : List ℕ} (r : Result (Unit {0}) E)
+    (old new : Draft) → OnOk r ((it : S) × (it ≡ s) × AppendedAll (λ xs. xs) steps it old new)
+    → YieldsList steps (λ c. c) s all → OnOk r (new ≡ appended old all)
+chars_grown {steps} r old new is gives = on_ok_weaker r
+    (λ (it, same, grown). text-appended characters old new (subst (λ s. AppendedAll (λ xs. xs) steps s old new) same grown) gives) is
 
-pub string_refs_grown : {E : Type 0} (r : Result (Unit {0}) E) (old new : Draft) (all : List (String Global))
-    → ((xs : List (Bor (String Global))) × CameFrom (λ x. x.now) all xs × (new ≡ appended old (joined_string_refs xs)))
-    → OnOk r (new ≡ appended old (joined string_text all))
-string_refs_grown r old new all (xs, from, is) = let text = came string_refs all xs from in search rules
+pub string_refs_grown : {S E : Type 0} {steps : S → Option (Bor (String Global)) → S → Type 0} {s : S}
+    {all : List (String Global)} (r : Result (Unit {0}) E)
+    (old new : Draft) → OnOk r ((it : S) × (it ≡ s) × AppendedAll joined_string_refs steps it old new)
+    → YieldsList steps (λ x. x.now) s all → OnOk r (new ≡ appended old (joined string_text all))
+string_refs_grown {steps} r old new is gives = on_ok_weaker r
+    (λ (it, same, grown). text-appended string_refs old new (subst (λ s. AppendedAll joined_string_refs steps s old new) same grown) gives) is
 
 pub ruleset chars_by_std = (gives-chars, gives-rev_chars, chars_came, chars_grown)
 

@@ -1,9 +1,9 @@
 //! std's traits for collecting and extending: `iter.collect(alloc)` and `builder.extend(iter)`.
-ghost use Rattle.std.specs.Prelude.{◌≡◌, List, IfOk, OnErr};
-ghost use Rattle.std.specs.Iterator.{Drains, ExtendsWithItems, IsFinite};
+ghost use Rattle.std.specs.Prelude.{◌≡◌, List, IfOk, OnOk, OnErr};
+ghost use Rattle.std.specs.Iterator.{Drains, IsFinite};
 ghost use Rattle.smol_str.specs.Meaning.{IsValueOf};
 ghost use Rattle.smol_str.specs.Draft.{appended};
-ghost use Rattle.smol_str.specs.Collect.{StoppedAt, Outgrown};
+ghost use Rattle.smol_str.specs.Collect.{AppendedAll, StoppedAt, Outgrown};
 
 use super::{Piece, append_all, collect};
 use crate::builder::SmolStrBuilder;
@@ -42,8 +42,8 @@ impl<P: Piece> Extend<P> for SmolStrBuilder {
     fn extend<U: IntoIterator<Item = P>>(&mut self, iter: U) -> Result<(), AllocError>
         requires can { (it : U.IntoIter) → U.into_iter_gives iter it → U.IntoIter.can_next it }
         requires ends { (it : U.IntoIter) → U.into_iter_gives iter it → IsFinite (U.IntoIter.remaining it) }
-        ensures ran { ExtendsWithItems U.into_iter_gives U.IntoIter.next_gives
-            (λ old items new. new ≡ appended old (P.texts items)) iter self.old self.new result }
+        ensures ok { OnOk result ((it : U.IntoIter) × U.into_iter_gives iter it
+            × AppendedAll P.texts U.IntoIter.next_gives it self.old self.new) }
         ensures stopped { OnErr result ((it : U.IntoIter) × U.into_iter_gives iter it
             × StoppedAt P.texts U.IntoIter.next_gives it self.old self.new) }
     {
