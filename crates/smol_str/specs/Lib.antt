@@ -23,6 +23,7 @@ pub mod InCase
 pub mod Wire
 pub mod Plain
 pub mod Json
+pub mod Serde
 pub mod CutExamples
 pub mod CaseExamples
 pub mod JsonExamples

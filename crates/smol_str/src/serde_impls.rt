@@ -3,8 +3,8 @@
 //! A module cannot be named `serde` beside the library of that name.
 ghost use Rattle.std.specs.Prelude.{◌≡◌, IfOk, encode_utf8_all};
 ghost use Rattle.serde.specs.Event.{Logs, text};
-ghost use Rattle.serde.specs.Steps.{Gives};
 ghost use Rattle.smol_str.specs.Text.{place_of};
+ghost use Rattle.smol_str.specs.Serde.{HasReadText};
 
 use crate::value::SmolStr;
 use serde::{
@@ -25,14 +25,15 @@ impl Serialize for SmolStr {
 
 /// The value of a text that the format reads, in the place of that text.
 ///
-/// The text is read as a `String`, whose memory a value that is not resident keeps. A refusal is the
-/// format's own error of memory, and anything but a text is the format's own error too.
+/// The text is read as a `String`, whose memory a value that is not resident keeps. So memory may be
+/// refused for any text, and that is the format's own error of memory. Anything but a text is the
+/// format's own error too.
 impl DeserializeOwned for SmolStr {
     fn deserialize_owned<F: Format>(
         alloc: Global,
         from: &mut Deserializer<'_, '_, F>,
     ) -> Result<SmolStr, F::Error>
-        ensures text { IfOk result (λ v. Gives F.gives from.old (text (encode_utf8_all v.text)) from.new) }
+        ensures read { IfOk result (λ v. HasReadText F.gives from.old v.text from.new) }
         ensures place { IfOk result (λ v. v.place ≡ place_of v.text) }
     {
         let owned = from.string(alloc)?;
@@ -43,13 +44,13 @@ impl DeserializeOwned for SmolStr {
     }
 }
 
-/// The same: a value borrows nothing from the input.
+/// The same, also where memory is refused: a value borrows nothing from the input.
 impl<'de> Deserialize<'de> for SmolStr {
     fn deserialize<F: Format>(
         alloc: Global,
         from: &mut Deserializer<'de, '_, F>,
     ) -> Result<SmolStr, F::Error>
-        ensures text { IfOk result (λ v. Gives F.gives from.old (text (encode_utf8_all v.text)) from.new) }
+        ensures read { IfOk result (λ v. HasReadText F.gives from.old v.text from.new) }
         ensures place { IfOk result (λ v. v.place ≡ place_of v.text) }
     {
         DeserializeOwned::deserialize_owned(alloc, from)

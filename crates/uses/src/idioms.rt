@@ -8,11 +8,11 @@ ghost use Rattle.std.specs.Rc.{rc_str_bytes};
 ghost use Rattle.std.specs.Str.{chars};
 ghost use Rattle.std.specs.String.{string_bytes};
 ghost use Rattle.serde.specs.Event.{Logs, text};
-ghost use Rattle.serde.specs.Steps.{Gives};
 ghost use Rattle.smol_str.specs.Collect.{Outgrown, StoppedAt};
 ghost use Rattle.smol_str.specs.Draft.{appended};
 ghost use Rattle.smol_str.specs.Joined.{joined, string_text};
 ghost use Rattle.smol_str.specs.Meaning.{Meaning, IsValueOf};
+ghost use Rattle.smol_str.specs.Serde.{HasReadText};
 ghost use Rattle.smol_str.specs.Text.{IsResident, place_of};
 
 use serde::{Deserialize, DeserializeOwned, Deserializer, Format, Serialize, Serializer};
@@ -158,7 +158,7 @@ pub fn receive<'de, F: Format>(
     alloc: Global,
     from: &mut Deserializer<'de, '_, F>,
 ) -> Result<SmolStr, F::Error>
-    ensures text { IfOk result (λ v. Gives F.gives from.old (text (encode_utf8_all v.text)) from.new) }
+    ensures read { IfOk result (λ v. HasReadText F.gives from.old v.text from.new) }
     ensures place { IfOk result (λ v. v.place ≡ place_of v.text) }
 {
     SmolStr::deserialize(alloc, from)
@@ -169,7 +169,7 @@ pub fn receive_owned<F: Format>(
     alloc: Global,
     from: &mut Deserializer<'_, '_, F>,
 ) -> Result<SmolStr, F::Error>
-    ensures text { IfOk result (λ v. Gives F.gives from.old (text (encode_utf8_all v.text)) from.new) }
+    ensures read { IfOk result (λ v. HasReadText F.gives from.old v.text from.new) }
     ensures place { IfOk result (λ v. v.place ≡ place_of v.text) }
 {
     SmolStr::deserialize_owned(alloc, from)
