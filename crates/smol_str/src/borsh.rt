@@ -142,8 +142,17 @@ pub fn split_wire(alloc: Global, bytes: &[u8]) -> Result<(SmolStr, &[u8]), Decod
 /// Reads a value of at most `limit` bytes, as [`BorshDeserialize::deserialize_reader`] does: for a
 /// peer that may state any size.
 ///
-/// A length prefix above the limit is [`LimitedFault::TooLong`]: the four bytes are consumed, no
-/// memory was asked for, and nothing of the body was read.
+/// | fault | the bytes | consumed |
+/// |---|---|---|
+/// | `TooLong` | state a size above the limit | the size |
+/// | `Decode(Ended)` | end early | all of them |
+/// | `Decode(NotUtf8)` | are a whole form, whose body is not UTF-8 | the form |
+/// | `Decode(OutOfMemory)` | are a whole form of a text that is not resident, with at most [`STACK_BODY`] bytes | the form |
+/// | `Decode(OutOfMemory)` | state a size above `STACK_BODY` | the size and some of the body |
+/// | `Decode(Io)` | are those of a reader that failed | less than the form |
+///
+/// In the rows of `Decode` no size above the limit is stated. No memory is asked for before a size is
+/// known to be within it.
 ///
 /// ```
 /// let mut reader = b"\x02\0\0\0ab".as_slice();
@@ -269,13 +278,9 @@ impl BorshSerialize for SmolStr {
 /// size 0. A body of at most [`INLINE_CAP`] bytes takes no memory. A longer one takes memory by
 /// what came, and not by the stated size. UTF-8 is tested when the whole body is there.
 ///
-/// * [`DecodeFault::Ended`]: the bytes have ended early, and all of them are consumed.
-/// * [`DecodeFault::NotUtf8`]: the size and the whole body are consumed, and the rest is unread.
-/// * [`DecodeFault::OutOfMemory`]: only where the stated size is above [`INLINE_CAP`], and some of
-///   the body came. If the size is at most [`STACK_BODY`], the whole body is consumed, and it is
-///   UTF-8. Of a longer body it may come before an early end is seen.
-/// * [`DecodeFault::Io`]: a `read` failed, perhaps with `Interrupted`, before the whole body had
-///   come. It may come before every other fault.
+/// What stands after each fault is in the table of [`deserialize_limited`], in the rows of `Decode`. Of
+/// a body above [`STACK_BODY`] [`DecodeFault::OutOfMemory`] may come before an early end is seen, and
+/// [`DecodeFault::Io`], perhaps of `Interrupted`, before every other fault.
 ///
 /// Tests alone show that `Io` comes only where a `read` failed, how much memory is taken, and how
 /// large the buffers are.
