@@ -38,8 +38,7 @@ pub fn convert_while_ascii(text: &str, case: AsciiCase) -> (InlineBuffer, usize)
 ///
 /// `from` must be a char boundary, as 0 always is, and `pattern` not empty. Both the index that is
 /// returned and the one behind the match are char boundaries, so you may cut the text at either. The
-/// clause `parts` says what you get, and `first` that the pattern stands nowhere before. In the
-/// clauses `found` and `none`, `a` is the characters before `from`, and `b` those from there on.
+/// clause `parts` says what you get, and `first` that the pattern stands nowhere before.
 ///
 /// ```
 /// assert_eq!(rt; next_match("foo_bar_baz", 5, "ba"), Some(8));
@@ -51,15 +50,16 @@ pub fn next_match(text: &str, from: usize, pattern: &str) -> Option<usize>
         (λ i. IsFirstAfter (chars pattern.now) (chars (take (i - from) (drop from text.now)))) }
     ensures parts { IfSome result (λ i. chars text.now ≡ chars (take i text.now)
         ++ (chars pattern.now ++ chars (drop (i + length pattern.now) text.now))) }
+    ensures boundaries { IfSome result (λ i.
+        IsCharBoundary text.now i × IsCharBoundary text.now (i + length pattern.now)) }
+    ensures within { IfSome result (λ i. (from ≤ i) × (i + length pattern.now ≤ length text.now)) }
+    // For proofs over every split: of the characters at `from`, or of the bytes round a match.
     ensures found { (a b : List ℕ) → chars text.now ≡ a ++ b → size a ≡ from →
         (i : ℕ) → (result ≡ Some i) ↔ IsNextMatch a b (chars pattern.now) i }
     ensures none { (a b : List ℕ) → chars text.now ≡ a ++ b → size a ≡ from →
         (result ≡ None) ↔ (¬ Occurs (chars pattern.now) b) }
     ensures synchronised { (x y : List ℕ) → text.now ≡ x ++ (pattern.now ++ y) →
         StandsAt (chars pattern.now) (chars text.now) (length x) }
-    ensures within { IfSome result (λ i. (from ≤ i) × (i + length pattern.now ≤ length text.now)) }
-    ensures boundaries { IfSome result (λ i.
-        IsCharBoundary text.now i × IsCharBoundary text.now (i + length pattern.now)) }
 {
     let found = find(bytes_from(text, from), pattern.as_bytes())?;
     Some(from + found)
