@@ -90,8 +90,8 @@ pub fn to_value(alloc: Global, value: &SmolStr) -> Result<Value, AllocError>
 /// The value of a JSON string's text, copied.
 ///
 /// It is [`JsonFault::NotString`] for any other JSON value; the value of a number is not looked at.
-/// Resident text needs no memory; any other is refused with [`JsonFault::OutOfMemory`] where the
-/// heap has no room for it. [`JsonFault::Json`] never comes.
+/// Memory may be refused only for a text that is not resident, and that is
+/// [`JsonFault::OutOfMemory`]. [`JsonFault::Json`] never comes.
 #[tactic(auto, using(crate::proofs::JsonLemmas::read_values))]
 pub fn from_value(alloc: Global, value: &Value) -> Result<SmolStr, JsonFault>
     ensures ok { IfOk result (λ v. IsJsonOf (view value.now) v) }
