@@ -1,6 +1,6 @@
 //! Why a run failed, and how that is reported.
 ghost use Rattle.std.specs.Prelude.{◌≡◌, Some};
-ghost use Rattle.smol_tokens_core.specs.FaultLine.{fault_line};
+ghost use Rattle.smol_tokens_core.specs.FaultLine.{fault_line, numbered_line};
 ghost use Rattle.smol_tokens_core.specs.ReadFaults.{of_read_fault};
 ghost use Rattle.smol_tokens_core.specs.TallyFaults.{of_add_fault};
 ghost use Rattle.smol_tokens_core.specs.declared.fault.RunFault.TheVariants.{OutOfMemory, Io};
@@ -65,19 +65,29 @@ impl From<AddFault> for RunFault {
     }
 }
 
-/// The line that reports the fault on standard error, without its newline.
+/// The line of [`fault_line`], with the number of a line that is no count line.
 impl Display for RunFault {
-    ghost output = { λ fault. Some (fault_line fault) };
+    ghost output = { λ fault. Some (numbered_line fault) };
 
     fn fmt<W: Write>(&self, f: &mut Formatter<W>) -> fmt::Result {
         match self {
-            RunFault::NotUtf8 => f.write_str("not UTF-8"),
-            RunFault::OutOfMemory => f.write_str("out of memory"),
             RunFault::NotCounts(line) => write!(f, "not a count line: {line}"),
-            RunFault::Full => f.write_str("full"),
-            RunFault::Io(_) => f.write_str("read or write failed"),
+            _ => f.write_str(fault_line(self)),
         }
     }
 }
 
 impl Error for RunFault {}
+
+/// The line that reports a fault on standard error, without its newline and without a line's number.
+pub fn fault_line(fault: &RunFault) -> &'static str
+    ensures { result.now ≡ fault_line fault.now }
+{
+    match fault {
+        RunFault::NotUtf8 => "not UTF-8",
+        RunFault::OutOfMemory => "out of memory",
+        RunFault::NotCounts(_) => "not a count line",
+        RunFault::Full => "full",
+        RunFault::Io(_) => "read or write failed",
+    }
+}

@@ -1,10 +1,10 @@
 //! The words of a command line, and the lines that report a fault.
-use smol_tokens_core::fault::RunFault;
+use smol_tokens_core::fault::{RunFault, fault_line};
 use smol_tokens_core::mode::{Mode, mode_of};
 use std::io;
 use std::io::ErrorKind;
 use std::test::Fail;
-use test_support::test::{Test, holds, ok_string, same_str};
+use test_support::test::{Test, holds, is_so, ok_string, same_str};
 
 fn strings(test: &Test, words: &[&str]) -> Vec<String> {
     let mut all = Vec::new(test.alloc);
@@ -126,6 +126,8 @@ fn fault_lines(rt: HostRuntime) -> Result<(), Fail> {
 }
 
 fn check_line(test: &Test, fault: &RunFault, line: &str) {
-    let told = ok_string(test, format!(in test.alloc; "{fault}"));
-    same_str(test, told.as_str(), line, line);
+    let printed = ok_string(test, format!(in test.alloc; "{fault}"));
+    same_str(test, printed.as_str(), line, line);
+    let is_begun = line.starts_with(fault_line(fault));
+    is_so(test, is_begun && !fault_line(fault).is_empty(), line);
 }
