@@ -17,7 +17,6 @@
       10   a test has ended that made n comparisons
 
    A block that is made smaller is no request: it needs no memory, so it is not counted, and refused by message 9 alone.
-
    crates/test_support/src/refuse.rt sends these messages. At the end of the process one line goes to the file that REFUSE_LOG
    names: how often refusals were asked for, how many requests were refused, how many tests ended, and their comparisons. */
 #include <malloc.h>

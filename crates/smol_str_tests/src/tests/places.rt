@@ -161,7 +161,7 @@ fn roundtrip_ws(rt: HostRuntime) -> Result<(), Fail> {
 #[test]
 fn size_of_a_value(rt: HostRuntime) -> Result<(), Fail> {
     let test = Test::begin(rt);
-    same_count(&test, size_of::<SmolStr>(), INLINE_CAP + 1 + 8, "a value");
+    same_count(&test, size_of::<SmolStr>(), 48, "a value");
     test.end()
 }
 
