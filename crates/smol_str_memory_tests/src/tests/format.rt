@@ -213,20 +213,24 @@ fn faults_print(rt: HostRuntime) -> Result<(), Fail> {
     prints(&test, &EncodeFault::TooLong, too_long);
     let above_limit = "the stated length exceeds the limit";
     prints(&test, &LimitedFault::TooLong, above_limit);
-    print_io(&test, || io::Error::from_raw_os_error(28));
+    print_io(&test);
     print_not_utf8(&test);
     print_no_json(&test);
     test.end()
 }
 
 // An error that a fault holds is printed as it prints itself.
-fn print_io(test: &Test, error: impl Fn() -> io::Error) {
-    let own = ok_string(test, error().to_string(test.alloc));
-    prints(test, &ReadFault::Io(error()), own.as_str());
-    prints(test, &EncodeFault::Io(error()), own.as_str());
-    prints(test, &DecodeFault::Io(error()), own.as_str());
-    let limited = LimitedFault::Decode(DecodeFault::Io(error()));
+fn print_io(test: &Test) {
+    let own = ok_string(test, no_space().to_string(test.alloc));
+    prints(test, &ReadFault::Io(no_space()), own.as_str());
+    prints(test, &EncodeFault::Io(no_space()), own.as_str());
+    prints(test, &DecodeFault::Io(no_space()), own.as_str());
+    let limited = LimitedFault::Decode(DecodeFault::Io(no_space()));
     prints(test, &limited, own.as_str());
+}
+
+fn no_space() -> io::Error {
+    io::Error::from_raw_os_error(28)
 }
 
 fn print_not_utf8(test: &Test) {
