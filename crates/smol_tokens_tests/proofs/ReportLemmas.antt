@@ -26,4 +26,4 @@ no_memory mode input left held holds (Err fault) h = λ is.
       by : AfterFault mode (known input left held holds) OutOfMemory
           → ((mode ≡ Join) ⊎ (0 < length input)) × (holds ≡ held)
       by (same, inl (bytes, some, is)) = (inr (omega (arith, some, ap length is, length-append bytes left)), same)
-      by (same, inr (end, (utf8, wants))) = (wanted mode input wants, same)
+      by (same, inr (all, (utf8, wants))) = (wanted mode input wants, same)

@@ -1,5 +1,5 @@
 //! Callers of the program's core: the report on some bytes, behind what a `Vec` has, and words counted.
-ghost use Rattle.std.specs.Prelude.{◌≡◌, ◌≢◌, ◌<◌, ◌⊎◌, ◌+◌, ◌^◌, ℕ, List, [], ◌++◌, length, None, IsOk, OnOk, OnErr, IfErr, encode_utf8_all};
+ghost use Rattle.std.specs.Prelude.{◌≡◌, ◌≢◌, ◌<◌, ◌⊎◌, ◌+◌, ◌^◌, ℕ, List, [], ◌++◌, length, Some, None, IsOk, OnOk, OnErr, IfOk, IfErr, IfSome, encode_utf8_all};
 ghost use Rattle.std.specs.Map.{lookup};
 ghost use Rattle.std.specs.Str.{chars, IsUtf8};
 ghost use Rattle.smol_tokens_core.specs.Counts.{IsWhole, IsFirstOther};
@@ -9,6 +9,7 @@ ghost use Rattle.smol_tokens_core.specs.Tally.{is_same, times_of};
 ghost use Rattle.smol_tokens_core.specs.declared.mode.Mode.TheVariants.{Join, Merge};
 
 use smol_str::SmolStr;
+use smol_str::stream::{ReadFault, read_all};
 use smol_tokens_core::fault::RunFault;
 use smol_tokens_core::laws;
 use smol_tokens_core::mode::Mode;
@@ -16,6 +17,7 @@ use smol_tokens_core::run::run;
 use smol_tokens_core::tally::{AddFault, Tally};
 use std::alloc::Global;
 use std::hash::{BuildHasher, BuildHasherDefault, FoldHasher};
+use std::io::{Read, Write};
 
 /// Appends the report on the bytes. Where there is none, `out` is as before, or the bytes are a text and a beginning of
 /// its report was appended.
@@ -35,10 +37,12 @@ pub fn append_report<S: BuildHasher + Drop>(
         (¬ (IsUtf8 bytes.old.now)) × (bytes.new.now ≡ []) × (out.new.items ≡ out.old.items)) }
     ensures memory { IfErr result (λ fault. fault ≡ RunFault.OutOfMemory →
         ((mode ≡ Join) ⊎ (0 < length bytes.old.now)) × (out.new.items ≡ out.old.items)) }
+    ensures left { IfErr result (λ fault. fault ≡ RunFault.OutOfMemory →
+        (bytes.new.now ≡ []) ⊎ (length bytes.new.now < length bytes.old.now)) }
     ensures not_counts { IfErr result (λ fault. (n : ℕ) → fault ≡ RunFault.NotCounts n →
         (mode ≡ Merge) × IsFirstOther (chars bytes.old.now) n × (bytes.new.now ≡ []) × (out.new.items ≡ out.old.items)) }
     ensures full { IfErr result (λ fault. fault ≡ RunFault.Full →
-        CountsTooFar mode (chars bytes.old.now) × (out.new.items ≡ out.old.items)) }
+        CountsTooFar mode (chars bytes.old.now) × (bytes.new.now ≡ []) × (out.new.items ≡ out.old.items)) }
     ensures beginning { OnErr result ((out.new.items ≡ out.old.items)
         ⊎ ((bytes.new.now ≡ []) × IsUtf8 bytes.old.now × ((report : List ℕ) × IsReport mode (chars bytes.old.now) report
         × ((front : List ℕ) × (rest : List ℕ) × (encode_utf8_all report ≡ front ++ rest)
@@ -77,6 +81,42 @@ pub fn append_merge<S: BuildHasher + Drop>(
     laws::counted_by_parts();
     laws::counts_read_back();
     run(alloc, state, Mode::Merge, reports, out)
+}
+
+/// What a reader gives after a run, whatever came of it: those of its bytes that the run has not read.
+pub fn rest_after_run<S: BuildHasher + Drop, R: Read, W: Write>(
+    alloc: Global,
+    state: S,
+    mode: Mode,
+    reader: &mut R,
+    writer: &mut W,
+    bytes: &[u8],
+) -> Result<Vec<u8>, ReadFault>
+    requires known { R.remaining reader.old ≡ Some bytes.now }
+    ensures { IfOk result (λ rest. (front : List ℕ) × (bytes.now ≡ front ++ rest.items)) }
+{
+    let _ran = run(alloc, state, mode, reader, writer);
+    read_all(alloc, reader)
+}
+
+/// The same where the run came to the end of the text: nothing.
+pub fn nothing_after_text<S: BuildHasher + Drop, R: Read, W: Write>(
+    alloc: Global,
+    state: S,
+    mode: Mode,
+    reader: &mut R,
+    writer: &mut W,
+    bytes: &[u8],
+) -> Option<Vec<u8>>
+    requires known { R.remaining reader.old ≡ Some bytes.now }
+    ensures { IfSome result (λ rest. rest.items ≡ []) }
+{
+    match run(alloc, state, mode, reader, writer) {
+        Ok(()) | Err(RunFault::NotUtf8 | RunFault::NotCounts(_) | RunFault::Full) => read_all(
+            alloc, reader,
+        ).ok(),
+        Err(RunFault::OutOfMemory | RunFault::Io(_)) => None,
+    }
 }
 
 /// The report on the bytes, in a function whose error is any error.

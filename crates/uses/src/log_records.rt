@@ -7,7 +7,9 @@ ghost use Rattle.smol_str.specs.Stream.{Gave, AppendsBeginning};
 ghost use Rattle.uses.specs.declared.log_records.Record.{Record};
 ghost use Rattle.uses.specs.LogRecords.{HasForm, form, forms, texts, AfterRecordFault, AfterNextFault, AfterReadFault};
 
-use smol_str::borsh::{BorshSerialize, EncodeFault, LimitedFault, deserialize_limited};
+use smol_str::borsh::{
+    BorshSerialize, DecodeFault, EncodeFault, LimitedFault, deserialize_limited,
+};
 use smol_str::json_string::to_json;
 use smol_str::{SmolStr, laws};
 use std::alloc::{AllocError, Global};
@@ -133,6 +135,23 @@ pub fn read_back<'a>(
         Ok(read) => Some((read, reader)),
         Err(_fault) => None,
     }
+}
+
+/// A record whose form the bytes are, with `rest` behind it: that they end early is not told.
+pub fn read_known(
+    alloc: Global,
+    bytes: &[u8],
+    entry: &Record,
+    rest: &[u8],
+    limit: usize,
+) -> Result<Vec<Record>, LimitedFault>
+    requires sized { HasForm entry.now }
+    requires written { bytes.now ≡ form entry.now ++ rest.now }
+    ensures whole { IfErr result (λ fault. ¬ (fault ≡ LimitedFault.Decode DecodeFault.Ended)) }
+{
+    let (_level, _message) = (entry.level.as_str(), entry.message.as_str());
+    let mut reader = bytes;
+    read_all(alloc, &mut reader, 1, limit)
 }
 
 /// Records written, with more behind them, and read back.
