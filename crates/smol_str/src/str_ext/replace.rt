@@ -17,9 +17,7 @@ use memchr::memmem::Finder;
 use std::alloc::{AllocError, Global};
 
 /// The text with the first `count` matches of a pattern replaced. Where the limit leaves none out,
-/// one byte for another is replaced in place. A text without the pattern's first byte, or shorter
-/// than the pattern, is copied. Else the pieces between matches are pushed into one builder.
-#[tactic(auto, using(crate::proofs::CutLemmas::Replacing::last_steps))]
+/// one byte for another is replaced in place.
 pub(super) fn replace(
     alloc: Global,
     text: &str,
@@ -35,6 +33,25 @@ pub(super) fn replace(
     if from.len() == 1 && to.len() == 1 && count >= text.len() {
         return replace_byte(alloc, text, from.as_bytes()[0], to.as_bytes()[0]);
     }
+    replace_matches(alloc, text, from, to, count)
+}
+
+/// The same by pieces pushed into one builder. A text that lacks the pattern's first byte, or is
+/// shorter than the pattern, is copied. Slow path, kept out of line so that the fast path inlines.
+#[inline(never)]
+#[tactic(auto, using(crate::proofs::CutLemmas::Replacing::last_steps))]
+fn replace_matches(
+    alloc: Global,
+    text: &str,
+    from: &str,
+    to: &str,
+    count: usize,
+) -> Result<SmolStr, AllocError>
+    ensures ok { IfOk result (λ v.
+        IsValueOf (replaced (chars text.now) (chars from.now) (chars to.now) count) v) }
+    ensures refused { OnErr result
+        (¬ (IsShort (replaced (chars text.now) (chars from.now) (chars to.now) count))) }
+{
     if !from.is_empty() && first_byte(text.as_bytes(), from.as_bytes()).is_none() {
         return SmolStr::new(alloc, text);
     }
