@@ -147,6 +147,7 @@ impl SmolStr {
 
     pub fn from_chars(_: Global, items: impl Iterator<Item = char>) -> Made { collected(items.collect()) }
     pub fn from_strs<'a>(_: Global, items: impl Iterator<Item = &'a str>) -> Made { collected(items.collect()) }
+    pub fn join(_: Global, texts: &[&str], separator: &str) -> Made { collected(texts.join(separator).into()) }
     pub fn from_strings(_: Global, items: impl Iterator<Item = String>) -> Made { collected(items.collect()) }
     pub fn from_string_refs<'a>(_: Global, items: impl Iterator<Item = &'a String>) -> Made { collected(items.collect()) }
 

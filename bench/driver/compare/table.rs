@@ -74,6 +74,7 @@ pub static ROWS: &[Row] = &[
     row(b'c', "from_chars", 30, 6, draws::TEXT, ANY, "SmolStr::from_chars"),
     row(b'c', "from_strs", 20, 1, draws::PIECES, ANY, "SmolStr::from_strs"),
     row(b'c', "from_strs of a split", 10, 1, draws::TEXT, ANY, "SmolStr::from_strs"),
+    row(b'c', "join", 10, 1, draws::PIECES, ANY, "SmolStr::join"),
     row(b'c', "from_strings", 7, 1, draws::PIECES, ANY, "SmolStr::from_strings"),
     row(b'c', "from_string_refs", 7, 1, draws::PIECES, ANY, "SmolStr::from_string_refs"),
     row(b'c', "extend_chars", 10, 1, draws::TEXT, ANY, "SmolStrBuilder::extend_chars"),

@@ -1,4 +1,5 @@
 pub mod Draft
 pub mod Push
 pub mod Collect
+pub mod Join
 pub mod Format

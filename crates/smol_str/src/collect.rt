@@ -12,6 +12,7 @@ ghost use Rattle.smol_str.specs.Joined.{joined, joined_strs, joined_strings, joi
 ghost use Rattle.smol_str.specs.JoinedLaws.{joined-chars, joined-strs, joined-string_refs};
 ghost use Rattle.smol_str.specs.Collect.{AppendedAll, StoppedAt, Collected, Outgrown};
 
+mod join;
 pub mod steps;
 mod traits;
 
@@ -20,7 +21,7 @@ use crate::builder::SmolStrBuilder;
 use crate::value::SmolStr;
 use std::alloc::{AllocError, Global};
 
-/// An item with a text that is appended in one call: a `char`, `&str`, `String`, `&String` or `&Step`.
+/// An item with a text that is appended in one call: a `char`, `&str`, `String`, `&String`, [`SmolStr`] or `&Step`.
 pub trait Piece: Drop {
     ghost text: { Self → List ℕ };
 
@@ -80,6 +81,19 @@ impl<'a> Piece for &'a String {
 
     ghost joins = { joined-string_refs };
 
+    fn append_to(&self, builder: &mut SmolStrBuilder) -> Result<(), AllocError> {
+        builder.push_str(self.as_str())
+    }
+}
+
+impl Piece for SmolStr {
+    ghost text = { λ value. value.text };
+
+    ghost texts = { joined (λ value. value.text) };
+
+    ghost joins = { λ _. refl };
+
+    #[tactic(auto, using(crate::proofs::CallerLemmas::Texts::texts))]
     fn append_to(&self, builder: &mut SmolStrBuilder) -> Result<(), AllocError> {
         builder.push_str(self.as_str())
     }

@@ -156,6 +156,7 @@ fn collected(rt: HostRuntime) -> Result<(), Fail> {
     let alloc = test.alloc;
     ended(&test, from_chars_example(&test, alloc), "from_chars");
     ended(&test, from_strs_example(&test, alloc), "from_strs");
+    ended(&test, join_example(&test, alloc), "join");
     ended(&test, from_strings_example(&test, alloc), "from_strings");
     ended(
         &test,
@@ -176,6 +177,12 @@ fn from_chars_example(rt: &Test, alloc: Global) -> Result<(), AllocError> {
 fn from_strs_example(rt: &Test, alloc: Global) -> Result<(), AllocError> {
     let path = SmolStr::from_strs(alloc, "a/b/c".split('/'))?;
     expect_eq!(rt; path.as_str(), "abc");
+    Ok(())
+}
+
+fn join_example(rt: &Test, alloc: Global) -> Result<(), AllocError> {
+    let line = SmolStr::join(alloc, &["id", "name", "city"], ",")?;
+    expect_eq!(rt; line.as_str(), "id,name,city");
     Ok(())
 }
 

@@ -18,6 +18,7 @@ enum Call {
     FromBorrowed,
     FromChars,
     FromStrs,
+    Join,
     /// By the trait's call.
     Collect,
     ToSmolStr,
@@ -32,7 +33,7 @@ const CHARS: Wants = Exactly(
 
 const HALVES: Wants = Exactly([0, 0, 2, 2, 3, 3, 3], [0, 0, 597, 119, 7657, 7657, 105_157]);
 
-static CALLS: [Row<Call>; 11] = [
+static CALLS: [Row<Call>; 12] = [
     (Call::New, "SmolStr::new", SHARED),
     (Call::FromStr, "SmolStr::from_str", SHARED),
     (Call::FromUtf8, "SmolStr::from_utf8", SHARED),
@@ -44,6 +45,7 @@ static CALLS: [Row<Call>; 11] = [
     (Call::FromBorrowed, "SmolStr::from_cow_str", SHARED),
     (Call::FromChars, "SmolStr::from_chars", CHARS),
     (Call::FromStrs, "SmolStr::from_strs", HALVES),
+    (Call::Join, "SmolStr::join", HALVES),
     (Call::Collect, "SmolStr::from_iter", CHARS),
     (Call::ToSmolStr, "ToSmolStr::to_smolstr", PRINTED),
     (Call::Format, "format_smolstr!", PRINTED),
@@ -76,6 +78,7 @@ impl super::Call for Call {
             Call::FromBorrowed => things_of(SmolStr::from_cow_str(alloc, CowStr::Borrowed(text))),
             Call::FromChars => things_of(SmolStr::from_chars(alloc, text.chars())),
             Call::FromStrs => things_of(SmolStr::from_strs(alloc, pieces(text).into_iter())),
+            Call::Join => things_of(SmolStr::join(alloc, &pieces(text), "")),
             Call::Collect => things_of(collected(alloc, text)),
             Call::ToSmolStr => things_of(text.to_smolstr(alloc)),
             Call::Format => things_of(format_smolstr!(alloc; "{}", text)),

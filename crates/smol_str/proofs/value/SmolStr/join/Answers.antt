@@ -1,0 +1,29 @@
+use Rattle.smol_str.proofs.Common.{◌≡◌, ◌∷◌, arith, rules, chars}
+use Rattle.smol_str.proofs.BuilderLemmas.Draft.{appended-twice, OnHeap-long}
+use Rattle.smol_str.proofs.BuilderLemmas.Join.{joined-first, first-long}
+use Rattle.smol_str.proofs.TextLemmas.Places.{OnErr-always}
+use Rattle.smol_str.proofs.value.SmolStr.join.Goals as goal
+
+pub returns-clause-ok : goal.returns-clause-ok
+returns-clause-ok g c =
+    let whole : c.args.pieces.now ≡ c.in-Some.first.now ∷ c.in-Some.others.now = search rules in
+    let joins = joined-first g.P.Piece.text (chars c.args.separator.now) _ _ _ whole in
+    grind (arith, joins, appended-twice)
+
+pub returns-clause-refused : goal.returns-clause-refused
+returns-clause-refused g c =
+    let whole : c.args.pieces.now ≡ c.in-Some.first.now ∷ c.in-Some.others.now = search rules in
+    let joins = joined-first g.P.Piece.text (chars c.args.separator.now) _ _ _ whole in
+    grind (arith, joins, appended-twice, OnHeap-long)
+
+pub returns-in_err-append_others-clause-refused : goal.returns-in_err-append_others-clause-refused
+returns-in_err-append_others-clause-refused g c =
+    let whole : c.args.pieces.now ≡ c.in-Some.first.now ∷ c.in-Some.others.now = search rules in
+    let joins = joined-first g.P.Piece.text (chars c.args.separator.now) _ _ _ whole in
+    grind (arith, joins, appended-twice, OnHeap-long)
+
+pub returns-in_err-append_to-clause-refused : goal.returns-in_err-append_to-clause-refused
+returns-in_err-append_to-clause-refused g c =
+    let whole : c.args.pieces.now ≡ c.in-Some.first.now ∷ c.in-Some.others.now = search rules in
+    let joins = joined-first g.P.Piece.text (chars c.args.separator.now) _ _ _ whole in
+    OnErr-always c.from_residual.result _ (rw joins (first-long _ _ _ c.new-builder.ensures c.in_err-append_to.ensures.refused))
