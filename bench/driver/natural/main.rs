@@ -19,8 +19,7 @@ fn main() -> Result<(), Box<dyn Error>> {
         ["upper"] => rows(lines.map(|line| line.to_ascii_uppercase_smolstr()))?,
         ["replace", from, to] => rows(lines.map(|line| line.replace_smolstr(from, to)))?,
         ["join"] => rows([lines.collect()])?,
-        ["tokens"] => counts(lines)?,
-        ["merge"] => merge(lines)?,
+        ["tokens" | "merge"] => counts(lines, words[0] == "merge")?,
         _ => return Err("usage".into()),
     };
     io::stdout().write_all(report.as_bytes())?;
@@ -41,32 +40,29 @@ fn rows(values: impl IntoIterator<Item = SmolStr>) -> Result<String, fmt::Error>
     Ok(report)
 }
 
-type Counts = IndexMap<SmolStr, u64, RandomState>;
-
-/// How often each different line stands, in order of first sight.
-fn counts<'a>(lines: impl Iterator<Item = &'a str>) -> Result<String, fmt::Error> {
-    let mut counts = Counts::default();
+/// How often each different line stands, in order of first sight; or the sums of such counts. Both in one loop, since in
+/// two of them the map's code is not inlined.
+fn counts<'a>(
+    lines: impl Iterator<Item = &'a str>,
+    is_merge: bool,
+) -> Result<String, Box<dyn Error>> {
+    let mut counts: IndexMap<SmolStr, u64, RandomState> = IndexMap::default();
     for line in lines {
-        *counts.entry(SmolStr::new(line)).or_insert(0) += 1;
-    }
-    count_lines(counts)
-}
-
-/// The sums of such counts, in order of first sight.
-fn merge<'a>(lines: impl Iterator<Item = &'a str>) -> Result<String, Box<dyn Error>> {
-    let mut counts = Counts::default();
-    for line in lines {
-        let (count, token) = line.split_once(' ').ok_or("not a count line")?;
+        let (times, token) = match is_merge {
+            true => read_count(line).ok_or("not a count line")?,
+            false => (1, line),
+        };
         let sum = counts.entry(SmolStr::new(token)).or_insert(0);
-        *sum = sum.checked_add(count.parse()?).ok_or("full")?;
+        *sum = sum.checked_add(times).ok_or("full")?;
     }
-    Ok(count_lines(counts)?)
-}
-
-fn count_lines(counts: Counts) -> Result<String, fmt::Error> {
     let mut report = String::new();
     for (token, count) in counts {
         writeln!(report, "{count} {token}")?;
     }
     Ok(report)
+}
+
+fn read_count(line: &str) -> Option<(u64, &str)> {
+    let (count, token) = line.split_once(' ')?;
+    Some((count.parse().ok()?, token))
 }

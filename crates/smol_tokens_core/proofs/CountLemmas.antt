@@ -5,20 +5,18 @@ use Rattle.std.specs.Fmt.{decimal}
 use Rattle.std.specs.List.{flat_map}
 use Rattle.std.specs.Str.Parse.{AllDigits}
 use Rattle.std.proofs.lemmas.Fmt.{decimal_injective, digits_decimal}
+use Rattle.std.proofs.lemmas.Grind.{get_or_default_zero}
 use Rattle.std.proofs.lemmas.List.Concat.{flat_map-append}
 use Rattle.std.proofs.lemmas.List.Elements.{All-nil, All-cons, All-head, All-tail, All-append}
-use Rattle.std.proofs.lemmas.Str.Parse.{numerals_by_value, tells_digits, digit_from_value}
+use Rattle.std.proofs.lemmas.Str.Parse.{numerals_by_value, tells_digits, not_in_digits}
 use Rattle.smol_tokens_core.specs.Tally.{tally}
 use Rattle.smol_tokens_core.specs.Counts.{count_line, IsEntry, IsCounts, IsMerge, BeginsWith, IsFirstOther}
 
-digits-other : (c : ℕ) (ds : List ℕ) → c < 48 → AllDigits 10 ds → All (λ d. d ≢ c) ds
-digits-other c [] low h = All-nil (λ d. d ≢ c)
-digits-other c (d ∷ ds) low h =
-    All-cons (λ d. d ≢ c) d ds (λ e. omega (arith, digit_from_value d h.0)) (digits-other c ds low h.1)
-
 pub decimal-other : (c n : ℕ) → c < 48 → n < 2 ^ 64 → All (λ d. d ≢ c) (decimal n)
-decimal-other c n low small =
-    digits-other c (decimal n) low (digits_decimal (numerals_by_value (AllDigits 10) tells_digits) n small)
+decimal-other c n low small k d l e =
+    let own = numerals_by_value (AllDigits 10) tells_digits in
+    not_in_digits own (decimal n) c (digits_decimal own n small) (λ range. omega (arith, range.0)) k l
+    (sym (get_or_default_zero (decimal n) k d l) ∙ e)
 
 -- a text is cut at its first c in one way
 pub cut_once : (c : ℕ) (p q s t : List ℕ) → All (λ d. d ≢ c) p → All (λ d. d ≢ c) q → p ++ c ∷ s ≡ q ++ c ∷ t

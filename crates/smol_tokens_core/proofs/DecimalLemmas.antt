@@ -13,6 +13,7 @@ use Rattle.std.proofs.lemmas.Str.{encodes-IsAscii, encodes-chars, chars-encodes,
 use Rattle.std.proofs.lemmas.Str.Parse.{numerals_by_value, tells_digits, parse_plain}
 use Rattle.smol_str.specs.Cut.{Occurs, IsFirstAfter}
 use Rattle.smol_tokens_core.specs.Counts.{count_line, IsEntry, BeginsWith}
+use Rattle.smol_tokens_core.proofs.FirstLineLemmas.{without}
 use Rattle.smol_tokens_core.proofs.CountLemmas.{BeginsWithNone, decimal-other, cut_once, line}
 
 -- a decimal begins with no plus, and with a zero only if that is all
@@ -44,11 +45,6 @@ reads_plain bs (Err e) u h plain =
 pub chars-space : chars (32 ∷ []) ≡ 32 ∷ []
 unfolding lib.Utf8.encode
 chars-space = chars-encodes (32 ∷ []) refl
-
-without : (c : ℕ) (t : List ℕ) → ¬ Occurs (c ∷ []) t → All (λ d. d ≢ c) t
-without c [] none = All-nil (λ d. d ≢ c)
-without c (d ∷ t) none =
-    All-cons (λ d. d ≢ c) d t (λ e. none ([], t, ap (λ x. x ∷ t) e)) (without c t (λ o. none (d ∷ o.0, o.1, cc)))
 
 before : (c : ℕ) (q : List ℕ) → IsFirstAfter (c ∷ []) q → All (λ d. d ≢ c) q
 before c q first = without c q (rw append-nil at first)

@@ -1,5 +1,5 @@
 -- For `first_line`: cutting a text at its first newline.
-use Rattle.std.proofs.Common.{◌≡◌, ℕ, ◌<◌, ◌+◌, List, [], ◌∷◌, ◌++◌, length, take, drop, sym, ap, ◌∙◌, arith, encode_utf8_all, false, refl, append_assoc, append-nil, rules}
+use Rattle.std.proofs.Common.{◌≡◌, ℕ, ◌<◌, ◌≢◌, ◌+◌, List, [], ◌∷◌, ◌++◌, length, take, drop, sym, ap, ◌∙◌, arith, encode_utf8_all, false, refl, append_assoc, append-nil, rules}
 use Rattle.std.proofs.lemmas.Bool.{ne_eqb}
 use Rattle.std.proofs.lemmas.List.Elements.{All-nil, All-cons}
 use Rattle.std.specs.Prelude.{All}
@@ -9,17 +9,17 @@ use Rattle.smol_str.specs.Text.{size}
 use Rattle.smol_str.specs.Cut.{Occurs, IsNextMatch}
 use Rattle.smol_str.proofs.CallerLemmas.{chars-take, chars-drop, size-append}
 use Rattle.smol_tokens_core.specs.Lines.{is_newline, newline, lines}
-use Rattle.smol_tokens_core.proofs.LineLemmas.{lines-first, lines-last}
+use Rattle.smol_tokens_core.proofs.LineLemmas.{lines-first, lines-last, none_newline}
 
-none_newline : (cs : List ℕ) → ¬ Occurs newline cs → All (λ c. is_newline c ≡ false) cs
-none_newline [] none = search (rules, All-nil)
-none_newline (c ∷ cs) none =
-    All-cons (λ c. is_newline c ≡ false) c cs (ne_eqb c 10 (λ e. none ([], cs, ap (λ x. x ∷ cs) e)))
-    (none_newline cs (λ o. none (c ∷ o.0, o.1, cc)))
+-- a text in which a character does not occur
+pub without : (c : ℕ) (t : List ℕ) → ¬ Occurs (c ∷ []) t → All (λ d. d ≢ c) t
+without c [] none = All-nil (λ d. d ≢ c)
+without c (d ∷ t) none =
+    All-cons (λ d. d ≢ c) d t (λ e. none ([], t, ap (λ x. x ∷ t) e)) (without c t (λ o. none (d ∷ o.0, o.1, cc)))
 
 -- a text without a newline
 pub lines-one : (cs : List ℕ) → ¬ Occurs newline cs → 0 < length (encode_utf8_all cs) → lines cs ≡ cs ∷ []
-lines-one cs none some = search (rules, lines-last, none_newline)
+lines-one cs none some = search (rules, lines-last, none_newline, without 10 cs none)
 
 -- the bytes of a newline
 pub chars-newline : chars newline ≡ newline
@@ -38,4 +38,4 @@ lines-split bs front back i u at is_front is_back =
     let next : size (at.before ++ newline) ≡ i + 1 = omega (arith, size-append, one_byte, at.index) in
     let is_r = chars-drop bs (at.before ++ newline) at.after (i + 1) u behind next in
     rw (is_front, is_back, chars-take bs at.before (10 ∷ at.after) i u at.reads at.index, is_r, at.reads)
-    (lines-first at.before at.after (none_newline at.before (rw append-nil at at.first)))
+    (lines-first at.before at.after (none_newline at.before (without 10 at.before (rw append-nil at at.first))))

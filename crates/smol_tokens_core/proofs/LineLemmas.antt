@@ -25,7 +25,7 @@ lines-first q t none = search (rules, arith, length-slice_split, lines-pieces, s
 pub lines-last : (q : List ℕ) → All (λ c. is_newline c ≡ false) q → lines q ≡ without_empty_last (q ∷ [])
 lines-last q none = search (rules, lines-pieces, slice_split_none)
 
-none_newline : (q : List ℕ) → HasNoNewline q → All (λ c. is_newline c ≡ false) q
+pub none_newline : (q : List ℕ) → HasNoNewline q → All (λ c. is_newline c ≡ false) q
 none_newline q h = search (rules, All-weaker, ne_eqb)
 
 -- lines that were written are read again, and an unfinished one counts where it is not empty

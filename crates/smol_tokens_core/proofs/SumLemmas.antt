@@ -1,6 +1,5 @@
 -- For mode merge: count lines read and summed one after another, and what follows the last of them.
 use Rattle.std.proofs.Common.{◌≡◌, ℕ, ◌+◌, ◌<◌, ◌≤◌, ◌^◌, List, [], ◌∷◌, ◌++◌, Bool, true, false, MatchBool, cond, length, refl, ap, sym, ◌∙◌, arith, append_assoc, append-nil, length-append}
-use Rattle.std.specs.Fmt.{decimal}
 use Rattle.std.specs.List.{flat_map}
 use Rattle.std.specs.Str.{chars}
 use Rattle.std.proofs.lemmas.Str.{chars-nil}
@@ -12,7 +11,7 @@ use Rattle.smol_tokens_core.specs.Counts.{count_line, IsEntry, IsCounts, IsMerge
 use Rattle.smol_tokens_core.proofs.TallyLemmas.{same_from, is_same_itself, by_same, times-cons}
 use Rattle.smol_tokens_core.proofs.TableLemmas.{tally-again, times_of-tally}
 use Rattle.smol_tokens_core.proofs.PartLemmas.{IsMerge-read}
-use Rattle.smol_tokens_core.proofs.CountLemmas.{head, nothing, counts-begin, line as one}
+use Rattle.smol_tokens_core.proofs.CountLemmas.{head, nothing, counts-begin}
 
 -- n count lines were read, and summed as long as the sums fit
 abbrev pub Summed : List ℕ → List ℕ → ℕ → Bool → List (List ℕ × ℕ) → Type 0
@@ -46,69 +45,50 @@ fits-more es token n fits below h =
     (λ same. omega (arith, h.1, more, below, ap (λ b. cond b n 0) same, ap (λ u. times_of u es) (same_from h.0 token same)))
     (λ other. fits (h.0, omega (arith, h.1, more, ap (λ b. cond b n 0) other)))
 
-module _ (t rest after token : List ℕ) (n count : ℕ) (sums : List (List ℕ × ℕ))
-    (line : BeginsWith rest ((token, count) ∷ []) after) where
+module _ (t rest after token : List ℕ) (n count : ℕ) (line : BeginsWith rest ((token, count) ∷ []) after) where
+  more : (fits : Bool) (sums es : List (List ℕ × ℕ)) → BeginsWith t es rest → length es ≡ n
+      → MatchBool fits ((¬ HasATokenTooOften (es ++ (token, count) ∷ [])) × (sums ≡ tally (es ++ (token, count) ∷ [])))
+      (HasATokenTooOften (es ++ (token, count) ∷ []))
+      → Summed t after (n + 1) fits sums
+  more fits sums es h len sum = (
+    es ++ (token, count) ∷ [],
+    begins-more t rest after es (token, count) h line,
+    omega (arith, len, length-append es ((token, count) ∷ [])),
+    sum,
+  )
+
   -- by what `add_text` says
-  pub summed-more : (new : List (List ℕ × ℕ)) (fits : Bool) → Summed t rest n true sums
+  pub summed-more : (sums new : List (List ℕ × ℕ)) (fits : Bool) → Summed t rest n true sums
       → MatchBool fits ((new ≡ tally (sums ++ (token, count) ∷ [])) × (times_of token sums + count < 2 ^ 64))
       (2 ^ 64 ≤ times_of token sums + count)
       → Summed t after (n + 1) fits new
-  summed-more new fits h added =
-      let es = h.0 in
-      let e : List ℕ × ℕ = (token, count) in
-      let same : times_of token sums ≡ times_of token es = ap (times_of token) h.3.1 ∙ times_of-tally token es in (
-        es ++ e ∷ [],
-        begins-more t rest after es e h.1 line,
-        omega (arith, h.2, length-append es (e ∷ [])),
-        by fits added same,
-      )
-    where
-      by : (b : Bool) → MatchBool b ((new ≡ tally (sums ++ (token, count) ∷ [])) × (times_of token sums + count < 2 ^ 64))
-          (2 ^ 64 ≤ times_of token sums + count) → times_of token sums ≡ times_of token h.0
-          → MatchBool b ((¬ HasATokenTooOften (h.0 ++ (token, count) ∷ [])) × (new ≡ tally (h.0 ++ (token, count) ∷ [])))
-          (HasATokenTooOften (h.0 ++ (token, count) ∷ []))
-      by true (is, below) same = (
-        fits-more h.0 token count h.3.0 (omega arith),
+  summed-more sums new true h (is, below) =
+      more true new h.0 h.1 h.2 (
+        fits-more h.0 token count h.3.0 (rw (h.3.1, times_of-tally token h.0) at below),
         is ∙ ap (λ s. tally (s ++ (token, count) ∷ [])) h.3.1 ∙ tally-again h.0 ((token, count) ∷ []),
       )
-      by false full same =
-          (token, omega (arith, times-more token token count h.0, ap (λ b. cond b count 0) (is_same_itself token)))
+  summed-more sums new false h full =
+      let own = ap (λ b. cond b count 0) (is_same_itself token) in
+      let above : 2 ^ 64 ≤ times_of token h.0 + count = rw (h.3.1, times_of-tally token h.0) at full in
+      more false new h.0 h.1 h.2 (token, omega (arith, above, times-more token token count h.0, own))
 
-  pub summed-on : Summed t rest n false sums → Summed t after (n + 1) false sums
-  summed-on h = (
-    h.0 ++ (token, count) ∷ [],
-    begins-more t rest after h.0 (token, count) h.1 line,
-    omega (arith, h.2, length-append h.0 ((token, count) ∷ [])),
-    (h.3.0, omega (arith, h.3.1, times-more h.3.0 token count h.0)),
-  )
-
-  -- a text that has a line is not empty
-  pub some_begins : (es : List (List ℕ × ℕ)) → BeginsWith t es rest → 0 < length t
-  some_begins es h =
-      omega (
-        arith,
-        ap length h.0,
-        length-append (flat_map count_line es) rest,
-        ap length (line.0 ∙ one (token, count) after),
-        length-append (decimal count) (32 ∷ (token ++ 10 ∷ after)),
-      )
+  pub summed-on : (sums : List (List ℕ × ℕ)) → Summed t rest n false sums → Summed t after (n + 1) false sums
+  summed-on sums h = more false sums h.0 h.1 h.2 (h.3.0, omega (arith, h.3.1, times-more h.3.0 token count h.0))
 
 some_counts : (t : List ℕ) (es : List (List ℕ × ℕ)) → IsCounts t es → 0 < length (tally es) → 0 < length t
 some_counts t [] is some = absurd (omega arith)
 some_counts [] (e ∷ es) is some = absurd (nothing e _ (head [] [] e es (counts-begin [] (e ∷ es) is)))
 some_counts (c ∷ t) (e ∷ es) is some = omega arith
 
--- what was read is the whole text
+-- nothing is left
+whole : (t : List ℕ) (es : List (List ℕ × ℕ)) → BeginsWith t es (chars []) → IsCounts t es
+whole t es h = (rw chars-nil at h.0 ∙ append-nil (flat_map count_line es), h.1)
+
 pub summed-all : (t bs : List ℕ) (n : ℕ) (fits : Bool) (sums : List (List ℕ × ℕ)) → Summed t (chars bs) n fits sums
     → length bs ≡ 0
     → MatchBool fits (IsMerge t (flat_map count_line sums) × (0 < length sums → 0 < length t))
     ((pairs : List (List ℕ × ℕ)) × IsCounts t pairs × HasATokenTooOften pairs)
 summed-all t (b ∷ bs) n fits sums h none = absurd (omega arith)
-summed-all t [] n fits sums h none =
-    let read : IsCounts t h.0 = (rw chars-nil at h.1.0 ∙ append-nil (flat_map count_line h.0), h.1.1) in by fits h.3 read
-  where
-    by : (b : Bool) → MatchBool b ((¬ HasATokenTooOften h.0) × (sums ≡ tally h.0)) (HasATokenTooOften h.0) → IsCounts t h.0
-        → MatchBool b (IsMerge t (flat_map count_line sums) × (0 < length sums → 0 < length t))
-        ((pairs : List (List ℕ × ℕ)) × IsCounts t pairs × HasATokenTooOften pairs)
-    by true (fit, is) read = rw is (IsMerge-read t h.0 read fit, some_counts t h.0 read)
-    by false often read = (h.0, read, often)
+summed-all t [] n true sums h none =
+    let read = whole t h.0 h.1 in rw h.3.1 (IsMerge-read t h.0 read h.3.0, some_counts t h.0 read)
+summed-all t [] n false sums h none = (h.0, whole t h.0 h.1, h.3)

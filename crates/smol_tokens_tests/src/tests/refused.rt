@@ -50,11 +50,11 @@ fn each_request_in_turn(rt: HostRuntime) -> Result<(), Fail> {
 fn each_request_of_a_merge(rt: HostRuntime) -> Result<(), Fail> {
     let test = Test::begin(rt);
     check_run(&test, &["merge"], "", 0);
-    check_run(&test, &["merge"], "3 a\n", 5);
-    check_run(&test, &["merge"], "1 a\n1 a\n1 a\n", 5);
+    check_run(&test, &["merge"], "3 a\n", 6);
+    check_run(&test, &["merge"], "1 a\n1 a\n1 a\n", 6);
     let token = long_text();
     let counts = ok_string(&test, format!(in test.alloc; "1 {token}\n2 a\n3 {token}\n"));
-    check_run(&test, &["merge"], counts.as_str(), 9);
+    check_run(&test, &["merge"], counts.as_str(), 10);
     test.end()
 }
 

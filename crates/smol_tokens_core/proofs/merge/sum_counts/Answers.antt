@@ -14,10 +14,10 @@ loop-count-preserved g c =
       elim c.if-fits.branch [
         | then-fits+in_ok-fits w ↦
             rw (w.tally-is, w.fits-is)
-            (summed-more _ _ _ _ _ _ _ c.in-Some.ensures.cut _ _ (rw w.if-fits.true at so_far) w.in_ok-fits.ensures)
+            (summed-more _ _ _ _ _ _ c.in-Some.ensures.cut _ _ _ (rw w.if-fits.true at so_far) w.in_ok-fits.ensures)
         | else-fits w ↦
             rw (w.tally-is, w.fits-is, w.if-fits.false)
-            (summed-on _ _ _ _ _ _ [] c.in-Some.ensures.cut (rw w.if-fits.false at so_far))
+            (summed-on _ _ _ _ _ _ c.in-Some.ensures.cut [] (rw w.if-fits.false at so_far))
       ],
     )
 
