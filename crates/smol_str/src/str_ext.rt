@@ -111,6 +111,7 @@ pub trait StrExt {
 impl StrExt for &str {
     ghost content = { λ s. chars s.now };
 
+    #[inline(always)]
     #[tactic(auto, using(crate::proofs::CutLemmas::Replacing::replacements))]
     fn replacen_smolstr(
         &self,
@@ -122,6 +123,7 @@ impl StrExt for &str {
         replace(alloc, self, from, to, count)
     }
 
+    #[inline(always)]
     #[tactic(auto, using(crate::proofs::CutLemmas::Replacing::replacements))]
     fn replace_smolstr(&self, alloc: Global, from: &str, to: &str) -> Result<SmolStr, AllocError> {
         // No text has so many matches that this limit leaves one out.

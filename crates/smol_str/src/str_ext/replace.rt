@@ -18,6 +18,7 @@ use std::alloc::{AllocError, Global};
 
 /// The text with the first `count` matches of a pattern replaced. Where the limit leaves none out,
 /// one byte for another is replaced in place.
+#[inline(always)]
 pub(super) fn replace(
     alloc: Global,
     text: &str,
