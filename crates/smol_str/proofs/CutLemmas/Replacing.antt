@@ -39,6 +39,13 @@ pub replaced-absent : (bs nd w : List ℕ) (n : ℕ) → IsUtf8 bs → IsUtf8 nd
 replaced-absent bs nd w n u v None b e f none = replaced-unmatched (chars bs) (chars nd) w n (not_found bs nd u v (none refl))
 replaced-absent bs nd w n u v (Some k) b e f none = absurd (true≢false (e ∙ ap not f))
 
+-- and one that is shorter than the pattern
+pub replaced-longer : (bs nd w : List ℕ) (n : ℕ) → IsUtf8 bs → IsUtf8 nd → length bs < length nd
+    → replaced (chars bs) (chars nd) w n ≡ chars bs
+replaced-longer bs nd w n u v longer =
+    replaced-unmatched (chars bs) (chars nd) w n
+    (λ o. omega (arith, longer, size-chars bs u, size-chars nd v, ap size o.2, size-append o.0 (chars nd ++ o.1), size-append (chars nd) o.1))
+
 -- the next match, found in the bytes of the rest
 pub replacing-found : (bs nd w : List ℕ) (n m : ℕ) (b : Draft) (i k : ℕ) (rest needle : List ℕ)
     (h : IsReplacing (chars bs) (chars nd) w n m b i) → IsUtf8 bs → IsUtf8 nd → 0 < length nd → rest ≡ drop i bs

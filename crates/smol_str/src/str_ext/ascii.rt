@@ -10,6 +10,7 @@ use crate::value::SmolStr;
 use std::alloc::{AllocError, Global};
 
 /// The text with `to` in place of each character `from`, both ASCII.
+#[inline(always)]
 #[tactic(auto, using(crate::proofs::CutLemmas::Bytes::each_byte))]
 pub(super) fn replace_byte(
     alloc: Global,

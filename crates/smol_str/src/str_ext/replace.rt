@@ -17,7 +17,7 @@ use memchr::memmem::Finder;
 use std::alloc::{AllocError, Global};
 
 /// The text with the first `count` matches of a pattern replaced. Where the limit leaves none out,
-/// one byte for another is replaced in place.
+/// one byte for another is replaced in place. A text that is shorter than the pattern is copied.
 #[inline(always)]
 pub(super) fn replace(
     alloc: Global,
@@ -34,11 +34,14 @@ pub(super) fn replace(
     if from.len() == 1 && to.len() == 1 && count >= text.len() {
         return replace_byte(alloc, text, from.as_bytes()[0], to.as_bytes()[0]);
     }
+    if text.len() < from.len() {
+        return SmolStr::new(alloc, text);
+    }
     replace_matches(alloc, text, from, to, count)
 }
 
-/// The same by pieces pushed into one builder. A text that lacks the pattern's first byte, or is
-/// shorter than the pattern, is copied. Slow path, kept out of line so that the fast path inlines.
+/// The same by pieces pushed into one builder. A text that lacks the pattern's first byte is copied.
+/// Slow path, kept out of line so that the fast path inlines.
 #[inline(never)]
 #[tactic(auto, using(crate::proofs::CutLemmas::Replacing::last_steps))]
 fn replace_matches(
