@@ -84,19 +84,19 @@ plain-encoded (c ∷ t) h =
 -- ---- the parts of plain JSON, as they are cut
 
 module _ (text t : List ℕ) (h : IsPlainJson text t) where
-  pub opens : drop (prefix_len is_space text) text ≡ 34 ∷ (encode_utf8_all t ++ 34 ∷ h.behind)
-  opens = ap (λ b. drop (prefix_len is_space b) b) h.whole ∙ cut-run is_space h.before _ 34 h.spaces_before refl
+  pub opens : drop (prefix_len is_space text) text ≡ 34 ∷ (encode_utf8_all t ++ 34 ∷ h.1.1)
+  opens = ap (λ b. drop (prefix_len is_space b) b) h.1.4 ∙ cut-run is_space h.1.0 _ 34 h.1.2 refl
 
   module _ (rest : List ℕ) (opened : drop (prefix_len is_space text) text ≡ 34 ∷ rest) where
-    pub closes : drop (prefix_len is_plain rest) rest ≡ 34 ∷ h.behind
+    pub closes : drop (prefix_len is_plain rest) rest ≡ 34 ∷ h.1.1
     closes =
-        let same : rest ≡ encode_utf8_all t ++ 34 ∷ h.behind = cc opens in
-        ap (λ b. drop (prefix_len is_plain b) b) same ∙ cut-run is_plain (encode_utf8_all t) h.behind 34 (plain-encoded t h.plain) refl
+        let same : rest ≡ encode_utf8_all t ++ 34 ∷ h.1.1 = cc opens in
+        ap (λ b. drop (prefix_len is_plain b) b) same ∙ cut-run is_plain (encode_utf8_all t) h.1.1 34 (plain-encoded t h.0) refl
 
     pub ends : (behind : List ℕ) → drop (prefix_len is_plain rest) rest ≡ 34 ∷ behind → drop (prefix_len is_space behind) behind ≡ []
     ends behind closed =
-        let same : h.behind ≡ behind = cc closes in
-        subst (λ b. drop (prefix_len is_space b) b ≡ []) same (drop_all _ h.behind (omega (arith, run-all is_space h.behind h.spaces_behind)))
+        let same : h.1.1 ≡ behind = cc closes in
+        subst (λ b. drop (prefix_len is_space b) b ≡ []) same (drop_all _ h.1.1 (omega (arith, run-all is_space h.1.1 h.1.3)))
 
 -- what was cut is read
 pub read-cut : (text rest behind : List ℕ) → drop (prefix_len is_space text) text ≡ 34 ∷ rest
@@ -113,11 +113,11 @@ read-cut text rest behind opened closed ended =
 pub read-plain : (b t : List ℕ) → IsPlainJson b t → IsJsonText b t
 read-plain b t h =
     let e = encode_utf8_all t in
-    ap read h.whole ∙ ap (λ s. read (h.before ++ 34 ∷ (s ++ 34 ∷ h.behind))) (sym (escape-plain e (plain-encoded t h.plain)))
-    ∙ read-spaced h.before e h.behind h.spaces_before h.spaces_behind
+    ap read h.1.4 ∙ ap (λ s. read (h.1.0 ++ 34 ∷ (s ++ 34 ∷ h.1.1))) (sym (escape-plain e (plain-encoded t h.0)))
+    ∙ read-spaced h.1.0 e h.1.1 h.1.2 h.1.3
 
 pub quoted-plain : (t : List ℕ) → IsPlain t → IsPlainJson (in_quotes (encode_utf8_all t)) t
-quoted-plain t h = record { before = []; behind = []; spaces_before = refl; spaces_behind = refl; plain = h; whole = refl }
+quoted-plain t h = (h, ([], [], refl, refl, refl))
 
 -- the value of the text that was read
 module _ (text s : List ℕ) (u : IsUtf8 s) (reads : read text ≡ Some (value.string s)) where

@@ -21,10 +21,8 @@ is_space c = c == 32 || c == 9 || c == 10 || c == 13
 abbrev pub in_quotes : List ℕ → List ℕ
 in_quotes bytes = 34 ∷ (bytes ++ 34 ∷ [])
 
-pub record IsPlainJson (b t : List ℕ) : Type 0 where
-  pub before : List ℕ
-  pub behind : List ℕ
-  pub spaces_before : IsTrue (list_all is_space before)
-  pub spaces_behind : IsTrue (list_all is_space behind)
-  pub plain : IsPlain t
-  pub whole : b ≡ before ++ 34 ∷ (encode_utf8_all t ++ 34 ∷ behind)
+-- white space, a quote, the text, a quote, white space
+abbrev pub IsPlainJson : List ℕ → List ℕ → Type 0
+IsPlainJson b t = IsPlain t
+    × ((before : List ℕ) × (behind : List ℕ) × IsTrue (list_all is_space before) × IsTrue (list_all is_space behind)
+    × (b ≡ before ++ 34 ∷ (encode_utf8_all t ++ 34 ∷ behind)))

@@ -1,10 +1,11 @@
 //! A value there and back through JSON.
-ghost use Rattle.std.specs.Prelude.{◌≡◌, [], IfOk, IfErr, OnErr};
+ghost use Rattle.std.specs.Prelude.{◌≡◌, [], IfOk, IfErr, OnErr, encode_utf8_all};
 ghost use Rattle.std.specs.Str.{chars};
+ghost use Rattle.std.specs.String.{string_bytes};
 ghost use Rattle.serde_json.specs.View.{view};
 ghost use Rattle.smol_str.specs.Json.{json_value, IsJsonText, IsOther};
 ghost use Rattle.smol_str.specs.Meaning.{IsValueOf};
-ghost use Rattle.smol_str.specs.Plain.{IsPlainJson};
+ghost use Rattle.smol_str.specs.Plain.{IsPlain, IsPlainJson, in_quotes};
 ghost use Rattle.smol_str.specs.Text.{IsShort, IsResident};
 
 use serde_json::Value;
@@ -32,7 +33,7 @@ pub fn known(alloc: Global, json: &str, name: &str) -> Result<SmolStr, JsonFault
 
 /// The value of a text from its plain JSON: only memory can be refused, and that not for resident text.
 pub fn of_plain(alloc: Global, json: &str, text: &str) -> Result<SmolStr, AllocError>
-    requires { IsPlainJson json.now (chars text.now) }
+    requires json { IsPlainJson json.now (chars text.now) }
     ensures value { IfOk result (λ v. IsValueOf (chars text.now) v) }
     ensures refused { OnErr result (¬ (IsResident (chars text.now))) }
 {
@@ -55,6 +56,29 @@ pub fn of_short_plain(alloc: Global, json: &str, text: &str) -> SmolStr
         Ok(value) => value,
         Err(_) => unreachable!(),
     }
+}
+
+/// A plain value there and back: resident text is refused memory for its JSON alone.
+pub fn plain_there_and_back(alloc: Global, value: &SmolStr) -> Result<SmolStr, AllocError>
+    requires plain { IsPlain value.now.text }
+    requires resident { IsResident value.now.text }
+    ensures value { IfOk result (λ back. IsValueOf value.now.text back) }
+{
+    laws::json_strings();
+    let json = to_json(alloc, value)?;
+    match from_json(alloc, json.as_str()) {
+        Ok(back) => Ok(back),
+        Err(_) => unreachable!(),
+    }
+}
+
+/// The JSON of a plain text is it in quotes.
+pub fn quoted(alloc: Global, value: &SmolStr) -> Result<String, AllocError>
+    requires { IsPlain value.now.text }
+    ensures { IfOk result (λ json.
+        string_bytes json ≡ in_quotes (encode_utf8_all value.now.text)) }
+{
+    to_json(alloc, value)
 }
 
 /// The value of a JSON string that is known to be `text`: only memory can be refused, and that not for resident text.
