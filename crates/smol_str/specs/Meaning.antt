@@ -2,7 +2,9 @@
 --     Meaning                  a text, and the place where the value keeps it
 --     IsValueOf t v            the value has the text t, in the place of that text
 --     IsPrintOf output v       the same of what was printed, where the type says what it prints
-use Rattle.std.specs.Prelude.{◌≡◌, ℕ, List, Option, IfSome, encode_utf8_all}
+--     texts values             the texts of values
+--     AreValuesOf ts values    the values have the texts ts, each in the place of its text
+use Rattle.std.specs.Prelude.{◌≡◌, ℕ, List, map, All, Option, IfSome, encode_utf8_all}
 use Rattle.std.specs.Str.{chars}
 use Rattle.smol_str.specs.declared.value.place.Place.{Place}
 use Rattle.smol_str.specs.Text.{place_of}
@@ -23,3 +25,11 @@ pub record IsPrintOf (output : Option (List ℕ)) (v : Meaning) : Type 0 where
   pub text : IfSome output (λ bytes. IsValueOf (chars bytes) v)
   pub bytes : IfSome output (λ bytes. encode_utf8_all v.text ≡ bytes)
   pub place : v.place ≡ place_of v.text
+
+abbrev pub texts : List Meaning → List (List ℕ)
+texts values = map (λ value. value.text) values
+
+-- values of these texts, one for each, as `IsValueOf` says of one
+pub record AreValuesOf (ts : List (List ℕ)) (values : List Meaning) : Type 0 where
+  pub text : texts values ≡ ts
+  pub place : All (λ v. v.place ≡ place_of v.text) values

@@ -90,12 +90,13 @@ pub fn first_match()
         ((a s : List ℕ) → q ++ (p ++ r) ≡ a ++ (p ++ s) → length q ≤ length a) }
 {}
 
-/// Each text has exactly one cut at a pattern, whatever the limit, and `cut` computes it.
+/// Each text has exactly one cut at a pattern, whatever the limit, and `cut` computes it; joined again, its pieces are the text.
 pub fn one_cut()
     ensures exists { (t p : List ℕ) (n : ℕ) → (pieces : List (List ℕ)) × IsCut t p n pieces }
     ensures unique { (t p : List ℕ) (n : ℕ) (xs ys : List (List ℕ)) →
         IsCut t p n xs → IsCut t p n ys → xs ≡ ys }
     ensures computed { (t p : List ℕ) (n : ℕ) → IsCut t p n (cut t p n) }
+    ensures joined { (t p : List ℕ) (n : ℕ) → joined_by p (cut t p n) ≡ t }
 {}
 
 /// Replacement, and how its limit counts.

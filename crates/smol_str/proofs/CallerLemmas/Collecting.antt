@@ -11,7 +11,7 @@ use Rattle.smol_str.specs.Collect.{AppendedAll, StoppedAt, Collected, Outgrown}
 use Rattle.smol_str.specs.JoinedLaws.{joined-strs}
 use Rattle.smol_str.proofs.BuilderLemmas.Collect.{Reads, collected, made, not_short-outgrown, text-appended, heap-stopped, front-stopped}
 use Rattle.smol_str.proofs.IteratorLemmas.{YieldsList-from_array, iterators, gives-chars, gives-rev_chars, gives-slice}
-use Rattle.smol_str.proofs.PieceLemmas.{joined-nothing, gives-split}
+use Rattle.smol_str.proofs.PieceLemmas.{joined-nothing, gives-split, gives-split_at}
 use Rattle.smol_str.proofs.TextLemmas.Lists.{flat_map-parts}
 
 -- From an iterator that gives a list, as the lemmas `YieldsList-from_..` of std say: of characters,
@@ -241,6 +241,7 @@ split_long s u v some more out =
 pub ruleset collecting = (
   iterators,
   gives-split,
+  gives-split_at,
   chars-encodes,
   chars_collected,
   chars_refused,

@@ -22,7 +22,12 @@ length-as_str t bs e = ap length e
 pub IsResident-few : (bs : List ℕ) → IsUtf8 bs → length bs ≤ INLINE_CAP → IsResident (chars bs)
 IsResident-few bs u few = inl (IsShort-chars bs u few)
 
+-- a character of ASCII is the text of its byte, and so of a literal that has it alone
+pub chars-one : (c : ℕ) → c < 128 → chars (c ∷ []) ≡ c ∷ []
+chars-one c ascii = chars-IsAscii (c ∷ []) (IsAscii-cons c [] ascii IsAscii-nil)
+
 pub ruleset texts = (
+  chars-one,
   chars-encodes,
   chars_from_encodes,
   encodes-chars,
@@ -56,17 +61,13 @@ pub ruleset builders = (
 
 -- ---- a text, or one character of ASCII, in place of each character of ASCII, as `text.replace_smolstr(alloc, "_", "-")`
 
--- a character of ASCII is the text of its byte
-alone : (c : ℕ) → c < 128 → chars (c ∷ []) ≡ c ∷ []
-alone c ascii = chars-IsAscii (c ∷ []) (IsAscii-cons c [] ascii IsAscii-nil)
-
 pub replaced-each_with : (t : List ℕ) (x : ℕ) (bs : List ℕ) → x < 128 → IsAscii bs
     → replaced_all t (chars (x ∷ [])) (chars bs) ≡ each_with x bs t
-replaced-each_with t x bs low ascii = search (rules, alone, chars-IsAscii, replaced_all-each)
+replaced-each_with t x bs low ascii = search (rules, chars-one, chars-IsAscii, replaced_all-each)
 
 module _ (x y : ℕ) (low : x < 128) (small : y < 128) where
   replaced_each : (t : List ℕ) → replaced_all t (chars (x ∷ [])) (chars (y ∷ [])) ≡ each_replaced x y t
-  replaced_each t = (λ i. replaced_all t (alone x low i) (alone y small i)) ∙ replaced_all-character t x y
+  replaced_each t = (λ i. replaced_all t (chars-one x low i) (chars-one y small i)) ∙ replaced_all-character t x y
 
 -- the clauses `ok` and `refused` as a caller says them
 pub each_replaced-value : {E : Type 0} (r : Result Meaning E) (t : List ℕ) (x y : ℕ)
