@@ -1,16 +1,14 @@
 -- For lists on the wire: a form is that of one list, and what was read so far.
 use Rattle.std.proofs.Common.{◌≡◌, ℕ, ◌<◌, ◌^◌, List, [], ◌∷◌, ◌++◌, length, IsTrue, Result, Ok, Err, IfErr, IsErrAnd, sym, ap, subst, ◌∙◌, arith, append_assoc, append-nil, length-append}
 use Rattle.std.specs.Str.{all_scalars}
-use Rattle.std.proofs.lemmas.List.{map-append}
 use Rattle.std.proofs.lemmas.List.Elements.{All-nil, All-cons}
 use Rattle.smol_str.specs.declared.borsh.fault.DecodeFault.{DecodeFault}
 use Rattle.smol_str.specs.declared.borsh.fault.DecodeFault.TheVariants.{Ended, NotUtf8, OutOfMemory, Io as ReadFailed}
-use Rattle.smol_str.specs.Meaning.{Meaning}
 use Rattle.smol_str.specs.Wire.{HasWire, wire}
 use Rattle.smol_str.specs.WireFaults.{AfterFromWireFault}
 use Rattle.smol_str.proofs.CallerLemmas.{form_is_whole, form-cut-utf8, count-apart, forms-apart, AreRead, next_form}
 use Rattle.uses.specs.Lists.{CanBeListed, forms, list_form, BeginsWithList, AfterListFault}
-use Rattle.uses.specs.Names.{texts}
+use Rattle.smol_str.specs.Meaning.{texts}
 
 -- lists whose forms are one, and what follows them
 pub lists-apart : (ss ts : List (List ℕ)) (x y : List ℕ) → CanBeListed ss → CanBeListed ts
@@ -33,9 +31,6 @@ pub one_begins : (bytes t rest : List ℕ) → HasWire t → IsTrue (all_scalars
 one_begins bytes t rest fits scalars is =
     let can : CanBeListed (t ∷ []) = record { few = omega arith; sized = All-cons HasWire t [] fits (All-nil HasWire) } in
     (t ∷ [], rest, can, All-cons (λ u. IsTrue (all_scalars u)) t [] scalars (All-nil (λ u. IsTrue (all_scalars u))), is)
-
-pub texts-push : (values : List Meaning) (v : Meaning) → texts (values ++ v ∷ []) ≡ texts values ++ v.text ∷ []
-texts-push values v = map-append (λ (v : Meaning). v.text) values (v ∷ [])
 
 -- ---- reading
 

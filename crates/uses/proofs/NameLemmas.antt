@@ -1,32 +1,19 @@
--- For the symbol table and for names in order: one name more, ids that stay, and texts of sorted values.
+-- For the symbol table: one name more, and ids that stay.
 use Rattle.std.proofs.Common.{◌≡◌, ℕ, ◌+◌, ◌<◌, ◌≤◌, List, [], ◌∷◌, ◌++◌, length, map, get_or, nat_lt, Bool, true, false, not, cond, if◌then◌else◌, is_some, Option, Some, None, refl, sym, ap, ◌∙◌, arith, length-append}
 use Rattle.std.specs.Str.{bytes_eq, chars, IsUtf8}
 use Rattle.std.specs.List.{position, position_or_len, prefix_len, list_any, slice_get}
-use Rattle.std.specs.Ordering.{nat_cmp}
-use Rattle.std.specs.Cmp.Lexicographic.{slice_cmp}
-use Rattle.std.specs.List.Sorted.{IsSorted, IsSortedByKey}
 use Rattle.std.proofs.lemmas.Bool.Decides.{nat_tests}
-use Rattle.std.proofs.lemmas.List.{get_or-map, length-map, map-append}
-use Rattle.std.proofs.lemmas.List.Folds.{prefix_len-append}
+use Rattle.std.proofs.lemmas.List.{length-map, map-append}
 use Rattle.std.proofs.lemmas.List.Quantifiers.{position-Some}
 use Rattle.std.proofs.lemmas.List.Sums.{prefix_len-le-length}
-use Rattle.std.specs.Option.{option_map}
-use Rattle.std.proofs.lemmas.Option.{slice_get-map, slice_get-get_or}
+use Rattle.std.proofs.lemmas.Option.{slice_get-get_or}
 use Rattle.std.proofs.lemmas.Slice.Eq.{bytes_eq-Decides}
 use Rattle.smol_str.specs.Meaning.{Meaning}
 use Rattle.indexmap.specs.IndexSet.{insert_key}
 use Rattle.smol_str.specs.Keys.{same_key, stands_for}
-use Rattle.smol_str.proofs.CallerLemmas.{key_of, stands_for-text}
-use Rattle.uses.specs.Names.{texts, id_of, interned}
-
--- the first place at which a test passes, with one more element at the end
-position-more : {X : Type 0} (p : X → Bool) (xs : List X) (x : X) (b : Bool) → p x ≡ b →
-    position p (xs ++ x ∷ []) ≡ cond (is_some (position p xs)) (position p xs) (cond b (Some (length xs)) None)
-position-more p xs x b e =
-    let before = prefix_len-le-length (λ y. not (p y)) xs in
-    let after = prefix_len-append (λ y. not (p y)) xs (x ∷ []) in
-    let long = length-append xs (x ∷ []) in
-    grind (arith, nat_tests, before, after, long, e)
+use Rattle.smol_str.proofs.CallerLemmas.{position-more, stands_for-text}
+use Rattle.smol_str.specs.Meaning.{texts}
+use Rattle.uses.specs.Names.{id_of, interned}
 
 or_none : (o : Option ℕ) → cond (is_some o) o None ≡ o
 or_none None = refl
@@ -103,20 +90,3 @@ module _ (t : List ℕ) (keys : List Meaning) (key : Meaning) (is : key.text ≡
   id_of-added =
       ap (id_of t) added ∙ id_of-new t (texts keys) none
       ∙ ap Some (length-map keys (λ (key : Meaning). key.text) ∙ sym last)
-
--- the name at a place, as a text
-pub text_at : (keys : List Meaning) (id : ℕ) (name : Meaning) → slice_get keys id ≡ Some name →
-    slice_get (texts keys) id ≡ Some name.text
-text_at keys id name found =
-    slice_get-map (λ (key : Meaning). key.text) keys id ∙ ap (option_map (λ (key : Meaning). key.text)) found
-
--- sorted values are those whose texts are sorted
-pub IsSorted-texts : (names : List Meaning) → IsSortedByKey (λ (v : Meaning). v.text) (slice_cmp nat_cmp) names →
-    IsSorted (slice_cmp nat_cmp) (texts names)
-IsSorted-texts names up = λ k d low high.
-    let within : k + 1 < length names = omega (arith, high, length-map names (λ (v : Meaning). v.text)) in
-    let before : k < length names = omega arith in
-    rw (
-      get_or-map (λ (v : Meaning). v.text) names (k + 1) (key_of d) d within,
-      get_or-map (λ (v : Meaning). v.text) names k (key_of d) d before,
-    ) (up k (key_of d) low within)

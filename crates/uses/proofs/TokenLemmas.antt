@@ -10,7 +10,7 @@ use Rattle.std.proofs.lemmas.List.Elements.{All-head, All-push, All-tail}
 use Rattle.smol_str.specs.Text.{size, place_of}
 use Rattle.smol_str.specs.Meaning.{Meaning, IsValueOf}
 use Rattle.smol_str.proofs.CallerLemmas.{size-chars, size-append, boundary-parts, chars-take, chars-drop}
-use Rattle.uses.specs.Names.{texts}
+use Rattle.smol_str.specs.Meaning.{texts}
 use Rattle.uses.specs.Tokens.{IsToken, IsLongest, AreLongest, IsFirstToken, Stops, IsLeftIn, IsLeftAfter, goes_on}
 
 -- ---- the longest token

@@ -3,15 +3,14 @@ ghost use Rattle.std.specs.Prelude.{◌≡◌, ◌<◌, ◌==◌, ◌++◌, ◌�
 ghost use Rattle.std.specs.List.{filter, prefix_len, slice_split};
 ghost use Rattle.std.specs.Str.{chars};
 ghost use Rattle.std.specs.Str.Lines.{lines};
-ghost use Rattle.std.specs.Iterator.{IsFinite};
-ghost use Rattle.smol_str.specs.Collect.{Collected, Outgrown};
 ghost use Rattle.smol_str.specs.Text.{IsShort, IsResident};
 ghost use Rattle.smol_str.specs.Meaning.{IsValueOf};
 ghost use Rattle.smol_str.specs.Draft.{OnHeap, appended};
-ghost use Rattle.smol_str.specs.Joined.{joined, joined_strs, str_text, string_text};
+ghost use Rattle.smol_str.specs.Joined.{joined, str_text, string_text};
 ghost use Rattle.smol_str.specs.Case.{upper};
 ghost use Rattle.smol_str.specs.Replace.{replaced_all};
 
+use crate::headline::{of_any_strs, with_any_strs};
 use smol_str::{SmolStr, SmolStrBuilder, ValueAlloc};
 use std::alloc::{AllocError, Global};
 
@@ -207,19 +206,6 @@ pub fn push_without_commas(builder: &mut SmolStrBuilder, text: &str) -> Result<(
     builder.extend_strs(text.split(','))
 }
 
-/// The texts of any iterator that ends: a generic caller.
-pub fn of_texts<'a, A: ValueAlloc, I: Iterator<Item = &'a str>>(
-    alloc: A,
-    texts: I,
-) -> Result<A::Value, AllocError>
-    requires can { I.can_next texts }
-    requires ends { IsFinite (I.remaining texts) }
-    ensures value { IfOk result (Collected joined_strs I.next_gives texts A.meaning) }
-    ensures refused { OnErr result (Outgrown joined_strs I.next_gives texts) }
-{
-    SmolStr::from_strs(alloc, texts)
-}
-
 /// Two texts, by a builder: a generic caller.
 pub fn of_two<A: ValueAlloc>(alloc: A, first: &str, second: &str) -> Result<A::Value, AllocError>
     ensures value { IfOk result (λ v. IsValueOf (chars first.now ++ chars second.now) (A.meaning v)) }
@@ -236,4 +222,20 @@ pub fn of_filled(builder: SmolStrBuilder) -> Result<SmolStr, AllocError>
     ensures refused { OnErr result (¬ (IsResident builder.text)) }
 {
     Global::value_of(builder)
+}
+
+/// The texts of a list as one, by a function that is generic in an iterator and speaks of its run.
+#[tactic(auto, using(smol_str::proofs::CallerLemmas::collecting))]
+pub fn of_list(alloc: Global, parts: &[&str]) -> Result<SmolStr, AllocError>
+    ensures value { IfOk result (λ v. IsValueOf (joined str_text parts.now) v) }
+{
+    of_any_strs(alloc, parts.iter().copied())
+}
+
+/// The same behind what a builder has.
+#[tactic(auto, using(smol_str::proofs::CallerLemmas::collecting))]
+pub fn push_list(builder: &mut SmolStrBuilder, parts: &[&str]) -> Result<(), AllocError>
+    ensures ok { OnOk result (builder.new ≡ appended builder.old (joined str_text parts.now)) }
+{
+    with_any_strs(builder, parts.iter().copied())
 }

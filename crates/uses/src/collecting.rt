@@ -8,17 +8,9 @@ ghost use Rattle.smol_str.specs.Meaning.{IsValueOf};
 ghost use Rattle.smol_str.specs.Draft.{OnHeap, appended};
 ghost use Rattle.smol_str.specs.Joined.{joined, string_text};
 
+use crate::headline::of_characters;
 use smol_str::{INLINE_CAP, SmolStr, SmolStrBuilder};
 use std::alloc::{AllocError, Global};
-
-/// The characters of a text.
-#[tactic(auto, using(smol_str::proofs::CallerLemmas::collecting))]
-pub fn copied(alloc: Global, text: &str) -> Result<SmolStr, AllocError>
-    ensures value { IfOk result (λ v. IsValueOf (chars text.now) v) }
-    ensures refused { OnErr result (¬ (IsShort (chars text.now))) }
-{
-    SmolStr::from_chars(alloc, text.chars())
-}
 
 /// The characters of a short text, which is never refused.
 #[tactic(auto, using(smol_str::proofs::CallerLemmas::texts))]
@@ -27,7 +19,7 @@ pub fn copied_short(alloc: Global, text: &str) -> Result<SmolStr, AllocError>
     ensures ok { IsOk result }
     ensures value { IfOk result (λ v. IsValueOf (chars text.now) v) }
 {
-    copied(alloc, text)
+    of_characters(alloc, text)
 }
 
 /// The texts of `String`s that are handed over.
@@ -37,15 +29,6 @@ pub fn all_of(alloc: Global, texts: Vec<String>) -> Result<SmolStr, AllocError>
     ensures refused { OnErr result (¬ (IsShort (joined string_text texts.items))) }
 {
     SmolStr::from_strings(alloc, texts.into_iter())
-}
-
-/// The texts of `String`s that are lent.
-#[tactic(auto, using(smol_str::proofs::CallerLemmas::collecting))]
-pub fn all_of_slice(alloc: Global, texts: &[String]) -> Result<SmolStr, AllocError>
-    ensures value { IfOk result (λ v. IsValueOf (joined string_text texts.now) v) }
-    ensures refused { OnErr result (¬ (IsShort (joined string_text texts.now))) }
-{
-    SmolStr::from_string_refs(alloc, texts.iter())
 }
 
 /// A builder, and the characters of a text after it; after a refusal those before the refused one.

@@ -21,7 +21,6 @@ ghost use Rattle.smol_str.specs.Case.{lower, upper, lowercased, uppercased};
 ghost use Rattle.smol_str.specs.InCase.{converted};
 ghost use Rattle.smol_str.specs.Replace.{replaced, replaced_all};
 
-use crate::collecting::{all_of_slice, copied};
 use smol_str::kernel::AsciiCase;
 use smol_str::{INLINE_CAP, Place, SmolStr, SmolStrBuilder, Step, StrExt, ValueAlloc, build};
 use std::alloc::{AllocError, Global};
@@ -154,19 +153,21 @@ pub fn of_character(character: char) -> SmolStr
 }
 
 /// Characters, one after another.
+#[tactic(auto, using(smol_str::proofs::CallerLemmas::collecting))]
 pub fn of_characters(alloc: Global, text: &str) -> Result<SmolStr, AllocError>
     ensures value { IfOk result (λ v. IsValueOf (chars text.now) v) }
     ensures refused { OnErr result (¬ (IsShort (chars text.now))) }
 {
-    copied(alloc, text)
+    SmolStr::from_chars(alloc, text.chars())
 }
 
 /// Pieces, one after another.
+#[tactic(auto, using(smol_str::proofs::CallerLemmas::collecting))]
 pub fn of_pieces(alloc: Global, pieces: &[String]) -> Result<SmolStr, AllocError>
     ensures value { IfOk result (λ v. IsValueOf (joined string_text pieces.now) v) }
     ensures refused { OnErr result (¬ (IsShort (joined string_text pieces.now))) }
 {
-    all_of_slice(alloc, pieces)
+    SmolStr::from_string_refs(alloc, pieces.iter())
 }
 
 /// The characters of any iterator that ends.

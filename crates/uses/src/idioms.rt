@@ -1,7 +1,7 @@
 //! What users of strings write, with contracts: a value as a `str`, collected, extended, and in any format of serde.
 #![tactic(auto)]
 
-ghost use Rattle.std.specs.Prelude.{◌≡◌, ◌↔◌, ◌++◌, ℕ, List, String, IfOk, OnOk, OnErr, IsTrue, codes, reverse, encode_utf8_all};
+ghost use Rattle.std.specs.Prelude.{◌≡◌, ◌↔◌, ℕ, List, String, IfOk, OnOk, OnErr, IsTrue, codes, reverse, encode_utf8_all};
 ghost use Rattle.std.specs.Iterator.{Drains, IsFinite};
 ghost use Rattle.std.specs.List.{join_by};
 ghost use Rattle.std.specs.Rc.{rc_str_bytes};
@@ -61,13 +61,6 @@ pub fn reversed(alloc: Global, text: &str) -> Result<SmolStr, AllocError>
     ensures { IfOk result (λ v. IsValueOf (reverse (chars text.now)) v) }
 {
     text.chars().rev().collect(alloc)
-}
-
-/// The characters of two texts.
-pub fn of_both(alloc: Global, first: &str, second: &str) -> Result<SmolStr, AllocError>
-    ensures { IfOk result (λ v. IsValueOf (chars first.now ++ chars second.now) v) }
-{
-    first.chars().chain(second.chars()).collect(alloc)
 }
 
 /// The texts of `String`s, which are handed over.

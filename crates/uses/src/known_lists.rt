@@ -2,7 +2,7 @@
 ghost use Rattle.std.specs.Prelude.{◌≡◌, [], ◌∷◌, ◌++◌, IfOk};
 ghost use Rattle.smol_str.specs.Wire.{HasWire};
 ghost use Rattle.uses.specs.Lists.{CanBeListed, list_form};
-ghost use Rattle.uses.specs.Names.{texts};
+ghost use Rattle.smol_str.specs.Meaning.{texts};
 
 use crate::lists::{read_list, write_list};
 use smol_str::SmolStr;

@@ -4,7 +4,7 @@ ghost use Rattle.std.specs.List.{flat_map};
 ghost use Rattle.std.specs.Str.{chars};
 ghost use Rattle.smol_str.specs.Text.{IsShort, IsResident};
 ghost use Rattle.smol_str.specs.Meaning.{IsValueOf};
-ghost use Rattle.uses.specs.Names.{texts};
+ghost use Rattle.smol_str.specs.Meaning.{texts};
 ghost use Rattle.uses.specs.Tokens.{IsToken, AreLongest, IsFirstToken, IsLeftAfter};
 ghost use Rattle.uses.specs.Tokens.{is_word_character, is_blank, goes_on};
 

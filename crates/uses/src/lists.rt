@@ -2,7 +2,7 @@
 ghost use Rattle.std.specs.Prelude.{◌≡◌, ◌<◌, ◌++◌, length, IfOk, IfErr, IfSome, MatchOption};
 ghost use Rattle.std.specs.Int.{w32, to_le_bytes};
 ghost use Rattle.uses.specs.Lists.{CanBeListed, list_form, AfterListFault, AfterUnlisted};
-ghost use Rattle.uses.specs.Names.{texts};
+ghost use Rattle.smol_str.specs.Meaning.{texts};
 
 use smol_str::SmolStr;
 use smol_str::borsh::{BorshSerialize, DecodeFault, EncodeFault, length_prefix, split_wire};

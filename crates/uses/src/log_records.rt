@@ -106,16 +106,6 @@ fn read_next<R: Read>(
     Ok(())
 }
 
-/// No records: reading none cannot fail.
-pub fn read_none<R: Read>(alloc: Global, reader: &mut R, limit: usize) -> Vec<Record>
-    ensures { length result.items ≡ 0 }
-{
-    match read_all(alloc, reader, 0, limit) {
-        Ok(records) => records,
-        Err(_fault) => unreachable!(),
-    }
-}
-
 /// Records that were written are read back, and what is behind them is left.
 pub fn read_back<'a>(
     alloc: Global,
@@ -152,21 +142,6 @@ pub fn read_known(
     let (_level, _message) = (entry.level.as_str(), entry.message.as_str());
     let mut reader = bytes;
     read_all(alloc, &mut reader, 1, limit)
-}
-
-/// Records written, with more behind them, and read back.
-pub fn there_and_back(
-    alloc: Global,
-    records: &[Record],
-    rest: &[u8],
-    limit: usize,
-) -> Option<Vec<Record>>
-    ensures { IfSome result (λ read. map texts read.items ≡ map texts records.now) }
-{
-    let mut bytes = write_all(alloc, records).ok()?;
-    bytes.extend_from_slice(rest).ok()?;
-    let (read, _rest) = read_back(alloc, bytes.as_slice(), records, rest, limit)?;
-    Some(read)
 }
 
 /// A record as a line of JSON.

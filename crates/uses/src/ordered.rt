@@ -4,7 +4,7 @@ ghost use Rattle.std.specs.Ordering.{nat_cmp};
 ghost use Rattle.std.specs.Cmp.Lexicographic.{slice_cmp};
 ghost use Rattle.std.specs.List.Sorted.{IsSorted, IsPermutation};
 ghost use Rattle.smol_str.specs.Keys.{ordered_value_at, has_text, is_before};
-ghost use Rattle.uses.specs.Names.{texts};
+ghost use Rattle.smol_str.specs.Meaning.{texts};
 
 use smol_str::SmolStr;
 use std::alloc::AllocError;

@@ -22,7 +22,7 @@ impl<S: BuildHasher> Model for Symbols<S> {
 
     ghost Value = { List (List ℕ) };
 
-    ghost use Rattle.uses.specs.Names.{texts};
+    ghost use Rattle.smol_str.specs.Meaning.{texts};
 
     ghost view = { λ s. texts s.names.keys };
 }

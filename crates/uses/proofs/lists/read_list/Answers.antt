@@ -1,7 +1,7 @@
 use Rattle.std.proofs.Common.{rules, ap, ◌∙◌}
-use Rattle.smol_str.proofs.CallerLemmas.{one_read, all_read}
-use Rattle.uses.specs.Names.{texts}
-use Rattle.uses.proofs.ListLemmas.{texts-push, not_read}
+use Rattle.smol_str.proofs.CallerLemmas.{one_read, all_read, texts-push}
+use Rattle.smol_str.specs.Meaning.{texts}
+use Rattle.uses.proofs.ListLemmas.{not_read}
 use Rattle.uses.proofs.lists.read_list.Goals as goal
 
 pub loop-i-preserved : goal.loop-i-preserved

@@ -1,5 +1,5 @@
 use Rattle.smol_str.proofs.CallerLemmas.{AreRead}
-use Rattle.uses.specs.Names.{texts}
+use Rattle.smol_str.specs.Meaning.{texts}
 use Rattle.uses.proofs.lists.read_list.Given as goal
 
 abbrev pub invariant-loop-i : goal.invariant-loop-i

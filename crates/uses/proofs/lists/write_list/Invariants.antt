@@ -3,7 +3,7 @@ use Rattle.std.proofs.Common.{◌≡◌, ◌++◌, length, take, All}
 use Rattle.std.specs.Int.{w32, to_le_bytes}
 use Rattle.smol_str.specs.Wire.{HasWire}
 use Rattle.uses.specs.Lists.{forms}
-use Rattle.uses.specs.Names.{texts}
+use Rattle.smol_str.specs.Meaning.{texts}
 use Rattle.uses.proofs.lists.write_list.Given as goal
 
 abbrev pub invariant-loop-value : goal.invariant-loop-value

@@ -1,5 +1,5 @@
 use Rattle.std.proofs.lemmas.Result.{on_ok_weaker}
-use Rattle.uses.proofs.NameLemmas.{IsSorted-texts}
+use Rattle.smol_str.proofs.CallerLemmas.{IsSorted-texts}
 use Rattle.uses.proofs.ordered.sort_names.Goals as goal
 
 pub returns-clause-sorted : goal.returns-clause-sorted

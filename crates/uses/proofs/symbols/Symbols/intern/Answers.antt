@@ -1,6 +1,7 @@
 use Rattle.std.proofs.Common.{rules, ◌≡◌, None, Some, ◌∙◌, ap, sym}
 use Rattle.std.specs.Str.{chars}
-use Rattle.uses.specs.Names.{id_of, interned, texts}
+use Rattle.smol_str.specs.Meaning.{texts}
+use Rattle.uses.specs.Names.{id_of, interned}
 use Rattle.uses.proofs.NameLemmas.{names-added, id_of-added}
 use Rattle.uses.proofs.symbols.Symbols.intern.Goals as goal
 

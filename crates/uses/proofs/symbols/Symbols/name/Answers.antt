@@ -1,6 +1,6 @@
 use Rattle.std.proofs.Common.{Some, sym, ap, ◌∙◌}
 use Rattle.smol_str.proofs.CallerLemmas.{chars-as_str}
-use Rattle.uses.proofs.NameLemmas.{text_at}
+use Rattle.smol_str.proofs.CallerLemmas.{text_at}
 use Rattle.uses.proofs.symbols.Symbols.name.Goals as goal
 
 pub returns : goal.returns

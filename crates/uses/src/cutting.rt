@@ -1,0 +1,82 @@
+//! Lines cut at a separator, and joined again.
+ghost use Rattle.std.specs.Prelude.{◌≡◌, ◌≢◌, ◌<◌, ◌++◌, ◌∷◌, [], ℕ, List, length, map, IfNone, IfOk, IfSome, OnErr};
+ghost use Rattle.std.specs.Str.{chars};
+ghost use Rattle.smol_str.specs.Cut.{IsFirstAfter, Occurs, joined_by};
+ghost use Rattle.smol_str.specs.Joined.{str_text};
+ghost use Rattle.smol_str.specs.Meaning.{AreValuesOf, IsValueOf, texts};
+ghost use Rattle.smol_str.specs.Replace.{cut, no_limit};
+ghost use Rattle.smol_str.specs.Text.{IsShort};
+
+use smol_str::SmolStr;
+use std::alloc::{AllocError, Global};
+
+/// The fields of a line, which commas separate.
+#[tactic(auto, using(smol_str::proofs::CallerLemmas::cutting))]
+pub fn fields(alloc: Global, line: &str) -> Result<Vec<SmolStr>, AllocError>
+    ensures { IfOk result (λ fields.
+        AreValuesOf (cut (chars line.now) (44 ∷ []) (no_limit (chars line.now))) fields.items) }
+{
+    let mut fields = Vec::new(alloc);
+    for field in line.split(',') {
+        fields.push(SmolStr::new(alloc, field)?)?;
+    }
+    Ok(fields)
+}
+
+/// The same at any separator.
+#[tactic(auto, using(smol_str::proofs::CallerLemmas::cutting))]
+pub fn fields_at(alloc: Global, line: &str, separator: &str) -> Result<Vec<SmolStr>, AllocError>
+    requires some { 0 < length separator.now }
+    ensures { IfOk result (λ fields.
+        AreValuesOf (cut (chars line.now) (chars separator.now) (no_limit (chars line.now))) fields.items) }
+{
+    let mut fields = Vec::new(alloc);
+    for field in line.split(separator) {
+        fields.push(SmolStr::new(alloc, field)?)?;
+    }
+    Ok(fields)
+}
+
+/// The line of some fields.
+pub fn line_of(alloc: Global, fields: &[SmolStr], separator: &str) -> Result<SmolStr, AllocError>
+    ensures value { IfOk result (λ v. IsValueOf (joined_by (chars separator.now) (texts fields.now)) v) }
+    ensures refused { OnErr result (¬ (IsShort (joined_by (chars separator.now) (texts fields.now)))) }
+{
+    SmolStr::join(alloc, fields, separator)
+}
+
+/// The same of `&str`s, at a comma.
+#[tactic(auto, using(smol_str::proofs::CallerLemmas::texts))]
+pub fn line_of_strs(alloc: Global, fields: &[&str]) -> Result<SmolStr, AllocError>
+    ensures value { IfOk result (λ v. IsValueOf (joined_by (44 ∷ []) (map str_text fields.now)) v) }
+    ensures refused { OnErr result (¬ (IsShort (joined_by (44 ∷ []) (map str_text fields.now)))) }
+{
+    SmolStr::join(alloc, fields, ",")
+}
+
+/// A line cut into fields and joined again: the line.
+#[tactic(auto, using(smol_str::proofs::CallerLemmas::cutting))]
+pub fn again(alloc: Global, line: &str, separator: &str) -> Result<SmolStr, AllocError>
+    requires some { 0 < length separator.now }
+    ensures { IfOk result (λ v. IsValueOf (chars line.now) v) }
+{
+    let fields = fields_at(alloc, line, separator)?;
+    line_of(alloc, &fields, separator)
+}
+
+/// What stands before the first equals sign of a line, and behind it.
+pub fn key_and_value(line: &str) -> Option<(&str, &str)>
+    ensures whole { IfSome result (λ it. chars line.now ≡ chars it.0.now ++ (61 ∷ chars it.1.now)) }
+    ensures first { IfSome result (λ it. IsFirstAfter (61 ∷ []) (chars it.0.now)) }
+    ensures none { IfNone result (¬ Occurs (61 ∷ []) (chars line.now)) }
+{
+    line.split_once('=')
+}
+
+/// What follows a prefix, if the name has it.
+pub fn without_prefix<'a>(name: &'a str, prefix: &str) -> Option<&'a str>
+    ensures rest { IfSome result (λ rest. chars name.now ≡ chars prefix.now ++ chars rest.now) }
+    ensures none { IfNone result ((rest : List ℕ) → chars name.now ≢ chars prefix.now ++ rest) }
+{
+    name.strip_prefix(prefix)
+}
