@@ -47,17 +47,14 @@ pub ruleset runs = (run-part, run-more, run-end, prefix_len-le-length)
 
 -- ---- by lanes
 
-abbrev equal_mask : ℕ → ℕ → ℕ
-equal_mask a b = cond (eqb a b) 255 0
-
-abbrev below_mask : ℕ → ℕ → ℕ
-below_mask a b = cond (ltb a b) 255 0
-
 abbrev is_stop : ℕ → Bool
 is_stop x = eqb x 34 || eqb x 92 || ltb x 32
 
+abbrev compared : (ℕ → ℕ → Bool) → List ℕ → ℕ → ℕ → List ℕ
+compared test v n x = zip2 (λ a b. cond (test a b) 255 0) v (replicate n x)
+
 abbrev pub marks : List ℕ → ℕ → List ℕ
-marks v n = zip2 bit_or (zip2 bit_or (zip2 equal_mask v (replicate n 34)) (zip2 equal_mask v (replicate n 92))) (zip2 below_mask v (replicate n 32))
+marks v n = zip2 bit_or (zip2 bit_or (compared eqb v n 34) (compared eqb v n 92)) (compared ltb v n 32)
 
 one_lane : (a b c : Bool) → top 7 (bit_or (bit_or (cond a 255 0) (cond b 255 0)) (cond c 255 0)) ≡ (a || b || c)
 one_lane a b c = grind (arith, common_steps)

@@ -116,19 +116,16 @@ read-plain b t h =
     ap read h.1.4 ∙ ap (λ s. read (h.1.0 ++ 34 ∷ (s ++ 34 ∷ h.1.1))) (sym (escape-plain e (plain-encoded t h.0)))
     ∙ read-spaced h.1.0 e h.1.1 h.1.2 h.1.3
 
-pub quoted-plain : (t : List ℕ) → IsPlain t → IsPlainJson (in_quotes (encode_utf8_all t)) t
-quoted-plain t h = (h, ([], [], refl, refl, refl))
+pub quoted-plain : (b t : List ℕ) → IsPlain t → b ≡ in_quotes (encode_utf8_all t) → IsPlainJson b t
+quoted-plain b t h is = (h, ([], [], refl, refl, is))
 
 -- the value of the text that was read
 module _ (text s : List ℕ) (u : IsUtf8 s) (reads : read text ≡ Some (value.string s)) where
-  reads-chars : IsJsonText text (chars s)
-  reads-chars = reads ∙ ap (λ b. Some (value.string b)) (sym (encodes-chars s u))
-
   pub read-same : (t : List ℕ) → IsJsonText text t → t ≡ chars s
   read-same t e = encodes_same t (chars s) (cc (encodes-chars s u))
 
   pub value-read : (v : Meaning) → IsValueOf (chars s) v → IsJsonText text v.text
-  value-read v h = reads-chars ∙ ap (λ t. Some (json_value t)) (sym h.text)
+  value-read v h = reads ∙ ap (λ b. Some (value.string b)) (sym (encodes-chars s u)) ∙ ap (λ t. Some (json_value t)) (sym h.text)
 
   pub value-of : (v : Meaning) → IsValueOf (chars s) v → (t : List ℕ) → IsJsonText text t → IsValueOf t v
   value-of v h t e = subst (λ x. IsValueOf x v) (sym (read-same t e)) h

@@ -152,7 +152,10 @@ fn in_quotes(alloc: Global, text: &str) -> Result<String, AllocError>
 fn escaped(alloc: Global, text: &str) -> Result<String, AllocError>
     ensures { IfOk result (λ json. string_bytes json ≡ compact_text (string text.now)) }
 {
-    Value::String(String::from_str(alloc, text)?).to_string(alloc)
+    match serde_json::to_string(alloc, &text) {
+        Ok(json) => Ok(json),
+        Err(_) => Err(AllocError),
+    }
 }
 
 /// The value of a JSON text that is one string, with nothing but white space around it.

@@ -169,7 +169,8 @@ pub fn json_strings()
     ensures back { (t : List ℕ) → IsJsonText (compact_text (json_value t)) t }
     ensures plain { (t : List ℕ) → IsPlain t →
         compact_text (json_value t) ≡ in_quotes (encode_utf8_all t) }
-    ensures quoted { (t : List ℕ) → IsPlain t → IsPlainJson (in_quotes (encode_utf8_all t)) t }
+    ensures quoted { (b t : List ℕ) → IsPlain t →
+        b ≡ in_quotes (encode_utf8_all t) → IsPlainJson b t }
     ensures read { (b t : List ℕ) → IsPlainJson b t → IsJsonText b t }
 {}
 
