@@ -144,6 +144,16 @@ pub fn read_known(
     read_all(alloc, &mut reader, 1, limit)
 }
 
+/// No records: reading none cannot fail.
+pub fn read_none<R: Read>(alloc: Global, reader: &mut R, limit: usize) -> Vec<Record>
+    ensures { length result.items ≡ 0 }
+{
+    match read_all(alloc, reader, 0, limit) {
+        Ok(records) => records,
+        Err(_fault) => unreachable!(),
+    }
+}
+
 /// A record as a line of JSON.
 pub fn json_line(alloc: Global, entry: &Record) -> Result<String, AllocError>
     ensures { IfOk result (λ line. string_bytes line ≡ codes "{\"level\":" ++ (compact_text (json_value entry.now.level.text)
