@@ -58,20 +58,6 @@ pub fn of_short_plain(alloc: Global, json: &str, text: &str) -> SmolStr
     }
 }
 
-/// A plain value there and back: resident text is refused memory for its JSON alone.
-pub fn plain_there_and_back(alloc: Global, value: &SmolStr) -> Result<SmolStr, AllocError>
-    requires plain { IsPlain value.now.text }
-    requires resident { IsResident value.now.text }
-    ensures value { IfOk result (λ back. IsValueOf value.now.text back) }
-{
-    laws::json_strings();
-    let json = to_json(alloc, value)?;
-    match from_json(alloc, json.as_str()) {
-        Ok(back) => Ok(back),
-        Err(_) => unreachable!(),
-    }
-}
-
 /// The JSON of a plain text is it in quotes.
 pub fn quoted(alloc: Global, value: &SmolStr) -> Result<String, AllocError>
     requires { IsPlain value.now.text }
