@@ -1,6 +1,5 @@
 -- For the laws of lines and for the first line: what the lines of a text are, and how they give the text back.
-use Rattle.std.proofs.Common.{◌≡◌, ℕ, ◌<◌, ◌==◌, List, [], ◌∷◌, ◌++◌, Bool, false, cond, ◌⊎◌, rules}
-use Rattle.std.proofs.Common.{length, refl, arith, append_assoc, append-nil}
+use Rattle.std.proofs.Common.{◌≡◌, ℕ, ◌<◌, ◌==◌, List, [], ◌∷◌, ◌++◌, Bool, false, cond, ◌⊎◌, rules, length, refl, arith, append_assoc, append-nil}
 use Rattle.std.specs.Prelude.{All}
 use Rattle.std.specs.List.{onto_first}
 use Rattle.std.proofs.lemmas.Bool.{eqb-false, ne_eqb}
