@@ -42,11 +42,8 @@ first_once t s u e f h k =
 
 pub head : (t rest : List ℕ) (e : List ℕ × ℕ) (es : List (List ℕ × ℕ)) → BeginsWith t (e ∷ es) rest
     → BeginsWith t (e ∷ []) (flat_map count_line es ++ rest)
-head t rest e es h = (
-  h.0 ∙ append_assoc (count_line e) (flat_map count_line es) rest
-      ∙ ap (λ s. s ++ (flat_map count_line es ++ rest)) (sym (append-nil (count_line e))),
-  All-cons IsEntry e [] (All-head IsEntry e es h.1) (All-nil IsEntry),
-)
+head t rest e es h =
+    (h.0 ∙ simp (append_assoc, append-nil), All-cons IsEntry e [] (All-head IsEntry e es h.1) (All-nil IsEntry))
 
 abbrev pub BeginsWithNone : List ℕ → Type 0
 BeginsWithNone rest = (e : List ℕ × ℕ) (after : List ℕ) → ¬ BeginsWith rest (e ∷ []) after

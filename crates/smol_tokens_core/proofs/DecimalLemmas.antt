@@ -1,20 +1,19 @@
 -- For the reader of count lines: which bytes are the decimal of a number, and where a count line is cut.
-use Rattle.std.proofs.Common.{◌≡◌, ◌≢◌, ℕ, ◌<◌, ◌^◌, List, [], ◌∷◌, ◌++◌, Result, Ok, Err, IsUtf8, get_or, length, zero, suc, refl, ap, sym, ◌∙◌, arith, append_assoc, append-nil, encode_utf8_all}
+use Rattle.std.proofs.Common.{◌≡◌, ◌≢◌, ℕ, ◌<◌, ◌^◌, List, [], ◌∷◌, ◌++◌, Result, Ok, Err, IsUtf8, get_or, length, zero, suc, refl, ap, sym, ◌∙◌, arith, rules, append-nil, encode_utf8_all}
 use Rattle.std.specs.Prelude.{All}
 use Rattle.std.specs.Fmt.{decimal}
-use Rattle.std.specs.List.{flat_map}
 use Rattle.std.specs.Option.{MatchOption}
 use Rattle.std.specs.Result.{result_ok}
 use Rattle.std.specs.Str.{chars}
 use Rattle.std.specs.Str.Parse.{AllDigits, ParsesUnsigned}
 use Rattle.std.proofs.lemmas.Fmt.{decimal_nonempty, first_decimal, decimal_digit, decimal-digits_value, parse-decimal, IsAscii-decimal}
 use Rattle.std.proofs.lemmas.List.Elements.{All-nil, All-cons}
-use Rattle.std.proofs.lemmas.Str.{encodes-IsAscii, encodes-chars, chars-encodes, chars-IsAscii}
+use Rattle.std.proofs.lemmas.Str.{encodes-IsAscii, encodes-chars, chars-IsAscii}
 use Rattle.std.proofs.lemmas.Str.Parse.{numerals_by_value, tells_digits, parse_plain}
-use Rattle.smol_str.specs.Cut.{Occurs, IsFirstAfter}
-use Rattle.smol_tokens_core.specs.Counts.{count_line, IsEntry, BeginsWith}
+use Rattle.smol_str.specs.Cut.{IsFirstAfter}
+use Rattle.smol_tokens_core.specs.Counts.{IsEntry, BeginsWith}
 use Rattle.smol_tokens_core.proofs.FirstLineLemmas.{without}
-use Rattle.smol_tokens_core.proofs.CountLemmas.{BeginsWithNone, decimal-other, cut_once, line}
+use Rattle.smol_tokens_core.proofs.CountLemmas.{decimal-other, cut_once, line}
 
 -- a decimal begins with no plus, and with a zero only if that is all
 abbrev pub IsPlain : List ℕ → Type 0
@@ -43,27 +42,17 @@ reads_plain bs (Err e) u h plain =
     λ n below is. absurd (cc (parse-decimal 64 n bs (Err e) below below (decimal-bytes bs n u below is) h))
 
 pub chars-space : chars (32 ∷ []) ≡ 32 ∷ []
-unfolding lib.Utf8.encode
-chars-space = chars-encodes (32 ∷ []) refl
+chars-space = chars-IsAscii (32 ∷ []) (search (rules, arith))
 
 before : (c : ℕ) (q : List ℕ) → IsFirstAfter (c ∷ []) q → All (λ d. d ≢ c) q
 before c q first = without c q (rw append-nil at first)
 
--- a text that begins with a count line has a space, and a newline behind it
-pub no_space : (t : List ℕ) → ¬ Occurs (32 ∷ []) t → BeginsWithNone t
-no_space t none e rest begins = none (decimal e.1, e.0 ++ 10 ∷ rest, begins.0 ∙ line e rest)
-
 module _ (t digits behind : List ℕ) (first : IsFirstAfter (32 ∷ []) digits) (is : t ≡ digits ++ (32 ∷ [] ++ behind)) where
-  parts : (e : List ℕ × ℕ) (rest : List ℕ) → BeginsWith t (e ∷ []) rest → (digits ≡ decimal e.1) × (behind ≡ e.0 ++ 10 ∷ rest)
+  -- a count line is cut at its first space, behind its count
+  pub parts : (e : List ℕ × ℕ) (rest : List ℕ) → BeginsWith t (e ∷ []) rest → (digits ≡ decimal e.1) × (behind ≡ e.0 ++ 10 ∷ rest)
   parts e rest begins =
       cut_once 32 digits (decimal e.1) behind (e.0 ++ 10 ∷ rest) (before 32 digits first)
       (decimal-other 32 e.1 (omega arith) (begins.1 0 e (omega arith)).1) (sym is ∙ begins.0 ∙ line e rest)
-
-  pub no_newline : ¬ Occurs (10 ∷ []) behind → BeginsWithNone t
-  no_newline none e rest begins = none (e.0, rest, (parts e rest begins).1)
-
-  pub no_decimal : ((n : ℕ) → n < 2 ^ 64 → digits ≢ decimal n) → BeginsWithNone t
-  no_decimal none e rest begins = none e.1 (begins.1 0 e (omega arith)).1 (parts e rest begins).0
 
   pub begins-line : (token after : List ℕ) (n : ℕ) → digits ≡ decimal n → n < 2 ^ 64
       → IsFirstAfter (10 ∷ []) token → behind ≡ token ++ (10 ∷ [] ++ after) → BeginsWith t ((token, n) ∷ []) after

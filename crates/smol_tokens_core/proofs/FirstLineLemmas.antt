@@ -1,6 +1,5 @@
 -- For `first_line`: cutting a text at its first newline.
-use Rattle.std.proofs.Common.{◌≡◌, ℕ, ◌<◌, ◌≢◌, ◌+◌, List, [], ◌∷◌, ◌++◌, length, take, drop, sym, ap, ◌∙◌, arith, encode_utf8_all, false, refl, append_assoc, append-nil, rules}
-use Rattle.std.proofs.lemmas.Bool.{ne_eqb}
+use Rattle.std.proofs.Common.{◌≡◌, ℕ, ◌<◌, ◌≢◌, ◌+◌, List, [], ◌∷◌, ◌++◌, length, take, drop, sym, ap, ◌∙◌, arith, encode_utf8_all, refl, append_assoc, append-nil, rules}
 use Rattle.std.proofs.lemmas.List.Elements.{All-nil, All-cons}
 use Rattle.std.specs.Prelude.{All}
 use Rattle.std.specs.Str.{chars, IsUtf8}
@@ -8,7 +7,7 @@ use Rattle.std.proofs.lemmas.Str.{chars-encodes}
 use Rattle.smol_str.specs.Text.{size}
 use Rattle.smol_str.specs.Cut.{Occurs, IsNextMatch}
 use Rattle.smol_str.proofs.CallerLemmas.{chars-take, chars-drop, size-append}
-use Rattle.smol_tokens_core.specs.Lines.{is_newline, newline, lines}
+use Rattle.smol_tokens_core.specs.Lines.{newline, lines}
 use Rattle.smol_tokens_core.proofs.LineLemmas.{lines-first, lines-last, none_newline}
 
 -- a text in which a character does not occur

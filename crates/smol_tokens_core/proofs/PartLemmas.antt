@@ -1,12 +1,12 @@
 -- For the laws of parts: the lines, the tally and the report of a text by those of its parts, and merges of merges.
-use Rattle.std.proofs.Common.{◌≡◌, ℕ, ◌<◌, ◌≤◌, ◌==◌, ◌+◌, ◌^◌, List, [], ◌∷◌, ◌++◌, Bool, true, false, cond, length, get_or, refl, ap, sym, subst, ◌∙◌, arith, ⊎_elim}
-use Rattle.std.specs.Prelude.{All, not, count_by, ◌↔◌}
+use Rattle.std.proofs.Common.{◌≡◌, ℕ, ◌<◌, ◌≤◌, ◌==◌, ◌^◌, List, [], ◌∷◌, ◌++◌, Bool, true, false, cond, length, get_or, refl, sym, ◌∙◌, arith, rules, inl, inr}
+use Rattle.std.specs.Prelude.{All, count_by, ◌↔◌}
 use Rattle.std.specs.List.{flat_map, onto_first}
 use Rattle.std.proofs.lemmas.List.{map-append}
 use Rattle.std.proofs.lemmas.List.Elements.{All-nil, All-cons, All-head, All-tail, All-filter, All-map}
 use Rattle.std.proofs.lemmas.List.Sums.{sum_by-append}
 use Rattle.smol_tokens_core.specs.Lines.{newline, lines, HasNoNewline}
-use Rattle.smol_tokens_core.specs.Tally.{is_same, tokens, times_of, without, first_sights, tally, seen_once}
+use Rattle.smol_tokens_core.specs.Tally.{is_same, tokens, times_of, first_sights, tally, seen_once}
 use Rattle.smol_tokens_core.specs.Report.{tokens_report}
 use Rattle.smol_tokens_core.specs.ReportFaults.{HasALineTooOften}
 use Rattle.smol_tokens_core.specs.Counts.{count_line, IsEntry, IsCounts, IsMerge, IsWhole, HasATokenTooOften}
@@ -34,17 +34,15 @@ lines-front (c ∷ t) u =
     (onto c (c == 10) (lines (t ++ newline)) (lines u) rest.1)
 
 pub lines-parts : (a b : List ℕ) → IsWhole a → lines (a ++ b) ≡ lines a ++ lines b
-lines-parts a b whole =
-    ⊎_elim (λ (e : a ≡ []). rw (e, lines-nil) refl)
-    (λ (front : (t : List ℕ) × (a ≡ t ++ newline)). rw front.1 ((lines-front front.0 b).0)) whole
+lines-parts a b (inl e) = rw (e, lines-nil) refl
+lines-parts a b (inr (t, e)) = rw e (lines-front t b).0
 
 -- a tally stands for its pairs, wherever it stands
 tally-behind : (es fs : List (List ℕ × ℕ)) → tally (es ++ tally fs) ≡ tally (es ++ fs)
 tally-behind [] fs = tally-table (tally fs) (once-tally fs)
 tally-behind (e ∷ es) fs =
-    let same : times_of e.0 (es ++ tally fs) ≡ times_of e.0 (es ++ fs) =
-    sym (times_of-tally e.0 (es ++ tally fs)) ∙ ap (times_of e.0) (tally-behind es fs) ∙ times_of-tally e.0 (es ++ fs) in
-    rw (tally-cons e (es ++ tally fs), tally-cons e (es ++ fs), same, tally-behind es fs) refl
+    let same = tally-behind es fs in
+    cc (tally-cons e (es ++ tally fs), tally-cons e (es ++ fs), same, times_of-tally e.0 (es ++ tally fs), times_of-tally e.0 (es ++ fs))
 
 pub tally-parts : (es fs : List (List ℕ × ℕ)) → tally (tally es ++ tally fs) ≡ tally (es ++ fs)
 tally-parts es fs = tally-again es (tally fs) ∙ tally-behind es fs
@@ -59,9 +57,7 @@ tally-lines a b whole =
 times-parts : (a b t : List ℕ) → IsWhole a
     → times_of t (tally (seen_once (lines a)) ++ tally (seen_once (lines b))) ≡ count_by (is_same t) (lines (a ++ b))
 times-parts a b t whole =
-    let es = tally (seen_once (lines a)) ++ tally (seen_once (lines b)) in
-    sym (times_of-tally t es) ∙ ap (times_of t) (sym (tally-lines a b whole))
-    ∙ times_of-tally t (seen_once (lines (a ++ b))) ∙ times_of-seen_once t (lines (a ++ b))
+    grind (arith, tally-lines a b whole, times_of-tally, times_of-seen_once)
 
 pub full-parts : (a b : List ℕ) → IsWhole a
     → HasATokenTooOften (tally (seen_once (lines a)) ++ tally (seen_once (lines b))) ↔ HasALineTooOften (a ++ b)
@@ -71,9 +67,7 @@ full-parts a b whole =
 -- what holds of all texts holds of their first sights
 first_sights-All : (P : List ℕ → Type 0) (ts : List (List ℕ)) → All P ts → All P (first_sights ts)
 first_sights-All P [] h = All-nil P
-first_sights-All P (t ∷ ts) h =
-    All-cons P t (without t (first_sights ts)) (All-head P t ts h)
-    (All-filter (λ u. not (is_same t u)) P (first_sights ts) (first_sights-All P ts (All-tail P t ts h)))
+first_sights-All P (t ∷ ts) h = search (rules, All-cons, All-head, All-filter, first_sights-All P ts (All-tail P t ts h))
 
 -- a tally of lines can be written, where no sum is out of range
 pub tally-entries : (es : List (List ℕ × ℕ)) → ¬ HasATokenTooOften es → All (λ e. HasNoNewline e.0) es → All IsEntry (tally es)
@@ -93,14 +87,10 @@ reports-read t fits = (
 pub reports-both : (a b : List ℕ) → IsWhole a → ¬ HasALineTooOften (a ++ b)
     → IsCounts (tokens_report a ++ tokens_report b) (tally (seen_once (lines a)) ++ tally (seen_once (lines b)))
 reports-both a b whole fits =
-    let both : (line : List ℕ) → ¬ (2 ^ 64 ≤ count_by (is_same line) (lines a) + count_by (is_same line) (lines b)) =
-    λ line above. fits (
-      line,
-      rw (lines-parts a b whole)
-          (omega (arith, above, sum_by-append (λ (u : List ℕ). cond (is_same line u) 1 0) (lines a) (lines b))),
-    ) in
+    let sum = λ (line : List ℕ). sum_by-append (λ u. cond (is_same line u) 1 0) (lines a) (lines b) in
     IsCounts-append (tokens_report a) (tokens_report b) (tally (seen_once (lines a))) (tally (seen_once (lines b)))
-    (reports-read a (λ h. both h.0 (omega (arith, h.1)))) (reports-read b (λ h. both h.0 (omega (arith, h.1))))
+    (reports-read a (λ h. fits (h.0, rw (lines-parts a b whole) (omega (arith, h.1, sum h.0)))))
+    (reports-read b (λ h. fits (h.0, rw (lines-parts a b whole) (omega (arith, h.1, sum h.0)))))
 
 pub reports-merged : (a b : List ℕ) → IsWhole a → ¬ HasALineTooOften (a ++ b)
     → IsMerge (tokens_report a ++ tokens_report b) (tokens_report (a ++ b))
@@ -117,7 +107,6 @@ IsMerge-read t es is fits = (es, is, (refl, tally-entries es fits (λ k d l. (is
 
 pub merged-again : (a b x y out : List ℕ) → IsMerge a x → IsMerge b y → IsMerge (x ++ y) out ↔ IsMerge (a ++ b) out
 merged-again a b x y out h k =
-    let sums = IsMerge-of (x ++ y) out (tally h.0 ++ tally k.0) (IsCounts-append x y (tally h.0) (tally k.0) h.2 k.2) in
+    let sums = rw (tally-parts h.0 k.0) at (IsMerge-of (x ++ y) out (tally h.0 ++ tally k.0) (IsCounts-append x y (tally h.0) (tally k.0) h.2 k.2)) in
     let all = IsMerge-of (a ++ b) out (h.0 ++ k.0) (IsCounts-append a b h.0 k.0 h.1 k.1) in
-    let same = tally-parts h.0 k.0 in
-    (λ m. all.1 (subst (IsCounts out) same (sums.0 m)), λ m. sums.1 (subst (IsCounts out) (sym same) (all.0 m)))
+    (λ m. all.1 (sums.0 m), λ m. sums.1 (all.0 m))

@@ -1,5 +1,5 @@
 -- For mode merge: count lines read and summed one after another, and what follows the last of them.
-use Rattle.std.proofs.Common.{◌≡◌, ℕ, ◌+◌, ◌<◌, ◌≤◌, ◌^◌, List, [], ◌∷◌, ◌++◌, Bool, true, false, MatchBool, cond, length, refl, ap, sym, ◌∙◌, arith, append_assoc, append-nil, length-append}
+use Rattle.std.proofs.Common.{◌≡◌, ℕ, ◌+◌, ◌<◌, ◌≤◌, ◌^◌, List, [], ◌∷◌, ◌++◌, Bool, true, false, MatchBool, cond, length, ap, ◌∙◌, arith, rules, append_assoc, append-nil, length-append}
 use Rattle.std.specs.List.{flat_map}
 use Rattle.std.specs.Str.{chars}
 use Rattle.std.proofs.lemmas.Str.{chars-nil}
@@ -22,20 +22,13 @@ Summed t rest n fits sums =
 -- one count line more
 begins-more : (t rest after : List ℕ) (es : List (List ℕ × ℕ)) (e : List ℕ × ℕ) → BeginsWith t es rest
     → BeginsWith rest (e ∷ []) after → BeginsWith t (es ++ e ∷ []) after
-begins-more t rest after es e h k = (
-  h.0 ∙ ap (λ s. flat_map count_line es ++ s) k.0 ∙ sym (append_assoc (flat_map count_line es) _ after)
-      ∙ ap (λ s. s ++ after) (sym (flat_map-append count_line es (e ∷ []))),
-  All-append IsEntry es (e ∷ []) h.1 k.1,
-)
+begins-more t rest after es e h k =
+    let front = flat_map count_line es in
+    (cc (h.0, k.0, flat_map-append count_line es (e ∷ []), append_assoc front (flat_map count_line (e ∷ [])) after), All-append IsEntry es (e ∷ []) h.1 k.1)
 
 times-more : (u token : List ℕ) (n : ℕ) (es : List (List ℕ × ℕ))
     → times_of u (es ++ (token, n) ∷ []) ≡ times_of u es + cond (is_same u token) n 0
-times-more u token n es =
-    omega (
-      arith,
-      sum_by-append (λ (pair : List ℕ × ℕ). cond (is_same u pair.0) pair.1 0) es ((token, n) ∷ []),
-      times-cons u (token, n) [],
-    )
+times-more u token n es = search (rules, arith, sum_by-append, times-cons)
 
 fits-more : (es : List (List ℕ × ℕ)) (token : List ℕ) (n : ℕ) → ¬ HasATokenTooOften es → times_of token es + n < 2 ^ 64
     → ¬ HasATokenTooOften (es ++ (token, n) ∷ [])

@@ -32,12 +32,7 @@ returns-then-not-fits-clause-fault g c =
     let all = summed-all _ c.loop-count.rest.now _ _ _ c.loop-count.invariant.2 (search (rules, arith)) in
     inr (refl, MatchBool-at_false _ _ c.if-not-fits.true all)
 
-pub returns-clause-ok : goal.returns-clause-ok
-returns-clause-ok g c =
+pub returns : goal.returns
+returns g c =
     let all = summed-all _ c.loop-count.rest.now _ _ _ c.loop-count.invariant.2 (search (rules, arith)) in
-    (MatchBool-at_true _ _ c.if-not-fits.false all).0
-
-pub returns-clause-some : goal.returns-clause-some
-returns-clause-some g c =
-    let all = summed-all _ c.loop-count.rest.now _ _ _ c.loop-count.invariant.2 (search (rules, arith)) in
-    (MatchBool-at_true _ _ c.if-not-fits.false all).1
+    let read = MatchBool-at_true _ _ c.if-not-fits.false all in record { ok = read.0; some = read.1; fault = tt }
