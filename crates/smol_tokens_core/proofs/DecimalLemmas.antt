@@ -20,8 +20,7 @@ abbrev pub IsPlain : List ℕ → Type 0
 IsPlain bs = (0 < length bs) × (get_or bs 0 0 ≢ 43) × (get_or bs 0 0 ≡ 48 → length bs ≡ 1)
 
 pub decimal-plain : (n : ℕ) → n < 2 ^ 64 → IsPlain (decimal n)
-decimal-plain zero below =
-    rw (decimal_digit 0 (omega arith)) (omega arith, λ e. omega arith, λ e. refl)
+decimal-plain zero below = rw (decimal_digit 0 (omega arith)) (omega arith, λ e. omega arith, λ e. refl)
 decimal-plain (suc n) below =
     let first = first_decimal (suc n) (omega arith) below in
     (decimal_nonempty (suc n) below, λ e. omega (arith, first), λ e. absurd (omega (arith, first)))

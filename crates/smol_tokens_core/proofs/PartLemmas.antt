@@ -21,9 +21,8 @@ use Rattle.smol_tokens_core.proofs.CountLemmas.{IsMerge-of, IsCounts-append}
 onto : (c : ℕ) (b : Bool) (ps qs : List (List ℕ)) → 0 < length ps
     → (cond b ([] ∷ (ps ++ qs)) (onto_first c (ps ++ qs)) ≡ cond b ([] ∷ ps) (onto_first c ps) ++ qs)
     × (0 < length (cond b ([] ∷ ps) (onto_first c ps)))
-onto c true ps qs some = (refl, omega arith)
-onto c false [] qs some = absurd (omega arith)
-onto c false (p ∷ ps) qs some = (refl, omega arith)
+onto c b [] qs some = absurd (omega arith)
+onto c b (p ∷ ps) qs some = search (rules, arith)
 
 lines-front : (t u : List ℕ)
     → (lines ((t ++ newline) ++ u) ≡ lines (t ++ newline) ++ lines u) × (0 < length (lines (t ++ newline)))
@@ -41,8 +40,8 @@ lines-parts a b (inr (t, e)) = rw e (lines-front t b).0
 tally-behind : (es fs : List (List ℕ × ℕ)) → tally (es ++ tally fs) ≡ tally (es ++ fs)
 tally-behind [] fs = tally-table (tally fs) (once-tally fs)
 tally-behind (e ∷ es) fs =
-    let same = tally-behind es fs in
-    cc (tally-cons e (es ++ tally fs), tally-cons e (es ++ fs), same, times_of-tally e.0 (es ++ tally fs), times_of-tally e.0 (es ++ fs))
+    let times = λ (more : List (List ℕ × ℕ)). times_of-tally e.0 (es ++ more) in
+    cc (tally-cons e (es ++ tally fs), tally-cons e (es ++ fs), tally-behind es fs, times (tally fs), times fs)
 
 pub tally-parts : (es fs : List (List ℕ × ℕ)) → tally (tally es ++ tally fs) ≡ tally (es ++ fs)
 tally-parts es fs = tally-again es (tally fs) ∙ tally-behind es fs
@@ -56,8 +55,7 @@ tally-lines a b whole =
 -- the times in the tallies of two parts are how often a line stands in both
 times-parts : (a b t : List ℕ) → IsWhole a
     → times_of t (tally (seen_once (lines a)) ++ tally (seen_once (lines b))) ≡ count_by (is_same t) (lines (a ++ b))
-times-parts a b t whole =
-    grind (arith, tally-lines a b whole, times_of-tally, times_of-seen_once)
+times-parts a b t whole = grind (arith, tally-lines a b whole, times_of-tally, times_of-seen_once)
 
 pub full-parts : (a b : List ℕ) → IsWhole a
     → HasATokenTooOften (tally (seen_once (lines a)) ++ tally (seen_once (lines b))) ↔ HasALineTooOften (a ++ b)
@@ -94,11 +92,8 @@ reports-both a b whole fits =
 
 pub reports-merged : (a b : List ℕ) → IsWhole a → ¬ HasALineTooOften (a ++ b)
     → IsMerge (tokens_report a ++ tokens_report b) (tokens_report (a ++ b))
-reports-merged a b whole fits = (
-  tally (seen_once (lines a)) ++ tally (seen_once (lines b)),
-  reports-both a b whole fits,
-  rw (← tally-lines a b whole) (reports-read (a ++ b) fits),
-)
+reports-merged a b whole fits =
+    (_, reports-both a b whole fits, rw (← tally-lines a b whole) (reports-read (a ++ b) fits))
 
 -- merges of merges
 pub IsMerge-read : (t : List ℕ) (es : List (List ℕ × ℕ)) → IsCounts t es → ¬ HasATokenTooOften es
@@ -107,6 +102,6 @@ IsMerge-read t es is fits = (es, is, (refl, tally-entries es fits (λ k d l. (is
 
 pub merged-again : (a b x y out : List ℕ) → IsMerge a x → IsMerge b y → IsMerge (x ++ y) out ↔ IsMerge (a ++ b) out
 merged-again a b x y out h k =
-    let sums = rw (tally-parts h.0 k.0) at (IsMerge-of (x ++ y) out (tally h.0 ++ tally k.0) (IsCounts-append x y (tally h.0) (tally k.0) h.2 k.2)) in
-    let all = IsMerge-of (a ++ b) out (h.0 ++ k.0) (IsCounts-append a b h.0 k.0 h.1 k.1) in
-    (λ m. all.1 (sums.0 m), λ m. sums.1 (all.0 m))
+    let sums = IsMerge-of (x ++ y) out _ (IsCounts-append x y (tally h.0) (tally k.0) h.2 k.2) in
+    let all = IsMerge-of (a ++ b) out _ (IsCounts-append a b h.0 k.0 h.1 k.1) in
+    let same = rw (tally-parts h.0 k.0) at sums in (λ m. all.1 (same.0 m), λ m. same.1 (all.0 m))

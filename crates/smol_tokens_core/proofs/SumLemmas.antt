@@ -23,8 +23,8 @@ Summed t rest n fits sums =
 begins-more : (t rest after : List ℕ) (es : List (List ℕ × ℕ)) (e : List ℕ × ℕ) → BeginsWith t es rest
     → BeginsWith rest (e ∷ []) after → BeginsWith t (es ++ e ∷ []) after
 begins-more t rest after es e h k =
-    let front = flat_map count_line es in
-    (cc (h.0, k.0, flat_map-append count_line es (e ∷ []), append_assoc front (flat_map count_line (e ∷ [])) after), All-append IsEntry es (e ∷ []) h.1 k.1)
+    let whole = append_assoc (flat_map count_line es) (flat_map count_line (e ∷ [])) after in
+    (cc (h.0, k.0, flat_map-append count_line es (e ∷ []), whole), All-append IsEntry es (e ∷ []) h.1 k.1)
 
 times-more : (u token : List ℕ) (n : ℕ) (es : List (List ℕ × ℕ))
     → times_of u (es ++ (token, n) ∷ []) ≡ times_of u es + cond (is_same u token) n 0
@@ -43,12 +43,9 @@ module _ (t rest after token : List ℕ) (n count : ℕ) (line : BeginsWith rest
       → MatchBool fits ((¬ HasATokenTooOften (es ++ (token, count) ∷ [])) × (sums ≡ tally (es ++ (token, count) ∷ [])))
       (HasATokenTooOften (es ++ (token, count) ∷ []))
       → Summed t after (n + 1) fits sums
-  more fits sums es h len sum = (
-    es ++ (token, count) ∷ [],
-    begins-more t rest after es (token, count) h line,
-    omega (arith, len, length-append es ((token, count) ∷ [])),
-    sum,
-  )
+  more fits sums es h len sum =
+      let longer = length-append es ((token, count) ∷ []) in
+      (_, begins-more t rest after es (token, count) h line, omega (arith, len, longer), sum)
 
   -- by what `add_text` says
   pub summed-more : (sums new : List (List ℕ × ℕ)) (fits : Bool) → Summed t rest n true sums

@@ -19,12 +19,9 @@ new t (e ∷ es) h =
 pub tally-table : (es : List (List ℕ × ℕ)) → AllPairs (λ s u. s ≢ u) (tokens es) → tally es ≡ es
 tally-table [] h = refl
 tally-table (e ∷ es) h =
-    search (
-      rules,
-      tally-cons,
-      new e.0 es (λ k d l. h 0 (suc k) d (omega arith) (omega arith)),
-      tally-table es (λ i j d l k. h (suc i) (suc j) d (omega arith) (omega arith)),
-    )
+    let first = new e.0 es (λ k d l. h 0 (suc k) d (omega arith) (omega arith)) in
+    let rest = tally-table es (λ i j d l k. h (suc i) (suc j) d (omega arith) (omega arith)) in
+    search (rules, tally-cons, first, rest)
 
 -- the entry of a token is found, and put, whether or not those of others are there
 lookup-others : (t k : List ℕ) (es : List (List ℕ × ℕ)) → is_same t k ≡ false

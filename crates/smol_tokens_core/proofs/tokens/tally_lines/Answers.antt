@@ -15,11 +15,8 @@ loop-line-preserved g c =
 pub returns-then-not-branch-clause-fault : goal.returns-then-not-branch-clause-fault
 returns-then-not-branch-clause-fault g c =
     let full = MatchBool-at_false _ _ c.if-not-branch.true c.in_ok-add_text.ensures in
-    inl (
-      refl,
-      no_report-add _ (chars c.in-Some.line.now) _ _ _ _ c.loop-line.invariant.0 c.loop-line.invariant.1
-          c.in-Some.ensures.steps full,
-    )
+    let so_far = c.loop-line.invariant in
+    inl (refl, no_report-add _ (chars c.in-Some.line.now) _ _ _ _ so_far.0 so_far.1 c.in-Some.ensures.steps full)
 
 pub returns-in_err-add_text-clause-fault : goal.returns-in_err-add_text-clause-fault
 returns-in_err-add_text-clause-fault g c =
