@@ -33,6 +33,8 @@ pub encodes-count_line : (t : List ℕ) (n : ℕ) → n < 2 ^ 64
 unfolding lib.Utf8.encode
 encodes-count_line t n small = search (rules, encodes-append, encodes-IsAscii, IsAscii-decimal)
 
+pub ruleset lines_in_bytes = (encodes-report_line, encodes-count_line)
+
 -- the report line of a value of the text
 pub report_line-value : (t : List ℕ) (v : Meaning) → IsValueOf t v
     → report_line v.place (size v.text) v.text ≡ value_line t

@@ -111,6 +111,7 @@ fn push_line(alloc: Global, out: &mut String, value: &SmolStr) -> Result<(), All
 }
 
 /// The same, printed at once.
+#[tactic(auto, using(crate::proofs::ReportLemmas::lines_in_bytes))]
 fn print_line(out: &mut String, value: &SmolStr) -> Result<(), AllocError>
     ensures { OnOk result (string_bytes out.new ≡ string_bytes out.old
         ++ encode_utf8_all (report_line value.now.place (size value.now.text) value.now.text)) }

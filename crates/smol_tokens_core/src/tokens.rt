@@ -68,6 +68,7 @@ pub(crate) fn write_counts<S: BuildHasher>(
 }
 
 /// Appends the count line of a token.
+#[tactic(auto, using(crate::proofs::ReportLemmas::lines_in_bytes))]
 fn push_count(out: &mut String, token: &SmolStr, count: u64) -> Result<(), AllocError>
     ensures { OnOk result (string_bytes out.new ≡ string_bytes out.old
         ++ encode_utf8_all (count_line (token.now.text, count))) }
