@@ -48,7 +48,8 @@ before c q first = without c q (rw append-nil at first)
 
 module _ (t digits behind : List ℕ) (first : IsFirstAfter (32 ∷ []) digits) (is : t ≡ digits ++ (32 ∷ [] ++ behind)) where
   -- a count line is cut at its first space, behind its count
-  pub parts : (e : List ℕ × ℕ) (rest : List ℕ) → BeginsWith t (e ∷ []) rest → (digits ≡ decimal e.1) × (behind ≡ e.0 ++ 10 ∷ rest)
+  pub parts : (e : List ℕ × ℕ) (rest : List ℕ) → BeginsWith t (e ∷ []) rest
+      → (digits ≡ decimal e.1) × (behind ≡ e.0 ++ 10 ∷ rest)
   parts e rest begins =
       cut_once 32 digits (decimal e.1) behind (e.0 ++ 10 ∷ rest) (before 32 digits first)
       (decimal-other 32 e.1 (omega arith) (begins.1 0 e (omega arith)).1) (sym is ∙ begins.0 ∙ line e rest)
