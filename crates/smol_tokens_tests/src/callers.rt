@@ -1,5 +1,5 @@
 //! Callers of the program's core: the report on some bytes, behind what a `Vec` has, and words counted.
-ghost use Rattle.std.specs.Prelude.{◌≡◌, ◌≢◌, ◌<◌, ◌⊎◌, ◌+◌, ◌^◌, ℕ, List, [], ◌++◌, length, Some, None, IsOk, OnOk, OnErr, IfOk, IfErr, IfSome, encode_utf8_all};
+ghost use Rattle.std.specs.Prelude.{◌≡◌, ◌≢◌, ◌<◌, ◌⊎◌, ◌+◌, ◌^◌, ℕ, List, [], ◌++◌, length, Some, None, IsOk, OnOk, OnErr, IfErr, IfSome, encode_utf8_all};
 ghost use Rattle.std.specs.Map.{lookup};
 ghost use Rattle.std.specs.Str.{chars, IsUtf8};
 ghost use Rattle.smol_tokens_core.specs.Counts.{IsWhole, IsFirstOther};
@@ -9,7 +9,7 @@ ghost use Rattle.smol_tokens_core.specs.Tally.{is_same, times_of};
 ghost use Rattle.smol_tokens_core.specs.declared.mode.Mode.TheVariants.{Join, Merge};
 
 use smol_str::SmolStr;
-use smol_str::stream::{ReadFault, read_all};
+use smol_str::stream::read_all;
 use smol_tokens_core::fault::RunFault;
 use smol_tokens_core::laws;
 use smol_tokens_core::mode::Mode;
@@ -83,7 +83,8 @@ pub fn append_merge<S: BuildHasher + Drop>(
     run(alloc, state, Mode::Merge, reports, out)
 }
 
-/// What a reader gives after a run, whatever came of it: those of its bytes that the run has not read.
+/// What a reader gives after a run that was refused memory, or in which it failed or the writer did: those of its bytes
+/// that the run has not read.
 pub fn rest_after_run<S: BuildHasher + Drop, R: Read, W: Write>(
     alloc: Global,
     state: S,
@@ -91,12 +92,14 @@ pub fn rest_after_run<S: BuildHasher + Drop, R: Read, W: Write>(
     reader: &mut R,
     writer: &mut W,
     bytes: &[u8],
-) -> Result<Vec<u8>, ReadFault>
+) -> Option<Vec<u8>>
     requires known { R.remaining reader.old ≡ Some bytes.now }
-    ensures { IfOk result (λ rest. (front : List ℕ) × (bytes.now ≡ front ++ rest.items)) }
+    ensures { IfSome result (λ rest. (front : List ℕ) × (bytes.now ≡ front ++ rest.items)) }
 {
-    let _ran = run(alloc, state, mode, reader, writer);
-    read_all(alloc, reader)
+    match run(alloc, state, mode, reader, writer) {
+        Err(RunFault::OutOfMemory | RunFault::Io(_)) => read_all(alloc, reader).ok(),
+        _ => None,
+    }
 }
 
 /// The same where the run came to the end of the text: nothing.
