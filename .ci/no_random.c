@@ -2,12 +2,7 @@
 #include <errno.h>
 #include <stddef.h>
 
-int getentropy(void *buffer, size_t length);
-
-int getentropy(void *buffer, size_t length)
-{
-    (void)buffer;
-    (void)length;
-    errno = ENOSYS;
+int getentropy(void *buffer, size_t length) {
+    errno = buffer != NULL && length > 0 ? ENOSYS : EFAULT;
     return -1;
 }

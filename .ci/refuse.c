@@ -24,6 +24,7 @@
 #include <stdint.h>
 #include <stdio.h>
 #include <stdlib.h>
+#include <string.h>
 
 extern void *__libc_malloc(size_t);
 extern void *__libc_realloc(void *, size_t);
@@ -42,46 +43,33 @@ static enum { NONE, ONE, FROM, SMALLER } mode = NONE;
 static size_t nth;                     /* the first request to refuse, from 1 */
 static size_t seen, met;               /* requests and refusals since the mode was set */
 static size_t armed, total, ended, compared; /* of the whole process: the same two numbers, and its tests' */
-/* The counts; the last two wrap where blocks of before are freed. */
-static uint32_t requests, bytes, blocks, held;
-
-static void arm(int new_mode, size_t n) {
-    mode = new_mode;
-    nth = n;
-    seen = met = 0;
-    armed++;
-}
+/* The counts, for messages 5 to 8; the last two wrap where blocks of before are freed. */
+enum { REQUESTS, BYTES, BLOCKS, HELD };
+static uint32_t counts[4];
 
 /* Whether the size is a message; then *block is what malloc returns. */
 static int is_message(size_t size, void **block) {
     if (size < BASE || size >= BASE + 11 * WORD) return 0;
-    size_t n = (size - BASE) % WORD;
-    int granted = 0;
-    switch ((size - BASE) / WORD) {
-    case 0: arm(ONE, n); break;
-    case 1: arm(FROM, n); break;
-    case 2: mode = NONE; granted = met > 0; break;
-    case 3: granted = 1; break;
-    case 4: requests = bytes = blocks = held = 0; break;
-    case 5: granted = requests >> n & 1; break;
-    case 6: granted = bytes >> n & 1; break;
-    case 7: granted = blocks >> n & 1; break;
-    case 8: granted = held >> n & 1; break;
-    case 9: arm(SMALLER, 0); break;
-    case 10: ended++; compared += n; break;
+    size_t message = (size - BASE) / WORD, n = (size - BASE) % WORD;
+    int granted = message == 3 || (message == 2 && met > 0);
+    if (message == 2) mode = NONE;
+    if (message == 4) memset(counts, 0, sizeof counts);
+    if (message >= 5 && message <= 8) granted = counts[message - 5] >> n & 1;
+    if (message <= 1 || message == 9) {
+        mode = message == 0 ? ONE : message == 1 ? FROM : SMALLER;
+        nth = n, seen = met = 0, armed++;
     }
+    if (message == 10) ended++, compared += n;
     *block = granted ? granted_block : NULL;
     return 1;
 }
 
 static int is_refused(size_t size) {
-    requests++;
-    bytes += size;
+    counts[REQUESTS]++, counts[BYTES] += size;
     if (mode == NONE || mode == SMALLER) return 0;
     seen++;
     if (mode == ONE ? seen != nth : seen < nth) return 0;
-    met++;
-    total++;
+    met++, total++;
     return 1;
 }
 
@@ -89,8 +77,7 @@ void *malloc(size_t size) {
     void *block;
     if (is_message(size, &block)) return block;
     block = is_refused(size) ? NULL : __libc_malloc(size);
-    blocks += block != NULL;
-    held += malloc_usable_size(block);
+    counts[BLOCKS] += block != NULL, counts[HELD] += malloc_usable_size(block);
     return block;
 }
 
@@ -99,23 +86,20 @@ void *realloc(void *old, size_t size) {
     if (mode == SMALLER && size + SPARE < before) return NULL;
     void *block = size > before && is_refused(size) ? NULL : __libc_realloc(old, size);
     if (block == NULL) return NULL;
-    blocks += old == NULL;
-    held += malloc_usable_size(block) - before;
+    counts[BLOCKS] += old == NULL, counts[HELD] += malloc_usable_size(block) - before;
     return block;
 }
 
 void free(void *block) {
     if (block == granted_block || block == NULL) return;
-    blocks--;
-    held -= malloc_usable_size(block);
+    counts[BLOCKS]--, counts[HELD] -= malloc_usable_size(block);
     __libc_free(block);
 }
 
 __attribute__((destructor)) static void log_counts(void) {
     const char *name = getenv("REFUSE_LOG");
     mode = NONE;
-    if (name == NULL || armed + ended == 0) return;
-    FILE *log = fopen(name, "a");
+    FILE *log = name != NULL && armed + ended > 0 ? fopen(name, "a") : NULL;
     if (log == NULL) return;
     fprintf(log, "%zu %zu %zu %zu\n", armed, total, ended, compared);
     fclose(log);
