@@ -86,6 +86,7 @@ pub static ROWS: &[Row] = &[
     row(b'b', "with_capacity", 20, 1, draws::NONE, CAPACITY, "SmolStrBuilder::with_capacity"),
     row(b'b', "push", 20, 1, draws::CHARACTER, ANY, "SmolStrBuilder::push"),
     row(b'b', "push_str", 40, 1, draws::PIECE, ANY, "SmolStrBuilder::push_str"),
+    row(b'b', "push_with_spare", 10, 1, draws::PIECE, ANY, "SmolStrBuilder::push_with_spare"),
     row(b'b', "push_str of a value", 10, 1, draws::NONE, ANY, "SmolStrBuilder::push_str SmolStr::as_str"),
     row(b'b', "builder clone", 10, 1, draws::NONE, ANY, "SmolStrBuilder::clone"),
     row(b'b', "finish", 8, 1, draws::NONE, ANY, "SmolStrBuilder::finish"),

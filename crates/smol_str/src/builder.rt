@@ -172,9 +172,12 @@ impl SmolStrBuilder {
         self.push_with_spare(text, INLINE_CAP)
     }
 
-    /// The same; a builder that moves to the heap asks for room for `spare` bytes more.
+    /// Appends a text behind which some `spare` bytes are to come.
+    ///
+    /// A builder that moves to the heap asks for room for these, too, so that they need no second request. The call
+    /// is refused with [`AllocError`] where the heap has no room for both, and the builder is as before.
     #[inline(always)]
-    pub(crate) fn push_with_spare(&mut self, text: &str, spare: usize) -> Result<(), AllocError>
+    pub fn push_with_spare(&mut self, text: &str, spare: usize) -> Result<(), AllocError>
         ensures ok { OnOk result (self.new ≡ appended self.old (chars text.now)) }
         ensures unchanged { OnErr result (self.new ≡ self.old) }
         ensures refused { OnErr result ((appended self.old (chars text.now)).kind ≡ OnHeap) }

@@ -70,6 +70,7 @@ impl SmolStrBuilder {
     pub fn push_str(&mut self, added: &str) -> Appended {
         self.append(&[added.to_string()], true, |text| text.push_str(added))
     }
+    pub fn push_with_spare(&mut self, added: &str, _spare: usize) -> Appended { self.push_str(added) }
 
     pub fn extend<P: Display>(&mut self, items: impl Iterator<Item = P>) -> Appended where Upstream: Extend<P> {
         let items: Vec<P> = items.collect();

@@ -34,13 +34,10 @@ pub(super) fn replace(
     if from.len() == 1 && to.len() == 1 && count >= text.len() {
         return replace_byte(alloc, text, from.as_bytes()[0], to.as_bytes()[0]);
     }
-    if text.len() < from.len() {
-        return SmolStr::new(alloc, text);
-    }
     replace_matches(alloc, text, from, to, count)
 }
 
-/// The same by pieces pushed into one builder. A text that lacks the pattern's first byte is copied.
+/// The same by pieces pushed into one builder. A text that is shorter than the pattern, or lacks its first byte, is copied.
 /// Slow path, kept out of line so that the fast path inlines.
 #[inline(never)]
 #[tactic(auto, using(crate::proofs::CutLemmas::Replacing::last_steps))]
@@ -56,6 +53,9 @@ fn replace_matches(
     ensures refused { OnErr result
         (¬ (IsShort (replaced (chars text.now) (chars from.now) (chars to.now) count))) }
 {
+    if text.len() < from.len() {
+        return SmolStr::new(alloc, text);
+    }
     if !from.is_empty() && first_byte(text.as_bytes(), from.as_bytes()).is_none() {
         return SmolStr::new(alloc, text);
     }
@@ -91,7 +91,8 @@ fn push_replaced(
 }
 
 /// Appends the new text before each of the first `count` characters, and at the end where the limit
-/// goes past them; returns the index where the rest begins.
+/// goes past them; returns the index where the rest begins. Out of line, where registers are free.
+#[inline(never)]
 fn push_between(
     builder: &mut SmolStrBuilder,
     text: &str,

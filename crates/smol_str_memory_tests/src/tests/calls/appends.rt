@@ -1,6 +1,6 @@
 //! Calls that append to a builder.
 use super::Wants::{AsStd, Exactly};
-use super::by_std::Asks::{AndChar, ByChar, ByText, Nothing, Twice, WithRoom};
+use super::by_std::Asks::{AndChar, ByChar, ByText, Nothing, Owned, Twice, WithRoom};
 use super::things::{Thing, changed};
 use super::{Row, Wants, check_calls, pieces};
 use smol_str::{Piece, SmolStrBuilder};
@@ -16,6 +16,7 @@ enum Call {
     PushToFull,
     PushStr,
     PushStrToEmpty,
+    PushWithSpare,
     WriteStr,
     WriteFmt,
     AppendTo,
@@ -33,7 +34,7 @@ const ROOM: Wants = AsStd(Nothing, Nothing, WithRoom, WithRoom);
 /// Room for the text after the text.
 const BY_TEXT: Wants = AsStd(Nothing, Twice, ByText, ByText);
 
-static CALLS: [Row<Call>; 12] = [
+static CALLS: [Row<Call>; 13] = [
     (
         Call::Push,
         "SmolStrBuilder::push",
@@ -46,6 +47,11 @@ static CALLS: [Row<Call>; 12] = [
     ),
     (Call::PushStr, "SmolStrBuilder::push_str", BY_TEXT),
     (Call::PushStrToEmpty, "SmolStrBuilder::push_str", ROOM),
+    (
+        Call::PushWithSpare,
+        "SmolStrBuilder::push_with_spare",
+        AsStd(Nothing, Nothing, Owned, Owned),
+    ),
     (Call::WriteStr, "SmolStrBuilder::write_str", BY_TEXT),
     (Call::WriteFmt, "SmolStrBuilder::write_fmt", BY_TEXT),
     (Call::AppendTo, "Piece::append_to", ROOM),
@@ -98,6 +104,7 @@ impl super::Call for Call {
         match self {
             Call::Push | Call::PushToFull => changed(builder.push('€'), builder),
             Call::PushStr | Call::PushStrToEmpty => changed(builder.push_str(text), builder),
+            Call::PushWithSpare => changed(builder.push_with_spare(text, 0), builder),
             Call::WriteStr => changed(builder.write_str(text), builder),
             Call::WriteFmt => changed(builder.write_fmt(text), builder),
             Call::AppendTo => changed(text.append_to(&mut builder), builder),
