@@ -7,17 +7,16 @@ ghost use Rattle.smol_str.specs.Case.{lower, upper, lowercased, uppercased};
 ghost use Rattle.smol_str.specs.Cut.{IsOnlyCut, joined_by};
 ghost use Rattle.smol_str.specs.Replace.{no_limit, replaced, replaced_all};
 
-mod ascii;
-mod case;
-mod full;
-mod letters;
+mod ascii_case;
+mod case_ranges;
+mod full_case;
 mod replace;
 mod sigma;
 
 use crate::kernel::AsciiCase;
 use crate::value::SmolStr;
-use case::to_ascii_case;
-use full::to_full_case;
+use ascii_case::to_ascii_case;
+use full_case::to_full_case;
 use replace::replace;
 use std::alloc::{AllocError, Global};
 

@@ -1,4 +1,4 @@
--- For `str_ext::letters`: each letter of a range is mapped as Unicode's tables map it, seen one by one.
+-- For `str_ext::case_ranges`: each letter of a range is mapped as Unicode's tables map it, seen one by one.
 use Rattle.smol_str.proofs.Common.{list_all, ◌≡◌, ℕ, ◌+◌, ◌-◌, ◌<◌, ◌≤◌, List, [], ◌∷◌, Bool, true, ◌&&◌, zero, suc, refl, arith, and_parts, bytes_eq}
 use Rattle.std.proofs.lemmas.Slice.Eq.{bytes_eq-Decides}
 use Rattle.std.specs.Char.Unicode.Rows.{by_runs, by_strings}

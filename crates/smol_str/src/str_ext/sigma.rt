@@ -5,7 +5,7 @@ ghost use Rattle.std.specs.StrCase.Lower.{starts_with_cased, lowercase_before, i
 ghost use Rattle.smol_str.specs.Draft.{InBuffer, OnHeap, empty_draft, appended};
 ghost use Rattle.smol_str.specs.Case.{lowercased};
 
-use super::full::push_one;
+use super::full_case::push_one;
 use crate::builder::SmolStrBuilder;
 use crate::kernel::AsciiCase;
 use std::alloc::AllocError;

@@ -4,7 +4,7 @@ use Rattle.smol_str.proofs.CaseLemmas.Full.{mapped-append}
 use Rattle.smol_str.proofs.BuilderLemmas.Push.{new-appended, mapped-refused}
 use Rattle.smol_str.proofs.BuilderLemmas.Draft.{appended-twice}
 use Rattle.std.proofs.lemmas.Iterator.Consumers.{YieldsList-so_far, YieldsList-turn, YieldsList-end}
-use Rattle.smol_str.proofs.str_ext.full.push_mapped.Goals as goal
+use Rattle.smol_str.proofs.str_ext.full_case.push_mapped.Goals as goal
 
 pub push_one-requires : goal.push_one-requires
 push_one-requires c = new-appended _ _ _ c.requires c.loop-character.invariant

@@ -1,6 +1,6 @@
 use Rattle.smol_str.proofs.Common.{◌≡◌, length, drop, rules}
 use Rattle.smol_str.proofs.CutLemmas.Bytes.{IsUtf8-each, whole-each, each_byte}
-use Rattle.smol_str.proofs.str_ext.ascii.replace_byte.Goals as goal
+use Rattle.smol_str.proofs.str_ext.replace.replace_byte.Goals as goal
 
 pub from_utf8_unchecked-requires : goal.from_utf8_unchecked-requires
 from_utf8_unchecked-requires c =

@@ -1,7 +1,7 @@
 use Rattle.smol_str.proofs.Common.{chars}
 use Rattle.smol_str.proofs.CaseLemmas.Ascii.{ascii-converted}
 use Rattle.smol_str.proofs.CaseLemmas.Full.{full-ascii}
-use Rattle.smol_str.proofs.str_ext.full.to_full_case.Goals as goal
+use Rattle.smol_str.proofs.str_ext.full_case.to_full_case.Goals as goal
 
 pub returns-then-is_ascii-clause-ok : goal.returns-then-is_ascii-clause-ok
 returns-then-is_ascii-clause-ok c =

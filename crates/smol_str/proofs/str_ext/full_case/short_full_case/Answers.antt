@@ -1,7 +1,7 @@
 use Rattle.smol_str.proofs.Common.{inl, on_err_weaker}
 use Rattle.smol_str.proofs.TextLemmas.Places.{OnErr-always}
 use Rattle.smol_str.proofs.CaseLemmas.Full.{front-refused, short-text}
-use Rattle.smol_str.proofs.str_ext.full.short_full_case.Goals as goal
+use Rattle.smol_str.proofs.str_ext.full_case.short_full_case.Goals as goal
 
 pub returns-in_err-rest-clause-refused : goal.returns-in_err-rest-clause-refused
 returns-in_err-rest-clause-refused c =

@@ -1,15 +1,12 @@
 //! ASCII case, in a copy of the text.
-ghost use Rattle.std.specs.Prelude.{◌≡◌, ◌≤◌, ◌++◌, length, IfOk, OnErr};
+ghost use Rattle.std.specs.Prelude.{IfOk, OnErr};
 ghost use Rattle.std.specs.Str.{chars};
 ghost use Rattle.smol_str.specs.Text.{IsShort};
 ghost use Rattle.smol_str.specs.Meaning.{IsValueOf};
-ghost use Rattle.smol_str.specs.Draft.{OnHeap, appended};
-ghost use Rattle.smol_str.specs.Case.{front};
 ghost use Rattle.smol_str.specs.InCase.{converted};
 
 use crate::buffer::INLINE_CAP;
-use crate::builder::SmolStrBuilder;
-use crate::kernel::{AsciiCase, convert_while_ascii};
+use crate::kernel::AsciiCase;
 use crate::value::SmolStr;
 use std::alloc::{AllocError, Global};
 
@@ -46,24 +43,4 @@ pub(super) fn to_ascii_case_on_heap(
         AsciiCase::Upper => copy.make_ascii_uppercase(),
     }
     SmolStr::from_owned(copy)
-}
-
-/// Appends the ASCII front of a short text in a case; returns the rest of the text.
-#[tactic(auto, using(crate::proofs::CaseLemmas::Full::fronts))]
-pub(super) fn push_front<'a>(
-    builder: &mut SmolStrBuilder,
-    text: &'a str,
-    case: AsciiCase,
-) -> Result<&'a str, AllocError>
-    requires { length text.now ≤ INLINE_CAP }
-    ensures ok { IfOk result (λ rest.
-        builder.new ≡ appended builder.old (converted case (front (chars text.now)))) }
-    ensures rest { IfOk result (λ rest. front (chars text.now) ++ chars rest.now ≡ chars text.now) }
-    ensures refused { OnErr result
-        ((appended builder.old (converted case (front (chars text.now)))).kind ≡ OnHeap) }
-{
-    let (buffer, len) = convert_while_ascii(text, case);
-    let front = unsafe { str::from_utf8_unchecked(&buffer[..len]) };
-    builder.push_str(front)?;
-    Ok(&text[len..])
 }

@@ -1,19 +1,20 @@
 //! Full case. ASCII text takes ASCII case. Of any other text each character is mapped by itself,
 //! and a short text's ASCII front by lanes, unless a character is mapped by what stands around it.
-ghost use Rattle.std.specs.Prelude.{◌≡◌, ◌<◌, ◌≤◌, [], ◌∷◌, false, length, IfOk, OnOk, OnErr, IsTrue};
+ghost use Rattle.std.specs.Prelude.{◌≡◌, ◌<◌, ◌≤◌, [], ◌∷◌, ◌++◌, false, length, IfOk, OnOk, OnErr, IsTrue};
 ghost use Rattle.std.specs.Str.{chars};
 ghost use Rattle.smol_str.specs.Text.{IsShort};
 ghost use Rattle.smol_str.specs.Meaning.{IsValueOf};
 ghost use Rattle.smol_str.specs.Draft.{InBuffer, OnHeap, empty_draft, appended};
-ghost use Rattle.smol_str.specs.InCase.{full_case, mapped, IsMappedAlone};
+ghost use Rattle.smol_str.specs.Case.{front};
+ghost use Rattle.smol_str.specs.InCase.{converted, full_case, mapped, IsMappedAlone};
 ghost use Rattle.smol_str.specs.declared.bytes.ascii.AsciiCase.TheVariants.{Lower};
 
-use super::case::{push_front, to_ascii_case_on_heap};
-use super::letters::letter_of;
+use super::ascii_case::to_ascii_case_on_heap;
+use super::case_ranges::letter_of;
 use super::sigma::push_lowercase;
 use crate::buffer::INLINE_CAP;
 use crate::builder::SmolStrBuilder;
-use crate::kernel::{AsciiCase, next_match};
+use crate::kernel::{AsciiCase, convert_while_ascii, next_match};
 use crate::value::SmolStr;
 use std::alloc::{AllocError, Global};
 
@@ -67,6 +68,26 @@ fn short_full_case(alloc: Global, text: &str, case: AsciiCase) -> Result<SmolStr
     }
     push_mapped(&mut builder, rest, case)?;
     builder.into_value()
+}
+
+/// Appends the ASCII front of a short text in a case; returns the rest of the text.
+#[tactic(auto, using(crate::proofs::CaseLemmas::Full::fronts))]
+fn push_front<'a>(
+    builder: &mut SmolStrBuilder,
+    text: &'a str,
+    case: AsciiCase,
+) -> Result<&'a str, AllocError>
+    requires { length text.now ≤ INLINE_CAP }
+    ensures ok { IfOk result (λ rest.
+        builder.new ≡ appended builder.old (converted case (front (chars text.now)))) }
+    ensures rest { IfOk result (λ rest. front (chars text.now) ++ chars rest.now ≡ chars text.now) }
+    ensures refused { OnErr result
+        ((appended builder.old (converted case (front (chars text.now)))).kind ≡ OnHeap) }
+{
+    let (buffer, len) = convert_while_ascii(text, case);
+    let front = unsafe { str::from_utf8_unchecked(&buffer[..len]) };
+    builder.push_str(front)?;
+    Ok(&text[len..])
 }
 
 /// The same of any text, character by character.

@@ -2,7 +2,7 @@ use Rattle.smol_str.proofs.Common.{chars}
 use Rattle.smol_str.proofs.TextLemmas.Places.{OnErr-always}
 use Rattle.smol_str.proofs.CaseLemmas.Ascii.{IsAscii-chars}
 use Rattle.smol_str.proofs.CaseLemmas.Full.{full-ascii, ascii-refused}
-use Rattle.smol_str.proofs.str_ext.full.long_full_case.Goals as goal
+use Rattle.smol_str.proofs.str_ext.full_case.long_full_case.Goals as goal
 
 pub returns-then-is_ascii : goal.returns-then-is_ascii
 returns-then-is_ascii c =
