@@ -89,11 +89,7 @@ impl InlineText {
     pub(crate) fn is_ascii(&self) -> bool
         ensures { IsTrue result ↔ IsAsciiText self.now }
     {
-        // A length of 128 or more would be taken for a character past ASCII.
-        if INLINE_CAP < 128 {
-            return is_all_ascii(&self.packed);
-        }
-        self.as_str().is_ascii()
+        is_all_ascii(&self.packed)
     }
 
     /// The text with its ASCII letters in a case.
@@ -104,10 +100,7 @@ impl InlineText {
         ensures text { result ≡ converted case self }
         ensures short { IsShort result }
     {
-        // A length of 65 would be taken for a letter.
-        let len = self.packed[INLINE_CAP];
         convert_all(&mut self.packed, case);
-        self.packed[INLINE_CAP] = len;
         self
     }
 

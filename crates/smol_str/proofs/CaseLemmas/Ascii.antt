@@ -2,7 +2,7 @@
 use Rattle.smol_str.proofs.Common.{◌≡◌, ℕ, ◌+◌, ◌<◌, List, [], ◌∷◌, ◌++◌, Bool, true, false, cond, map, refl, ap, ◌∙◌, arith, length-append, All, is_ascii, encode_utf8_all, encode, lt-ltb, le-ltb, ltb-true, ltb-false, cases_lt, nat_tests, All-head, All-tail, size, front, IsAsciiText, BeginsPastAscii, lowercase_is, uppercase_is, All-map, All-from_get_or, get_or, common_steps, rules, ◌↔◌, IsTrue, MatchBool, zero, suc, ◌-◌, ◌≤◌, length, take, drop, sym, subst, take-add, length-take-le, length-drop, take-append-drop, IsUtf8, IsCharBoundary, IsAscii, IsNotAscii, chars, slice_range, map-append, take_all, length-map, IsAscii-append, IsAscii-take, IsUtf8-from_ascii, IsUtf8-drop, IsCharBoundary-from_take, chars-append, chars-IsAscii, encodes-chars, IsAscii-map, lowercase_ascii, uppercase_ascii, AsciiCase, converted, IsAsciiFront, IsAscii-from_all, encodes-IsAscii, append_assoc, append-nil, set, replicate, put_chunk, put_chunk_is, scalar, scalars, take_at, drop_at, drop_all, set_at, chars-encodes, scalars-chars, INLINE_CAP, IsPacked, packed, padded, unpacked, and_parts, All-replicate, IsAscii-push, IsAscii-more, ⊎_elim, letter, length-le-encodes, get_or-drop, All-nil, All-cons, All-from_ascii}
 use Rattle.std.proofs.lemmas.List.Sums.{take_while-cons}
 use Rattle.smol_str.proofs.TextLemmas.Utf8.{Form, form, is_one}
-use Rattle.smol_str.proofs.BufferLemmas.Packed.{length-padded, len-bytes, IsPacked-packed, unpacked-packed}
+use Rattle.smol_str.proofs.BufferLemmas.Packed.{IsPacked-packed, unpacked-packed}
 
 -- what holds of each character holds of the text
 pub map-map : (f g h : ℕ → ℕ) → ((c : ℕ) → f (g c) ≡ h c) → (t : List ℕ) → map f (map g t) ≡ map h t
@@ -155,15 +155,15 @@ module _ (f : ℕ → ℕ) (m : MovesAscii f) where
     pub size-mapped : size (map f (chars bs)) ≡ length bs
     size-mapped = ap length encodes-mapped ∙ length-map bs f
 
--- of what is packed, all but the length
+-- of what is packed, zeros and the length are no letters
 map-zeros : (f : ℕ → ℕ) → f 0 ≡ 0 → (n : ℕ) → map f (replicate n 0) ≡ replicate n 0
 map-zeros f e n =
     map-unchanged f (λ c. 0 < c) (λ c h. grind arith) (replicate n 0)
     (All-replicate (λ c. ¬ (0 < c)) n 0 (omega arith))
 
-map-packed : (f : ℕ → ℕ) → f 0 ≡ 0 → (bytes : List ℕ) → length bytes ≤ INLINE_CAP →
-    set (map f (packed bytes)) INLINE_CAP (length bytes) ≡ packed (map f bytes)
-map-packed f e bytes h = grind (arith, common_steps, map-append, map-zeros, set_at, length-map, length-padded)
+map-packed : (f : ℕ → ℕ) → f 0 ≡ 0 → (bytes : List ℕ) → f (length bytes) ≡ length bytes →
+    map f (packed bytes) ≡ packed (map f bytes)
+map-packed f e bytes h = grind (arith, common_steps, map-append, map-zeros, length-map)
 
 -- ---- case
 
@@ -176,30 +176,31 @@ size-converted case t = search (rules, encodes-map, letter-moves, length-map)
 pub IsAscii-converted : (case : AsciiCase) (a : List ℕ) → IsAscii a → IsAscii (converted case a)
 IsAscii-converted case a h = IsAscii-map (letter case) a (letter-moves case).low h
 
-letter-zero : (case : AsciiCase) → letter case 0 ≡ 0
-letter-zero case = search rules
+letter-low : (case : AsciiCase) (n : ℕ) → n < 65 → letter case n ≡ n
+letter-low case n h = search (rules, lowercase_is, uppercase_is)
 
 pub chars-converted : (case : AsciiCase) (bs : List ℕ) → IsUtf8 bs →
     chars (converted case bs) ≡ converted case (chars bs)
 chars-converted case bs u = chars-map (letter case) (letter-moves case) bs u
 
 module _ (case : AsciiCase) (old buf : List ℕ) (h : IsPacked old) (e : buf ≡ converted case old) where
-  whole : set buf INLINE_CAP (get_or old INLINE_CAP 0) ≡ packed (converted case (unpacked old))
-  whole = grind (arith, common_steps, len-bytes, map-packed (letter case) (letter-zero case))
+  whole : buf ≡ packed (converted case (unpacked old))
+  whole =
+      e ∙ ap (converted case) h.reads
+      ∙ map-packed (letter case) (letter-low case 0 (omega arith)) (unpacked old) (letter-low case (length (unpacked old)) (omega (arith, h.within)))
 
   within : length (converted case (unpacked old)) ≤ INLINE_CAP
   within = omega (arith, length-map (unpacked old) (letter case))
 
-  pub IsPacked-converted : IsPacked (set buf INLINE_CAP (get_or old INLINE_CAP 0))
+  pub IsPacked-converted : IsPacked buf
   IsPacked-converted = search (rules, IsPacked-packed, IsUtf8-map (letter case) (letter-moves case), within, whole)
 
-  pub text-converted :
-      chars (unpacked (set buf INLINE_CAP (get_or old INLINE_CAP 0))) ≡ converted case (chars (unpacked old))
+  pub text-converted : chars (unpacked buf) ≡ converted case (chars (unpacked old))
   text-converted = search (rules, unpacked-packed, within, whole, chars-converted)
 
--- what is packed is ASCII exactly where the text is, if the length is
-pub IsAscii-packed : (all : List ℕ) → INLINE_CAP < 128 → IsPacked all → IsAscii all ↔ IsAsciiText (chars (unpacked all))
-IsAscii-packed all small h =
+-- what is packed is ASCII exactly where the text is
+pub IsAscii-packed : (all : List ℕ) → IsPacked all → IsAscii all ↔ IsAsciiText (chars (unpacked all))
+IsAscii-packed all h =
     let bytes = unpacked all in
     let zeros = IsAscii-from_all _ (All-replicate (λ b. b < 128) (INLINE_CAP - length bytes) 0 (omega arith)) in
     let text = IsAscii-chars bytes h.utf8 in (

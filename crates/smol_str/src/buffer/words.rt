@@ -33,8 +33,8 @@ const WORDS: usize = PACKED_LEN / 8;
 // An INLINE_CAP of 15, 23, 31, 39 .. fills whole words; no other can be packed.
 const _: () = prove!(PACKED_LEN % 8 == 0);
 
-// A packed text has its length in one byte.
-const _: () = prove!(INLINE_CAP < 256);
+// A packed text has its length in one byte, which is never taken for a letter.
+const _: () = prove!(INLINE_CAP < b'A' as usize);
 
 /// The text's bytes, zeros, and the length.
 #[inline(always)]
