@@ -9,7 +9,7 @@ ghost use Rattle.smol_str.specs.Draft.{InBuffer, OnHeap, empty_draft, appended, 
 
 mod chars;
 mod compare;
-mod convert;
+mod deref;
 
 use crate::buffer::{INLINE_CAP, InlineBuffer, InlineText};
 use crate::value::SmolStr;

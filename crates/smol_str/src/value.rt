@@ -1,7 +1,6 @@
 //! The immutable text.
 ghost use Rattle.std.specs.Prelude.{◌≡◌, ◌≤◌, ◌↔◌, ◌⊎◌, [], length, MatchOption, IfOk, OnErr, IsSome, IfSome, IsTrue, encode_utf8_all};
 ghost use Rattle.std.specs.Str.{chars, all_scalars};
-ghost use Rattle.std.specs.String.{string_bytes};
 ghost use Rattle.smol_str.specs.Shared.{shared_bytes};
 ghost use Rattle.smol_str.specs.Text.{size, IsShort, IsResident, place_of};
 ghost use Rattle.smol_str.specs.Buffer.{padded};
@@ -248,27 +247,6 @@ impl SmolStr {
         Some(SmolStr {
             repr: Repr::Static(run),
         })
-    }
-
-    /// A value of the text of a `String`, whose allocation it reuses, shrunk to fit where the heap does
-    /// that. On failure the `String` is dropped; [`SmolStr::from_string`] gives it back. That no copy is
-    /// made and no room is kept is only tested.
-    ///
-    /// ```
-    /// let token = SmolStr::from_owned(String::from_str(alloc, "if")?)?;
-    /// assert_eq!(rt; token.place(), Place::Inline);
-    /// ```
-    #[inline(never)]
-    pub fn from_owned(text: String) -> Result<SmolStr, AllocError>
-        ensures ok { IfOk result (λ v. IsValueOf (chars (string_bytes text)) v) }
-        ensures refused { OnErr result (¬ (IsResident (chars (string_bytes text)))) }
-    {
-        if let Some(value) = SmolStr::resident(text.as_str()) {
-            return Ok(value);
-        }
-        let mut text = text;
-        text.shrink_to_fit();
-        Ok(SmolStr::from_heap(SharedText::from_string(text)?))
     }
 
     /// The value that keeps a short text in its buffer.

@@ -125,6 +125,27 @@ impl SmolStr {
         SmolStr::new(alloc, text.as_str()).or(Err(text))
     }
 
+    /// A value of the text of a `String`, whose allocation it reuses, shrunk to fit where the heap does
+    /// that. On failure the `String` is dropped; [`SmolStr::from_string`] gives it back. That no copy is
+    /// made and no room is kept is only tested.
+    ///
+    /// ```
+    /// let token = SmolStr::from_owned(String::from_str(alloc, "if")?)?;
+    /// assert_eq!(rt; token.place(), Place::Inline);
+    /// ```
+    #[inline(never)]
+    pub fn from_owned(text: String) -> Result<SmolStr, AllocError>
+        ensures ok { IfOk result (λ v. IsValueOf (chars (string_bytes text)) v) }
+        ensures refused { OnErr result (¬ (IsResident (chars (string_bytes text)))) }
+    {
+        if let Some(value) = SmolStr::resident(text.as_str()) {
+            return Ok(value);
+        }
+        let mut text = text;
+        text.shrink_to_fit();
+        Ok(SmolStr::from_heap(SharedText::from_string(text)?))
+    }
+
     /// A value of the text of a boxed `str`; a refusal gives the argument back.
     pub fn from_boxed_str(alloc: Global, boxed: BoxedStr) -> Result<SmolStr, BoxedStr>
         ensures ok { IfOk result (λ v. IsValueOf (chars (boxed_str_bytes boxed)) v) }
