@@ -1,5 +1,5 @@
 -- Plain bytes: how many come first, by lanes, and what JSON writes for them.
-use Rattle.smol_str.proofs.Common.{◌≡◌, drop_at, take-append-drop, append-nil, ℕ, zero, suc, ◌+◌, ◌-◌, ◌%◌, ◌^◌, ◌<◌, ◌≤◌, List, [], ◌∷◌, ◌++◌, Bool, true, false, cond, ltb, length, map, replicate, take, drop, refl, arith, subst, rules, get_or, get_or-take, common_steps, nat_tests, mask_l-mod, length-map, zip2, mask_l, top, ne_eqb, min, list_all, IsUtf8, IsCharBoundary}
+use Rattle.smol_str.proofs.Common.{◌↔◌, IsTrue, nat_eq, ◌≡◌, ◌∙◌, ap, sym, get_or-drop, length-drop, drop_at, ℕ, zero, suc, ◌+◌, ◌-◌, ◌%◌, ◌^◌, ◌<◌, ◌≤◌, List, [], ◌∷◌, ◌++◌, Bool, true, false, cond, ltb, length, map, replicate, take, drop, refl, arith, subst, rules, get_or, get_or-take, common_steps, nat_tests, mask_l-mod, length-map, zip2, mask_l, top, ne_eqb, min, list_all, IsUtf8, IsCharBoundary}
 use Rattle.std.proofs.Common.{eqb, ◌||◌, bit_or, true≢false}
 use Rattle.std.specs.List.{prefix_len}
 use Rattle.std.proofs.lemmas.List.Sums.{prefix_len_passes, prefix_len_stops, prefix_len-le-length, list_all-from_AllPass}
@@ -23,18 +23,21 @@ module _ (p : ℕ → Bool) where
   pub run-passes : (xs : List ℕ) → list_all p (take (prefix_len p xs) xs) ≡ true
   run-passes xs = list_all-from_AllPass p _ (λ k d low. search (rules, get_or-take, prefix_len_passes, length-prefix_len))
 
-  pub run-whole : (xs : List ℕ) → drop (prefix_len p xs) xs ≡ [] → list_all p xs ≡ true
-  run-whole xs none =
-      let n = prefix_len p xs in
-      let whole : take n xs ≡ xs = cc (take-append-drop n xs, append-nil (take n xs)) in
-      subst (λ ys. list_all p ys ≡ true) whole (run-passes xs)
+  pub run-all : (xs : List ℕ) → (prefix_len p xs ≡ length xs) ↔ (list_all p xs ≡ true)
+  run-all [] = (λ _. refl, λ _. refl)
+  run-all (x ∷ xs) = (λ h. grind (arith, common_steps, run-all xs), λ h. grind (arith, common_steps, run-all xs))
 
-  pub run-all : (xs : List ℕ) → list_all p xs ≡ true → prefix_len p xs ≡ length xs
-  run-all [] h = refl
-  run-all (x ∷ xs) h = grind (arith, common_steps, run-all xs)
+  pub whole-run : (xs : List ℕ) (n : ℕ) → n ≡ prefix_len p xs → IsTrue (nat_eq n (length xs)) ↔ IsTrue (list_all p xs)
+  whole-run xs n is = (λ t. (run-all xs).0 (grind (arith, nat_tests)), λ t. grind (arith, nat_tests, (run-all xs).1 t))
 
   pub cut-run : (xs ys : List ℕ) (y : ℕ) → list_all p xs ≡ true → p y ≡ false → drop (prefix_len p (xs ++ y ∷ ys)) (xs ++ y ∷ ys) ≡ y ∷ ys
-  cut-run xs ys y h stop = drop_at xs (y ∷ ys) _ (grind (arith, common_steps, prefix_len-append p xs (y ∷ ys), run-all xs h))
+  cut-run xs ys y h stop = drop_at xs (y ∷ ys) _ (grind (arith, common_steps, prefix_len-append p xs (y ∷ ys), (run-all xs).1 h))
+
+  pub run-stop : (xs ys : List ℕ) (y : ℕ) → drop (prefix_len p xs) xs ≡ y ∷ ys → p y ≡ false
+  run-stop xs ys y is =
+      let n = prefix_len p xs in
+      let first : get_or xs n 0 ≡ y = ap (λ k. get_or xs k 0) (omega arith) ∙ sym (get_or-drop n xs 0 0) ∙ ap (λ l. get_or l 0 0) is in
+      subst (λ z. p z ≡ false) first (prefix_len_stops p xs 0 (omega (arith, length-drop n xs, ap length is)))
 
   -- one more of the run, and its end
   pub run-more : (xs : List ℕ) (k : ℕ) → k ≤ prefix_len p xs → k < length xs → p (get_or xs k 0) ≡ true → k + 1 ≤ prefix_len p xs
@@ -43,7 +46,7 @@ module _ (p : ℕ → Bool) where
   pub run-end : (xs : List ℕ) (k : ℕ) → k ≤ prefix_len p xs → (k < length xs → p (get_or xs k 0) ≡ false) → prefix_len p xs ≡ k
   run-end xs k h stop = grind (arith, prefix_len_passes p xs k 0, prefix_len-le-length p xs)
 
-pub ruleset runs = (run-part, run-more, run-end, prefix_len-le-length)
+pub ruleset runs = (run-part, whole-run, run-more, run-end, prefix_len-le-length)
 
 -- ---- by lanes
 

@@ -1,12 +1,14 @@
 -- JSON strings by their bytes: what is written for a text, and what is read as it.
-use Rattle.smol_str.proofs.Common.{◌≡◌, ◌≤◌, ◌<◌, ℕ, List, [], ◌∷◌, ◌++◌, true, Some, refl, sym, ap, ◌∙◌, subst, arith, list_all, length, take, drop, append-nil, common_steps, nat_tests, encode, encode_utf8_all, drop_all, take-append-drop, and_parts, IsUtf8, chars, encodes-chars, encodes_same, Meaning, IsValueOf, Result, IfOk, String, Global, string_bytes, IfOk-weaker, IsUtf8-append, IsUtf8-from_ascii, IsAscii-cons, IsAscii-nil}
-use Rattle.std.proofs.Common.{ap₂, option_and_then}
+use Rattle.smol_str.proofs.Common.{◌≡◌, ◌↔◌, Bool, None, Option, Bor, IfSome, MatchOption, IsTrue, ◌≤◌, ◌<◌, ℕ, List, [], ◌∷◌, ◌++◌, true, Some, refl, sym, ap, ◌∙◌, subst, arith, list_all, length, take, drop, append-nil, common_steps, nat_tests, encode, encode_utf8_all, take-append-drop, and_parts, IsUtf8, chars, encodes-chars, encodes_same, encodes-append, append_assoc, Meaning, IsValueOf, Result, IfOk, String, Global, string_bytes, IfOk-weaker, IsUtf8-append, IsUtf8-from_ascii, IsAscii-cons, IsAscii-nil}
+use Rattle.std.proofs.Common.{◌≢◌, ap₂, option_and_then}
 use Rattle.std.specs.List.{prefix_len}
+use Rattle.std.proofs.lemmas.Grind.{flat_map-append}
 use Rattle.std.proofs.lemmas.List.Folds.{list_all-append}
+use Rattle.std.proofs.lemmas.Str.{encode_ascii}
 use Rattle.smol_str.proofs.TextLemmas.Utf8.{Form, one, two, three, four, form}
 use Rattle.smol_str.specs.Plain.{is_plain, is_space, IsPlain, IsPlainJson, in_quotes}
 use Rattle.smol_str.specs.Json.{json_value, IsJsonText}
-use Rattle.smol_str.proofs.PlainLemmas.{run-passes, run-whole, cut-run, run-all}
+use Rattle.smol_str.proofs.PlainLemmas.{run-stop, run-passes, cut-run}
 use Rattle.serde_json.specs.Data as value
 use Rattle.serde_json.specs.Read.{read, of_json}
 use Rattle.serde_json.specs.Written.{compact_text}
@@ -14,7 +16,7 @@ use Rattle.serde_json.proofs.OnLiterals.{serde_json_on_literals}
 use Rattle.json.specs.Token as token
 use Rattle.json.specs.Json as json
 use Rattle.json.specs.Lex.{token, string_token, lex, between, punctuate, fresh}
-use Rattle.json.specs.Print.{escape}
+use Rattle.json.specs.Print.{escape, escape_byte}
 use Rattle.json.proofs.Printed.Strings.{content-escape, lex-escape, escape_byte_plain}
 
 -- ---- a string that was written is read, with white space around it
@@ -62,6 +64,47 @@ escape-plain (x ∷ s) h =
     let rest = escape-plain s parts.1 in
     λ i. escape_byte_plain x (λ e. grind (arith, nat_tests)) (λ e. grind (arith, nat_tests)) (grind (arith, nat_tests, common_steps)) i ++ rest i
 
+-- a text as it is read, and as it is written, with one more part
+pub unescape-more : (text t u rest behind : List ℕ) → text ≡ escape (encode_utf8_all t) ++ rest → rest ≡ escape (encode_utf8_all u) ++ behind
+    → text ≡ escape (encode_utf8_all (t ++ u)) ++ behind
+unescape-more text t u rest behind is more =
+    cc (encodes-append t u, flat_map-append escape_byte (encode_utf8_all t) (encode_utf8_all u), append_assoc (escape (encode_utf8_all t)) (escape (encode_utf8_all u)) behind)
+
+pub unescape-one : (text t behind : List ℕ) (c : ℕ) (after : List ℕ) → text ≡ escape (encode_utf8_all t) ++ behind → behind ≡ escape_byte c ++ after → c < 128
+    → text ≡ escape (encode_utf8_all (t ++ c ∷ [])) ++ after
+unescape-one text t behind c after is more low = unescape-more text t (c ∷ []) behind after is (rw (encode_ascii c low, append-nil (escape_byte c)) more)
+
+-- the plain front of bytes, and what comes after it
+module _ (rest s behind : List ℕ) (plain : s ≡ take (prefix_len is_plain rest) rest) (drops : behind ≡ drop (prefix_len is_plain rest) rest) where
+  cut : rest ≡ s ++ behind
+  cut = cc (take-append-drop (prefix_len is_plain rest) rest)
+
+  front-self : escape s ≡ s
+  front-self = rw plain (escape-plain _ (run-passes is_plain rest))
+
+  pub front-escaped : rest ≡ escape s ++ behind
+  front-escaped = cut ∙ ap (λ e. e ++ behind) (sym front-self)
+
+  pub unescape-plain : (text t : List ℕ) → text ≡ escape (encode_utf8_all t) ++ rest → IsUtf8 s → text ≡ escape (encode_utf8_all (t ++ chars s)) ++ behind
+  unescape-plain text t is u =
+      unescape-more text t (chars s) rest behind is (cut ∙ ap (λ e. e ++ behind) (sym (ap escape (encodes-chars s u) ∙ front-self)))
+
+  pub escape-front : (e json : List ℕ) → e ≡ json ++ escape rest → e ≡ (json ++ s) ++ escape behind
+  escape-front e json is = cc (ap escape cut, flat_map-append escape_byte s behind, front-self, append_assoc json s (escape behind))
+
+  pub escape-end : (e json : List ℕ) → e ≡ json ++ escape rest → behind ≡ [] → json ++ s ≡ e
+  escape-end e json is none = sym (escape-front e json is ∙ ap (λ b. (json ++ s) ++ escape b) none ∙ append-nil (json ++ s))
+
+  pub front-whole : ((c : ℕ) (r : List ℕ) → c < 128 → ¬ (behind ≡ c ∷ r)) → behind ≡ []
+  front-whole none = ends behind refl
+    where
+      ends : (b : List ℕ) → behind ≡ b → behind ≡ []
+      ends [] is = is
+      ends (y ∷ ys) is = absurd (none y ys (grind (arith, nat_tests, common_steps, run-stop is_plain rest ys y (sym drops ∙ is))) is)
+
+pub escape-next : (e json behind after : List ℕ) (b : ℕ) → e ≡ json ++ escape behind → behind ≡ b ∷ after → e ≡ (json ++ escape_byte b) ++ escape after
+escape-next e json behind after b is more = cc (append_assoc json (escape_byte b) (escape after))
+
 pub compact-plain : (s : List ℕ) → list_all is_plain s ≡ true → compact_text (value.string s) ≡ in_quotes s
 compact-plain s h = ap (λ e. 34 ∷ (e ++ 34 ∷ [])) (escape-plain s h)
 
@@ -81,33 +124,40 @@ plain-encoded (c ∷ t) h =
     let parts = and_parts (is_plain c) (list_all is_plain t) h in
     rw (list_all-append, plain-character c parts.0 (form c), plain-encoded t parts.1) refl
 
--- ---- the parts of plain JSON, as they are cut
+-- the quote behind white space, and the one before it
+pub opened : (text : List ℕ) (r : Option (Bor (List ℕ))) → MatchOption r ((rest : List ℕ) → drop (prefix_len is_space text) text ≢ 34 ∷ rest)
+    (λ x. drop (prefix_len is_space text) text ≡ 34 ∷ x.now)
+    → IfSome r (λ rest. (g : List ℕ) × IsTrue (list_all is_space g) × (text ≡ g ++ 34 ∷ rest.now))
+opened text None h = tt
+opened text (Some x) h = (take (prefix_len is_space text) text, run-passes is_space text, cc (take-append-drop (prefix_len is_space text) text))
 
-module _ (text t : List ℕ) (h : IsPlainJson text t) where
-  pub opens : drop (prefix_len is_space text) text ≡ 34 ∷ (encode_utf8_all t ++ 34 ∷ h.1.1)
-  opens = ap (λ b. drop (prefix_len is_space b) b) h.1.4 ∙ cut-run is_space h.1.0 _ 34 h.1.2 refl
+pub not-opened : (text : List ℕ) (r : Option (Bor (List ℕ))) → MatchOption r ((rest : List ℕ) → drop (prefix_len is_space text) text ≢ 34 ∷ rest)
+    (λ x. drop (prefix_len is_space text) text ≡ 34 ∷ x.now)
+    → r ≡ None → (g rest : List ℕ) → IsTrue (list_all is_space g) → ¬ (text ≡ g ++ 34 ∷ rest)
+not-opened text None h none g rest spaces is = h rest (ap (λ b. drop (prefix_len is_space b) b) is ∙ cut-run is_space g rest 34 spaces refl)
+not-opened text (Some x) h none g rest spaces is = cc
 
-  module _ (rest : List ℕ) (opened : drop (prefix_len is_space text) text ≡ 34 ∷ rest) where
-    pub closes : drop (prefix_len is_plain rest) rest ≡ 34 ∷ h.1.1
-    closes =
-        let same : rest ≡ encode_utf8_all t ++ 34 ∷ h.1.1 = cc opens in
-        ap (λ b. drop (prefix_len is_plain b) b) same ∙ cut-run is_plain (encode_utf8_all t) h.1.1 34 (plain-encoded t h.0) refl
-
-    pub ends : (behind : List ℕ) → drop (prefix_len is_plain rest) rest ≡ 34 ∷ behind → drop (prefix_len is_space behind) behind ≡ []
-    ends behind closed =
-        let same : h.1.1 ≡ behind = cc closes in
-        subst (λ b. drop (prefix_len is_space b) b ≡ []) same (drop_all _ h.1.1 (omega (arith, run-all is_space h.1.1 h.1.3)))
+pub closed : (rest : List ℕ) (behind : List ℕ) (r : Bool) → rest ≡ 34 ∷ behind → IsTrue r ↔ IsTrue (list_all is_space behind)
+    → IsTrue r ↔ ((h : List ℕ) × IsTrue (list_all is_space h) × (rest ≡ 34 ∷ h))
+closed rest behind r is spaces =
+    (λ t. (behind, spaces.0 t, is), λ w. let same : w.0 ≡ behind = cc in spaces.1 (subst (λ b. IsTrue (list_all is_space b)) same w.1))
 
 -- what was cut is read
-pub read-cut : (text rest behind : List ℕ) → drop (prefix_len is_space text) text ≡ 34 ∷ rest
-    → drop (prefix_len is_plain rest) rest ≡ 34 ∷ behind → drop (prefix_len is_space behind) behind ≡ []
-    → read text ≡ Some (value.string (take (prefix_len is_plain rest) rest))
-read-cut text rest behind opened closed ended =
-    let s = take (prefix_len is_plain rest) rest in
-    let g = take (prefix_len is_space text) text in
-    let inner : rest ≡ escape s ++ 34 ∷ behind = cc (take-append-drop (prefix_len is_plain rest) rest, escape-plain s (run-passes is_plain rest)) in
-    let whole : text ≡ g ++ 34 ∷ (escape s ++ 34 ∷ behind) = cc (take-append-drop (prefix_len is_space text) text) in
-    ap read whole ∙ read-spaced g s behind (run-passes is_space text) (run-whole is_space behind ended)
+pub read-cut : (text rest s behind : List ℕ) → ((g : List ℕ) × IsTrue (list_all is_space g) × (text ≡ g ++ 34 ∷ rest))
+    → rest ≡ escape s ++ behind → ((h : List ℕ) × IsTrue (list_all is_space h) × (behind ≡ 34 ∷ h)) → read text ≡ Some (value.string s)
+read-cut text rest s behind opened inner closed =
+    cc (read-spaced opened.0 s closed.0 opened.1 closed.1)
+
+-- plain JSON is closed behind its plain text
+pub closes : (text rest behind t : List ℕ) → ((g : List ℕ) × IsTrue (list_all is_space g) × (text ≡ g ++ 34 ∷ rest))
+    → behind ≡ drop (prefix_len is_plain rest) rest → IsPlainJson text t → (h : List ℕ) × IsTrue (list_all is_space h) × (behind ≡ 34 ∷ h)
+closes text rest behind t opened drops h =
+    let e = encode_utf8_all t in
+    let opens : 34 ∷ rest ≡ 34 ∷ (e ++ 34 ∷ h.1.1) =
+    sym (cut-run is_space opened.0 rest 34 opened.1 refl) ∙ ap (λ b. drop (prefix_len is_space b) b) (sym opened.2 ∙ h.1.4)
+    ∙ cut-run is_space h.1.0 _ 34 h.1.2 refl in
+    let same : rest ≡ e ++ 34 ∷ h.1.1 = cc in
+    (h.1.1, h.1.3, drops ∙ ap (λ b. drop (prefix_len is_plain b) b) same ∙ cut-run is_plain e h.1.1 34 (plain-encoded t h.0) refl)
 
 -- plain JSON of a text is read as that text
 pub read-plain : (b t : List ℕ) → IsPlainJson b t → IsJsonText b t
@@ -133,9 +183,9 @@ module _ (text s : List ℕ) (u : IsUtf8 s) (reads : read text ≡ Some (value.s
 pub ruleset values_read = (read-same, value-read, value-of, read-plain)
 
 -- plain bytes in quotes are what is written
-pub quoted-compact : {E : Type 0} (r : Result (String Global) E) (bytes : List ℕ) → drop (prefix_len is_plain bytes) bytes ≡ []
+pub quoted-compact : {E : Type 0} (r : Result (String Global) E) (bytes : List ℕ) → IsTrue (list_all is_plain bytes)
     → IfOk r (λ json. string_bytes json ≡ in_quotes bytes) → IfOk r (λ json. string_bytes json ≡ compact_text (value.string bytes))
-quoted-compact r bytes none h = IfOk-weaker r _ _ (λ json e. e ∙ sym (compact-plain bytes (run-whole is_plain bytes none))) h
+quoted-compact r bytes plain h = IfOk-weaker r _ _ (λ json e. e ∙ sym (compact-plain bytes plain)) h
 
 -- what is written for the bytes of a text
 module _ {E : Type 0} (r : Result (String Global) E) (bytes t : List ℕ) (is : bytes ≡ encode_utf8_all t)

@@ -3,26 +3,34 @@
 //! serde's traits write and read a value too, in any format; the contracts of these calls speak of the
 //! JSON value and of the bytes. What a JSON value is, and which text reads as which value, is
 //! `serde_json`'s own.
-ghost use Rattle.std.specs.Prelude.{◌≡◌, ℕ, List, IfOk, IfErr, IsOkAnd, IfSome, None, Some, encode_utf8_all};
+ghost use Rattle.std.specs.Prelude.{◌≡◌, ◌↔◌, ◌<◌, ◌/◌, ◌%◌, ℕ, List, [], ◌∷◌, ◌++◌, false, IsTrue, length, IfOk, IfErr, OnOk, OnErr, IsOkAnd, IfSome, None, Some, encode_utf8_all};
+ghost use Rattle.std.specs.Char.{digit_char};
+ghost use Rattle.std.specs.List.{list_all};
 ghost use Rattle.std.specs.Str.{IsUtf8};
 ghost use Rattle.std.specs.String.{string_bytes};
+ghost use Rattle.json.specs.Print.{escape, escape_byte};
 ghost use Rattle.serde_json.specs.Data.{string};
 ghost use Rattle.serde_json.specs.Read.{read};
 ghost use Rattle.serde_json.specs.View.{view};
 ghost use Rattle.serde_json.specs.Written.{compact_text};
 ghost use Rattle.smol_str.specs.Text.{IsResident};
 ghost use Rattle.smol_str.specs.Meaning.{IsValueOf};
-ghost use Rattle.smol_str.specs.Plain.{IsPlain, IsPlainJson, in_quotes};
+ghost use Rattle.smol_str.specs.Draft.{InBuffer, empty_draft};
+ghost use Rattle.smol_str.specs.Plain.{is_plain, is_space, IsPlain, IsPlainJson, in_quotes};
 ghost use Rattle.smol_str.specs.Said.{json_said};
 ghost use Rattle.smol_str.specs.Json.{json_value, IsJsonText, IsJsonOf, AfterValueFault, AfterJsonFault};
 
-use crate::bytes::plain::{split_plain, without_spaces};
+use crate::builder::SmolStrBuilder;
+use crate::bytes::plain::{is_all_plain, is_all_spaces, split_ascii, split_plain, without_spaces};
 use crate::value::SmolStr;
 use serde_json::Value;
 use std::alloc::{AllocError, AllocFailed, Global};
 use std::error::Error;
 use std::fmt;
 use std::fmt::{Display, Formatter, Write};
+
+/// For how many bytes of escapes a JSON text is given room at once, and its two quotes.
+const SPARE: usize = 8;
 
 /// Why JSON made no value.
 #[derive(Debug, Drop)]
@@ -128,7 +136,7 @@ pub fn to_json(alloc: Global, value: &SmolStr) -> Result<String, AllocError>
 fn written(alloc: Global, text: &str) -> Result<String, AllocError>
     ensures { IfOk result (λ json. string_bytes json ≡ compact_text (string text.now)) }
 {
-    if split_plain(text).1.is_empty() {
+    if is_all_plain(text) {
         in_quotes(alloc, text)
     } else {
         escaped(alloc, text)
@@ -152,10 +160,72 @@ fn in_quotes(alloc: Global, text: &str) -> Result<String, AllocError>
 fn escaped(alloc: Global, text: &str) -> Result<String, AllocError>
     ensures { IfOk result (λ json. string_bytes json ≡ compact_text (string text.now)) }
 {
-    match serde_json::to_string(alloc, &text) {
-        Ok(json) => Ok(json),
-        Err(_) => Err(AllocError),
+    let mut json = String::with_capacity(alloc, text.len() + SPARE)?;
+    json.push('"')?;
+    let mut rest = text;
+    loop {
+        let (plain, behind) = split_plain(rest);
+        json.push_str(plain)?;
+        let Some((byte, after)) = split_ascii(behind) else {
+            break;
+        };
+        push_escape(&mut json, byte)?;
+        rest = after;
     }
+    json.push('"')?;
+    Ok(json)
+}
+
+/// Appends the escape of a byte that is not plain.
+#[inline(always)]
+fn push_escape(json: &mut String, byte: u8) -> Result<(), AllocError>
+    requires { is_plain byte ≡ false }
+    ensures { OnOk result (string_bytes json.new ≡ string_bytes json.old ++ escape_byte byte) }
+{
+    match letter_for(byte) {
+        Some(letter) => {
+            json.push('\\')?;
+            json.push(letter)
+        }
+        None => push_control(json, byte),
+    }
+}
+
+/// The letter that stands behind a backslash for a byte that is not plain, where there is one.
+#[inline(always)]
+#[tactic(auto, unfolding(json::specs::Print::escape_byte))]
+fn letter_for(byte: u8) -> Option<char>
+    requires { is_plain byte ≡ false }
+    ensures ascii { IfSome result (λ letter. letter < 128) }
+    ensures escape { IfSome result (λ letter. escape_byte byte ≡ 92 ∷ letter ∷ []) }
+    ensures control { result ≡ None → byte < 32 }
+    ensures number { result ≡ None → escape_byte byte ≡
+        92 ∷ 117 ∷ 48 ∷ 48 ∷ digit_char (byte / 16) ∷ digit_char (byte % 16) ∷ [] }
+{
+    match byte {
+        b'"' => Some('"'),
+        b'\\' => Some('\\'),
+        8 => Some('b'),
+        b'\t' => Some('t'),
+        b'\n' => Some('n'),
+        12 => Some('f'),
+        b'\r' => Some('r'),
+        _ => None,
+    }
+}
+
+/// Appends the escape of a control character by its number.
+#[inline(never)]
+fn push_control(json: &mut String, byte: u8) -> Result<(), AllocError>
+    requires { byte < 32 }
+    ensures { OnOk result (string_bytes json.new ≡ string_bytes json.old
+        ++ 92 ∷ 117 ∷ 48 ∷ 48 ∷ digit_char (byte / 16) ∷ digit_char (byte % 16) ∷ []) }
+{
+    json.push_str(if byte < 16 { "\\u000" } else { "\\u001" })?;
+    json.push(match byte % 16 {
+        digit @ 0..=9 => (b'0' + digit) as char,
+        digit => (b'a' - 10 + digit) as char,
+    })
 }
 
 /// The value of a JSON text that is one string, with nothing but white space around it.
@@ -191,20 +261,115 @@ fn plain_text(text: &str) -> Option<&str>
     ensures utf8 { IfSome result (λ s. IsUtf8 s.now) }
     ensures none { result ≡ None → (t : List ℕ) → ¬ (IsPlainJson text.now t) }
 {
-    let rest = without_spaces(text).strip_prefix('"')?;
-    let (plain, rest) = split_plain(rest);
-    let behind = rest.strip_prefix('"')?;
-    if without_spaces(behind).is_empty() {
-        Some(plain)
-    } else {
-        None
+    let (plain, rest) = split_plain(behind_quote(text)?);
+    if is_closed(rest) { Some(plain) } else { None }
+}
+
+/// What comes after white space and a quote.
+#[inline(always)]
+fn behind_quote(text: &str) -> Option<&str>
+    ensures some { IfSome result (λ rest. (before : List ℕ) × IsTrue (list_all is_space before)
+        × (text.now ≡ before ++ 34 ∷ rest.now)) }
+    ensures none { result ≡ None → (before rest : List ℕ) → IsTrue (list_all is_space before) →
+        ¬ (text.now ≡ before ++ 34 ∷ rest) }
+{
+    without_spaces(text).strip_prefix('"')
+}
+
+/// Whether a quote and white space are all.
+#[inline(always)]
+fn is_closed(rest: &str) -> bool
+    ensures { IsTrue result ↔ ((behind : List ℕ) × IsTrue (list_all is_space behind)
+        × (rest.now ≡ 34 ∷ behind)) }
+{
+    match rest.strip_prefix('"') {
+        Some(behind) => is_all_spaces(behind),
+        None => false,
     }
 }
 
-/// The value of any JSON text, as `serde_json` reads it.
+/// The value of any JSON text. A string whose escapes all have two bytes is read in place.
+#[inline(never)]
+fn read_value(alloc: Global, text: &str) -> Result<SmolStr, JsonFault>
+    ensures text { IfOk result (λ v. IsJsonText text.now v.text) }
+    ensures of_text { (t : List ℕ) → IsJsonText text.now t → IfOk result (λ v. IsValueOf t v) }
+    ensures fault { IfErr result (AfterJsonFault text.now) }
+{
+    match unescaped(alloc, text)? {
+        Some(value) => Ok(value),
+        None => read_any(alloc, text),
+    }
+}
+
+/// The value of a JSON text that is one string whose escapes all have two bytes.
+fn unescaped(alloc: Global, text: &str) -> Result<Option<SmolStr>, AllocError>
+    ensures text { IfOk result (λ read. IfSome read (λ v. IsJsonText text.now v.text)) }
+    ensures place { IfOk result (λ read. IfSome read (λ v. IsValueOf v.text v)) }
+    ensures refused { OnErr result (0 < length text.now) }
+{
+    let Some(inner) = behind_quote(text) else {
+        return Ok(None);
+    };
+    let mut builder = SmolStrBuilder::new(alloc);
+    let rest = push_unescaped(&mut builder, inner)?;
+    if is_closed(rest) {
+        Ok(Some(builder.into_value()?))
+    } else {
+        Ok(None)
+    }
+}
+
+/// Appends plain text and escapes of two bytes; returns what comes after them.
+fn push_unescaped<'a>(builder: &mut SmolStrBuilder, text: &'a str) -> Result<&'a str, AllocError>
+    requires { builder.old ≡ empty_draft InBuffer }
+    ensures { IfOk result (λ rest. text.now ≡ escape (encode_utf8_all builder.new.text) ++ rest.now) }
+{
+    let mut rest = text;
+    loop {
+        let (plain, behind) = split_plain(rest);
+        builder.push_with_spare(plain, behind.len())?;
+        let Some((character, after)) = short_escape(behind) else {
+            return Ok(behind);
+        };
+        builder.push(character)?;
+        rest = after;
+    }
+}
+
+/// The character of an escape of two bytes, and what comes after it.
+#[inline(always)]
+fn short_escape(text: &str) -> Option<(char, &str)>
+    ensures ascii { IfSome result (λ found. found.0 < 128) }
+    ensures escape { IfSome result (λ found. text.now ≡ escape_byte found.0 ++ found.1.now) }
+    ensures shorter { IfSome result (λ found. length found.1.now < length text.now) }
+{
+    let (letter, rest) = split_ascii(text.strip_prefix('\\')?)?;
+    Some((escaped_by(letter)?, rest))
+}
+
+/// The character that is written as a backslash and a letter.
+#[inline(always)]
+#[tactic(auto, unfolding(json::specs::Print::escape_byte))]
+fn escaped_by(letter: u8) -> Option<char>
+    ensures ascii { IfSome result (λ character. character < 128) }
+    ensures letter { IfSome result (λ character. escape_byte character ≡ 92 ∷ letter ∷ []) }
+{
+    match letter {
+        b'"' => Some('"'),
+        b'\\' => Some('\\'),
+        b'b' => Some('\u{8}'),
+        b't' => Some('\t'),
+        b'n' => Some('\n'),
+        b'f' => Some('\u{c}'),
+        b'r' => Some('\r'),
+        _ => None,
+    }
+}
+
+/// The same, as `serde_json` reads it.
 #[inline(never)]
 #[tactic(auto, using(crate::proofs::JsonLemmas::read_texts))]
-fn read_value(alloc: Global, text: &str) -> Result<SmolStr, JsonFault>
+fn read_any(alloc: Global, text: &str) -> Result<SmolStr, JsonFault>
     ensures text { IfOk result (λ v. IsJsonText text.now v.text) }
     ensures of_text { (t : List ℕ) → IsJsonText text.now t → IfOk result (λ v. IsValueOf t v) }
     ensures fault { IfErr result (AfterJsonFault text.now) }

@@ -1,6 +1,6 @@
 //! The front of bytes that JSON writes as they stand, and that of its white space.
-ghost use Rattle.std.specs.Prelude.{◌≡◌, ◌<◌, ◌≤◌, ◌+◌, length, take, drop};
-ghost use Rattle.std.specs.List.{prefix_len};
+ghost use Rattle.std.specs.Prelude.{◌≡◌, ◌↔◌, ◌<◌, ◌≤◌, ◌+◌, ◌∷◌, ℕ, List, None, IfSome, IsTrue, length, take, drop};
+ghost use Rattle.std.specs.List.{list_all, prefix_len};
 ghost use Rattle.smol_str.specs.Plain.{is_plain, is_space};
 
 use crate::bytes::ascii::load;
@@ -13,6 +13,28 @@ pub(crate) fn split_plain(text: &str) -> (&str, &str)
     ensures rest { result.1.now ≡ drop (prefix_len is_plain text.now) text.now }
 {
     text.split_at(plain_len(text.as_bytes()))
+}
+
+/// Whether the text is plain as a whole.
+#[inline(always)]
+#[tactic(auto, using(crate::proofs::PlainLemmas::runs))]
+pub(crate) fn is_all_plain(text: &str) -> bool
+    ensures { IsTrue result ↔ IsTrue (list_all is_plain text.now) }
+{
+    plain_len(text.as_bytes()) == text.len()
+}
+
+/// The first byte of a text that begins with an ASCII character, and the rest.
+#[inline(always)]
+pub(crate) fn split_ascii(text: &str) -> Option<(u8, &str)>
+    ensures ascii { IfSome result (λ cut. cut.0 < 128) }
+    ensures some { IfSome result (λ cut. text.now ≡ cut.0 ∷ cut.1.now) }
+    ensures none { result ≡ None → (c : ℕ) (rest : List ℕ) → c < 128 → ¬ (text.now ≡ c ∷ rest) }
+{
+    match text.as_bytes().first() {
+        Some(&byte) if byte < 128 => Some((byte, &text[1..])),
+        _ => None,
+    }
 }
 
 /// How many plain bytes come first. Where there are few, few are tested at a time.
@@ -90,4 +112,13 @@ fn spaces_len(bytes: &[u8]) -> usize
         at += 1;
     }
     at
+}
+
+/// Whether the text is white space as a whole.
+#[inline(always)]
+#[tactic(auto, using(crate::proofs::PlainLemmas::runs))]
+pub(crate) fn is_all_spaces(text: &str) -> bool
+    ensures { IsTrue result ↔ IsTrue (list_all is_space text.now) }
+{
+    spaces_len(text.as_bytes()) == text.len()
 }

@@ -1,8 +1,5 @@
-use Rattle.smol_str.proofs.Common.{arith, nat_tests, sym, ◌∙◌, nil_from_length}
 use Rattle.smol_str.proofs.QuotedLemmas.{quoted-compact}
 use Rattle.smol_str.proofs.json_string.written.Goals as goal
 
-pub returns-then-is_empty : goal.returns-then-is_empty
-returns-then-is_empty c =
-    let none = nil_from_length _ (grind (arith, nat_tests, c.is_empty.ensures, c.if-is_empty.true)) in
-    quoted-compact c.in_quotes.result c.args.text.now (sym c.split_plain.ensures.rest ∙ none) c.in_quotes.ensures
+pub returns-then-is_all_plain : goal.returns-then-is_all_plain
+returns-then-is_all_plain c = quoted-compact c.in_quotes.result c.args.text.now (c.is_all_plain.ensures.0 c.if-is_all_plain.true) c.in_quotes.ensures
