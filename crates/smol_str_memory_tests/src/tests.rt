@@ -4,6 +4,5 @@ mod dropped;
 mod faulty_calls;
 mod format;
 mod json;
-mod rows;
 mod serde_traits;
 mod without_memory;

@@ -13,9 +13,7 @@ mod replace;
 mod str_ext;
 
 use smol_str::{BLANK_NEWLINES, BLANK_SPACES, INLINE_CAP};
-use std::test::Fail;
-use test_support::test::{Test, same_count};
-use test_support::texts::{full_capitals, full_text, long_blank, long_capitals, long_text};
+use test_support::*;
 
 #[test]
 fn limits(rt: HostRuntime) -> Result<(), Fail> {

@@ -1,7 +1,21 @@
 //! What the tests of all crates share: a running test and what its rows compare, memory refused and counted, and texts about
-//! the limits.
+//! the limits. A test takes all of it, by `use test_support::*`.
 #![tactic(auto)]
 
-pub mod refuse;
-pub mod test;
-pub mod texts;
+mod refuse;
+mod test;
+mod texts;
+
+pub use refuse::{
+    Asked, Refusable, Refusals, can_refuse, count_asked, count_blocks, count_bytes, count_held,
+    each_refused, end_refusals, made_requests, refuse_all, run_once, start_counts,
+};
+pub use std::test::Fail;
+pub use test::{
+    Missing, Test, ended, has_text, holds, in_place, is_so, ok, ok_bytes, ok_string, ok_value,
+    same, same_count, same_flag, same_place, same_str, same_text, same_value,
+};
+pub use texts::{
+    ABOVE_BUFFERS, full_capitals, full_text, joined, long_blank, long_capitals, long_text,
+    page_text, repeated, repeated_and,
+};

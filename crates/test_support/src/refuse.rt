@@ -111,11 +111,7 @@ pub fn each_refused<C: Refusable>(test: &Test, name: &str, call: &C) -> Asked {
         }
     }
     test.fail(&(name, "makes too many requests"));
-    Asked {
-        requests: 0,
-        bytes: 0,
-        held: 0,
-    }
+    Asked::NOTHING
 }
 
 /// One run with no request refused, and with no block made smaller, which is no reason to give up.
@@ -165,6 +161,12 @@ pub fn count_asked(alloc: Global) -> Asked {
 }
 
 impl Asked {
+    pub const NOTHING: Asked = Asked {
+        requests: 0,
+        bytes: 0,
+        held: 0,
+    };
+
     /// What was asked for after `before`.
     pub fn since(self, before: Asked) -> Asked {
         Asked {

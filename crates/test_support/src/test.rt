@@ -98,11 +98,19 @@ impl Test {
     }
 }
 
+/// A table, with a row on each line.
+#[macro_export]
+macro_rules! table {
+    ($($row:expr;)+) => {
+        [$($row),+]
+    };
+}
+
 /// What an example asserts: it is so.
 #[macro_export]
 macro_rules! expect {
     ($rt:expr; $is_so:expr) => {
-        $crate::test::is_so($rt, $is_so, stringify!($is_so))
+        $crate::is_so($rt, $is_so, stringify!($is_so))
     };
 }
 
@@ -110,7 +118,7 @@ macro_rules! expect {
 #[macro_export]
 macro_rules! expect_eq {
     ($rt:expr; $found:expr, $wanted:expr) => {
-        $crate::test::is_so($rt, $found == $wanted, stringify!($found))
+        $crate::is_so($rt, $found == $wanted, stringify!($found))
     };
 }
 

@@ -11,14 +11,10 @@ mod texts;
 mod things;
 mod values;
 
-use super::rows::held_exactly;
 use by_std::{Asks, asked_by, is_asked};
-use smol_str::{BLANK_NEWLINES, BLANK_SPACES, INLINE_CAP};
+use smol_str::{BLANK_NEWLINES, BLANK_SPACES, INLINE_CAP, SmolStr};
 use std::alloc::Global;
-use std::test::Fail;
-use test_support::refuse::{Asked, Refusable, can_refuse, each_refused, run_once};
-use test_support::test::{Test, holds, ok_string};
-use test_support::texts::{full_text, long_text, repeated_and};
+use test_support::*;
 use things::Thing;
 
 /// What a call asks for.
@@ -217,4 +213,19 @@ fn check_as_std(test: &Test, asks: Asks, text: &str, name: &str, asked: Asked) {
     let wanted = asked_by(test, asks, text);
     let row = (name, text.len(), asked, wanted);
     holds(test, is_asked(asked, wanted), &row)
+}
+
+/// What the C library may leave at the end of a block: of one that was made smaller, or of a free one that it hands out
+/// whole.
+const LEFT: u32 = 32;
+
+/// So many bytes are what a value on the heap holds which `SmolStr::new` makes of the text, and no spare room; any other
+/// value holds none.
+fn held_exactly(test: &Test, held: u32, value: &SmolStr, row: &str) {
+    let before = count_held(test.alloc);
+    let is_on_heap = value.is_heap_allocated();
+    let exact = test.value(if is_on_heap { value.as_str() } else { "" });
+    let wanted = count_held(test.alloc).wrapping_sub(before);
+    let left = if exact.is_heap_allocated() { LEFT } else { 0 };
+    holds(test, held.abs_diff(wanted) <= left, &(row, held, wanted));
 }

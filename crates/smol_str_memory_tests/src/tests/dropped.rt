@@ -3,10 +3,7 @@ use smol_str::borsh::{DecodeFault, LimitedFault};
 use smol_str::json_string::JsonFault;
 use smol_str::{FormatError, FromUtf8Fault, SmolStr};
 use std::alloc::{AllocError, AllocFailed};
-use std::test::Fail;
-use test_support::refuse::{count_blocks, end_refusals, refuse_all, start_counts};
-use test_support::test::{Test, is_so};
-use test_support::texts::long_text;
+use test_support::*;
 
 #[test]
 fn what_came_back(rt: HostRuntime) -> Result<(), Fail> {

@@ -1,9 +1,7 @@
 //! Calls that do wrong where memory is refused: each fails its test.
 use std::alloc::{AllocError, Global};
 use std::cell::Cell;
-use std::test::Fail;
-use test_support::refuse::{Refusable, can_refuse, each_refused};
-use test_support::test::{Test, is_so, same_flag};
+use test_support::*;
 
 /// What a call does wrong.
 #[derive(Clone, Copy)]

@@ -11,10 +11,7 @@ use std::alloc::Global;
 use std::error::Error;
 use std::fmt::{self, Display, Formatter, Write};
 use std::io;
-use std::test::Fail;
-use test_support::refuse::{Refusable, each_refused, made_requests};
-use test_support::test::{Test, holds, in_place, ok, ok_string, same_count, same_flag, same_str};
-use test_support::texts::{full_text, long_blank, page_text, repeated_and};
+use test_support::*;
 
 /// Writes `ab` and gives up.
 #[derive(Drop)]

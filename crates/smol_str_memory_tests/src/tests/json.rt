@@ -3,10 +3,7 @@ use serde_json::{Error, Value};
 use smol_str::SmolStr;
 use smol_str::json_string::{self, JsonFault, from_json, to_json};
 use std::alloc::{AllocError, Global};
-use std::test::Fail;
-use test_support::expect_eq;
-use test_support::test::{Test, ended, is_so, ok_string, same_flag, same_str};
-use test_support::texts::{ABOVE_BUFFERS, joined, repeated_and};
+use test_support::*;
 
 /// The error is serde_json's own, with its line and column.
 fn check_error(test: &Test, error: &Error, json: &str) {

@@ -3,10 +3,7 @@ use serde::{Deserialize, Serialize};
 use serde_json::Error;
 use smol_str::{Place, SmolStr};
 use std::alloc::Global;
-use std::test::Fail;
-use test_support::refuse::{Refusable, each_refused, made_requests};
-use test_support::test::{Test, has_text, is_so, ok_string, same_str};
-use test_support::texts::{full_text, long_blank, long_text, page_text};
+use test_support::*;
 
 #[test]
 fn values(rt: HostRuntime) -> Result<(), Fail> {

@@ -9,10 +9,7 @@ use std::cmp::Ordering;
 use std::fmt::Write;
 use std::hash::{DefaultHasher, Hash};
 use std::rc::RcStr;
-use std::test::Fail;
-use test_support::refuse::{end_refusals, refuse_all};
-use test_support::test::{Test, is_so, ok_bytes, ok_string};
-use test_support::texts::{full_text, long_text};
+use test_support::*;
 
 /// Each call, by its name, does what it is to do.
 macro_rules! rows {

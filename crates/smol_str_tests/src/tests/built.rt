@@ -1,11 +1,6 @@
 //! Values by a builder's calls and by lists of steps.
 use smol_str::{INLINE_CAP, Place, SmolStrBuilder, Step, build};
-use std::test::Fail;
-use test_support::refuse::{can_refuse, end_refusals, refuse_all};
-use test_support::test::{
-    Test, has_text, is_so, ok, ok_string, ok_value, same_count, same_flag, same_str, same_value,
-};
-use test_support::texts::repeated_and;
+use test_support::*;
 
 /// What a row appends.
 #[derive(Clone, Copy)]

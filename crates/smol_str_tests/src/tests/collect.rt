@@ -5,14 +5,8 @@ ghost use Rattle.std.specs.Vec.Iter.{into_iter_items};
 
 use smol_str::{BLANK_NEWLINES, INLINE_CAP, Place, SmolStr, SmolStrBuilder};
 use std::alloc::{AllocError, Global};
-use std::test::Fail;
 use std::vec::IntoIter;
-use test_support::refuse::{can_refuse, end_refusals, refuse_all};
-use test_support::test::{
-    Test, has_text, in_place, ok, ok_string, ok_value, same, same_count, same_flag, same_place,
-    same_str, same_value,
-};
-use test_support::texts::{long_blank, long_text, repeated_and};
+use test_support::*;
 
 /// An iterator whose lower hint may promise more items than come.
 #[derive(Drop)]

@@ -3,9 +3,7 @@ use smol_str::{Place, SmolStr};
 use std::cmp::Ordering;
 use std::collections::HashMap;
 use std::hash::{DefaultHasher, Hash, Hasher};
-use std::test::Fail;
-use test_support::test::{Test, holds, in_place, is_so, ok_value};
-use test_support::texts::{long_blank, long_text};
+use test_support::*;
 
 /// Two texts, and the order of the first to the second.
 static ORDERS: [(&str, &str, Ordering); 8] = [

@@ -2,12 +2,7 @@
 use smol_str::{FromUtf8Fault, Place, SmolStr};
 use std::alloc::{AllocError, Global};
 use std::rc::RcStr;
-use std::test::Fail;
-use test_support::refuse::{can_refuse, end_refusals, refuse_all};
-use test_support::test::{
-    Test, has_text, holds, in_place, is_so, ok, ok_value, same, same_count, same_str,
-};
-use test_support::texts::{ABOVE_BUFFERS, long_blank, long_text};
+use test_support::*;
 
 #[test]
 fn test_from_char(rt: HostRuntime) -> Result<(), Fail> {

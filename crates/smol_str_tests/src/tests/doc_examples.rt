@@ -12,9 +12,7 @@ use std::alloc::{AllocError, Global};
 use std::borrow::CowStr;
 use std::cmp::Ordering;
 use std::rc::RcStr;
-use std::test::Fail;
-use test_support::test::{Test, ended};
-use test_support::{expect, expect_eq};
+use test_support::*;
 
 #[test]
 fn values(rt: HostRuntime) -> Result<(), Fail> {

@@ -5,9 +5,7 @@ use std::collections::HashMap;
 use std::convert::AsStr;
 use std::mem;
 use std::rc::RcStr;
-use std::test::Fail;
-use test_support::test::{Test, has_text, is_so, ok, ok_string, ok_value, same_str};
-use test_support::texts::{full_text, long_blank, long_text};
+use test_support::*;
 
 #[test]
 fn lent(rt: HostRuntime) -> Result<(), Fail> {

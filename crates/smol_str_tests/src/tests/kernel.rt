@@ -1,9 +1,7 @@
 //! The loops over bytes, against outside rows.
 use smol_str::kernel::{AsciiCase, convert_while_ascii, next_match};
 use smol_str::{INLINE_CAP, InlineBuffer};
-use std::test::Fail;
-use test_support::test::{Test, same, same_count};
-use test_support::texts::{full_capitals, full_text};
+use test_support::*;
 
 /// Short texts, a case, the ASCII front in that case, and how many zeros are behind it.
 static FRONTS: [(&str, AsciiCase, &str, usize); 11] = [

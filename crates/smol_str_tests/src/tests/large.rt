@@ -1,9 +1,6 @@
 //! Large capacities.
 use smol_str::{INLINE_CAP, SmolStrBuilder};
-use std::test::Fail;
-use test_support::refuse::{can_refuse, end_refusals, refuse_all};
-use test_support::test::{Test, holds, is_so, ok, same_text};
-use test_support::texts::{full_text, long_text};
+use test_support::*;
 
 static CAPACITIES: [usize; 4] = [INLINE_CAP, 200, 5000, 2_097_153];
 

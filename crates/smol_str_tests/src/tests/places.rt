@@ -1,10 +1,6 @@
 //! Where texts are kept.
 use smol_str::{BLANK_NEWLINES, BLANK_SPACES, INLINE_CAP, InlineBuffer, Place, SmolStr};
-use std::test::Fail;
-use test_support::test::{
-    Test, has_text, holds, in_place, is_so, ok, ok_string, same_count, same_str,
-};
-use test_support::texts::{full_text, long_text, repeated_and};
+use test_support::*;
 
 /// A text so many times and then an end, and the place of the value.
 static PLACES: [(&str, usize, &str, Place); 10] = [

@@ -1,8 +1,6 @@
 //! Replacement, against outside rows.
 use smol_str::{INLINE_CAP, Place, SmolStr, StrExt};
-use std::test::Fail;
-use test_support::test::{Test, ok_string, ok_value, same_value};
-use test_support::texts::repeated_and;
+use test_support::*;
 
 /// A text, a pattern, what stands in its place, at most how often, and the result.
 type Row = (

@@ -2,9 +2,7 @@
 use super::replace::{assert_rows, upstream_rows};
 use smol_str::{Place, SmolStr, StrExt};
 use std::alloc::{AllocError, Global};
-use std::test::Fail;
-use test_support::test::{Test, ok_string, ok_value, same_text, same_value};
-use test_support::texts::{long_blank, long_capitals, long_text, repeated_and};
+use test_support::*;
 
 /// A case call.
 #[derive(Clone, Copy)]

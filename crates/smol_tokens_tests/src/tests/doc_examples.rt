@@ -7,9 +7,7 @@ use smol_str::borsh::{
 use smol_str::stream::{ReadFault, fill, read_up_to, write_steps};
 use std::alloc::Global;
 use std::io;
-use std::test::Fail;
-use test_support::test::{Test, ended};
-use test_support::{expect, expect_eq};
+use test_support::*;
 
 #[test]
 fn wire_forms(rt: HostRuntime) -> Result<(), Fail> {

@@ -7,8 +7,7 @@ use std::alloc::Global;
 use std::fmt::Debug;
 use std::io;
 use std::io::{ErrorKind, Read, Write};
-use test_support::refuse::{count_blocks, start_counts};
-use test_support::test::{Test, holds, same};
+use test_support::*;
 
 /// How many bytes a call the readers and writers give and take at most.
 pub const STEPS: [usize; 7] = [1, 2, 3, CHUNK - 1, CHUNK, CHUNK + 1, usize::MAX];

@@ -1,8 +1,7 @@
 //! Merges of what is no count lines, and of counts that are too large.
 use super::failing::Kind;
 use super::runs::run_by;
-use std::test::Fail;
-use test_support::test::{Test, holds, same};
+use test_support::*;
 
 /// An input, and how its merge ends.
 static FAULTS: [(&[u8], Kind); 25] = [

@@ -6,8 +6,7 @@ use smol_str::SmolStr;
 use smol_str::borsh::{BorshDeserialize, BorshSerialize, deserialize_limited};
 use smol_str::stream::{CHUNK, ReadFault, fill, read_all, read_up_to};
 use std::alloc::Global;
-use std::test::Fail;
-use test_support::test::{Test, holds, is_so};
+use test_support::*;
 
 /// A call that reads.
 #[derive(Clone, Copy)]

@@ -7,10 +7,7 @@ use smol_str::stream::CHUNK;
 use smol_tokens_core::mode::Mode;
 use smol_tokens_core::run::run;
 use std::alloc::Global;
-use std::test::Fail;
-use test_support::refuse::{Refusable, can_refuse, each_refused, run_once};
-use test_support::test::{Test, holds, ok_bytes, ok_string, same};
-use test_support::texts::{long_blank, long_text};
+use test_support::*;
 
 /// The words of a mode, and how many requests a run makes on each of the inputs.
 static MODES: [(Words, [u32; 6]); 7] = [

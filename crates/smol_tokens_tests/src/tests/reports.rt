@@ -2,105 +2,48 @@
 use super::runs::{Words, run_by};
 use smol_str::INLINE_CAP;
 use std::alloc::{AllocError, Global};
-use test_support::test::{Test, holds, ok_bytes, ok_string};
-use test_support::texts::{full_text, joined, long_blank, long_capitals, long_text, repeated_and};
+use test_support::*;
 
 /// The words of a mode, an input, and the report on it.
-static REPORTS: [(Words, &[u8], &[u8]); 34] = [
-    (&[], b"abc", b"inline 3 abc\n"),
-    (
-        &["show"],
-        b"if\n\naaaaaaaaaaaaaaaaaaaaaaaa",
-        b"inline 2 if\ninline 0 \ninline 24 aaaaaaaaaaaaaaaaaaaaaaaa\n",
-    ),
-    (&["show"], b"", b""),
-    (
-        &["show"],
-        b"                        \n",
-        b"inline 24                         \n",
-    ),
-    (&["show"], b"\n", b"inline 0 \n"),
-    (&["show"], b"a\n\n", b"inline 1 a\ninline 0 \n"),
-    (&["show"], b"ab\r\nc", b"inline 3 ab\r\ninline 1 c\n"),
-    (
-        &["show"],
-        b"\xc3\xa9\n\xc3\x9f",
-        b"inline 2 \xc3\xa9\ninline 2 \xc3\x9f\n",
-    ),
-    (
-        &["join"],
-        b"if\n\naaaaaaaaaaaaaaaaaaaaaaaa",
-        b"inline 26 ifaaaaaaaaaaaaaaaaaaaaaaaa\n",
-    ),
-    (&["join"], b"", b"inline 0 \n"),
-    (&["join"], b"\n", b"inline 0 \n"),
-    (
-        &["join"],
-        b"aaaaaaaaaaaaaaaaaaaaaaaaaaaaaaaaaaaaaaaa\n\n",
-        b"heap 40 aaaaaaaaaaaaaaaaaaaaaaaaaaaaaaaaaaaaaaaa\n",
-    ),
-    (
-        &["join"],
-        b"aaaaaaaaaaaa\nbbbbbbbbbbb\n",
-        b"inline 23 aaaaaaaaaaaabbbbbbbbbbb\n",
-    ),
-    (
-        &["join"],
-        b"            \n            ",
-        b"inline 24                         \n",
-    ),
-    (
-        &["join"],
-        b"\xc3\xa9\r\n\xc3\x9f",
-        b"inline 5 \xc3\xa9\r\xc3\x9f\n",
-    ),
-    (
-        &["replace", "ba", "do"],
-        b"foo_bar_baz",
-        b"inline 11 foo_dor_doz\n",
-    ),
-    (&["replace", "", "-"], b"ab", b"inline 5 -a-b-\n"),
-    (&["replace", "", "-"], b"\n\n", b"inline 1 -\ninline 1 -\n"),
-    (
-        &["replace", "a", ""],
-        b"aaaa\nbab",
-        b"inline 0 \ninline 2 bb\n",
-    ),
-    (
-        &["replace", "x", " "],
-        b"xxxxxxxxxxxxxxxxxxxxxxxx",
-        b"inline 24                         \n",
-    ),
-    (&["lower"], b"Ab\r\n", b"inline 3 ab\r\n"),
-    (&["upper"], b"a\xc3\x9f", b"inline 3 A\xc3\x9f\n"),
-    (
-        &["lower"],
-        b"AAAAAAAAAAAAAAAAAAAAAAAA",
-        b"inline 24 aaaaaaaaaaaaaaaaaaaaaaaa\n",
-    ),
-    (&["upper"], b"", b""),
-    (&["tokens"], b"if\nx\nif", b"2 if\n1 x\n"),
-    (&["tokens"], b"\n\n", b"2 \n"),
-    (&["tokens"], b"", b""),
-    (&["merge"], b"2 a\n1 b\n3 a\n", b"5 a\n1 b\n"),
-    (&["merge"], b"", b""),
-    (&["merge"], b"1 \n2 \n", b"3 \n"),
-    (&["merge"], b"1 a b\n4 a\n1 a b\n", b"2 a b\n4 a\n"),
-    (&["merge"], b"0 a\n10 a\n0 0\n", b"10 a\n0 0\n"),
-    (
-        &["merge"],
-        b"1 \xc3\xa9\r\n1 \xc3\xa9\n",
-        b"1 \xc3\xa9\r\n1 \xc3\xa9\n",
-    ),
-    (
-        &["merge"],
-        b"18446744073709551614 a\n1 a\n",
-        b"18446744073709551615 a\n",
-    ),
-];
+static REPORTS: [(Words, &str, &str); 34] = table! {
+    (&[], "abc", "inline 3 abc\n");
+    (&["show"], "if\n\naaaaaaaaaaaaaaaaaaaaaaaa", "inline 2 if\ninline 0 \ninline 24 aaaaaaaaaaaaaaaaaaaaaaaa\n");
+    (&["show"], "", "");
+    (&["show"], "                        \n", "inline 24                         \n");
+    (&["show"], "\n", "inline 0 \n");
+    (&["show"], "a\n\n", "inline 1 a\ninline 0 \n");
+    (&["show"], "ab\r\nc", "inline 3 ab\r\ninline 1 c\n");
+    (&["show"], "é\nß", "inline 2 é\ninline 2 ß\n");
+    (&["join"], "if\n\naaaaaaaaaaaaaaaaaaaaaaaa", "inline 26 ifaaaaaaaaaaaaaaaaaaaaaaaa\n");
+    (&["join"], "", "inline 0 \n");
+    (&["join"], "\n", "inline 0 \n");
+    (&["join"], "aaaaaaaaaaaaaaaaaaaaaaaaaaaaaaaaaaaaaaaa\n\n", "heap 40 aaaaaaaaaaaaaaaaaaaaaaaaaaaaaaaaaaaaaaaa\n");
+    (&["join"], "aaaaaaaaaaaa\nbbbbbbbbbbb\n", "inline 23 aaaaaaaaaaaabbbbbbbbbbb\n");
+    (&["join"], "            \n            ", "inline 24                         \n");
+    (&["join"], "é\r\nß", "inline 5 é\rß\n");
+    (&["replace", "ba", "do"], "foo_bar_baz", "inline 11 foo_dor_doz\n");
+    (&["replace", "", "-"], "ab", "inline 5 -a-b-\n");
+    (&["replace", "", "-"], "\n\n", "inline 1 -\ninline 1 -\n");
+    (&["replace", "a", ""], "aaaa\nbab", "inline 0 \ninline 2 bb\n");
+    (&["replace", "x", " "], "xxxxxxxxxxxxxxxxxxxxxxxx", "inline 24                         \n");
+    (&["lower"], "Ab\r\n", "inline 3 ab\r\n");
+    (&["upper"], "aß", "inline 3 Aß\n");
+    (&["lower"], "AAAAAAAAAAAAAAAAAAAAAAAA", "inline 24 aaaaaaaaaaaaaaaaaaaaaaaa\n");
+    (&["upper"], "", "");
+    (&["tokens"], "if\nx\nif", "2 if\n1 x\n");
+    (&["tokens"], "\n\n", "2 \n");
+    (&["tokens"], "", "");
+    (&["merge"], "2 a\n1 b\n3 a\n", "5 a\n1 b\n");
+    (&["merge"], "", "");
+    (&["merge"], "1 \n2 \n", "3 \n");
+    (&["merge"], "1 a b\n4 a\n1 a b\n", "2 a b\n4 a\n");
+    (&["merge"], "0 a\n10 a\n0 0\n", "10 a\n0 0\n");
+    (&["merge"], "1 é\r\n1 é\n", "1 é\r\n1 é\n");
+    (&["merge"], "18446744073709551614 a\n1 a\n", "18446744073709551615 a\n");
+};
 
 /// The table, behind a function: one that names it is dear to prove.
-fn reports() -> &'static [(Words, &'static [u8], &'static [u8])] {
+fn reports() -> &'static [(Words, &'static str, &'static str)] {
     &REPORTS
 }
 
@@ -189,15 +132,14 @@ fn push_text(
     report: Result<String, AllocError>,
 ) {
     let report = ok_string(test, report);
-    let report = report.as_str().as_bytes();
-    push_row(test, all, words, input.as_bytes(), report)
+    push_row(test, all, words, input, report.as_str())
 }
 
-fn push_row(test: &Test, all: &mut Vec<Row>, words: Words, input: &[u8], report: &[u8]) {
+fn push_row(test: &Test, all: &mut Vec<Row>, words: Words, input: &str, report: &str) {
     let row = Row {
         words,
-        input: ok_bytes(test, Vec::from_slice(test.alloc, input)),
-        report: ok_bytes(test, Vec::from_slice(test.alloc, report)),
+        input: ok_bytes(test, Vec::from_slice(test.alloc, input.as_bytes())),
+        report: ok_bytes(test, Vec::from_slice(test.alloc, report.as_bytes())),
     };
     test.push(all, row);
 }

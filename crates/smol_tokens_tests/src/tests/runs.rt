@@ -5,7 +5,7 @@ use smol_tokens_core::fault::RunFault;
 use smol_tokens_core::run::run;
 use std::hash::{BuildHasherDefault, FoldHasher};
 use std::io::{Read, Write};
-use test_support::test::Test;
+use test_support::*;
 
 /// The words of a mode.
 pub type Words = &'static [&'static str];

@@ -8,8 +8,7 @@ use super::reports::{all_rows, letters};
 use super::runs::{Words, run_by};
 use smol_str::stream::CHUNK;
 use std::alloc::Global;
-use std::test::Fail;
-use test_support::test::{Test, holds, ok_bytes, same};
+use test_support::*;
 
 /// A run in the mode of these words.
 #[derive(Drop)]

@@ -3,15 +3,7 @@ use smol_str::{Place, SmolStr};
 use smol_tokens_core::fault::RunFault;
 use smol_tokens_core::tally::{AddFault, Tally};
 use std::alloc::Global;
-use std::test::Fail;
-use test_support::expect_eq;
-use test_support::refuse::{
-    Refusable, can_refuse, count_blocks, each_refused, end_refusals, refuse_all, start_counts,
-};
-use test_support::test::{
-    Test, has_text, holds, is_so, ok_string, ok_value, same, same_count, same_str,
-};
-use test_support::texts::long_text;
+use test_support::*;
 
 /// Adds a token of this text so many times, and the count is as wanted then.
 fn check_add(test: &Test, tally: &mut Tally, token: SmolStr, times: u64, wanted: u64) {

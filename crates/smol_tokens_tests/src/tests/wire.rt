@@ -2,8 +2,7 @@
 use super::failing::trickle_of;
 use smol_str::borsh::{BorshDeserialize, BorshSerialize, DecodeFault, from_wire, length_prefix};
 use smol_str::{INLINE_CAP, Place, SmolStr, StrExt};
-use std::test::Fail;
-use test_support::test::{Test, holds, in_place, is_so, ok, ok_bytes, same_value};
+use test_support::*;
 
 /// A text and its wire form: a unit and how many times the text has it; the size's lowest byte, which
 /// three zeros follow, and the bytes of the unit; and the place where the text is read.

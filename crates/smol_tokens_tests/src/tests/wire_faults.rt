@@ -5,9 +5,7 @@ use smol_str::borsh::{
     BorshDeserialize, DecodeFault, LimitedFault, deserialize_limited, from_wire, split_wire,
 };
 use smol_str::{INLINE_CAP, SmolStr};
-use std::test::Fail;
-use test_support::test::{Test, same};
-use test_support::texts::ABOVE_BUFFERS;
+use test_support::*;
 
 pub fn kind_of(fault: &DecodeFault) -> Kind {
     match fault {

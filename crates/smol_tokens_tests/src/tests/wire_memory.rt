@@ -3,9 +3,7 @@ use super::failing::{Trickle, trickle_of};
 use super::wire::letters;
 use smol_str::borsh::{BorshDeserialize, DecodeFault, LimitedFault, deserialize_limited};
 use smol_str::{INLINE_CAP, SmolStr};
-use std::test::Fail;
-use test_support::refuse::{count_bytes, end_refusals, refuse_all};
-use test_support::test::{Test, holds, is_so};
+use test_support::*;
 
 /// The most bytes that may be asked for where ten million came.
 const MOST_BYTES: u32 = 0x200_0000;

@@ -3,8 +3,7 @@ use smol_tokens_core::fault::{RunFault, fault_line};
 use smol_tokens_core::mode::{Mode, mode_of};
 use std::io;
 use std::io::ErrorKind;
-use std::test::Fail;
-use test_support::test::{Test, holds, is_so, ok_string, same_str};
+use test_support::*;
 
 fn strings(test: &Test, words: &[&str]) -> Vec<String> {
     let mut all = Vec::new(test.alloc);

@@ -5,8 +5,7 @@ use super::wire::ok_found;
 use smol_str::borsh::{BorshSerialize, EncodeFault, from_wire};
 use smol_str::stream::write_steps;
 use smol_str::{INLINE_CAP, SmolStr};
-use std::test::Fail;
-use test_support::test::{Test, same};
+use test_support::*;
 
 /// A call that writes a wire form.
 #[derive(Drop)]

@@ -3,11 +3,11 @@ use super::Wants::{AsStd, Exactly};
 use super::by_std::Asks::{AndChar, ByChar, ByText, Nothing, Owned, Twice, WithRoom};
 use super::things::{Thing, changed};
 use super::{Row, Wants, check_calls, pieces};
+use Call::*;
 use smol_str::{Piece, SmolStrBuilder};
 use std::alloc::Global;
 use std::fmt::Write;
-use std::test::Fail;
-use test_support::test::Test;
+use test_support::*;
 
 #[derive(Clone, Copy)]
 enum Call {
@@ -24,7 +24,7 @@ enum Call {
     ExtendStrs,
     ExtendStrings,
     /// By the trait's call, as below.
-    Extend,
+    ExtendByItems,
     ExtendByRefs,
 }
 
@@ -34,48 +34,21 @@ const ROOM: Wants = AsStd(Nothing, Nothing, WithRoom, WithRoom);
 /// Room for the text after the text.
 const BY_TEXT: Wants = AsStd(Nothing, Twice, ByText, ByText);
 
-static CALLS: [Row<Call>; 13] = [
-    (
-        Call::Push,
-        "SmolStrBuilder::push",
-        AsStd(Nothing, AndChar, Nothing, Nothing),
-    ),
-    (
-        Call::PushToFull,
-        "SmolStrBuilder::push",
-        AsStd(Nothing, AndChar, ByChar, ByChar),
-    ),
-    (Call::PushStr, "SmolStrBuilder::push_str", BY_TEXT),
-    (Call::PushStrToEmpty, "SmolStrBuilder::push_str", ROOM),
-    (
-        Call::PushWithSpare,
-        "SmolStrBuilder::push_with_spare",
-        AsStd(Nothing, Nothing, Owned, Owned),
-    ),
-    (Call::WriteStr, "SmolStrBuilder::write_str", BY_TEXT),
-    (Call::WriteFmt, "SmolStrBuilder::write_fmt", BY_TEXT),
-    (Call::AppendTo, "Piece::append_to", ROOM),
-    (
-        Call::ExtendChars,
-        "SmolStrBuilder::extend_chars",
-        Exactly(
-            [0, 0, 4, 1, 7, 7, 11],
-            [0, 0, 1185, 79, 10_033, 10_033, 161_713],
-        ),
-    ),
-    (
-        Call::ExtendStrs,
-        "SmolStrBuilder::extend_strs",
-        Exactly([0, 0, 2, 1, 2, 2, 2], [0, 0, 597, 79, 7617, 7617, 105_117]),
-    ),
-    (Call::ExtendStrings, "SmolStrBuilder::extend_strings", ROOM),
-    (
-        Call::Extend,
-        "SmolStrBuilder::extend",
-        Exactly([0, 0, 2, 1, 2, 2, 2], [0, 0, 597, 79, 7617, 7617, 105_117]),
-    ),
-    (Call::ExtendByRefs, "SmolStrBuilder::extend", ROOM),
-];
+static CALLS: [Row<Call>; 13] = table! {
+    (Push, "SmolStrBuilder::push", AsStd(Nothing, AndChar, Nothing, Nothing));
+    (PushToFull, "SmolStrBuilder::push", AsStd(Nothing, AndChar, ByChar, ByChar));
+    (PushStr, "SmolStrBuilder::push_str", BY_TEXT);
+    (PushStrToEmpty, "SmolStrBuilder::push_str", ROOM);
+    (PushWithSpare, "SmolStrBuilder::push_with_spare", AsStd(Nothing, Nothing, Owned, Owned));
+    (WriteStr, "SmolStrBuilder::write_str", BY_TEXT);
+    (WriteFmt, "SmolStrBuilder::write_fmt", BY_TEXT);
+    (AppendTo, "Piece::append_to", ROOM);
+    (ExtendChars, "SmolStrBuilder::extend_chars", Exactly([0, 0, 4, 1, 7, 7, 11], [0, 0, 1185, 79, 10_033, 10_033, 161_713]));
+    (ExtendStrs, "SmolStrBuilder::extend_strs", Exactly([0, 0, 2, 1, 2, 2, 2], [0, 0, 597, 79, 7617, 7617, 105_117]));
+    (ExtendStrings, "SmolStrBuilder::extend_strings", ROOM);
+    (ExtendByItems, "SmolStrBuilder::extend", Exactly([0, 0, 2, 1, 2, 2, 2], [0, 0, 597, 79, 7617, 7617, 105_117]));
+    (ExtendByRefs, "SmolStrBuilder::extend", ROOM);
+};
 
 #[test]
 fn each_request(rt: HostRuntime) -> Result<(), Fail> {
@@ -88,8 +61,8 @@ impl super::Call for Call {
 
     fn input(self, test: &Test, text: &'static str) -> (SmolStrBuilder, String) {
         let builder = match self {
-            Call::Push | Call::PushStr | Call::WriteStr | Call::WriteFmt => test.builder(0, text),
-            Call::PushToFull => test.builder(text.len(), text),
+            Push | PushStr | WriteStr | WriteFmt => test.builder(0, text),
+            PushToFull => test.builder(text.len(), text),
             _ => SmolStrBuilder::new(test.alloc),
         };
         (builder, test.string(text))
@@ -102,17 +75,17 @@ impl super::Call for Call {
         (mut builder, string): (SmolStrBuilder, String),
     ) -> Result<Thing, Thing> {
         match self {
-            Call::Push | Call::PushToFull => changed(builder.push('€'), builder),
-            Call::PushStr | Call::PushStrToEmpty => changed(builder.push_str(text), builder),
-            Call::PushWithSpare => changed(builder.push_with_spare(text, 0), builder),
-            Call::WriteStr => changed(builder.write_str(text), builder),
-            Call::WriteFmt => changed(builder.write_fmt(text), builder),
-            Call::AppendTo => changed(text.append_to(&mut builder), builder),
-            Call::ExtendChars => changed(builder.extend_chars(text.chars()), builder),
-            Call::ExtendStrs => changed(builder.extend_strs(pieces(text).into_iter()), builder),
-            Call::ExtendStrings => changed(builder.extend_strings([string].iter()), builder),
-            Call::Extend => changed(builder.extend(pieces(text)), builder),
-            Call::ExtendByRefs => changed(builder.extend([string].iter()), builder),
+            Push | PushToFull => changed(builder.push('€'), builder),
+            PushStr | PushStrToEmpty => changed(builder.push_str(text), builder),
+            PushWithSpare => changed(builder.push_with_spare(text, 0), builder),
+            WriteStr => changed(builder.write_str(text), builder),
+            WriteFmt => changed(builder.write_fmt(text), builder),
+            AppendTo => changed(text.append_to(&mut builder), builder),
+            ExtendChars => changed(builder.extend_chars(text.chars()), builder),
+            ExtendStrs => changed(builder.extend_strs(pieces(text).into_iter()), builder),
+            ExtendStrings => changed(builder.extend_strings([string].iter()), builder),
+            ExtendByItems => changed(builder.extend(pieces(text)), builder),
+            ExtendByRefs => changed(builder.extend([string].iter()), builder),
         }
     }
 }

@@ -2,8 +2,7 @@
 use smol_str::INLINE_CAP;
 use std::alloc::Global;
 use std::rc::RcStr;
-use test_support::refuse::{Asked, can_refuse, count_asked};
-use test_support::test::{Test, holds};
+use test_support::*;
 
 /// Calls of std that ask for what a call under test is to ask for.
 #[derive(Clone, Copy)]
@@ -36,11 +35,7 @@ pub enum Asks {
 /// What std's calls ask for. Each asks for something, so a count of 0 is nothing.
 pub fn asked_by(test: &Test, asks: Asks, text: &str) -> Asked {
     match asks {
-        Asks::Nothing => Asked {
-            requests: 0,
-            bytes: 0,
-            held: 0,
-        },
+        Asks::Nothing => Asked::NOTHING,
         Asks::Built => asked_by_both(test, Asks::WithRoom, Asks::Shared, text),
         Asks::BuiltToSize => asked_by_both(test, Asks::Owned, Asks::Shared, text),
         Asks::Printed => asked_by_both(test, Asks::WithRoom, Asks::Kept, text),
@@ -62,11 +57,7 @@ fn asked_by_one(test: &Test, asks: Asks, text: &str) -> Asked {
     let asked = asked_by_std(test.alloc, asks, text);
     let is_right = matches!(&asked, Some(asked) if asked.requests > 0 || !can_refuse(test.alloc));
     holds(test, is_right, &"std's calls ask for something");
-    asked.unwrap_or(Asked {
-        requests: 0,
-        bytes: 0,
-        held: 0,
-    })
+    asked.unwrap_or(Asked::NOTHING)
 }
 
 /// Whether the requests are as many, for as many bytes.

@@ -2,11 +2,10 @@
 use super::Wants::Exactly;
 use super::things::{Thing, things_of};
 use super::{On, Row, Wants, check_calls, leaked, shape_of};
+use Call::*;
 use smol_str::{SmolStr, StrExt};
 use std::alloc::{AllocError, Global};
-use std::test::Fail;
-use test_support::refuse::{each_refused, made_requests};
-use test_support::test::Test;
+use test_support::*;
 
 #[derive(Clone, Copy)]
 enum Call {
@@ -38,67 +37,26 @@ const COPIED: Wants = Exactly([0, 0, 0, 2, 2, 2, 2], [0, 0, 0, 80, 5040, 5040, 7
 
 const MAPPED: Wants = Exactly([0, 0, 1, 2, 2, 8, 2], [0, 0, 320, 80, 5040, 10_073, 70_040]);
 
-static CALLS: [Row<Call>; 18] = [
-    (
-        Call::AsciiLower,
-        "StrExt::to_ascii_lowercase_smolstr",
-        AS_LONG,
-    ),
-    (
-        Call::AsciiUpper,
-        "StrExt::to_ascii_uppercase_smolstr",
-        AS_LONG,
-    ),
-    (Call::Lower, LOWER, MAPPED),
-    (Call::Upper, "StrExt::to_uppercase_smolstr", MAPPED),
-    (Call::Replace("a", "b"), REPLACE, AS_LONG),
-    (Call::Replace("a", "a"), REPLACE, AS_LONG),
-    (
-        Call::Replace("a", " "),
-        REPLACE,
-        Exactly([0, 0, 1, 1, 2, 2, 2], [0, 0, 320, 40, 5040, 5040, 70_040]),
-    ),
-    (Call::ReplaceSome("a", "b", 0), REPLACEN, COPIED),
-    (
-        Call::Replace("a", "éé"),
-        REPLACE,
-        Exactly(
-            [0, 3, 0, 3, 4, 2, 4],
-            [0, 364, 0, 367, 35_523, 5040, 490_523],
-        ),
-    ),
-    (Call::Replace("aa", "bb"), REPLACE, COPIED),
-    (
-        Call::Replace("aa", "b"),
-        REPLACE,
-        Exactly([0, 0, 0, 0, 2, 2, 2], [0, 0, 0, 0, 5000, 5040, 70_000]),
-    ),
-    (
-        Call::Replace("", "-"),
-        REPLACE,
-        Exactly(
-            [0, 2, 6, 3, 9, 9, 13],
-            [0, 119, 2489, 277, 20_185, 20_185, 323_545],
-        ),
-    ),
-    (
-        Call::Replace("a", ""),
-        REPLACE,
-        Exactly([0, 0, 0, 0, 0, 2, 0], [0, 0, 0, 0, 0, 5040, 0]),
-    ),
-    (Call::ReplaceSome("a", "b", 3), REPLACEN, COPIED),
-    (Call::ReplaceSome("aa", "bb", 1), REPLACEN, COPIED),
-    (Call::Replace("ab", "-"), REPLACE, COPIED),
-    (Call::ReplaceWhole, REPLACE, Exactly([0; 7], [0; 7])),
-    (
-        Call::ReplaceByWhole,
-        REPLACEN,
-        Exactly(
-            [0, 2, 0, 2, 2, 2, 2],
-            [0, 117, 0, 158, 10_078, 5040, 140_078],
-        ),
-    ),
-];
+static CALLS: [Row<Call>; 18] = table! {
+    (AsciiLower, "StrExt::to_ascii_lowercase_smolstr", AS_LONG);
+    (AsciiUpper, "StrExt::to_ascii_uppercase_smolstr", AS_LONG);
+    (Lower, LOWER, MAPPED);
+    (Upper, "StrExt::to_uppercase_smolstr", MAPPED);
+    (Replace("a", "b"), REPLACE, AS_LONG);
+    (Replace("a", "a"), REPLACE, AS_LONG);
+    (Replace("a", " "), REPLACE, Exactly([0, 0, 1, 1, 2, 2, 2], [0, 0, 320, 40, 5040, 5040, 70_040]));
+    (ReplaceSome("a", "b", 0), REPLACEN, COPIED);
+    (Replace("a", "éé"), REPLACE, Exactly([0, 3, 0, 3, 4, 2, 4], [0, 364, 0, 367, 35_523, 5040, 490_523]));
+    (Replace("aa", "bb"), REPLACE, COPIED);
+    (Replace("aa", "b"), REPLACE, Exactly([0, 0, 0, 0, 2, 2, 2], [0, 0, 0, 0, 5000, 5040, 70_000]));
+    (Replace("", "-"), REPLACE, Exactly([0, 2, 6, 3, 9, 9, 13], [0, 119, 2489, 277, 20_185, 20_185, 323_545]));
+    (Replace("a", ""), REPLACE, Exactly([0, 0, 0, 0, 0, 2, 0], [0, 0, 0, 0, 0, 5040, 0]));
+    (ReplaceSome("a", "b", 3), REPLACEN, COPIED);
+    (ReplaceSome("aa", "bb", 1), REPLACEN, COPIED);
+    (Replace("ab", "-"), REPLACE, COPIED);
+    (ReplaceWhole, REPLACE, Exactly([0; 7], [0; 7]));
+    (ReplaceByWhole, REPLACEN, Exactly([0, 2, 0, 2, 2, 2, 2], [0, 117, 0, 158, 10_078, 5040, 140_078]));
+};
 
 #[test]
 fn each_request(rt: HostRuntime) -> Result<(), Fail> {
@@ -111,7 +69,7 @@ fn sigma(rt: HostRuntime) -> Result<(), Fail> {
     let test = Test::begin(rt);
     let shape = shape_of("a capital sigma", leaked(test.repeated("ΑΣ", 2000)));
     let on = On {
-        call: Call::Lower,
+        call: Lower,
         name: LOWER,
         shape,
     };
@@ -132,14 +90,14 @@ impl super::Call for Call {
 impl Call {
     fn value(self, alloc: Global, text: &str) -> Result<SmolStr, AllocError> {
         match self {
-            Call::AsciiLower => text.to_ascii_lowercase_smolstr(alloc),
-            Call::AsciiUpper => text.to_ascii_uppercase_smolstr(alloc),
-            Call::Lower => text.to_lowercase_smolstr(alloc),
-            Call::Upper => text.to_uppercase_smolstr(alloc),
-            Call::Replace(from, to) => text.replace_smolstr(alloc, from, to),
-            Call::ReplaceSome(from, to, count) => text.replacen_smolstr(alloc, from, to, count),
-            Call::ReplaceWhole => text.replace_smolstr(alloc, text, "b"),
-            Call::ReplaceByWhole => text.replacen_smolstr(alloc, "a", text, 1),
+            AsciiLower => text.to_ascii_lowercase_smolstr(alloc),
+            AsciiUpper => text.to_ascii_uppercase_smolstr(alloc),
+            Lower => text.to_lowercase_smolstr(alloc),
+            Upper => text.to_uppercase_smolstr(alloc),
+            Replace(from, to) => text.replace_smolstr(alloc, from, to),
+            ReplaceSome(from, to, count) => text.replacen_smolstr(alloc, from, to, count),
+            ReplaceWhole => text.replace_smolstr(alloc, text, "b"),
+            ReplaceByWhole => text.replacen_smolstr(alloc, "a", text, 1),
         }
     }
 }

@@ -1,13 +1,13 @@
 //! Calls that read a wire form of the text, or all bytes of it.
 use super::Wants::Exactly;
-use super::things::{IntoThing, Thing, things_of};
+use super::things::{Thing, nothing_of, things_of};
 use super::{FREE, Row, SHARED, Wants, check_calls};
+use Call::*;
 use smol_str::SmolStr;
-use smol_str::borsh::{BorshDeserialize, DecodeFault, deserialize_limited, from_wire, split_wire};
+use smol_str::borsh::{BorshDeserialize, deserialize_limited, from_wire, split_wire};
 use smol_str::stream::{fill, read_all, read_up_to};
 use std::alloc::Global;
-use std::test::Fail;
-use test_support::test::{Test, ok, ok_bytes};
+use test_support::*;
 
 #[derive(Clone, Copy)]
 enum Call {
@@ -33,23 +33,15 @@ const BYTES: Wants = Exactly(
     [0, 39, 320, 40, 12_288, 12_288, 258_048],
 );
 
-static CALLS: [Row<Call>; 7] = [
-    (Call::FromWire, "borsh::from_wire", SHARED),
-    (Call::SplitWire, "borsh::split_wire", SHARED),
-    (
-        Call::DeserializeReader,
-        "BorshDeserialize::deserialize_reader",
-        VALUE,
-    ),
-    (
-        Call::DeserializeLimited,
-        "borsh::deserialize_limited",
-        VALUE,
-    ),
-    (Call::ReadUpTo, "stream::read_up_to", BYTES),
-    (Call::ReadAll, "stream::read_all", BYTES),
-    (Call::Fill, "stream::fill", FREE),
-];
+static CALLS: [Row<Call>; 7] = table! {
+    (FromWire, "borsh::from_wire", SHARED);
+    (SplitWire, "borsh::split_wire", SHARED);
+    (DeserializeReader, "BorshDeserialize::deserialize_reader", VALUE);
+    (DeserializeLimited, "borsh::deserialize_limited", VALUE);
+    (ReadUpTo, "stream::read_up_to", BYTES);
+    (ReadAll, "stream::read_all", BYTES);
+    (Fill, "stream::fill", FREE);
+};
 
 #[test]
 fn each_request(rt: HostRuntime) -> Result<(), Fail> {
@@ -62,7 +54,7 @@ impl super::Call for Call {
 
     fn input(self, test: &Test, text: &'static str) -> Vec<u8> {
         match self {
-            Call::ReadUpTo | Call::ReadAll | Call::Fill => form_of(test, b"", text),
+            ReadUpTo | ReadAll | Fill => form_of(test, b"", text),
             _ => {
                 let size = u32::try_from(text.len()).unwrap_or(0).to_le_bytes();
                 form_of(test, &size, text)
@@ -73,17 +65,13 @@ impl super::Call for Call {
     fn run(self, alloc: Global, text: &str, bytes: Vec<u8>) -> Result<Thing, Thing> {
         let mut reader = bytes.as_slice();
         match self {
-            Call::Fill => filled(text.as_bytes(), bytes),
-            Call::FromWire => found(from_wire(alloc, reader)),
-            Call::SplitWire => split(alloc, reader),
-            Call::DeserializeReader => things_of(SmolStr::deserialize_reader(alloc, &mut reader)),
-            Call::DeserializeLimited => things_of(deserialize_limited(
-                alloc,
-                &mut reader,
-                text.len(),
-            )),
-            Call::ReadUpTo => things_of(read_up_to(alloc, &mut reader, text.len())),
-            Call::ReadAll => things_of(read_all(alloc, &mut reader)),
+            Fill => filled(text.as_bytes(), bytes),
+            FromWire => things_of(from_wire(alloc, reader)),
+            SplitWire => things_of(split_wire(alloc, reader)),
+            DeserializeReader => things_of(SmolStr::deserialize_reader(alloc, &mut reader)),
+            DeserializeLimited => things_of(deserialize_limited(alloc, &mut reader, text.len())),
+            ReadUpTo => nothing_of(read_up_to(alloc, &mut reader, text.len())),
+            ReadAll => nothing_of(read_all(alloc, &mut reader)),
         }
     }
 }
@@ -98,19 +86,5 @@ fn filled(mut reader: &[u8], mut bytes: Vec<u8>) -> Result<Thing, Thing> {
     match fill(&mut reader, &mut bytes) {
         Ok(_) => Ok(Thing::Nothing),
         Err(_) => Err(Thing::Fault),
-    }
-}
-
-fn found(outcome: Result<(SmolStr, usize), DecodeFault>) -> Result<Thing, Thing> {
-    match outcome {
-        Ok((value, _)) => Ok(Thing::Value(value)),
-        Err(fault) => Err(fault.into_thing()),
-    }
-}
-
-fn split(alloc: Global, bytes: &[u8]) -> Result<Thing, Thing> {
-    match split_wire(alloc, bytes) {
-        Ok((value, _)) => Ok(Thing::Value(value)),
-        Err(fault) => Err(fault.into_thing()),
     }
 }

@@ -1,15 +1,13 @@
 //! JSON calls.
 use super::Wants::{AsStd, Exactly};
 use super::by_std::Asks::{Nothing, Owned};
-use super::things::{Thing, things_of};
+use super::things::{Thing, nothing_of, things_of};
 use super::{Row, SHARED, Wants, check_calls};
 use serde_json::Value;
 use smol_str::SmolStr;
 use smol_str::json_string::{from_json, from_value, to_json, to_value};
 use std::alloc::Global;
-use std::test::Fail;
-use test_support::test::{Test, ok_string};
-use test_support::texts::joined;
+use test_support::*;
 
 #[derive(Clone, Copy)]
 enum Call {
@@ -106,7 +104,7 @@ impl super::Call for Call {
 
     fn run(self, alloc: Global, _text: &str, input: Input) -> Result<Thing, Thing> {
         match self {
-            Call::ToValue => things_of(to_value(alloc, &input.value)),
+            Call::ToValue => nothing_of(to_value(alloc, &input.value)),
             Call::FromValue => things_of(from_value(alloc, &input.tree)),
             Call::ToJson | Call::ToJsonPinned => things_of(to_json(alloc, &input.value)),
             Call::FromJson | Call::FromJsonSpaced | Call::FromJsonEscaped => {

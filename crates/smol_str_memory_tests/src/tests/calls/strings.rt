@@ -3,12 +3,12 @@ use super::Wants::AsStd;
 use super::by_std::Asks::{Built, BuiltToSize, Nothing, Owned, WithRoom};
 use super::things::{Thing, things_of};
 use super::{KEPT, PRINTED, Row, SHARED, check_calls};
+use Call::*;
 use smol_str::{SmolStr, Step, build};
 use std::alloc::Global;
 use std::borrow::CowStr;
 use std::slice::from_ref;
-use std::test::Fail;
-use test_support::test::{Test, ok, ok_string};
+use test_support::*;
 
 #[derive(Clone, Copy)]
 enum Call {
@@ -28,29 +28,21 @@ enum Call {
     BuildToSize,
 }
 
-static CALLS: [Row<Call>; 13] = [
-    (Call::FromStringRef, "SmolStr::from_string_ref", SHARED),
-    (Call::FromString, "SmolStr::from_string", SHARED),
-    (Call::FromRoomy, "SmolStr::from_string", SHARED),
-    (Call::FromOwned, "SmolStr::from_owned", KEPT),
-    (Call::FromOwnedRoomy, "SmolStr::from_owned", KEPT),
-    (Call::FromCow, "SmolStr::from_cow_str", SHARED),
-    (Call::FromCowRoomy, "SmolStr::from_cow_str", SHARED),
-    (Call::FromBoxed, "SmolStr::from_boxed_str", SHARED),
-    (Call::FromStrings, "SmolStr::from_strings", PRINTED),
-    (Call::FromStringRefs, "SmolStr::from_string_refs", PRINTED),
-    (Call::FromIter, "SmolStr::from_iter", PRINTED),
-    (
-        Call::Build,
-        "build",
-        AsStd(Nothing, Nothing, WithRoom, Built),
-    ),
-    (
-        Call::BuildToSize,
-        "build",
-        AsStd(Nothing, Nothing, Owned, BuiltToSize),
-    ),
-];
+static CALLS: [Row<Call>; 13] = table! {
+    (FromStringRef, "SmolStr::from_string_ref", SHARED);
+    (FromString, "SmolStr::from_string", SHARED);
+    (FromRoomy, "SmolStr::from_string", SHARED);
+    (FromOwned, "SmolStr::from_owned", KEPT);
+    (FromOwnedRoomy, "SmolStr::from_owned", KEPT);
+    (FromCow, "SmolStr::from_cow_str", SHARED);
+    (FromCowRoomy, "SmolStr::from_cow_str", SHARED);
+    (FromBoxed, "SmolStr::from_boxed_str", SHARED);
+    (FromStrings, "SmolStr::from_strings", PRINTED);
+    (FromStringRefs, "SmolStr::from_string_refs", PRINTED);
+    (FromIter, "SmolStr::from_iter", PRINTED);
+    (Build, "build", AsStd(Nothing, Nothing, WithRoom, Built));
+    (BuildToSize, "build", AsStd(Nothing, Nothing, Owned, BuiltToSize));
+};
 
 #[test]
 fn each_request(rt: HostRuntime) -> Result<(), Fail> {
@@ -62,25 +54,25 @@ impl super::Call for Call {
 
     fn input(self, test: &Test, text: &'static str) -> String {
         match self {
-            Call::FromRoomy | Call::FromOwnedRoomy | Call::FromCowRoomy => roomy(test, text),
+            FromRoomy | FromOwnedRoomy | FromCowRoomy => roomy(test, text),
             _ => test.string(text),
         }
     }
 
     fn run(self, alloc: Global, _text: &str, string: String) -> Result<Thing, Thing> {
         match self {
-            Call::FromStringRef => things_of(SmolStr::from_string_ref(alloc, &string)),
-            Call::FromString | Call::FromRoomy => things_of(SmolStr::from_string(alloc, string)),
-            Call::FromOwned | Call::FromOwnedRoomy => things_of(SmolStr::from_owned(string)),
-            Call::FromCow | Call::FromCowRoomy => {
+            FromStringRef => things_of(SmolStr::from_string_ref(alloc, &string)),
+            FromString | FromRoomy => things_of(SmolStr::from_string(alloc, string)),
+            FromOwned | FromOwnedRoomy => things_of(SmolStr::from_owned(string)),
+            FromCow | FromCowRoomy => {
                 things_of(SmolStr::from_cow_str(alloc, CowStr::Owned(string)))
             }
-            Call::FromBoxed => things_of(SmolStr::from_boxed_str(alloc, string.into_boxed_str())),
-            Call::FromStrings => things_of(SmolStr::from_strings(alloc, [string].into_iter())),
-            Call::FromStringRefs => things_of(SmolStr::from_string_refs(alloc, [string].iter())),
-            Call::FromIter => things_of(SmolStr::from_iter(alloc, [string])),
-            Call::Build => built(alloc, 0, string),
-            Call::BuildToSize => built(alloc, string.len(), string),
+            FromBoxed => things_of(SmolStr::from_boxed_str(alloc, string.into_boxed_str())),
+            FromStrings => things_of(SmolStr::from_strings(alloc, [string].into_iter())),
+            FromStringRefs => things_of(SmolStr::from_string_refs(alloc, [string].iter())),
+            FromIter => things_of(SmolStr::from_iter(alloc, [string])),
+            Build => built(alloc, 0, string),
+            BuildToSize => built(alloc, string.len(), string),
         }
     }
 }

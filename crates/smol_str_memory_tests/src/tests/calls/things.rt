@@ -1,5 +1,4 @@
 //! What calls make and leave.
-use serde_json::Value;
 use smol_str::borsh::{DecodeFault, LimitedFault};
 use smol_str::json_string::JsonFault;
 use smol_str::stream::ReadFault;
@@ -7,7 +6,6 @@ use smol_str::{FormatError, FromUtf8Fault, SmolStr, SmolStrBuilder};
 use std::alloc::AllocError;
 use std::borrow::CowStr;
 use std::boxed::BoxedStr;
-use std::rc::RcStr;
 
 /// What a call made, or left where it was refused.
 #[derive(Drop)]
@@ -40,6 +38,14 @@ impl Thing {
 pub fn things_of<M: IntoThing, F: IntoThing>(outcome: Result<M, F>) -> Result<Thing, Thing> {
     match outcome {
         Ok(made) => Ok(made.into_thing()),
+        Err(fault) => Err(fault.into_thing()),
+    }
+}
+
+/// What a call returned that makes what no row asks about.
+pub fn nothing_of<M: Drop, F: IntoThing>(outcome: Result<M, F>) -> Result<Thing, Thing> {
+    match outcome {
+        Ok(_) => Ok(Thing::Nothing),
         Err(fault) => Err(fault.into_thing()),
     }
 }
@@ -89,21 +95,10 @@ impl IntoThing for BoxedStr {
     }
 }
 
-impl IntoThing for RcStr {
+/// A value, and where its form ends.
+impl<T: Drop> IntoThing for (SmolStr, T) {
     fn into_thing(self) -> Thing {
-        Thing::Nothing
-    }
-}
-
-impl IntoThing for Value {
-    fn into_thing(self) -> Thing {
-        Thing::Nothing
-    }
-}
-
-impl IntoThing for Vec<u8> {
-    fn into_thing(self) -> Thing {
-        Thing::Nothing
+        Thing::Value(self.0)
     }
 }
 

@@ -1,17 +1,17 @@
 //! Calls on a value. A clone shares the text, and a value on the heap hands out the shared text that it has.
 use super::Wants::AsStd;
 use super::by_std::Asks::{Nothing, Owned, Shared, WithRoom};
-use super::things::{Thing, things_of};
+use super::things::{Thing, nothing_of, things_of};
 use super::{FREE, Row, Wants, check_calls};
+use Call::*;
 use smol_str::borsh::BorshSerialize;
 use smol_str::{INLINE_CAP, SmolStr};
 use std::alloc::Global;
-use std::test::Fail;
-use test_support::test::Test;
+use test_support::*;
 
 #[derive(Clone, Copy)]
 enum Call {
-    Clone,
+    Cloned,
     /// Of a pinned value, as those below.
     ClonePinned,
     IntoString,
@@ -25,32 +25,16 @@ enum Call {
 /// A `String` of a text.
 const OWNED: Wants = AsStd(Nothing, Owned, Owned, Owned);
 
-static CALLS: [Row<Call>; 8] = [
-    (Call::Clone, "SmolStr::clone", FREE),
-    (Call::ClonePinned, "SmolStr::clone", FREE),
-    (Call::IntoString, "SmolStr::into_string", OWNED),
-    (Call::IntoStringPinned, "SmolStr::into_string", OWNED),
-    (
-        Call::IntoRcStr,
-        "SmolStr::into_rc_str",
-        AsStd(Shared, Shared, Shared, Nothing),
-    ),
-    (
-        Call::IntoRcStrPinned,
-        "SmolStr::into_rc_str",
-        AsStd(Shared, Shared, Shared, Shared),
-    ),
-    (
-        Call::Serialize,
-        "BorshSerialize::serialize",
-        AsStd(WithRoom, WithRoom, WithRoom, WithRoom),
-    ),
-    (
-        Call::SerializePinned,
-        "BorshSerialize::serialize",
-        AsStd(WithRoom, WithRoom, WithRoom, WithRoom),
-    ),
-];
+static CALLS: [Row<Call>; 8] = table! {
+    (Cloned, "SmolStr::clone", FREE);
+    (ClonePinned, "SmolStr::clone", FREE);
+    (IntoString, "SmolStr::into_string", OWNED);
+    (IntoStringPinned, "SmolStr::into_string", OWNED);
+    (IntoRcStr, "SmolStr::into_rc_str", AsStd(Shared, Shared, Shared, Nothing));
+    (IntoRcStrPinned, "SmolStr::into_rc_str", AsStd(Shared, Shared, Shared, Shared));
+    (Serialize, "BorshSerialize::serialize", AsStd(WithRoom, WithRoom, WithRoom, WithRoom));
+    (SerializePinned, "BorshSerialize::serialize", AsStd(WithRoom, WithRoom, WithRoom, WithRoom));
+};
 
 #[test]
 fn each_request(rt: HostRuntime) -> Result<(), Fail> {
@@ -62,20 +46,18 @@ impl super::Call for Call {
 
     fn input(self, test: &Test, text: &'static str) -> SmolStr {
         match self {
-            Call::ClonePinned
-            | Call::IntoStringPinned
-            | Call::IntoRcStrPinned
-            | Call::SerializePinned => SmolStr::new_static(text),
+            ClonePinned | IntoStringPinned | IntoRcStrPinned | SerializePinned =>
+                SmolStr::new_static(text),
             _ => test.value(text),
         }
     }
 
     fn run(self, alloc: Global, _text: &str, value: SmolStr) -> Result<Thing, Thing> {
         match self {
-            Call::Clone | Call::ClonePinned => things_of(value.clone()),
-            Call::IntoString | Call::IntoStringPinned => things_of(value.into_string(alloc)),
-            Call::IntoRcStr | Call::IntoRcStrPinned => things_of(value.into_rc_str(alloc)),
-            Call::Serialize | Call::SerializePinned => serialized(alloc, &value),
+            Cloned | ClonePinned => things_of(value.clone()),
+            IntoString | IntoStringPinned => things_of(value.into_string(alloc)),
+            IntoRcStr | IntoRcStrPinned => nothing_of(value.into_rc_str(alloc)),
+            Serialize | SerializePinned => serialized(alloc, &value),
         }
     }
 }
