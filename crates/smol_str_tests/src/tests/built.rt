@@ -1,4 +1,6 @@
 //! Values by a builder's calls and by lists of steps.
+use Piece::{Char, Text, Times};
+use Place::{Heap, Inline, Static};
 use smol_str::{INLINE_CAP, Place, SmolStrBuilder, Step, build};
 use test_support::*;
 
@@ -14,88 +16,27 @@ enum Piece {
 /// Pieces; the text that they make, a text so many times and then an end; and its place.
 type Row = (&'static [Piece], (&'static str, usize, &'static str), Place);
 
-static ROWS: [Row; 19] = [
-    (&[], ("", 0, ""), Place::Inline),
-    (
-        &[Piece::Char('a'), Piece::Text("bc")],
-        ("", 0, "abc"),
-        Place::Inline,
-    ),
-    (&[Piece::Text("ab")], ("", 0, "ab"), Place::Inline),
-    (
-        &[Piece::Text("a"), Piece::Text("b")],
-        ("", 0, "ab"),
-        Place::Inline,
-    ),
-    (
-        &[Piece::Char('a'), Piece::Char('b')],
-        ("", 0, "ab"),
-        Place::Inline,
-    ),
-    (
-        &[
-            Piece::Text(""),
-            Piece::Char('a'),
-            Piece::Text(""),
-            Piece::Text("b"),
-        ],
-        ("", 0, "ab"),
-        Place::Inline,
-    ),
-    (
-        &[Piece::Char('é'), Piece::Char('€'), Piece::Char('🦀')],
-        ("", 0, "é€🦀"),
-        Place::Inline,
-    ),
-    (
-        &[Piece::Times("a", INLINE_CAP)],
-        ("a", INLINE_CAP, ""),
-        Place::Inline,
-    ),
-    (
-        &[Piece::Times("a", INLINE_CAP + 1)],
-        ("a", INLINE_CAP + 1, ""),
-        Place::Heap,
-    ),
-    (
-        &[Piece::Times("a", INLINE_CAP - 2), Piece::Char('é')],
-        ("a", INLINE_CAP - 2, "é"),
-        Place::Inline,
-    ),
-    (
-        &[Piece::Times("a", INLINE_CAP - 1), Piece::Char('é')],
-        ("a", INLINE_CAP - 1, "é"),
-        Place::Heap,
-    ),
-    (
-        &[Piece::Times("a", 23), Piece::Times("a", 23)],
-        ("a", 46, ""),
-        Place::Heap,
-    ),
-    (&[Piece::Times("a", 23)], ("a", 23, ""), Place::Inline),
-    (&[Piece::Times("a", 24)], ("a", 24, ""), Place::Inline),
-    (
-        &[Piece::Text("ohnonononononononono!"), Piece::Char('🤯')],
-        ("", 0, "ohnonononononononono!🤯"),
-        Place::Inline,
-    ),
-    (
-        &[
-            Piece::Times("a", INLINE_CAP + 1),
-            Piece::Char('b'),
-            Piece::Text("€"),
-        ],
-        ("a", INLINE_CAP + 1, "b€"),
-        Place::Heap,
-    ),
-    (
-        &[Piece::Times(" ", INLINE_CAP + 1)],
-        (" ", INLINE_CAP + 1, ""),
-        Place::Static,
-    ),
-    (&[Piece::Times(" ", 24)], (" ", 24, ""), Place::Inline),
-    (&[Piece::Times("a", 1000)], ("a", 1000, ""), Place::Heap),
-];
+static ROWS: [Row; 19] = table! {
+    (&[], ("", 0, ""), Inline);
+    (&[Char('a'), Text("bc")], ("", 0, "abc"), Inline);
+    (&[Text("ab")], ("", 0, "ab"), Inline);
+    (&[Text("a"), Text("b")], ("", 0, "ab"), Inline);
+    (&[Char('a'), Char('b')], ("", 0, "ab"), Inline);
+    (&[Text(""), Char('a'), Text(""), Text("b")], ("", 0, "ab"), Inline);
+    (&[Char('é'), Char('€'), Char('🦀')], ("", 0, "é€🦀"), Inline);
+    (&[Times("a", INLINE_CAP)], ("a", INLINE_CAP, ""), Inline);
+    (&[Times("a", INLINE_CAP + 1)], ("a", INLINE_CAP + 1, ""), Heap);
+    (&[Times("a", INLINE_CAP - 2), Char('é')], ("a", INLINE_CAP - 2, "é"), Inline);
+    (&[Times("a", INLINE_CAP - 1), Char('é')], ("a", INLINE_CAP - 1, "é"), Heap);
+    (&[Times("a", 23), Times("a", 23)], ("a", 46, ""), Heap);
+    (&[Times("a", 23)], ("a", 23, ""), Inline);
+    (&[Times("a", 24)], ("a", 24, ""), Inline);
+    (&[Text("ohnonononononononono!"), Char('🤯')], ("", 0, "ohnonononononononono!🤯"), Inline);
+    (&[Times("a", INLINE_CAP + 1), Char('b'), Text("€")], ("a", INLINE_CAP + 1, "b€"), Heap);
+    (&[Times(" ", INLINE_CAP + 1)], (" ", INLINE_CAP + 1, ""), Static);
+    (&[Times(" ", 24)], (" ", 24, ""), Inline);
+    (&[Times("a", 1000)], ("a", 1000, ""), Heap);
+};
 
 /// The table, behind a function: one that names it is dear to prove.
 fn rows() -> &'static [Row] {
@@ -178,7 +119,7 @@ fn assert_push(test: &Test, mut builder: SmolStrBuilder, text: &str) {
     ok(test, builder.push('d'));
     same_flag(test, end_refusals(test.alloc), false, "push");
     let whole = ok_string(test, repeated_and(test.alloc, text, 1, "d"));
-    assert_finishes(test, builder, whole.as_str(), Place::Inline)
+    assert_finishes(test, builder, whole.as_str(), Inline)
 }
 
 // No allocation can have such a capacity.
@@ -200,9 +141,9 @@ fn text_of(test: &Test, row: &Row) -> String {
 
 fn append(test: &Test, builder: &mut SmolStrBuilder, piece: Piece) {
     let appended = match piece {
-        Piece::Char(character) => builder.push(character),
-        Piece::Text(text) => builder.push_str(text),
-        Piece::Times(text, times) => builder.push_str(test.repeated(text, times).as_str()),
+        Char(character) => builder.push(character),
+        Text(text) => builder.push_str(text),
+        Times(text, times) => builder.push_str(test.repeated(text, times).as_str()),
     };
     ok(test, appended)
 }
@@ -226,9 +167,9 @@ fn steps_of(test: &Test, pieces: &[Piece]) -> Vec<Step> {
 
 fn step_of(test: &Test, piece: Piece) -> Step {
     match piece {
-        Piece::Char(character) => Step::Push(character),
-        Piece::Text(text) => Step::PushStr(test.string(text)),
-        Piece::Times(text, times) => Step::PushStr(test.repeated(text, times)),
+        Char(character) => Step::Push(character),
+        Text(text) => Step::PushStr(test.string(text)),
+        Times(text, times) => Step::PushStr(test.repeated(text, times)),
     }
 }
 

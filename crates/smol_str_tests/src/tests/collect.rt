@@ -3,6 +3,7 @@ ghost use Rattle.std.specs.Prelude.{◌+◌, length};
 ghost use Rattle.std.specs.Iterator.{at_most, YieldsFirst};
 ghost use Rattle.std.specs.Vec.Iter.{into_iter_items};
 
+use Place::{Heap, Inline, Static};
 use smol_str::{BLANK_NEWLINES, INLINE_CAP, Place, SmolStr, SmolStrBuilder};
 use std::alloc::{AllocError, Global};
 use std::vec::IntoIter;
@@ -40,17 +41,17 @@ fn with_hint<T: Drop>(items: Vec<T>, lower: usize) -> Hinted<T> {
 
 /// Texts, their sizes and places.
 static TEXTS: [(&str, usize, Place); 11] = [
-    ("if", 2, Place::Inline),
-    ("for", 3, Place::Inline),
-    ("impl", 4, Place::Inline),
-    ("パーティーへ行_", 22, Place::Inline),
-    ("和製漢語", 12, Place::Inline),
-    ("部落格", 9, Place::Inline),
-    ("パーティーへ行かないか", 33, Place::Inline),
-    ("パーティーへ行か", 24, Place::Inline),
-    ("사회과학원 어학연구소", 31, Place::Inline),
-    ("表ポあA鷗ŒéＢ逍Üßªąñ丂㐀𠀀", 43, Place::Heap),
-    ("                        ", 24, Place::Inline),
+    ("if", 2, Inline),
+    ("for", 3, Inline),
+    ("impl", 4, Inline),
+    ("パーティーへ行_", 22, Inline),
+    ("和製漢語", 12, Inline),
+    ("部落格", 9, Inline),
+    ("パーティーへ行かないか", 33, Inline),
+    ("パーティーへ行か", 24, Inline),
+    ("사회과학원 어학연구소", 31, Inline),
+    ("表ポあA鷗ŒéＢ逍Üßªąñ丂㐀𠀀", 43, Heap),
+    ("                        ", 24, Inline),
 ];
 
 #[test]
@@ -59,10 +60,10 @@ fn test_from_char_iterator(rt: HostRuntime) -> Result<(), Fail> {
     for &(text, len, place) in &TEXTS {
         assert_collected(&test, text, len, place);
     }
-    assert_collected(&test, long_blank(), INLINE_CAP + 1, Place::Static);
-    assert_many(&test, ("a", 93, ""), 93, Place::Heap);
-    assert_many(&test, ("ア", 13, ""), 39, Place::Inline);
-    assert_many(&test, ("ア", 13, "é"), 41, Place::Heap);
+    assert_collected(&test, long_blank(), INLINE_CAP + 1, Static);
+    assert_many(&test, ("a", 93, ""), 93, Heap);
+    assert_many(&test, ("ア", 13, ""), 39, Inline);
+    assert_many(&test, ("ア", 13, "é"), 41, Heap);
     test.end()
 }
 
@@ -81,10 +82,10 @@ fn assert_collected(test: &Test, text: &str, len: usize, place: Place) {
 #[test]
 fn pieces(rt: HostRuntime) -> Result<(), Fail> {
     let test = Test::begin(rt);
-    assert_blank(&test, INLINE_CAP, Place::Static);
-    assert_blank(&test, BLANK_NEWLINES, Place::Static);
-    assert_blank(&test, 23, Place::Inline);
-    assert_blank(&test, 32, Place::Inline);
+    assert_blank(&test, INLINE_CAP, Static);
+    assert_blank(&test, BLANK_NEWLINES, Static);
+    assert_blank(&test, 23, Inline);
+    assert_blank(&test, 32, Inline);
     test.end()
 }
 
@@ -153,9 +154,9 @@ fn assert_joined(test: &Test, value: &SmolStr, count: usize) {
     let letters = letters.saturating_add([0, 1, 3, 6, 10][count % 5]);
     let text = test.repeated("é", letters);
     let place = if text.len() > INLINE_CAP {
-        Place::Heap
+        Heap
     } else {
-        Place::Inline
+        Inline
     };
     same_value(test, value, text.as_str(), place, &count);
 }
@@ -179,7 +180,7 @@ fn test_bad_size_hint_char_iter(rt: HostRuntime) -> Result<(), Fail> {
     let test = Test::begin(rt);
     let chars = with_hint(chars_of(&test, "testing"), 1024);
     let collected = ok_value(&test, SmolStr::from_chars(test.alloc, chars));
-    in_place(&test, &collected, Place::Inline, "collected");
+    in_place(&test, &collected, Inline, "collected");
     same(&test, &test.value("testing"), &collected, &"both");
     test.end()
 }

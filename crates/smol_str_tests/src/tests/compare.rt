@@ -1,4 +1,5 @@
 //! Equality, order and hashes.
+use Place::{Heap, Inline, Static};
 use smol_str::{Place, SmolStr};
 use std::cmp::Ordering;
 use std::collections::HashMap;
@@ -61,10 +62,10 @@ fn same_equality(test: &Test, are_equal: bool, order: Ordering, row: (&str, &str
 #[test]
 fn pinned_and_new(rt: HostRuntime) -> Result<(), Fail> {
     let test = Test::begin(rt);
-    assert_pinned_and_new(&test, "", Place::Inline);
-    assert_pinned_and_new(&test, "ab", Place::Inline);
-    assert_pinned_and_new(&test, long_blank(), Place::Static);
-    assert_pinned_and_new(&test, long_text(), Place::Heap);
+    assert_pinned_and_new(&test, "", Inline);
+    assert_pinned_and_new(&test, "ab", Inline);
+    assert_pinned_and_new(&test, long_blank(), Static);
+    assert_pinned_and_new(&test, long_text(), Heap);
     test.end()
 }
 
@@ -74,8 +75,8 @@ fn assert_pinned_and_new(test: &Test, text: &'static str, place: Place) {
     is_so(test, value == pinned && pinned.eq_str(text), text);
     assert_hash(test, &value, text);
     assert_hash(test, &pinned, text);
-    in_place(test, &ok_value(test, pinned.clone()), Place::Static, text);
-    in_place(test, &pinned, Place::Static, text)
+    in_place(test, &ok_value(test, pinned.clone()), Static, text);
+    in_place(test, &pinned, Static, text)
 }
 
 /// The hash is that of the text.

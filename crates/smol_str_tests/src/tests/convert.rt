@@ -1,4 +1,5 @@
 //! Values from other texts, and back.
+use Place::{Heap, Inline, Static};
 use smol_str::{FromUtf8Fault, Place, SmolStr};
 use std::alloc::{AllocError, Global};
 use std::rc::RcStr;
@@ -16,7 +17,7 @@ fn test_from_char(rt: HostRuntime) -> Result<(), Fail> {
 
 fn assert_from_char(test: &Test, character: char, text: &str, len: usize) {
     let value = SmolStr::from(character);
-    has_text(test, &value, text, Place::Inline, text);
+    has_text(test, &value, text, Inline, text);
     same_count(test, value.len(), len, text);
 }
 
@@ -104,7 +105,7 @@ fn assert_into_rc_str(test: &Test, text: &str) {
 /// There is an inline value of the text.
 fn assert_inline(test: &Test, made: Option<SmolStr>, text: &str) {
     let value = made.unwrap_or(SmolStr::new_static("none"));
-    has_text(test, &value, text, Place::Inline, text);
+    has_text(test, &value, text, Inline, text);
 }
 
 // A text that is not resident is kept as it was handed in, and handed out again, also by a clone.
@@ -114,7 +115,7 @@ fn keeps_a_shared_text(rt: HostRuntime) -> Result<(), Fail> {
     let shared = RcStr::from_str(alloc, long_text())?;
     let test = Test::new(alloc);
     let value = of_shared(&test, shared.clone());
-    in_place(&test, &value, Place::Heap, "the long text");
+    in_place(&test, &value, Heap, "the long text");
     assert_hands_out(&test, ok_value(&test, value.clone()), &shared);
     assert_hands_out(&test, value, &shared);
     test.end()
@@ -148,10 +149,10 @@ fn assert_hands_out(test: &Test, value: SmolStr, shared: &RcStr) {
 #[test]
 fn places_of_shared_texts(rt: HostRuntime) -> Result<(), Fail> {
     let test = Test::begin(rt);
-    assert_place_of_shared(&test, "ab", Place::Inline);
-    assert_place_of_shared(&test, "aaaaaaaaaaaaaaaaaaaaaaaa", Place::Inline);
-    assert_place_of_shared(&test, "                        ", Place::Inline);
-    assert_place_of_shared(&test, long_blank(), Place::Static);
+    assert_place_of_shared(&test, "ab", Inline);
+    assert_place_of_shared(&test, "aaaaaaaaaaaaaaaaaaaaaaaa", Inline);
+    assert_place_of_shared(&test, "                        ", Inline);
+    assert_place_of_shared(&test, long_blank(), Static);
     test.end()
 }
 

@@ -1,4 +1,5 @@
 //! Values as std's traits have them: lent as a `str`, collected, extended, converted; and what a language tool writes.
+use Place::{Heap, Inline, Static};
 use smol_str::{FormatError, Place, SmolStr, SmolStrBuilder, StrExt, format_smolstr};
 use std::alloc::{AllocError, Global};
 use std::collections::HashMap;
@@ -51,7 +52,7 @@ fn collected(rt: HostRuntime) -> Result<(), Fail> {
     let value = ok_value(&test, strings.into_iter().collect(alloc));
     same_str(&test, &value, "fn é", "strings");
     let value = ok_value(&test, long_blank().chars().collect(alloc));
-    has_text(&test, &value, long_blank(), Place::Static, "a blank run");
+    has_text(&test, &value, long_blank(), Static, "a blank run");
     test.end()
 }
 
@@ -105,9 +106,9 @@ fn print_at(pages: &mut HashMap<SmolStr, SmolStrBuilder>, text: &str) -> Result<
 #[test]
 fn from_shared_texts(rt: HostRuntime) -> Result<(), Fail> {
     let test = Test::begin(rt);
-    check_shared(&test, "é", Place::Inline);
-    check_shared(&test, long_blank(), Place::Static);
-    check_shared(&test, long_text(), Place::Heap);
+    check_shared(&test, "é", Inline);
+    check_shared(&test, long_blank(), Static);
+    check_shared(&test, long_text(), Heap);
     test.end()
 }
 

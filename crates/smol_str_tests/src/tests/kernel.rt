@@ -1,47 +1,23 @@
 //! The loops over bytes, against outside rows.
+use AsciiCase::{Lower, Upper};
 use smol_str::kernel::{AsciiCase, convert_while_ascii, next_match};
 use smol_str::{INLINE_CAP, InlineBuffer};
 use test_support::*;
 
 /// Short texts, a case, the ASCII front in that case, and how many zeros are behind it.
-static FRONTS: [(&str, AsciiCase, &str, usize); 11] = [
-    ("ABCDEFGHIJéKLMNOPQ", AsciiCase::Lower, "abcdefghij", 29),
-    ("@AZ[", AsciiCase::Lower, "@az[", 35),
-    ("", AsciiCase::Upper, "", 39),
-    (
-        "aaaaaaaaaaaaaaaaaaaaaaa",
-        AsciiCase::Upper,
-        "AAAAAAAAAAAAAAAAAAAAAAA",
-        16,
-    ),
-    ("QQQQQQQQQQQQQQQQ", AsciiCase::Lower, "qqqqqqqqqqqqqqqq", 23),
-    (
-        "QQQQQQQQQQQQQQQQé",
-        AsciiCase::Lower,
-        "qqqqqqqqqqqqqqqq",
-        23,
-    ),
-    ("QQQQQQQQQQQQQQQé", AsciiCase::Lower, "qqqqqqqqqqqqqqq", 24),
-    ("éQQQQQQQQQQQQQQQQQQQQ", AsciiCase::Lower, "", 39),
-    (
-        "QQQQQQQQQQQQQQQQQQQQQQQQQQQQQQQQé",
-        AsciiCase::Lower,
-        "qqqqqqqqqqqqqqqqqqqqqqqqqqqqqqqq",
-        7,
-    ),
-    (
-        "QQQQQQQQQQQQQQQQQQQQQQQQQQQQQQQé",
-        AsciiCase::Lower,
-        "qqqqqqqqqqqqqqqqqqqqqqqqqqqqqqq",
-        8,
-    ),
-    (
-        "QQQQQQQQQQQQQQQQéQQQQQQQQQQQQQQQQQQQQQ",
-        AsciiCase::Lower,
-        "qqqqqqqqqqqqqqqq",
-        23,
-    ),
-];
+static FRONTS: [(&str, AsciiCase, &str, usize); 11] = table! {
+    ("ABCDEFGHIJéKLMNOPQ", Lower, "abcdefghij", 29);
+    ("@AZ[", Lower, "@az[", 35);
+    ("", Upper, "", 39);
+    ("aaaaaaaaaaaaaaaaaaaaaaa", Upper, "AAAAAAAAAAAAAAAAAAAAAAA", 16);
+    ("QQQQQQQQQQQQQQQQ", Lower, "qqqqqqqqqqqqqqqq", 23);
+    ("QQQQQQQQQQQQQQQQé", Lower, "qqqqqqqqqqqqqqqq", 23);
+    ("QQQQQQQQQQQQQQQé", Lower, "qqqqqqqqqqqqqqq", 24);
+    ("éQQQQQQQQQQQQQQQQQQQQ", Lower, "", 39);
+    ("QQQQQQQQQQQQQQQQQQQQQQQQQQQQQQQQé", Lower, "qqqqqqqqqqqqqqqqqqqqqqqqqqqqqqqq", 7);
+    ("QQQQQQQQQQQQQQQQQQQQQQQQQQQQQQQé", Lower, "qqqqqqqqqqqqqqqqqqqqqqqqqqqqqqq", 8);
+    ("QQQQQQQQQQQQQQQQéQQQQQQQQQQQQQQQQQQQQQ", Lower, "qqqqqqqqqqqqqqqq", 23);
+};
 
 /// The table, behind a function: one that names it is dear to prove.
 fn front_rows() -> &'static [(&'static str, AsciiCase, &'static str, usize)] {
@@ -54,7 +30,7 @@ fn fronts(rt: HostRuntime) -> Result<(), Fail> {
     for &(text, case, front, zeros) in front_rows() {
         assert_front(&test, text, case, front, zeros);
     }
-    assert_front(&test, full_text(), AsciiCase::Upper, full_capitals(), 0);
+    assert_front(&test, full_text(), Upper, full_capitals(), 0);
     test.end()
 }
 

@@ -1,40 +1,41 @@
 //! Where texts are kept.
+use Place::{Heap, Inline, Static};
 use smol_str::{BLANK_NEWLINES, BLANK_SPACES, INLINE_CAP, InlineBuffer, Place, SmolStr};
 use test_support::*;
 
 /// A text so many times and then an end, and the place of the value.
 static PLACES: [(&str, usize, &str, Place); 10] = [
-    ("", 0, "", Place::Inline),
-    ("a", INLINE_CAP, "", Place::Inline),
-    ("a", INLINE_CAP + 1, "", Place::Heap),
-    ("a", INLINE_CAP - 2, "é", Place::Inline),
-    ("a", INLINE_CAP - 1, "é", Place::Heap),
-    ("🦀", INLINE_CAP / 4, "", Place::Inline),
-    ("🦀", INLINE_CAP / 4 + 1, "", Place::Heap),
-    ("a", 23, "", Place::Inline),
-    ("a", 24, "", Place::Inline),
-    ("a", 22, "é", Place::Inline),
+    ("", 0, "", Inline),
+    ("a", INLINE_CAP, "", Inline),
+    ("a", INLINE_CAP + 1, "", Heap),
+    ("a", INLINE_CAP - 2, "é", Inline),
+    ("a", INLINE_CAP - 1, "é", Heap),
+    ("🦀", INLINE_CAP / 4, "", Inline),
+    ("🦀", INLINE_CAP / 4 + 1, "", Heap),
+    ("a", 23, "", Inline),
+    ("a", 24, "", Inline),
+    ("a", 22, "é", Inline),
 ];
 
 /// Newlines, spaces and newlines again, and the place of the text that they make.
 static BLANKS: [(usize, usize, usize, Place); 17] = [
-    (BLANK_NEWLINES, BLANK_SPACES, 0, Place::Static),
-    (0, BLANK_SPACES + 1, 0, Place::Heap),
-    (BLANK_NEWLINES + 1, 0, 0, Place::Heap),
-    (0, INLINE_CAP, 1, Place::Heap),
-    (1, INLINE_CAP - 1, 0, Place::Inline),
-    (BLANK_NEWLINES, 0, 0, Place::Static),
-    (BLANK_NEWLINES, 1, 1, Place::Heap),
-    (0, INLINE_CAP + 1, 0, Place::Static),
-    (0, BLANK_SPACES, 0, Place::Static),
-    (BLANK_NEWLINES + 1, BLANK_SPACES, 0, Place::Heap),
-    (32, 128, 0, Place::Static),
-    (0, 129, 0, Place::Static),
-    (33, 0, 0, Place::Inline),
-    (0, 23, 1, Place::Inline),
-    (32, 0, 0, Place::Inline),
-    (32, 1, 1, Place::Inline),
-    (0, 24, 0, Place::Inline),
+    (BLANK_NEWLINES, BLANK_SPACES, 0, Static),
+    (0, BLANK_SPACES + 1, 0, Heap),
+    (BLANK_NEWLINES + 1, 0, 0, Heap),
+    (0, INLINE_CAP, 1, Heap),
+    (1, INLINE_CAP - 1, 0, Inline),
+    (BLANK_NEWLINES, 0, 0, Static),
+    (BLANK_NEWLINES, 1, 1, Heap),
+    (0, INLINE_CAP + 1, 0, Static),
+    (0, BLANK_SPACES, 0, Static),
+    (BLANK_NEWLINES + 1, BLANK_SPACES, 0, Heap),
+    (32, 128, 0, Static),
+    (0, 129, 0, Static),
+    (33, 0, 0, Inline),
+    (0, 23, 1, Inline),
+    (32, 0, 0, Inline),
+    (32, 1, 1, Inline),
+    (0, 24, 0, Inline),
 ];
 
 #[test]
@@ -95,7 +96,7 @@ fn assert_inline(test: &Test, text: &str) {
     }
     let value = SmolStr::new_inline(text);
     is_so(test, value == test.value(text), text);
-    in_place(test, &value, Place::Inline, text);
+    in_place(test, &value, Inline, text);
 }
 
 /// The text of so many characters, the given ones in turn.

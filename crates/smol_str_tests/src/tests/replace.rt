@@ -1,38 +1,36 @@
 //! Replacement, against outside rows.
+use Place::{Heap, Inline, Static};
 use smol_str::{INLINE_CAP, Place, SmolStr, StrExt};
 use test_support::*;
 
+/// However often the pattern stands.
+const ALL: usize = usize::MAX;
+
 /// A text, a pattern, what stands in its place, at most how often, and the result.
-type Row = (
-    &'static str,
-    &'static str,
-    &'static str,
-    usize,
-    &'static str,
-);
+type Row = ([&'static str; 3], usize, &'static str);
 
 /// Those of upstream's test_str_ext are the first four.
-static ROWS: [Row; 19] = [
-    ("foo_bar_baz", "ba", "do", usize::MAX, "foo_dor_doz"),
-    ("foo_bar_baz", "ba", "do", 1, "foo_dor_baz"),
-    ("foo_bar_baz", "o", "u", 1, "fuo_bar_baz"),
-    ("foo_bar_baz", "o", "u", 0, "foo_bar_baz"),
-    ("aaa", "aa", "b", usize::MAX, "ba"),
-    ("ééé", "éé", "b", usize::MAX, "bé"),
-    ("é", "©", "x", usize::MAX, "é"),
-    ("banana", "an", "", usize::MAX, "ba"),
-    ("abc", "", "-", 2, "-a-bc"),
-    ("abc", "", "-", usize::MAX, "-a-b-c-"),
-    ("é", "", "-", usize::MAX, "-é-"),
-    ("é", "", "-", 1, "-é"),
-    ("é", "", "-", 0, "é"),
-    ("", "", "x", usize::MAX, "x"),
-    ("abcabc", "c", "cc", usize::MAX, "abccabcc"),
-    ("abab", "ab", "b", usize::MAX, "bb"),
-    ("aaaa", "a", "b", 2, "bbaa"),
-    ("aaaa", "a", "b", usize::MAX, "bbbb"),
-    ("xb", "x", "a", usize::MAX, "ab"),
-];
+static ROWS: [Row; 19] = table! {
+    (["foo_bar_baz", "ba", "do"], ALL, "foo_dor_doz");
+    (["foo_bar_baz", "ba", "do"], 1, "foo_dor_baz");
+    (["foo_bar_baz", "o", "u"], 1, "fuo_bar_baz");
+    (["foo_bar_baz", "o", "u"], 0, "foo_bar_baz");
+    (["aaa", "aa", "b"], ALL, "ba");
+    (["ééé", "éé", "b"], ALL, "bé");
+    (["é", "©", "x"], ALL, "é");
+    (["banana", "an", ""], ALL, "ba");
+    (["abc", "", "-"], 2, "-a-bc");
+    (["abc", "", "-"], ALL, "-a-b-c-");
+    (["é", "", "-"], ALL, "-é-");
+    (["é", "", "-"], 1, "-é");
+    (["é", "", "-"], 0, "é");
+    (["", "", "x"], ALL, "x");
+    (["abcabc", "c", "cc"], ALL, "abccabcc");
+    (["abab", "ab", "b"], ALL, "bb");
+    (["aaaa", "a", "b"], 2, "bbaa");
+    (["aaaa", "a", "b"], ALL, "bbbb");
+    (["xb", "x", "a"], ALL, "ab");
+};
 
 /// The table, behind a function: one that names it is dear to prove.
 fn table() -> &'static [Row] {
@@ -58,17 +56,17 @@ pub fn assert_rows(test: &Test, rows: &[Row]) {
 }
 
 /// By the call that has a limit, and by the other one where there is none.
-fn assert_row(test: &Test, &(text, from, to, count, wanted): &Row) {
+fn assert_row(test: &Test, &([text, from, to], count, wanted): &Row) {
     let value = ok_value(test, text.replacen_smolstr(test.alloc, from, to, count));
     assert_made(test, &value, wanted, [from, to, text], count);
-    if count == usize::MAX {
+    if count == ALL {
         let value = ok_value(test, text.replace_smolstr(test.alloc, from, to));
         assert_made(test, &value, wanted, [from, to, text], count);
     }
 }
 
 fn assert_made(test: &Test, value: &SmolStr, wanted: &str, texts: [&str; 3], count: usize) {
-    same_value(test, value, wanted, Place::Inline, &(texts, count));
+    same_value(test, value, wanted, Inline, &(texts, count));
 }
 
 /// A text so many times, a pattern, what stands in its place, at most how often; and the result, a text so many times and
@@ -83,33 +81,13 @@ type LongRow = (
 /// A byte more than a value has room for.
 const LONG: usize = INLINE_CAP + 1;
 
-static LONG_ROWS: [LongRow; 5] = [
-    (
-        ("x", 24),
-        ("x", " ", usize::MAX),
-        (" ", 24, ""),
-        Place::Inline,
-    ),
-    (
-        ("x", LONG),
-        ("x", " ", usize::MAX),
-        (" ", LONG, ""),
-        Place::Static,
-    ),
-    (
-        ("a", LONG),
-        ("aa", "b", usize::MAX),
-        ("b", 20, ""),
-        Place::Inline,
-    ),
-    (("x", LONG), ("x", "y", 39), ("y", 39, "x"), Place::Heap),
-    (
-        ("a", 39),
-        ("a", "b", usize::MAX),
-        ("b", 39, ""),
-        Place::Inline,
-    ),
-];
+static LONG_ROWS: [LongRow; 5] = table! {
+    (("x", 24), ("x", " ", ALL), (" ", 24, ""), Inline);
+    (("x", LONG), ("x", " ", ALL), (" ", LONG, ""), Static);
+    (("a", LONG), ("aa", "b", ALL), ("b", 20, ""), Inline);
+    (("x", LONG), ("x", "y", 39), ("y", 39, "x"), Heap);
+    (("a", 39), ("a", "b", ALL), ("b", 39, ""), Inline);
+};
 
 #[test]
 fn long_rows(rt: HostRuntime) -> Result<(), Fail> {

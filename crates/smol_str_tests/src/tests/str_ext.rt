@@ -1,5 +1,7 @@
 //! Case, against outside rows.
 use super::replace::{assert_rows, upstream_rows};
+use Call::*;
+use Place::{Heap, Inline, Static};
 use smol_str::{Place, SmolStr, StrExt};
 use std::alloc::{AllocError, Global};
 use test_support::*;
@@ -15,52 +17,32 @@ enum Call {
 
 fn answer(alloc: Global, call: Call, text: &str) -> Result<SmolStr, AllocError> {
     match call {
-        Call::AsciiLower => text.to_ascii_lowercase_smolstr(alloc),
-        Call::AsciiUpper => text.to_ascii_uppercase_smolstr(alloc),
-        Call::Lower => text.to_lowercase_smolstr(alloc),
-        Call::Upper => text.to_uppercase_smolstr(alloc),
+        AsciiLower => text.to_ascii_lowercase_smolstr(alloc),
+        AsciiUpper => text.to_ascii_uppercase_smolstr(alloc),
+        Lower => text.to_lowercase_smolstr(alloc),
+        Upper => text.to_uppercase_smolstr(alloc),
     }
 }
 
 /// A call, a text, the result and its place.
-static ROWS: [(Call, &str, &str, Place); 15] = [
-    (Call::AsciiLower, "aßΔC", "aßΔc", Place::Inline),
-    (Call::AsciiUpper, "aßΔC", "AßΔC", Place::Inline),
-    (Call::Upper, "aßΔC", "ASSΔC", Place::Inline),
-    (Call::Lower, "aßΔC", "aßδc", Place::Inline),
-    (Call::Lower, "ΑΣ", "ας", Place::Inline),
-    (Call::Lower, "Σ", "σ", Place::Inline),
-    (Call::Lower, "ὈΔΥΣΣΕΎΣ", "ὀδυσσεύς", Place::Inline),
-    (Call::Lower, "İ", "i\u{307}", Place::Inline),
-    (Call::Upper, "ﬃ", "FFI", Place::Inline),
-    (Call::AsciiLower, "@AZ[`az{", "@az[`az{", Place::Inline),
-    (Call::AsciiUpper, "@AZ[`az{", "@AZ[`AZ{", Place::Inline),
-    (
-        Call::AsciiLower,
-        "AAAAAAAAAAAAAAAAAAAAAAAA",
-        "aaaaaaaaaaaaaaaaaaaaaaaa",
-        Place::Inline,
-    ),
-    (
-        Call::AsciiUpper,
-        "                        ",
-        "                        ",
-        Place::Inline,
-    ),
-    (
-        Call::Lower,
-        "aaaaaaAAAAAaaaaaaaaaaaaaaaaaaaaaAAAAaaaaaaaaaaaaaa",
-        "aaaaaaaaaaaaaaaaaaaaaaaaaaaaaaaaaaaaaaaaaaaaaaaaaa",
-        Place::Heap,
-    ),
+static ROWS: [(Call, &str, &str, Place); 15] = table! {
+    (AsciiLower, "aßΔC", "aßΔc", Inline);
+    (AsciiUpper, "aßΔC", "AßΔC", Inline);
+    (Upper, "aßΔC", "ASSΔC", Inline);
+    (Lower, "aßΔC", "aßδc", Inline);
+    (Lower, "ΑΣ", "ας", Inline);
+    (Lower, "Σ", "σ", Inline);
+    (Lower, "ὈΔΥΣΣΕΎΣ", "ὀδυσσεύς", Inline);
+    (Lower, "İ", "i\u{307}", Inline);
+    (Upper, "ﬃ", "FFI", Inline);
+    (AsciiLower, "@AZ[`az{", "@az[`az{", Inline);
+    (AsciiUpper, "@AZ[`az{", "@AZ[`AZ{", Inline);
+    (AsciiLower, "AAAAAAAAAAAAAAAAAAAAAAAA", "aaaaaaaaaaaaaaaaaaaaaaaa", Inline);
+    (AsciiUpper, "                        ", "                        ", Inline);
+    (Lower, "aaaaaaAAAAAaaaaaaaaaaaaaaaaaaaaaAAAAaaaaaaaaaaaaaa", "aaaaaaaaaaaaaaaaaaaaaaaaaaaaaaaaaaaaaaaaaaaaaaaaaa", Heap);
     // Each character becomes three, as long as it was.
-    (
-        Call::Upper,
-        "ﬃﬃﬃﬃﬃﬃﬃ",
-        "FFIFFIFFIFFIFFIFFIFFI",
-        Place::Inline,
-    ),
-];
+    (Upper, "ﬃﬃﬃﬃﬃﬃﬃ", "FFIFFIFFIFFIFFIFFIFFI", Inline);
+};
 
 // Upstream's rows are among these.
 #[test]
@@ -77,9 +59,9 @@ fn test_str_ext(rt: HostRuntime) -> Result<(), Fail> {
 fn long_rows(rt: HostRuntime) -> Result<(), Fail> {
     let test = Test::begin(rt);
     let (capitals, text, blank) = (long_capitals(), long_text(), long_blank());
-    assert_answer(&test, Call::AsciiLower, capitals, text, Place::Heap);
-    assert_answer(&test, Call::AsciiUpper, blank, blank, Place::Static);
-    assert_answer(&test, Call::Lower, blank, blank, Place::Static);
+    assert_answer(&test, AsciiLower, capitals, text, Heap);
+    assert_answer(&test, AsciiUpper, blank, blank, Static);
+    assert_answer(&test, Lower, blank, blank, Static);
     test.end()
 }
 
