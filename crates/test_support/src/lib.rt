@@ -16,6 +16,5 @@ pub use test::{
     same, same_count, same_flag, same_place, same_str, same_text, same_value,
 };
 pub use texts::{
-    ABOVE_BUFFERS, full_capitals, full_text, joined, long_blank, long_capitals, long_text,
-    page_text, repeated, repeated_and,
+    ABOVE_BUFFERS, full_capitals, full_text, long_blank, long_capitals, long_text, page_text,
 };

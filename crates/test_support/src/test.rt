@@ -5,7 +5,6 @@
 //! assertion or a `?` does. A helper of one type costs its caller less than one of any type. A test that compares nothing
 //! fails, and `.ci/refused` pins how many comparisons the tests of a crate make.
 use crate::refuse::tell_compared;
-use crate::texts::repeated;
 use smol_str::{Place, SmolStr, SmolStrBuilder};
 use std::alloc::{AllocError, Global};
 use std::cell::Cell;
@@ -65,7 +64,22 @@ impl Test {
 
     /// A text so many times.
     pub fn repeated(&self, text: &str, times: usize) -> String {
-        ok_string(self, repeated(self.alloc, text, times))
+        self.repeated_and(text, times, "")
+    }
+
+    /// A text so many times, and then an end.
+    pub fn repeated_and(&self, text: &str, times: usize, end: &str) -> String {
+        let mut all = String::new(self.alloc);
+        for _ in 0..times {
+            ok(self, all.push_str(text));
+        }
+        ok(self, all.push_str(end));
+        all
+    }
+
+    /// Two texts in a row.
+    pub fn joined(&self, front: &str, back: &str) -> String {
+        self.repeated_and(front, 1, back)
     }
 
     /// Appends an item.
@@ -119,6 +133,14 @@ macro_rules! expect {
 macro_rules! expect_eq {
     ($rt:expr; $found:expr, $wanted:expr) => {
         $crate::is_so($rt, $found == $wanted, stringify!($found))
+    };
+}
+
+/// An example has no fault.
+#[macro_export]
+macro_rules! expect_ok {
+    ($rt:expr; $example:expr) => {
+        $crate::ended($rt, $example, stringify!($example))
     };
 }
 

@@ -98,7 +98,7 @@ pub fn check_calls<C: Call>(rt: HostRuntime, rows: &[Row<C>]) -> Result<(), Fail
 /// Each call on texts of which the last character ends about the end of a buffer.
 fn check_wide<C: Call>(test: &Test, rows: &[Row<C>], wide: &str) {
     for count in 30..45 {
-        let text = leaked(ok_string(test, repeated_and(test.alloc, "a", count, wide)));
+        let text = leaked(test.repeated_and("a", count, wide));
         check_length(test, rows, text, text.len());
     }
 }

@@ -158,7 +158,7 @@ fn two_pieces(rt: HostRuntime) -> Result<(), Fail> {
     let short = Printed("ab", "c", "abc");
     let asked = each_refused(&test, "ToSmolStr::to_smolstr", &short);
     same_count(&test, asked.requests as usize, 0, "short");
-    let whole = ok_string(&test, repeated_and(test.alloc, "a", INLINE_CAP, "b"));
+    let whole = test.repeated_and("a", INLINE_CAP, "b");
     let long = Printed(full_text(), "b", whole.as_str());
     let asked = each_refused(&test, "ToSmolStr::to_smolstr", &long);
     made_requests(&test, asked, &"a byte more than short");

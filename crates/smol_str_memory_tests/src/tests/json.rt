@@ -176,15 +176,15 @@ fn check_blanks(test: &Test, blank: &str) {
 }
 
 fn check_parts(test: &Test, front: &str, text: &str, end: &str, is_json: bool) {
-    let front_and_text = ok_string(test, joined(test.alloc, front, text));
-    let json = ok_string(test, joined(test.alloc, front_and_text.as_str(), end));
+    let front_and_text = test.joined(front, text);
+    let json = test.joined(front_and_text.as_str(), end);
     check_not_read(test, json.as_str(), is_json)
 }
 
 /// So many lists in one another.
 fn check_nested(test: &Test, depth: usize, is_json: bool) {
     let closed = test.repeated("]", depth);
-    let nested = ok_string(test, repeated_and(test.alloc, "[", depth, closed.as_str()));
+    let nested = test.repeated_and("[", depth, closed.as_str());
     check_not_read(test, nested.as_str(), is_json)
 }
 
@@ -210,9 +210,9 @@ fn check_there_and_back(test: &Test, value: &SmolStr) {
 fn examples(rt: HostRuntime) -> Result<(), Fail> {
     let test = Test::begin(rt);
     let alloc = test.alloc;
-    ended(&test, to_value_example(&test, alloc), "to_value");
-    ended(&test, to_json_example(&test, alloc), "to_json");
-    ended(&test, from_json_example(&test, alloc), "from_json");
+    expect_ok!(&test; to_value_example(&test, alloc));
+    expect_ok!(&test; to_json_example(&test, alloc));
+    expect_ok!(&test; from_json_example(&test, alloc));
     test.end()
 }
 

@@ -118,7 +118,7 @@ fn assert_push(test: &Test, mut builder: SmolStrBuilder, text: &str) {
     refuse_all(test.alloc);
     ok(test, builder.push('d'));
     same_flag(test, end_refusals(test.alloc), false, "push");
-    let whole = ok_string(test, repeated_and(test.alloc, text, 1, "d"));
+    let whole = test.repeated_and(text, 1, "d");
     assert_finishes(test, builder, whole.as_str(), Inline)
 }
 
@@ -136,7 +136,7 @@ fn capacity_too_large(rt: HostRuntime) -> Result<(), Fail> {
 /// The text of a row.
 fn text_of(test: &Test, row: &Row) -> String {
     let (text, times, end) = row.1;
-    ok_string(test, repeated_and(test.alloc, text, times, end))
+    test.repeated_and(text, times, end)
 }
 
 fn append(test: &Test, builder: &mut SmolStrBuilder, piece: Piece) {

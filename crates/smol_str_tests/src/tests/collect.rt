@@ -69,7 +69,7 @@ fn test_from_char_iterator(rt: HostRuntime) -> Result<(), Fail> {
 
 /// A text so many times, and then an end.
 fn assert_many(test: &Test, (unit, times, end): (&str, usize, &str), len: usize, place: Place) {
-    let text = ok_string(test, repeated_and(test.alloc, unit, times, end));
+    let text = test.repeated_and(unit, times, end);
     assert_collected(test, text.as_str(), len, place)
 }
 

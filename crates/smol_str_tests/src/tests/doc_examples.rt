@@ -18,18 +18,18 @@ use test_support::*;
 fn values(rt: HostRuntime) -> Result<(), Fail> {
     let test = Test::begin(rt);
     let alloc = test.alloc;
-    ended(&test, value_example(&test, alloc), "value");
+    expect_ok!(&test; value_example(&test, alloc));
     new_inline_in_case_example(&test);
     new_static_example(&test);
-    ended(&test, inline_buffer_example(&test), "inline_buffer");
-    ended(&test, from_owned_example(&test, alloc), "from_owned");
+    expect_ok!(&test; inline_buffer_example(&test));
+    expect_ok!(&test; from_owned_example(&test, alloc));
     eq_str_example(&test);
     cmp_str_example(&test);
     deref_example(&test);
     from_utf8_example(&test, alloc);
-    ended(&test, from_string_example(&test, alloc), "from_string");
+    expect_ok!(&test; from_string_example(&test, alloc));
     from_cow_str_example(&test, alloc);
-    ended(&test, from_rc_str_example(&test, alloc), "from_rc_str");
+    expect_ok!(&test; from_rc_str_example(&test, alloc));
     test.end()
 }
 
@@ -104,11 +104,11 @@ fn from_rc_str_example(rt: &Test, alloc: Global) -> Result<(), AllocError> {
 fn builders(rt: HostRuntime) -> Result<(), Fail> {
     let test = Test::begin(rt);
     let alloc = test.alloc;
-    ended(&test, builder_example(&test, alloc), "builder");
-    ended(&test, with_capacity_example(&test, alloc), "with_capacity");
-    ended(&test, finish_example(&test, alloc), "finish");
-    ended(&test, into_value_example(&test, alloc), "into_value");
-    ended(&test, build_example(&test, alloc), "build");
+    expect_ok!(&test; builder_example(&test, alloc));
+    expect_ok!(&test; with_capacity_example(&test, alloc));
+    expect_ok!(&test; finish_example(&test, alloc));
+    expect_ok!(&test; into_value_example(&test, alloc));
+    expect_ok!(&test; build_example(&test, alloc));
     test.end()
 }
 
@@ -152,17 +152,13 @@ fn build_example(rt: &Test, alloc: Global) -> Result<(), AllocError> {
 fn collected(rt: HostRuntime) -> Result<(), Fail> {
     let test = Test::begin(rt);
     let alloc = test.alloc;
-    ended(&test, from_chars_example(&test, alloc), "from_chars");
-    ended(&test, from_strs_example(&test, alloc), "from_strs");
-    ended(&test, join_example(&test, alloc), "join");
-    ended(&test, from_strings_example(&test, alloc), "from_strings");
-    ended(
-        &test,
-        from_string_refs_example(&test, alloc),
-        "from_string_refs",
-    );
-    ended(&test, extend_chars_example(&test, alloc), "extend_chars");
-    ended(&test, extend_strs_example(&test, alloc), "extend_strs");
+    expect_ok!(&test; from_chars_example(&test, alloc));
+    expect_ok!(&test; from_strs_example(&test, alloc));
+    expect_ok!(&test; join_example(&test, alloc));
+    expect_ok!(&test; from_strings_example(&test, alloc));
+    expect_ok!(&test; from_string_refs_example(&test, alloc));
+    expect_ok!(&test; extend_chars_example(&test, alloc));
+    expect_ok!(&test; extend_strs_example(&test, alloc));
     test.end()
 }
 
@@ -222,13 +218,9 @@ fn extend_strs_example(rt: &Test, alloc: Global) -> Result<(), AllocError> {
 fn printed(rt: HostRuntime) -> Result<(), Fail> {
     let test = Test::begin(rt);
     let alloc = test.alloc;
-    ended(&test, write_fmt_example(&test, alloc), "write_fmt");
-    ended(&test, to_smolstr_example(&test, alloc), "to_smolstr");
-    ended(
-        &test,
-        format_smolstr_example(&test, alloc),
-        "format_smolstr",
-    );
+    expect_ok!(&test; write_fmt_example(&test, alloc));
+    expect_ok!(&test; to_smolstr_example(&test, alloc));
+    expect_ok!(&test; format_smolstr_example(&test, alloc));
     test.end()
 }
 
@@ -255,22 +247,10 @@ fn format_smolstr_example(rt: &Test, alloc: Global) -> Result<(), FormatError> {
 fn mapped_and_replaced(rt: HostRuntime) -> Result<(), Fail> {
     let test = Test::begin(rt);
     let alloc = test.alloc;
-    ended(&test, str_ext_example(&test, alloc), "str_ext");
-    ended(
-        &test,
-        replace_smolstr_example(&test, alloc),
-        "replace_smolstr",
-    );
-    ended(
-        &test,
-        to_ascii_lowercase_smolstr_example(&test, alloc),
-        "to_ascii_lowercase_smolstr",
-    );
-    ended(
-        &test,
-        to_lowercase_smolstr_example(&test, alloc),
-        "to_lowercase_smolstr",
-    );
+    expect_ok!(&test; str_ext_example(&test, alloc));
+    expect_ok!(&test; replace_smolstr_example(&test, alloc));
+    expect_ok!(&test; to_ascii_lowercase_smolstr_example(&test, alloc));
+    expect_ok!(&test; to_lowercase_smolstr_example(&test, alloc));
     test.end()
 }
 

@@ -42,7 +42,7 @@ static BLANKS: [(usize, usize, usize, Place); 17] = [
 fn new_places(rt: HostRuntime) -> Result<(), Fail> {
     let test = Test::begin(rt);
     for &(piece, times, end, place) in &PLACES {
-        let text = ok_string(&test, repeated_and(test.alloc, piece, times, end));
+        let text = test.repeated_and(piece, times, end);
         assert_new(&test, text.as_str(), place);
     }
     test.end()
@@ -64,11 +64,8 @@ fn assert_new(test: &Test, text: &str, place: Place) {
 
 fn blank(test: &Test, newlines: usize, spaces: usize, more_newlines: usize) -> String {
     let end = test.repeated("\n", more_newlines);
-    let rest = ok_string(test, repeated_and(test.alloc, " ", spaces, end.as_str()));
-    ok_string(
-        test,
-        repeated_and(test.alloc, "\n", newlines, rest.as_str()),
-    )
+    let rest = test.repeated_and(" ", spaces, end.as_str());
+    test.repeated_and("\n", newlines, rest.as_str())
 }
 
 #[test]

@@ -107,6 +107,6 @@ fn assert_long(
     place: Place,
 ) {
     let value = ok_value(test, text.replacen_smolstr(test.alloc, from, to, count));
-    let wanted = ok_string(test, repeated_and(test.alloc, unit, times, end));
+    let wanted = test.repeated_and(unit, times, end);
     same_value(test, &value, wanted.as_str(), place, &([from, to], count));
 }

@@ -80,7 +80,7 @@ fn full_case_as_std(rt: HostRuntime) -> Result<(), Fail> {
     for letter in &LETTERS {
         check_as_std(&test, test.repeated(letter, 100).as_str());
         for count in 30..45 {
-            let text = ok_string(&test, repeated_and(test.alloc, "a", count, letter));
+            let text = test.repeated_and("a", count, letter);
             check_as_std(&test, text.as_str());
         }
     }

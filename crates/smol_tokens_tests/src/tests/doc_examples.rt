@@ -13,15 +13,11 @@ use test_support::*;
 fn wire_forms(rt: HostRuntime) -> Result<(), Fail> {
     let test = Test::begin(rt);
     let alloc = test.alloc;
-    ended(&test, serialize_example(&test, alloc), "serialize");
-    ended(
-        &test,
-        deserialize_reader_example(&test, alloc),
-        "deserialize_reader",
-    );
+    expect_ok!(&test; serialize_example(&test, alloc));
+    expect_ok!(&test; deserialize_reader_example(&test, alloc));
     length_prefix_example(&test);
-    ended(&test, from_wire_example(&test, alloc), "from_wire");
-    ended(&test, split_wire_example(&test, alloc), "split_wire");
+    expect_ok!(&test; from_wire_example(&test, alloc));
+    expect_ok!(&test; split_wire_example(&test, alloc));
     deserialize_limited_example(&test, alloc);
     test.end()
 }
@@ -65,9 +61,9 @@ fn deserialize_limited_example(rt: &Test, alloc: Global) {
 #[test]
 fn streams(rt: HostRuntime) -> Result<(), Fail> {
     let test = Test::begin(rt);
-    ended(&test, fill_example(&test), "fill");
-    ended(&test, read_up_to_example(&test, test.alloc), "read_up_to");
-    ended(&test, write_steps_example(&test, test.alloc), "write_steps");
+    expect_ok!(&test; fill_example(&test));
+    expect_ok!(&test; read_up_to_example(&test, test.alloc));
+    expect_ok!(&test; write_steps_example(&test, test.alloc));
     test.end()
 }
 

@@ -167,6 +167,9 @@ pub enum Kind {
 /// fails.
 type Row<'a> = (&'a str, usize, usize, usize);
 
+/// How many bytes the stream moves a call, and the call at which it ends or fails.
+type At = (usize, usize);
+
 /// A call that reads all that a reader gives.
 pub trait Reading {
     /// The call, in messages.
@@ -222,12 +225,7 @@ fn has_read<C: Reading>(test: &Test, call: &C, reader: &Trickle<'_>, row: &Row<'
     holds(test, is_within, row);
 }
 
-fn fails_at_read<C: Reading>(
-    test: &Test,
-    call: &C,
-    bytes: &[u8],
-    (step, fails_at): (usize, usize),
-) {
+fn fails_at_read<C: Reading>(test: &Test, call: &C, bytes: &[u8], (step, fails_at): At) {
     let row = (call.name(), bytes.len(), step, fails_at);
     let mut reader = trickle_of(test, bytes, step, fails_at);
     if let Some(error) = failure_at(place_of(row)) {
@@ -273,12 +271,7 @@ pub fn fails_at_each_write<C: Writing>(test: &Test, call: &C, bytes: &[u8]) {
 }
 
 /// How often the call writes: by single bytes once a byte.
-fn count_writes<C: Writing>(
-    test: &Test,
-    call: &C,
-    bytes: &[u8],
-    (step, fails_at): (usize, usize),
-) -> usize {
+fn count_writes<C: Writing>(test: &Test, call: &C, bytes: &[u8], (step, fails_at): At) -> usize {
     let row = (call.name(), bytes.len(), step, fails_at);
     start_counts(test.alloc);
     let mut writer = empty_drip(test.alloc, step, fails_at, None);
@@ -294,12 +287,7 @@ fn count_writes<C: Writing>(
 }
 
 /// By single bytes, each call before the failure took one.
-fn fails_at_write<C: Writing>(
-    test: &Test,
-    call: &C,
-    bytes: &[u8],
-    (step, fails_at): (usize, usize),
-) {
+fn fails_at_write<C: Writing>(test: &Test, call: &C, bytes: &[u8], (step, fails_at): At) {
     let row = (call.name(), bytes.len(), step, fails_at);
     let failure = failure_at(place_of(row));
     let wanted = failure.unwrap_or(io::Error::from(ErrorKind::WriteZero));

@@ -1,7 +1,6 @@
 //! Reports of every mode, on short and on long inputs.
 use super::runs::{Words, run_by};
 use smol_str::INLINE_CAP;
-use std::alloc::{AllocError, Global};
 use test_support::*;
 
 /// The words of a mode, an input, and the report on it.
@@ -68,91 +67,89 @@ pub fn letters() -> &'static [Letters] {
 #[derive(Drop)]
 pub struct Row {
     pub words: Words,
-    pub input: Vec<u8>,
-    pub report: Vec<u8>,
+    pub input: String,
+    pub report: String,
 }
 
 /// The reports of the table, those on texts about the limit, and those on a line of 9,000 letters.
 pub fn all_rows(test: &Test) -> Vec<Row> {
     let mut all = Vec::new(test.alloc);
-    push_reports(test, &mut all);
+    for &(words, input, report) in reports() {
+        push_row(test, &mut all, words, input, test.string(report));
+    }
     push_full(test, &mut all);
     push_tokens(test, &mut all);
-    push_letters(test, &mut all);
+    for &(words, front, letter) in letters() {
+        push_letters(test, &mut all, words, front, letter);
+    }
     all
 }
 
-fn push_reports(test: &Test, all: &mut Vec<Row>) {
-    for &(words, input, report) in reports() {
-        push_row(test, all, words, input, report);
-    }
-}
-
-fn push_letters(test: &Test, all: &mut Vec<Row>) {
-    let input = ok_string(test, long_line(test.alloc, "", "a"));
-    for &(words, front, letter) in letters() {
-        let report = long_line(test.alloc, front, letter);
-        push_text(test, all, words, input.as_str(), report);
-    }
+fn push_letters(test: &Test, all: &mut Vec<Row>, words: Words, front: &str, letter: &str) {
+    let (input, line) = (
+        test.repeated_and("a", 9000, "\n"),
+        test.repeated_and(letter, 9000, "\n"),
+    );
+    push_row(
+        test,
+        all,
+        words,
+        input.as_str(),
+        test.joined(front, line.as_str()),
+    )
 }
 
 /// A line that fills a buffer, and lines that are a byte too long.
 fn push_full(test: &Test, all: &mut Vec<Row>) {
-    let alloc = test.alloc;
-    let report = answer(alloc, "inline", full_text());
-    push_text(test, all, &["show"], full_text(), report);
-    let report = answer(alloc, "heap", long_text());
-    push_text(test, all, &["show"], long_text(), report);
-    let report = answer(alloc, "heap", long_capitals());
-    push_text(test, all, &["upper"], long_text(), report);
-    let line = test.repeated("x", INLINE_CAP + 1);
-    let line = line.as_str();
-    let report = answer(alloc, "static", long_blank());
-    push_text(test, all, &["replace", "x", " "], line, report);
-    let spaces = test.repeated(" ", INLINE_CAP);
-    let input = ok_string(test, format!(in alloc; " \n{spaces}"));
-    let report = answer(alloc, "static", long_blank());
-    push_text(test, all, &["join"], input.as_str(), report)
+    let (line, spaces) = (
+        test.repeated("x", INLINE_CAP + 1),
+        test.repeated(" ", INLINE_CAP),
+    );
+    push_line(test, all, &["show"], full_text(), ("inline", full_text()));
+    push_line(test, all, &["show"], long_text(), ("heap", long_text()));
+    push_line(
+        test,
+        all,
+        &["upper"],
+        long_text(),
+        ("heap", long_capitals()),
+    );
+    let answer = ("static", long_blank());
+    push_line(test, all, &["replace", "x", " "], line.as_str(), answer);
+    let lines = test.joined(" \n", spaces.as_str());
+    push_line(test, all, &["join"], lines.as_str(), answer)
 }
 
 /// A token that is a byte too long, among short ones.
 fn push_tokens(test: &Test, all: &mut Vec<Row>) {
     let long = long_text();
     let input = ok_string(test, format!(in test.alloc; "x\n{long}\nx\n{long}\nx\n"));
-    let report = format!(in test.alloc; "3 x\n2 {long}\n");
-    push_text(test, all, &["tokens"], input.as_str(), report)
+    let report = ok_string(test, format!(in test.alloc; "3 x\n2 {long}\n"));
+    push_row(test, all, &["tokens"], input.as_str(), report)
 }
 
-/// An input, and the report on it; a fault fails the test.
-fn push_text(
+/// An input, and the report of one line on it: where a text is kept, its size, and the text.
+fn push_line(
     test: &Test,
     all: &mut Vec<Row>,
     words: Words,
     input: &str,
-    report: Result<String, AllocError>,
+    (place, text): (&str, &str),
 ) {
-    let report = ok_string(test, report);
-    push_row(test, all, words, input, report.as_str())
+    let report = format!(in test.alloc; "{place} {} {text}\n", text.len());
+    push_row(test, all, words, input, ok_string(test, report))
 }
 
-fn push_row(test: &Test, all: &mut Vec<Row>, words: Words, input: &str, report: &str) {
-    let row = Row {
-        words,
-        input: ok_bytes(test, Vec::from_slice(test.alloc, input.as_bytes())),
-        report: ok_bytes(test, Vec::from_slice(test.alloc, report.as_bytes())),
-    };
-    test.push(all, row);
-}
-
-/// The line that says where a text is kept, its size, and the text.
-fn answer(alloc: Global, place: &str, text: &str) -> Result<String, AllocError> {
-    format!(in alloc; "{place} {} {text}\n", text.len())
-}
-
-/// A front, and a line of 9,000 letters.
-fn long_line(alloc: Global, front: &str, letter: &str) -> Result<String, AllocError> {
-    let line = repeated_and(alloc, letter, 9000, "\n")?;
-    joined(alloc, front, line.as_str())
+fn push_row(test: &Test, all: &mut Vec<Row>, words: Words, input: &str, report: String) {
+    let input = test.string(input);
+    test.push(
+        all,
+        Row {
+            words,
+            input,
+            report,
+        },
+    );
 }
 
 /// The report in the mode of these words, by std's reader and writer over memory.

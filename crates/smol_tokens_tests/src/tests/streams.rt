@@ -69,13 +69,9 @@ impl Writing for RunsOn<'_> {
 fn fails_at_each_read_of_an_input(rt: HostRuntime) -> Result<(), Fail> {
     let test = Test::begin(rt);
     for row in &all_rows(&test) {
-        let words = row.words;
-        fails_at_each_read(
-            &test,
-            &Runs { words },
-            row.input.as_slice(),
-            row.report.as_slice(),
-        );
+        let (words, report) = (row.words, row.report.as_str());
+        let input = row.input.as_str().as_bytes();
+        fails_at_each_read(&test, &Runs { words }, input, report.as_bytes());
     }
     test.end()
 }
@@ -84,8 +80,9 @@ fn fails_at_each_read_of_an_input(rt: HostRuntime) -> Result<(), Fail> {
 fn fails_at_each_write_of_a_report(rt: HostRuntime) -> Result<(), Fail> {
     let test = Test::begin(rt);
     for row in &all_rows(&test) {
-        let (words, input) = (row.words, row.input.as_slice());
-        fails_at_each_write(&test, &RunsOn { words, input }, row.report.as_slice());
+        let (words, report) = (row.words, row.report.as_str());
+        let input = row.input.as_str().as_bytes();
+        fails_at_each_write(&test, &RunsOn { words, input }, report.as_bytes());
     }
     test.end()
 }

@@ -77,7 +77,7 @@ struct Input {
 
 /// A text and another one behind it.
 fn followed(test: &Test, front: &str, back: &str) -> String {
-    ok_string(test, joined(test.alloc, front, back))
+    test.joined(front, back)
 }
 
 impl super::Call for Call {
