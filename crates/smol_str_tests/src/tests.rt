@@ -1,13 +1,12 @@
 //! Tests of what no clause says: values and builders by rows from outside, and the examples of the documentation.
 
-mod built;
+mod builder;
 mod collect;
 mod compare;
 mod convert;
 mod doc_examples;
 mod idioms;
 mod kernel;
-mod large;
 mod places;
 mod replace;
 mod str_ext;

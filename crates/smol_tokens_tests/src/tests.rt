@@ -2,15 +2,11 @@
 //! the program with memory refused, and tallies.
 mod doc_examples;
 mod failing;
-mod merges;
-mod readers;
 mod refused;
 mod reports;
-mod runs;
-mod streams;
+mod run;
+mod stream;
 mod tally;
 mod wire;
 mod wire_faults;
-mod wire_memory;
 mod words;
-mod writers;

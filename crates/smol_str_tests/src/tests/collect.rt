@@ -69,8 +69,12 @@ fn test_from_char_iterator(rt: HostRuntime) -> Result<(), Fail> {
 
 /// A text so many times, and then an end.
 fn assert_many(test: &Test, (unit, times, end): (&str, usize, &str), len: usize, place: Place) {
-    let text = test.repeated_and(unit, times, end);
-    assert_collected(test, text.as_str(), len, place)
+    assert_collected(
+        test,
+        test.repeated_and(unit, times, end).as_str(),
+        len,
+        place,
+    )
 }
 
 fn assert_collected(test: &Test, text: &str, len: usize, place: Place) {
@@ -109,12 +113,8 @@ fn owned_pieces(rt: HostRuntime) -> Result<(), Fail> {
 }
 
 fn assert_owned(test: &Test, pieces: &[&str], text: &str) {
-    let strings = strings_of(test, pieces);
-    assert_made(
-        test,
-        SmolStr::from_strings(test.alloc, strings.into_iter()),
-        text,
-    );
+    let strings = strings_of(test, pieces).into_iter();
+    assert_made(test, SmolStr::from_strings(test.alloc, strings), text);
 }
 
 // Upstream's have pieces at random: here piece i, counted from 1, is `é` i mod 5 times.
@@ -165,10 +165,8 @@ fn assert_joined(test: &Test, value: &SmolStr, count: usize) {
 fn from_buf_and_chars_size_hinted_heap(rt: HostRuntime) -> Result<(), Fail> {
     let test = Test::begin(rt);
     let mut builder = test.builder(0, "abcdefghijklmnopqr");
-    ok(
-        &test,
-        builder.extend_chars("_0x1x2x3x4x5x6x7x8x9x10x11x12x13".chars()),
-    );
+    let chars = "_0x1x2x3x4x5x6x7x8x9x10x11x12x13".chars();
+    ok(&test, builder.extend_chars(chars));
     let text = "abcdefghijklmnopqr_0x1x2x3x4x5x6x7x8x9x10x11x12x13";
     same_str(&test, builder.as_str(), text, "builder");
     assert_made(&test, builder.into_value(), text);
@@ -204,12 +202,10 @@ fn assert_hint(test: &Test, text: &str, lower: usize) {
     let strs = with_hint(strs_of(test, text), lower);
     assert_made(test, SmolStr::from_strs(alloc, strs), text);
     assert_strings_hint(test, text, lower);
-    assert_made(
-        test,
-        extended_by_chars(test, text, lower).into_value(),
-        text,
-    );
-    assert_made(test, extended_by_strs(test, text, lower).into_value(), text);
+    let builder = extended_by_chars(test, text, lower);
+    assert_made(test, builder.into_value(), text);
+    let builder = extended_by_strs(test, text, lower);
+    assert_made(test, builder.into_value(), text);
 }
 
 fn assert_strings_hint(test: &Test, text: &str, lower: usize) {
@@ -217,10 +213,8 @@ fn assert_strings_hint(test: &Test, text: &str, lower: usize) {
     let refs = with_hint(refs_of(test, &strings), lower);
     assert_made(test, SmolStr::from_string_refs(test.alloc, refs), text);
     let mut builder = SmolStrBuilder::new(test.alloc);
-    ok(
-        test,
-        builder.extend_strings(with_hint(refs_of(test, &strings), lower)),
-    );
+    let refs = with_hint(refs_of(test, &strings), lower);
+    ok(test, builder.extend_strings(refs));
     assert_made(test, builder.into_value(), text);
     let owned = SmolStr::from_strings(test.alloc, with_hint(strings, lower));
     assert_made(test, owned, text)

@@ -29,12 +29,8 @@ fn check_lent(test: &Test, text: &str) {
     is_so(test, value.starts_with(' ') == text.starts_with(' '), text);
     same_str(test, AsStr::as_str(&value), text, "AsStr");
     same_str(test, AsStr::as_str(&test.builder(100, text)), text, "AsStr");
-    same_str(
-        test,
-        Some(value).as_deref().unwrap_or("none"),
-        text,
-        "as_deref",
-    );
+    let lent = Some(value);
+    same_str(test, lent.as_deref().unwrap_or("none"), text, "as_deref");
 }
 
 // The texts of `calls/` are collected and extended by these calls too, and refused memory there.
@@ -83,12 +79,8 @@ fn empty_builders(rt: HostRuntime) -> Result<(), Fail> {
     is_so(&test, print_at(&mut pages, "ab").is_ok(), "an entry");
     is_so(&test, print_at(&mut pages, "c").is_ok(), "the same entry");
     let page = pages.get(&SmolStr::new_static("page"));
-    same_str(
-        &test,
-        page.map_or("none", |page| page.as_str()),
-        "abc",
-        "or_default",
-    );
+    let text = page.map_or("none", |page| page.as_str());
+    same_str(&test, text, "abc", "or_default");
     let mut builder = test.builder(100, "taken");
     let taken = ok(&test, mem::try_take(&mut builder));
     same_str(&test, taken.as_str(), "taken", "try_take");

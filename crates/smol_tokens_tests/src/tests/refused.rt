@@ -1,7 +1,7 @@
 //! `run` with memory refused: nothing is written, or all.
 use super::failing::{Drip, Kind, empty_drip};
 use super::reports::report_by;
-use super::runs::{Words, fixed_state, kind_of};
+use super::run::{Words, fixed_state, kind_of};
 use super::words::mode_by;
 use smol_str::stream::CHUNK;
 use smol_tokens_core::mode::Mode;
@@ -56,24 +56,34 @@ fn each_request_of_a_merge(rt: HostRuntime) -> Result<(), Fail> {
 }
 
 fn check_once(test: &Test, words: Words, input: &str) {
-    let report = report_by(test, words, input.as_bytes());
-    let run = Run {
-        words,
-        input: input.as_bytes(),
-        report: report.as_slice(),
-    };
-    let _ = run_once(test, "run::run", &run);
+    let input = input.as_bytes();
+    let report = report_by(test, words, input);
+    let report = report.as_slice();
+    let _ = run_once(
+        test,
+        "run::run",
+        &Run {
+            words,
+            input,
+            report,
+        },
+    );
 }
 
 /// The report on the input is written whole, or nothing is where a request is refused; none but these is made.
 fn check_run(test: &Test, words: Words, input: &str, requests: u32) {
-    let report = report_by(test, words, input.as_bytes());
-    let run = Run {
-        words,
-        input: input.as_bytes(),
-        report: report.as_slice(),
-    };
-    let asked = each_refused(test, "run::run", &run);
+    let input = input.as_bytes();
+    let report = report_by(test, words, input);
+    let report = report.as_slice();
+    let asked = each_refused(
+        test,
+        "run::run",
+        &Run {
+            words,
+            input,
+            report,
+        },
+    );
     let wanted = if can_refuse(test.alloc) { requests } else { 0 };
     same(test, &asked.requests, &wanted, &(words, input.len()));
 }

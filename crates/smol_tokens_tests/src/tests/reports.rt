@@ -1,5 +1,5 @@
 //! Reports of every mode, on short and on long inputs.
-use super::runs::{Words, run_by};
+use super::run::{Words, run_by};
 use smol_str::INLINE_CAP;
 use test_support::*;
 

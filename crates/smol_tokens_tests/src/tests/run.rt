@@ -1,14 +1,50 @@
-//! `run` in every mode, over readers and writers of every step, which fail at each call, and over inputs that are not
-//! UTF-8.
+//! `run` in every mode, over readers and writers of every step, which fail at each call, over inputs that are not UTF-8, and
+//! over what is no count lines.
 use super::failing::{
-    Drip, Kind, Reading, STEPS, Trickle, Writing, empty_drip, fails_at_each_read,
+    Drip, Kind, Reading, STEPS, Trickle, Writing, cause_of, empty_drip, fails_at_each_read,
     fails_at_each_write, trickle_of,
 };
 use super::reports::{all_rows, letters};
-use super::runs::{Words, run_by};
+use super::words::mode_by;
 use smol_str::stream::CHUNK;
+use smol_tokens_core::fault::RunFault;
+use smol_tokens_core::run::run;
 use std::alloc::Global;
+use std::hash::{BuildHasherDefault, FoldHasher};
+use std::io::{Read, Write};
 use test_support::*;
+
+/// The words of a mode.
+pub type Words = &'static [&'static str];
+
+/// A state of the hasher that is the same in each run.
+pub fn fixed_state() -> BuildHasherDefault<FoldHasher> {
+    BuildHasherDefault::new()
+}
+
+/// Runs in the mode of these words; `None` where the run ends well.
+pub fn run_by<R: Read, W: Write>(
+    test: &Test,
+    words: &[&str],
+    reader: &mut R,
+    writer: &mut W,
+) -> Option<Kind> {
+    let mode = mode_by(test, words);
+    match run(test.alloc, fixed_state(), mode, reader, writer) {
+        Ok(()) => None,
+        Err(fault) => Some(kind_of(&fault)),
+    }
+}
+
+pub fn kind_of(fault: &RunFault) -> Kind {
+    match fault {
+        RunFault::NotUtf8 => Kind::NotUtf8,
+        RunFault::OutOfMemory => Kind::OutOfMemory,
+        RunFault::NotCounts(line) => Kind::NotCounts(*line),
+        RunFault::Full => Kind::Full,
+        RunFault::Io(error) => Kind::Io(cause_of(error)),
+    }
+}
 
 /// A run in the mode of these words.
 #[derive(Drop)]
@@ -135,4 +171,50 @@ fn ending_badly(test: &Test, count: usize) -> Vec<u8> {
     let mut input = ok_bytes(test, vec![in test.alloc; b'a'; count]);
     test.push(&mut input, 0xff);
     input
+}
+
+/// An input, and how its merge ends.
+static FAULTS: [(&[u8], Kind); 25] = [
+    (b"1", Kind::NotCounts(1)),
+    (b"\n", Kind::NotCounts(1)),
+    (b"a\n", Kind::NotCounts(1)),
+    (b"12\n", Kind::NotCounts(1)),
+    (b" a\n", Kind::NotCounts(1)),
+    (b"+1 a\n", Kind::NotCounts(1)),
+    (b"-1 a\n", Kind::NotCounts(1)),
+    (b"01 a\n", Kind::NotCounts(1)),
+    (b"00 a\n", Kind::NotCounts(1)),
+    (b"1\ta\n", Kind::NotCounts(1)),
+    (b" 1 a\n", Kind::NotCounts(1)),
+    (b"1a a\n", Kind::NotCounts(1)),
+    (b"\xd9\xa1 a\n", Kind::NotCounts(1)),
+    (b"\xef\xbb\xbf1 a\n", Kind::NotCounts(1)),
+    (b"18446744073709551616 a\n", Kind::NotCounts(1)),
+    (b"2 a\n1 b", Kind::NotCounts(2)),
+    (b"2 a\n1 ", Kind::NotCounts(2)),
+    (b"2 a\n1", Kind::NotCounts(2)),
+    (b"1 a\n\n", Kind::NotCounts(2)),
+    (b"1 a\n\n1 a\nx\n", Kind::NotCounts(2)),
+    (b"1 a\n1 b\n1 a\n1 c\nx y\n1 d\n", Kind::NotCounts(5)),
+    (b"18446744073709551615 a\n1 a\n", Kind::Full),
+    (b"18446744073709551615 a\n1 a\n1 b\n", Kind::Full),
+    // a line that is no count line comes before a sum that is too large
+    (b"18446744073709551615 a\n1 a\n+1 b\n", Kind::NotCounts(3)),
+    (b"1 \xff\n", Kind::NotUtf8),
+];
+
+fn faults() -> &'static [(&'static [u8], Kind)] {
+    &FAULTS
+}
+
+#[test]
+fn faults_of_merges(rt: HostRuntime) -> Result<(), Fail> {
+    let test = Test::begin(rt);
+    for &(input, kind) in faults() {
+        let (mut reader, mut out) = (input, Vec::new(test.alloc));
+        let ended = run_by(&test, &["merge"], &mut reader, &mut out);
+        same(&test, &ended, &Some(kind), &(input, kind));
+        holds(&test, out.is_empty(), &(input, kind));
+    }
+    test.end()
 }

@@ -1,10 +1,15 @@
-//! Each call that reads, over readers of every step, which end after each byte and fail at each call.
-use super::failing::{Kind, Reading, Trickle, cause_of, fails_at_each_read, trickle_of};
-use super::wire::{LETTERS, ROWS, form_of, of_units};
+//! Each call that reads or writes, over readers and writers of every step, which end after each byte and fail at each call.
+use super::failing::{
+    Drip, Kind, Reading, Trickle, Writing, cause_of, empty_drip, fails_at_each_read,
+    fails_at_each_write, trickle_of,
+};
+use super::wire::{LETTERS, ROWS, form_of, of_units, ok_found};
 use super::wire_faults::{kind_of, kind_of_limited};
-use smol_str::SmolStr;
-use smol_str::borsh::{BorshDeserialize, BorshSerialize, deserialize_limited};
-use smol_str::stream::{CHUNK, ReadFault, fill, read_all, read_up_to};
+use smol_str::borsh::{
+    BorshDeserialize, BorshSerialize, EncodeFault, deserialize_limited, from_wire,
+};
+use smol_str::stream::{CHUNK, ReadFault, fill, read_all, read_up_to, write_steps};
+use smol_str::{INLINE_CAP, SmolStr};
 use std::alloc::Global;
 use test_support::*;
 
@@ -114,7 +119,7 @@ fn written(alloc: Global, value: &SmolStr) -> Result<Vec<u8>, Kind> {
 }
 
 /// The wire forms of the table, and one of two pieces and a part of a third.
-pub fn forms(test: &Test) -> Vec<Vec<u8>> {
+fn forms(test: &Test) -> Vec<Vec<u8>> {
     let mut all = Vec::new(test.alloc);
     for row in &ROWS {
         test.push(&mut all, form_of(test, *row));
@@ -124,7 +129,7 @@ pub fn forms(test: &Test) -> Vec<Vec<u8>> {
 }
 
 #[test]
-fn fails_at_each_call(rt: HostRuntime) -> Result<(), Fail> {
+fn fails_at_each_read_call(rt: HostRuntime) -> Result<(), Fail> {
     let test = Test::begin(rt);
     for form in &forms(&test) {
         let form = form.as_slice();
@@ -175,4 +180,73 @@ fn check_no_read(test: &Test, call: Call) {
     let is_done = reads.read(test, &mut reader).is_ok();
     is_so(test, is_done && reader.calls == 0, reads.name());
     reader.end(test, &reads.name());
+}
+
+/// A call that writes a wire form.
+#[derive(Drop)]
+enum Writes<'a> {
+    Serialize(SmolStr),
+    WriteSteps(&'a [u8]),
+}
+
+impl Writing for Writes<'_> {
+    fn name(&self) -> &str {
+        match self {
+            Writes::Serialize(_) => "BorshSerialize::serialize",
+            Writes::WriteSteps(_) => "stream::write_steps",
+        }
+    }
+
+    fn write(&self, _test: &Test, writer: &mut Drip) -> Option<Kind> {
+        match self {
+            Writes::Serialize(value) => serialized(value, writer),
+            Writes::WriteSteps(form) => steps_written(form, writer),
+        }
+    }
+}
+
+fn steps_written(form: &[u8], writer: &mut Drip) -> Option<Kind> {
+    match write_steps(writer, form) {
+        Ok(()) => None,
+        Err(error) => Some(Kind::Io(cause_of(&error))),
+    }
+}
+
+fn serialized(value: &SmolStr, writer: &mut Drip) -> Option<Kind> {
+    match value.serialize(writer) {
+        Ok(()) => None,
+        Err(EncodeFault::Io(error)) => Some(Kind::Io(cause_of(&error))),
+        Err(EncodeFault::TooLong) => Some(Kind::TooLong),
+    }
+}
+
+#[test]
+fn fails_at_each_write_call(rt: HostRuntime) -> Result<(), Fail> {
+    let test = Test::begin(rt);
+    for form in &forms(&test) {
+        let form = form.as_slice();
+        let (value, _) = ok_found(&test, from_wire(test.alloc, form));
+        fails_at_each_write(&test, &Writes::Serialize(value), form);
+        fails_at_each_write(&test, &Writes::WriteSteps(form), form);
+    }
+    test.end()
+}
+
+// An inline text goes out by one call. Of a longer one the size does, and then the text by another.
+#[test]
+fn few_calls(rt: HostRuntime) -> Result<(), Fail> {
+    let test = Test::begin(rt);
+    for len in 0..=INLINE_CAP {
+        check_write_calls(&test, len, 1);
+    }
+    check_write_calls(&test, INLINE_CAP + 1, 2);
+    check_write_calls(&test, 5_000_000, 2);
+    test.end()
+}
+
+fn check_write_calls(test: &Test, len: usize, wanted: usize) {
+    let value = test.value(test.repeated("a", len).as_str());
+    let mut writer = empty_drip(test.alloc, usize::MAX, 0, None);
+    same(test, &serialized(&value, &mut writer), &None, &len);
+    same(test, &writer.calls, &wanted, &len);
 }
