@@ -221,12 +221,6 @@ impl Missing for () {
     fn missing(_alloc: Global) {}
 }
 
-impl Missing for bool {
-    fn missing(_alloc: Global) -> bool {
-        false
-    }
-}
-
 impl Missing for SmolStr {
     fn missing(_alloc: Global) -> SmolStr {
         SmolStr::default()

@@ -49,11 +49,11 @@ pub struct Shape {
 /// No text, one that fills a buffer, the longest blank run, and texts that are not resident.
 fn shapes(test: &Test) -> [Shape; 7] {
     let spaces = test.repeated(" ", BLANK_SPACES);
-    let blank = repeated_and(test.alloc, "\n", BLANK_NEWLINES, spaces.as_str());
+    let blank = test.repeated_and("\n", BLANK_NEWLINES, spaces.as_str());
     [
         shape_of("no text", ""),
         shape_of("a full buffer", full_text()),
-        shape_of("the longest blank", leaked(ok_string(test, blank))),
+        shape_of("the longest blank", leaked(blank)),
         shape_of("a byte too many", long_text()),
         shape_of("5,000 bytes", leaked(test.repeated("a", 5000))),
         shape_of("2,500 accents", leaked(test.repeated("é", 2500))),

@@ -20,9 +20,9 @@ fn values(rt: HostRuntime) -> Result<(), Fail> {
 /// A value is written as a `String` of its text is, and read back.
 fn check_value(test: &Test, text: &str, place: Place) {
     let by_string = serde_json::to_string(test.alloc, &test.string(text));
-    let json = written(test, by_string);
+    let json = ok(test, by_string);
     let by_value = serde_json::to_string(test.alloc, &test.value(text));
-    same_str(test, written(test, by_value).as_str(), json.as_str(), text);
+    same_str(test, ok(test, by_value).as_str(), json.as_str(), text);
     let read = serde_json::from_str(test.alloc, json.as_str());
     check_read(test, read, text, place);
     match serde_json::to_value(test.alloc, &test.value(text)) {
@@ -35,16 +35,6 @@ fn check_read(test: &Test, read: Result<SmolStr, Error>, text: &str, place: Plac
     match read {
         Ok(value) => has_text(test, &value, text, place, "read"),
         Err(error) => test.fail(&(text, error)),
-    }
-}
-
-fn written(test: &Test, made: Result<String, Error>) -> String {
-    match made {
-        Ok(json) => json,
-        Err(error) => {
-            test.fail(&error);
-            String::new(test.alloc)
-        }
     }
 }
 
@@ -120,7 +110,7 @@ fn check_entry(test: &Test, entry: &Entry) {
     let alias = entry.aliases.last().map(|alias| alias.place());
     is_so(test, alias == Some(Place::Heap), "aliases");
     is_so(test, entry.note.is_none(), "note");
-    let json = written(test, serde_json::to_string(test.alloc, entry));
+    let json = ok(test, serde_json::to_string(test.alloc, entry));
     same_str(test, json.as_str(), JSON, "written");
 }
 

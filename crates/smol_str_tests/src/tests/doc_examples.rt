@@ -19,16 +19,12 @@ fn values(rt: HostRuntime) -> Result<(), Fail> {
     let test = Test::begin(rt);
     let alloc = test.alloc;
     expect_ok!(&test; value_example(&test, alloc));
-    new_inline_in_case_example(&test);
-    new_static_example(&test);
+    new_inline_in_case_and_new_static_example(&test);
     expect_ok!(&test; inline_buffer_example(&test));
     expect_ok!(&test; from_owned_example(&test, alloc));
-    eq_str_example(&test);
-    cmp_str_example(&test);
-    deref_example(&test);
-    from_utf8_example(&test, alloc);
+    eq_str_cmp_str_and_deref_example(&test);
+    from_utf8_and_from_cow_str_example(&test, alloc);
     expect_ok!(&test; from_string_example(&test, alloc));
-    from_cow_str_example(&test, alloc);
     expect_ok!(&test; from_rc_str_example(&test, alloc));
     test.end()
 }
@@ -40,12 +36,10 @@ fn value_example(rt: &Test, alloc: Global) -> Result<(), AllocError> {
     Ok(())
 }
 
-fn new_inline_in_case_example(rt: &Test) {
+fn new_inline_in_case_and_new_static_example(rt: &Test) {
     let header = SmolStr::new_inline_in_case("Content-Type", AsciiCase::Lower);
     expect_eq!(rt; header.as_str(), "content-type");
-}
 
-fn new_static_example(rt: &Test) {
     let name = SmolStr::new_static("a constant");
     expect_eq!(rt; name.place(), Place::Static);
 }
@@ -63,22 +57,21 @@ fn from_owned_example(rt: &Test, alloc: Global) -> Result<(), AllocError> {
     Ok(())
 }
 
-fn eq_str_example(rt: &Test) {
+fn eq_str_cmp_str_and_deref_example(rt: &Test) {
     expect!(rt; SmolStr::new_inline("if").eq_str("if"));
-}
 
-fn cmp_str_example(rt: &Test) {
     expect_eq!(rt; SmolStr::new_inline("if").cmp_str("of"), Ordering::Less);
-}
 
-fn deref_example(rt: &Test) {
     let token = SmolStr::new_inline(" let ");
     expect!(rt; token.trim().starts_with("let") && &*token == " let ");
 }
 
-fn from_utf8_example(rt: &Test, alloc: Global) {
+fn from_utf8_and_from_cow_str_example(rt: &Test, alloc: Global) {
     let fault = SmolStr::from_utf8(alloc, b"ab\xff").err();
     expect!(rt; matches!(fault, Some(FromUtf8Fault::NotUtf8(_))));
+
+    let token = SmolStr::from_cow_str(alloc, CowStr::Borrowed("if"));
+    expect_eq!(rt; token.ok().map(|token| token.len()), Some(2));
 }
 
 fn from_string_example(rt: &Test, alloc: Global) -> Result<(), AllocError> {
@@ -86,11 +79,6 @@ fn from_string_example(rt: &Test, alloc: Global) -> Result<(), AllocError> {
     let token = SmolStr::from_string(alloc, owned).map_err(|_owned| AllocError)?;
     expect_eq!(rt; token.as_str(), "if");
     Ok(())
-}
-
-fn from_cow_str_example(rt: &Test, alloc: Global) {
-    let token = SmolStr::from_cow_str(alloc, CowStr::Borrowed("if"));
-    expect_eq!(rt; token.ok().map(|token| token.len()), Some(2));
 }
 
 fn from_rc_str_example(rt: &Test, alloc: Global) -> Result<(), AllocError> {
@@ -282,16 +270,13 @@ fn to_lowercase_smolstr_example(rt: &Test, alloc: Global) -> Result<(), AllocErr
 #[test]
 fn kernel(rt: HostRuntime) -> Result<(), Fail> {
     let test = Test::begin(rt);
-    convert_while_ascii_example(&test);
-    next_match_example(&test);
+    kernel_example(&test);
     test.end()
 }
 
-fn convert_while_ascii_example(rt: &Test) {
+fn kernel_example(rt: &Test) {
     let (buffer, len) = convert_while_ascii("ABCé", AsciiCase::Lower);
     expect_eq!(rt; &buffer[..len], b"abc".as_slice());
-}
 
-fn next_match_example(rt: &Test) {
     expect_eq!(rt; next_match("foo_bar_baz", 5, "ba"), Some(8));
 }

@@ -36,7 +36,8 @@ fn each_request_in_turn(rt: HostRuntime) -> Result<(), Fail> {
         check_run(&test, words, long_text(), heap);
         check_run(&test, words, long.as_str(), large);
         for len in 0..400 {
-            check_once(&test, words, long.as_str().get(..len).unwrap_or(""));
+            let input = long.as_str().get(..len).unwrap_or("");
+            let _ = run_once(&test, "run::run", &run_on(&test, words, input));
         }
     }
     test.end()
@@ -55,35 +56,9 @@ fn each_request_of_a_merge(rt: HostRuntime) -> Result<(), Fail> {
     test.end()
 }
 
-fn check_once(test: &Test, words: Words, input: &str) {
-    let input = input.as_bytes();
-    let report = report_by(test, words, input);
-    let report = report.as_slice();
-    let _ = run_once(
-        test,
-        "run::run",
-        &Run {
-            words,
-            input,
-            report,
-        },
-    );
-}
-
 /// The report on the input is written whole, or nothing is where a request is refused; none but these is made.
 fn check_run(test: &Test, words: Words, input: &str, requests: u32) {
-    let input = input.as_bytes();
-    let report = report_by(test, words, input);
-    let report = report.as_slice();
-    let asked = each_refused(
-        test,
-        "run::run",
-        &Run {
-            words,
-            input,
-            report,
-        },
-    );
+    let asked = each_refused(test, "run::run", &run_on(test, words, input));
     let wanted = if can_refuse(test.alloc) { requests } else { 0 };
     same(test, &asked.requests, &wanted, &(words, input.len()));
 }
@@ -93,7 +68,15 @@ fn check_run(test: &Test, words: Words, input: &str, requests: u32) {
 struct Run<'a> {
     words: Words,
     input: &'a [u8],
-    report: &'a [u8],
+    report: Vec<u8>,
+}
+
+fn run_on<'a>(test: &Test, words: Words, input: &'a str) -> Run<'a> {
+    Run {
+        words,
+        input: input.as_bytes(),
+        report: report_by(test, words, input.as_bytes()),
+    }
 }
 
 impl Refusable for Run<'_> {
@@ -124,7 +107,7 @@ impl Refusable for Run<'_> {
 
     fn check(&self, test: &Test, ended: Result<Vec<u8>, (Kind, Vec<u8>)>) {
         let is_right = match &ended {
-            Ok(taken) => taken.as_slice() == self.report,
+            Ok(taken) => *taken == self.report,
             Err((kind, taken)) => *kind == Kind::OutOfMemory && taken.is_empty(),
         };
         holds(test, is_right, &(self.words, self.input.len()));

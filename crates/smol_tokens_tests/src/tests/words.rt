@@ -24,54 +24,44 @@ pub fn mode_by(test: &Test, words: &[&str]) -> Mode {
     }
 }
 
-fn name_of(mode: &Mode) -> &'static str {
-    match mode {
-        Mode::Show => "show",
-        Mode::Join => "join",
-        Mode::Lower => "lower",
-        Mode::Upper => "upper",
-        Mode::Replace(_, _) => "replace",
-        Mode::Tokens => "tokens",
-        Mode::Merge => "merge",
-    }
-}
+/// Words, and how the mode prints that they ask for.
+static MODES: [(&[&str], &str); 7] = table! {
+    (&[], "Show");
+    (&["show"], "Show");
+    (&["join"], "Join");
+    (&["lower"], "Lower");
+    (&["upper"], "Upper");
+    (&["tokens"], "Tokens");
+    (&["merge"], "Merge");
+};
 
-static WORDS: [&str; 6] = ["show", "join", "lower", "upper", "tokens", "merge"];
+static REPLACEMENTS: [(&[&str], &str); 2] = table! {
+    (&["replace", "", "x"], "Replace(\"\", \"x\")");
+    (&["replace", "ba", ""], "Replace(\"ba\", \"\")");
+};
 
 #[test]
 fn modes(rt: HostRuntime) -> Result<(), Fail> {
     let test = Test::begin(rt);
-    check_name(&test, &[], "show");
-    for word in &WORDS {
-        check_name(&test, &[word], word);
+    for &(words, printed) in &MODES {
+        check_mode(&test, words, printed);
     }
     test.end()
-}
-
-fn check_name(test: &Test, words: &[&str], name: &str) {
-    let mode = mode_by(test, words);
-    let found = name_of(&mode);
-    holds(test, found == name, &(words, found, name));
 }
 
 #[test]
 fn replacements(rt: HostRuntime) -> Result<(), Fail> {
     let test = Test::begin(rt);
-    check_replacement(&test, "", "x");
-    check_replacement(&test, "ba", "");
+    for &(words, printed) in &REPLACEMENTS {
+        check_mode(&test, words, printed);
+    }
     test.end()
 }
 
-fn check_replacement(test: &Test, from: &str, to: &str) {
-    let mode = mode_by(test, &["replace", from, to]);
-    holds(test, is_replacement(&mode, from, to), &(from, to));
-}
-
-fn is_replacement(mode: &Mode, from: &str, to: &str) -> bool {
-    match mode {
-        Mode::Replace(first, second) => first.as_str() == from && second.as_str() == to,
-        _ => false,
-    }
+fn check_mode(test: &Test, words: &[&str], printed: &str) {
+    let mode = mode_by(test, words);
+    let found = ok_string(test, format!(in test.alloc; "{mode:?}"));
+    same_text(test, found.as_str(), printed, &words);
 }
 
 static WRONG: [&[&str]; 21] = [
