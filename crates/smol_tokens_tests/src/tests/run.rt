@@ -9,7 +9,6 @@ use super::words::mode_by;
 use smol_str::stream::CHUNK;
 use smol_tokens_core::fault::RunFault;
 use smol_tokens_core::run::run;
-use std::alloc::Global;
 use std::hash::{BuildHasherDefault, FoldHasher};
 use std::io::{Read, Write};
 use test_support::*;
@@ -46,13 +45,14 @@ pub fn kind_of(fault: &RunFault) -> Kind {
     }
 }
 
-/// A run in the mode of these words.
+/// Runs in the mode of these words; those that write, on this input.
 #[derive(Drop)]
-struct Runs {
+struct Runs<'a> {
     words: Words,
+    input: &'a [u8],
 }
 
-impl Reading for Runs {
+impl Reading for Runs<'_> {
     fn name(&self) -> &str {
         self.words.first().copied().unwrap_or("no words")
     }
@@ -67,7 +67,7 @@ impl Reading for Runs {
 
     /// What was written; nothing is, where the run has a fault.
     fn read(&self, test: &Test, reader: &mut Trickle<'_>) -> Result<Vec<u8>, Kind> {
-        let mut writer = sound_drip(test.alloc);
+        let mut writer = empty_drip(test.alloc, usize::MAX, 0, None);
         match run_by(test, self.words, reader, &mut writer) {
             None => Ok(writer.taken),
             Some(kind) => {
@@ -78,19 +78,7 @@ impl Reading for Runs {
     }
 }
 
-/// A writer that never fails.
-fn sound_drip(alloc: Global) -> Drip {
-    empty_drip(alloc, usize::MAX, 0, None)
-}
-
-/// A run on an input.
-#[derive(Drop)]
-struct RunsOn<'a> {
-    words: Words,
-    input: &'a [u8],
-}
-
-impl Writing for RunsOn<'_> {
+impl Writing for Runs<'_> {
     fn name(&self) -> &str {
         self.words.first().copied().unwrap_or("no words")
     }
@@ -105,9 +93,8 @@ impl Writing for RunsOn<'_> {
 fn fails_at_each_read_of_an_input(rt: HostRuntime) -> Result<(), Fail> {
     let test = Test::begin(rt);
     for row in &all_rows(&test) {
-        let (words, report) = (row.words, row.report.as_str());
-        let input = row.input.as_str().as_bytes();
-        fails_at_each_read(&test, &Runs { words }, input, report.as_bytes());
+        let (words, input) = (row.words, row.input.as_bytes());
+        fails_at_each_read(&test, &Runs { words, input }, input, row.report.as_bytes());
     }
     test.end()
 }
@@ -116,9 +103,8 @@ fn fails_at_each_read_of_an_input(rt: HostRuntime) -> Result<(), Fail> {
 fn fails_at_each_write_of_a_report(rt: HostRuntime) -> Result<(), Fail> {
     let test = Test::begin(rt);
     for row in &all_rows(&test) {
-        let (words, report) = (row.words, row.report.as_str());
-        let input = row.input.as_str().as_bytes();
-        fails_at_each_write(&test, &RunsOn { words, input }, report.as_bytes());
+        let (words, input) = (row.words, row.input.as_bytes());
+        fails_at_each_write(&test, &Runs { words, input }, row.report.as_bytes());
     }
     test.end()
 }
@@ -143,7 +129,7 @@ fn end_after_each_byte(rt: HostRuntime) -> Result<(), Fail> {
 /// What is returned after the whole input came.
 fn check_ended(test: &Test, words: Words, input: &[u8], step: usize, wanted: Option<Kind>) {
     let mut reader = trickle_of(test, input, step, 0);
-    let ended = Runs { words }.read(test, &mut reader).err();
+    let ended = Runs { words, input }.read(test, &mut reader).err();
     let row = (words, input.len());
     same(test, &ended, &wanted, &row);
     holds(test, reader.rest.is_empty(), &row);
