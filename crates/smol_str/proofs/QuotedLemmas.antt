@@ -1,5 +1,5 @@
 -- JSON strings by their bytes: what is written for a text, and what is read as it.
-use Rattle.smol_str.proofs.Common.{◌≡◌, ◌↔◌, Bool, None, Option, Bor, IfSome, MatchOption, IsTrue, ◌≤◌, ◌<◌, ℕ, List, [], ◌∷◌, ◌++◌, true, Some, refl, sym, ap, ◌∙◌, subst, arith, list_all, length, take, drop, append-nil, common_steps, nat_tests, encode, encode_utf8_all, take-append-drop, and_parts, IsUtf8, chars, encodes-chars, encodes_same, encodes-append, append_assoc, Meaning, IsValueOf, Result, IfOk, String, Global, string_bytes, IfOk-weaker, IsUtf8-append, IsUtf8-from_ascii, IsAscii-cons, IsAscii-nil}
+use Rattle.smol_str.proofs.Common.{◌≡◌, ◌↔◌, Bool, None, Option, Bor, IfSome, MatchOption, IsTrue, ◌≤◌, ◌<◌, ℕ, List, [], ◌∷◌, ◌++◌, true, Some, refl, sym, ap, ◌∙◌, subst, arith, list_all, length, take, drop, append-nil, common_steps, nat_tests, encode, encode_utf8_all, take-append-drop, and_parts, IsUtf8, chars, encodes-chars, encodes_same, encodes-append, append_assoc, Meaning, IsValueOf, Result, IfOk, String, Global, string_bytes, IfOk-weaker}
 use Rattle.std.proofs.Common.{◌≢◌, ap₂, option_and_then}
 use Rattle.std.specs.List.{prefix_len}
 use Rattle.std.proofs.lemmas.Grind.{flat_map-append}
@@ -51,11 +51,6 @@ some_bytes [] d e = cc
 some_bytes (b ∷ bs) d e = omega arith
 
 -- ---- plain text
-
-pub IsUtf8-in_quotes : (s : List ℕ) → IsUtf8 s → IsUtf8 (in_quotes s)
-IsUtf8-in_quotes s u =
-    let quote : IsUtf8 (34 ∷ []) = IsUtf8-from_ascii _ (IsAscii-cons 34 [] (omega arith) IsAscii-nil) in
-    IsUtf8-append (34 ∷ []) (s ++ 34 ∷ []) quote (IsUtf8-append s (34 ∷ []) u quote)
 
 escape-plain : (s : List ℕ) → list_all is_plain s ≡ true → escape s ≡ s
 escape-plain [] h = refl

@@ -148,11 +148,11 @@ fn written(alloc: Global, text: &str) -> Result<String, AllocError>
 fn in_quotes(alloc: Global, text: &str) -> Result<String, AllocError>
     ensures { IfOk result (λ json. string_bytes json ≡ in_quotes text.now) }
 {
-    let mut json = Vec::with_capacity(alloc, text.len() + 2)?;
-    json.push(b'"')?;
-    json.extend_from_slice(text.as_bytes())?;
-    json.push(b'"')?;
-    Ok(unsafe { String::from_utf8_unchecked(json) })
+    let mut json = String::with_capacity(alloc, text.len() + 2)?;
+    json.push('"')?;
+    json.push_str(text)?;
+    json.push('"')?;
+    Ok(json)
 }
 
 /// The compact JSON of a text that needs escapes.

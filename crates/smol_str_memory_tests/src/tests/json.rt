@@ -43,7 +43,7 @@ fn check_written(test: &Test, value: &SmolStr, json: &str) {
 }
 
 /// JSON strings, and what is read of them.
-static READ: [(&str, &str); 15] = [
+static READ: [(&str, &str); 16] = [
     ("\"Hello, World\"", "Hello, World"),
     ("\"\"", ""),
     (" \t\n\r\"ab\" ", "ab"),
@@ -61,6 +61,7 @@ static READ: [(&str, &str); 15] = [
         "abcdefghijklmnopqrstuvwxyzabcdefghijklmnopqrstuvwxyz",
     ),
     ("\"a\\/\\\"b\"", "a/\"b"),
+    ("\"a\\n\\u0041\"", "a\nA"),
     ("\"\\u00e9\"", "é"),
     ("\"\\ud83e\\udd80\"", "🦀"),
     ("\"\\u2028\"", "\u{2028}"),
@@ -83,6 +84,42 @@ fn check_read(test: &Test, json: &str, text: &str) {
     }
 }
 
+/// The escapes of two bytes, and what they stand for.
+static ESCAPES: [(&str, &str); 7] = [
+    ("\\\"", "\""),
+    ("\\\\", "\\"),
+    ("\\b", "\u{8}"),
+    ("\\f", "\u{c}"),
+    ("\\n", "\n"),
+    ("\\r", "\r"),
+    ("\\t", "\t"),
+];
+
+static BORDERS: [usize; 7] = [0, 15, 16, 17, 31, 32, 33];
+
+// Two in a row, and at both ends of a string.
+#[test]
+fn escapes(rt: HostRuntime) -> Result<(), Fail> {
+    let test = Test::begin(rt);
+    for &(escape, character) in &ESCAPES {
+        for &count in &BORDERS {
+            let text = around(&test, character, count);
+            let escaped = around(&test, escape, count);
+            let json = ok_string(&test, joined(test.alloc, "\"", escaped.as_str()));
+            let json = ok_string(&test, joined(test.alloc, json.as_str(), "\""));
+            check_read(&test, json.as_str(), text.as_str());
+            check_written(&test, &test.value(text.as_str()), json.as_str());
+        }
+    }
+    test.end()
+}
+
+/// So many letters between two of a text.
+fn around(test: &Test, text: &str, count: usize) -> String {
+    let back = ok_string(test, repeated_and(test.alloc, "a", count, text));
+    ok_string(test, joined(test.alloc, text, back.as_str()))
+}
+
 /// JSON values that are no strings.
 static NOT_STRINGS: [&str; 14] = [
     "12",
@@ -101,7 +138,7 @@ static NOT_STRINGS: [&str; 14] = [
     "{\"a\": 1, \"b\": {}}",
 ];
 
-static NOT_JSON: [&str; 24] = [
+static NOT_JSON: [&str; 26] = [
     "",
     "\"",
     "\"\"\"",
@@ -119,6 +156,8 @@ static NOT_JSON: [&str; 24] = [
     "01",
     "1e999",
     "\"\\x41\"",
+    "\"a\\n\\x\"",
+    "\"a\\n\\",
     "\"a\nb\"",
     "\"\\ud800\"",
     "\"\\udc00\"",

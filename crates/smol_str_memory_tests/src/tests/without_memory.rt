@@ -1,6 +1,7 @@
 //! Calls that ask for no memory: one line a call, by its name, with every request refused. Rows stand in functions of their
 //! own: the proof of a row costs more with each value that its function holds.
 use smol_str::borsh::length_prefix;
+use smol_str::json_string::from_json;
 use smol_str::kernel::{AsciiCase, convert_while_ascii, next_match};
 use smol_str::stream::write_steps;
 use smol_str::{INLINE_CAP, Place, SmolStr, SmolStrBuilder, StrExt, ValueAlloc};
@@ -46,6 +47,7 @@ fn maker_rows(test: &Test, alloc: Global) {
         "SmolStr::default": SmolStr::default().is_empty();
         "SmolStrBuilder::new": SmolStrBuilder::new(alloc).is_empty();
         "ValueAlloc::builder": alloc.builder().is_empty();
+        "json_string::from_json": from_json(alloc, "\"a\\n\\\"b\"").is_ok();
         "StrExt::to_lowercase_smolstr": "aßΣC".to_lowercase_smolstr(alloc).is_ok();
         "StrExt::to_uppercase_smolstr": "aßΣC".to_uppercase_smolstr(alloc).is_ok();
     }
