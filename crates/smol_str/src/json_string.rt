@@ -232,9 +232,10 @@ fn push_control(json: &mut String, byte: u8) -> Result<(), AllocError>
 ///
 /// The whole text is read first: one that is no JSON is [`JsonFault::Json`], one that is another
 /// JSON value [`JsonFault::NotString`]. Lists and objects may nest 127 deep, as `serde_json` reads
-/// them. Reading needs memory for a copy of the text, so the call may be refused with
-/// [`JsonFault::OutOfMemory`]. It never is where the text is resident and *plain*: no control character,
-/// quote or backslash stands between the quotes.
+/// them. A string whose escapes all have two bytes is read in place, and needs memory only where its
+/// text is not short, which is only tested. Other reading needs memory for a copy of the text, so the
+/// call may be refused with [`JsonFault::OutOfMemory`]. It never is where the text is resident and
+/// *plain*: no control character, quote or backslash stands between the quotes.
 ///
 /// ```
 /// let name = json_string::from_json(alloc, "\"if\"")?;

@@ -25,14 +25,14 @@ enum Call {
 
 const TO_JSON: Wants = Exactly(
     [1, 1, 2, 1, 1, 1, 1],
-    [2, 41, 504, 42, 5_002, 5_002, 70_002],
+    [2, 41, 984, 42, 5_002, 5_002, 70_002],
 );
 
-const FROM_JSON: Wants = Exactly([0, 0, 1, 2, 2, 2, 2], [0, 0, 161, 80, 5_040, 5_040, 70_040]);
+const FROM_JSON: Wants = Exactly([0, 0, 2, 2, 2, 2, 2], [0, 0, 399, 80, 5_040, 5_040, 70_040]);
 
 const FROM_JSON_SPACED: Wants = Exactly(
-    [0, 0, 1, 2, 2, 2, 2],
-    [0, 0, 161, 80, 5_040, 5_040, 70_040],
+    [0, 0, 2, 2, 2, 2, 2],
+    [0, 0, 399, 80, 5_040, 5_040, 70_040],
 );
 
 const FROM_JSON_ESCAPED: Wants = Exactly(
