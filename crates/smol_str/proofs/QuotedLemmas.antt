@@ -1,6 +1,6 @@
 -- JSON strings by their bytes: what is written for a text, and what is read as it.
-use Rattle.smol_str.proofs.Common.{◌≡◌, ◌↔◌, Bool, None, Option, Bor, IfSome, MatchOption, IsTrue, ◌≤◌, ◌<◌, ℕ, List, [], ◌∷◌, ◌++◌, true, Some, refl, sym, ap, ◌∙◌, subst, arith, list_all, length, take, drop, append-nil, common_steps, nat_tests, encode, encode_utf8_all, take-append-drop, and_parts, IsUtf8, chars, encodes-chars, encodes_same, encodes-append, append_assoc, Meaning, IsValueOf, Result, IfOk, String, Global, string_bytes, IfOk-weaker}
-use Rattle.std.proofs.Common.{◌≢◌, ap₂, option_and_then}
+use Rattle.smol_str.proofs.Common.{◌≡◌, ◌↔◌, Bool, IsTrue, ◌≤◌, ◌<◌, ℕ, List, [], ◌∷◌, ◌++◌, true, Some, refl, sym, ap, ◌∙◌, subst, arith, list_all, length, take, drop, append-nil, common_steps, nat_tests, encode, encode_utf8_all, take-append-drop, and_parts, IsUtf8, chars, encodes-chars, encodes_same, encodes-append, append_assoc, Meaning, IsValueOf, Result, IfOk, String, Global, string_bytes, IfOk-weaker}
+use Rattle.std.proofs.Common.{ap₂, option_and_then}
 use Rattle.std.specs.List.{prefix_len}
 use Rattle.std.proofs.lemmas.Grind.{flat_map-append}
 use Rattle.std.proofs.lemmas.List.Folds.{list_all-append}
@@ -119,40 +119,27 @@ plain-encoded (c ∷ t) h =
     let parts = and_parts (is_plain c) (list_all is_plain t) h in
     rw (list_all-append, plain-character c parts.0 (form c), plain-encoded t parts.1) refl
 
--- the quote behind white space, and the one before it
-pub opened : (text : List ℕ) (r : Option (Bor (List ℕ))) → MatchOption r ((rest : List ℕ) → drop (prefix_len is_space text) text ≢ 34 ∷ rest)
-    (λ x. drop (prefix_len is_space text) text ≡ 34 ∷ x.now)
-    → IfSome r (λ rest. (g : List ℕ) × IsTrue (list_all is_space g) × (text ≡ g ++ 34 ∷ rest.now))
-opened text None h = tt
-opened text (Some x) h = (take (prefix_len is_space text) text, run-passes is_space text, cc (take-append-drop (prefix_len is_space text) text))
-
-pub not-opened : (text : List ℕ) (r : Option (Bor (List ℕ))) → MatchOption r ((rest : List ℕ) → drop (prefix_len is_space text) text ≢ 34 ∷ rest)
-    (λ x. drop (prefix_len is_space text) text ≡ 34 ∷ x.now)
-    → r ≡ None → (g rest : List ℕ) → IsTrue (list_all is_space g) → ¬ (text ≡ g ++ 34 ∷ rest)
-not-opened text None h none g rest spaces is = h rest (ap (λ b. drop (prefix_len is_space b) b) is ∙ cut-run is_space g rest 34 spaces refl)
-not-opened text (Some x) h none g rest spaces is = cc
-
+-- a quote before white space
 pub closed : (rest : List ℕ) (behind : List ℕ) (r : Bool) → rest ≡ 34 ∷ behind → IsTrue r ↔ IsTrue (list_all is_space behind)
     → IsTrue r ↔ ((h : List ℕ) × IsTrue (list_all is_space h) × (rest ≡ 34 ∷ h))
 closed rest behind r is spaces =
     (λ t. (behind, spaces.0 t, is), λ w. let same : w.0 ≡ behind = cc in spaces.1 (subst (λ b. IsTrue (list_all is_space b)) same w.1))
 
--- what was cut is read
-pub read-cut : (text rest s behind : List ℕ) → ((g : List ℕ) × IsTrue (list_all is_space g) × (text ≡ g ++ 34 ∷ rest))
-    → rest ≡ escape s ++ behind → ((h : List ℕ) × IsTrue (list_all is_space h) × (behind ≡ 34 ∷ h)) → read text ≡ Some (value.string s)
-read-cut text rest s behind opened inner closed =
-    cc (read-spaced opened.0 s closed.0 opened.1 closed.1)
+pub opens : (text t : List ℕ) (h : IsPlainJson text t) → drop (prefix_len is_space text) text ≡ 34 ∷ (encode_utf8_all t ++ 34 ∷ h.1.1)
+opens text t h = ap (λ b. drop (prefix_len is_space b) b) h.1.4 ∙ cut-run is_space h.1.0 _ 34 h.1.2 refl
 
--- plain JSON is closed behind its plain text
-pub closes : (text rest behind t : List ℕ) → ((g : List ℕ) × IsTrue (list_all is_space g) × (text ≡ g ++ 34 ∷ rest))
-    → behind ≡ drop (prefix_len is_plain rest) rest → IsPlainJson text t → (h : List ℕ) × IsTrue (list_all is_space h) × (behind ≡ 34 ∷ h)
-closes text rest behind t opened drops h =
-    let e = encode_utf8_all t in
-    let opens : 34 ∷ rest ≡ 34 ∷ (e ++ 34 ∷ h.1.1) =
-    sym (cut-run is_space opened.0 rest 34 opened.1 refl) ∙ ap (λ b. drop (prefix_len is_space b) b) (sym opened.2 ∙ h.1.4)
-    ∙ cut-run is_space h.1.0 _ 34 h.1.2 refl in
-    let same : rest ≡ e ++ 34 ∷ h.1.1 = cc in
-    (h.1.1, h.1.3, drops ∙ ap (λ b. drop (prefix_len is_plain b) b) same ∙ cut-run is_plain e h.1.1 34 (plain-encoded t h.0) refl)
+-- what was cut is read
+module _ (text rest behind : List ℕ) (opened : drop (prefix_len is_space text) text ≡ 34 ∷ rest) where
+  pub read-cut : (s : List ℕ) → rest ≡ escape s ++ behind → ((h : List ℕ) × IsTrue (list_all is_space h) × (behind ≡ 34 ∷ h))
+      → read text ≡ Some (value.string s)
+  read-cut s inner closed =
+      let whole : text ≡ take (prefix_len is_space text) text ++ 34 ∷ (escape s ++ 34 ∷ closed.0) = cc (take-append-drop (prefix_len is_space text) text) in
+      ap read whole ∙ read-spaced _ s closed.0 (run-passes is_space text) closed.1
+
+  pub closes : (t : List ℕ) → IsPlainJson text t → behind ≡ drop (prefix_len is_plain rest) rest → (h : List ℕ) × IsTrue (list_all is_space h) × (behind ≡ 34 ∷ h)
+  closes t h drops =
+      let same : rest ≡ encode_utf8_all t ++ 34 ∷ h.1.1 = cc (opens text t h) in
+      (h.1.1, h.1.3, drops ∙ ap (λ b. drop (prefix_len is_plain b) b) same ∙ cut-run is_plain (encode_utf8_all t) h.1.1 34 (plain-encoded t h.0) refl)
 
 -- plain JSON of a text is read as that text
 pub read-plain : (b t : List ℕ) → IsPlainJson b t → IsJsonText b t
@@ -163,6 +150,10 @@ read-plain b t h =
 
 pub quoted-plain : (b t : List ℕ) → IsPlain t → b ≡ in_quotes (encode_utf8_all t) → IsPlainJson b t
 quoted-plain b t h is = (h, ([], [], refl, refl, is))
+
+-- the one value of a JSON text
+pub value-same : (text t : List ℕ) (v : Meaning) → IsJsonText text v.text → IsValueOf v.text v → IsJsonText text t → IsValueOf t v
+value-same text t v reads is e = subst (λ x. IsValueOf x v) (encodes_same v.text t cc) is
 
 -- the value of the text that was read
 module _ (text s : List ℕ) (u : IsUtf8 s) (reads : read text ≡ Some (value.string s)) where

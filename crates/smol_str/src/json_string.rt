@@ -3,9 +3,9 @@
 //! serde's traits write and read a value too, in any format; the contracts of these calls speak of the
 //! JSON value and of the bytes. What a JSON value is, and which text reads as which value, is
 //! `serde_json`'s own.
-ghost use Rattle.std.specs.Prelude.{◌≡◌, ◌↔◌, ◌<◌, ◌/◌, ◌%◌, ℕ, List, [], ◌∷◌, ◌++◌, false, IsTrue, length, IfOk, IfErr, OnOk, OnErr, IsOkAnd, IfSome, None, Some, encode_utf8_all};
+ghost use Rattle.std.specs.Prelude.{◌≡◌, ◌↔◌, ◌<◌, ◌/◌, ◌%◌, ℕ, List, [], ◌∷◌, ◌++◌, false, IsTrue, MatchOption, drop, length, IfOk, IfErr, OnOk, OnErr, IsOkAnd, IfSome, None, Some, encode_utf8_all};
 ghost use Rattle.std.specs.Char.{digit_char};
-ghost use Rattle.std.specs.List.{list_all};
+ghost use Rattle.std.specs.List.{list_all, prefix_len};
 ghost use Rattle.std.specs.Str.{IsUtf8};
 ghost use Rattle.std.specs.String.{string_bytes};
 ghost use Rattle.json.specs.Print.{escape, escape_byte};
@@ -269,10 +269,9 @@ fn plain_text(text: &str) -> Option<&str>
 /// What comes after white space and a quote.
 #[inline(always)]
 fn behind_quote(text: &str) -> Option<&str>
-    ensures some { IfSome result (λ rest. (before : List ℕ) × IsTrue (list_all is_space before)
-        × (text.now ≡ before ++ 34 ∷ rest.now)) }
-    ensures none { result ≡ None → (before rest : List ℕ) → IsTrue (list_all is_space before) →
-        ¬ (text.now ≡ before ++ 34 ∷ rest) }
+    ensures { MatchOption result
+        ((rest : List ℕ) → ¬ (drop (prefix_len is_space text.now) text.now ≡ 34 ∷ rest))
+        (λ rest. drop (prefix_len is_space text.now) text.now ≡ 34 ∷ rest.now) }
 {
     without_spaces(text).strip_prefix('"')
 }
