@@ -1,10 +1,10 @@
 //! Calls that read a wire form of the text, or all bytes of it.
 use super::Wants::Exactly;
-use super::things::{Thing, nothing_of, things_of};
+use super::things::{IntoThing, Thing, nothing_of, things_of};
 use super::{FREE, Row, SHARED, Wants, check_calls};
 use Call::*;
 use smol_str::SmolStr;
-use smol_str::borsh::{BorshDeserialize, deserialize_limited, from_wire, split_wire};
+use smol_str::borsh::{BorshDeserialize, DecodeFault, deserialize_limited, from_wire, split_wire};
 use smol_str::stream::{fill, read_all, read_up_to};
 use std::alloc::Global;
 use test_support::*;
@@ -66,8 +66,8 @@ impl super::Call for Call {
         let mut reader = bytes.as_slice();
         match self {
             Fill => filled(text.as_bytes(), bytes),
-            FromWire => things_of(from_wire(alloc, reader)),
-            SplitWire => things_of(split_wire(alloc, reader)),
+            FromWire => found(from_wire(alloc, reader)),
+            SplitWire => split(alloc, reader),
             DeserializeReader => things_of(SmolStr::deserialize_reader(alloc, &mut reader)),
             DeserializeLimited => things_of(deserialize_limited(alloc, &mut reader, text.len())),
             ReadUpTo => nothing_of(read_up_to(alloc, &mut reader, text.len())),
@@ -80,6 +80,20 @@ fn form_of(test: &Test, size: &[u8], text: &str) -> Vec<u8> {
     let mut form = ok_bytes(test, Vec::from_slice(test.alloc, size));
     ok(test, form.extend_from_slice(text.as_bytes()));
     form
+}
+
+fn found(outcome: Result<(SmolStr, usize), DecodeFault>) -> Result<Thing, Thing> {
+    match outcome {
+        Ok((value, _)) => Ok(Thing::Value(value)),
+        Err(fault) => Err(fault.into_thing()),
+    }
+}
+
+fn split(alloc: Global, bytes: &[u8]) -> Result<Thing, Thing> {
+    match split_wire(alloc, bytes) {
+        Ok((value, _)) => Ok(Thing::Value(value)),
+        Err(fault) => Err(fault.into_thing()),
+    }
 }
 
 fn filled(mut reader: &[u8], mut bytes: Vec<u8>) -> Result<Thing, Thing> {

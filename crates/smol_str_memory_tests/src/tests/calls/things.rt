@@ -95,13 +95,6 @@ impl IntoThing for BoxedStr {
     }
 }
 
-/// A value, and where its form ends.
-impl<T: Drop> IntoThing for (SmolStr, T) {
-    fn into_thing(self) -> Thing {
-        Thing::Value(self.0)
-    }
-}
-
 /// A borrowed text that was handed in is no thing.
 impl IntoThing for CowStr<'_> {
     fn into_thing(self) -> Thing {
