@@ -1,6 +1,6 @@
 //! Lines cut at a separator, and joined again.
-ghost use Rattle.std.specs.Prelude.{◌≡◌, ◌≢◌, ◌<◌, ◌++◌, ◌∷◌, [], ℕ, List, length, map, IfNone, IfOk, IfSome, OnErr};
-ghost use Rattle.std.specs.Str.{chars};
+ghost use Rattle.std.specs.Prelude.{◌≡◌, ◌≢◌, ◌<◌, ◌++◌, ◌∷◌, [], ℕ, List, length, map, IfNone, IfOk, IfSome, MatchBool, OnErr, encode_utf8_all};
+ghost use Rattle.std.specs.Str.{chars, trim};
 ghost use Rattle.smol_str.specs.Cut.{IsFirstAfter, Occurs, joined_by};
 ghost use Rattle.smol_str.specs.Joined.{str_text};
 ghost use Rattle.smol_str.specs.Meaning.{AreValuesOf, IsValueOf, texts};
@@ -65,6 +65,7 @@ pub fn again(alloc: Global, line: &str, separator: &str) -> Result<SmolStr, Allo
 }
 
 /// What stands before the first equals sign of a line, and behind it.
+#[tactic(auto, using(smol_str::proofs::CallerLemmas::cutting))]
 pub fn key_and_value(line: &str) -> Option<(&str, &str)>
     ensures whole { IfSome result (λ it. chars line.now ≡ chars it.0.now ++ (61 ∷ chars it.1.now)) }
     ensures first { IfSome result (λ it. IsFirstAfter (61 ∷ []) (chars it.0.now)) }
@@ -74,9 +75,44 @@ pub fn key_and_value(line: &str) -> Option<(&str, &str)>
 }
 
 /// What follows a prefix, if the name has it.
+#[tactic(auto, using(smol_str::proofs::CallerLemmas::cutting))]
 pub fn without_prefix<'a>(name: &'a str, prefix: &str) -> Option<&'a str>
     ensures rest { IfSome result (λ rest. chars name.now ≡ chars prefix.now ++ chars rest.now) }
     ensures none { IfNone result ((rest : List ℕ) → chars name.now ≢ chars prefix.now ++ rest) }
 {
     name.strip_prefix(prefix)
+}
+
+/// What stands before a suffix, if the name has it.
+#[tactic(auto, using(smol_str::proofs::CallerLemmas::cutting))]
+pub fn without_suffix<'a>(name: &'a str, suffix: &str) -> Option<&'a str>
+    ensures front { IfSome result (λ front. chars name.now ≡ chars front.now ++ chars suffix.now) }
+    ensures none { IfNone result ((front : List ℕ) → chars name.now ≢ front ++ chars suffix.now) }
+{
+    name.strip_suffix(suffix)
+}
+
+/// Whether a name has a prefix.
+#[tactic(auto, using(smol_str::proofs::CallerLemmas::cutting))]
+pub fn has_prefix(name: &str, prefix: &str) -> bool
+    ensures { MatchBool result ((rest : List ℕ) × (chars name.now ≡ chars prefix.now ++ rest))
+        ((rest : List ℕ) → chars name.now ≢ chars prefix.now ++ rest) }
+{
+    name.starts_with(prefix)
+}
+
+/// What stands before a value's suffix, if it has it.
+#[tactic(auto, using(smol_str::proofs::CallerLemmas::texts))]
+pub fn stem<'a>(name: &'a SmolStr, suffix: &str) -> Option<&'a str>
+    ensures { IfSome result (λ front. name.now.text ≡ chars front.now ++ chars suffix.now) }
+{
+    without_suffix(name, suffix)
+}
+
+/// A name without the white space around it.
+#[tactic(auto, using(smol_str::proofs::CallerLemmas::texts))]
+pub fn trimmed(alloc: Global, name: &SmolStr) -> Result<SmolStr, AllocError>
+    ensures { IfOk result (λ v. IsValueOf (chars (trim (encode_utf8_all name.now.text))) v) }
+{
+    SmolStr::new(alloc, name.trim())
 }

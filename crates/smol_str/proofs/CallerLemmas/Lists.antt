@@ -1,5 +1,5 @@
 -- Lists of values, and what they are as texts.
-use Rattle.smol_str.proofs.Common.{◌≡◌, ℕ, ◌+◌, ◌<◌, List, [], ◌∷◌, ◌++◌, length, get_or, Bool, not, cond, Option, Some, None, ap, ◌∙◌, arith, rules, nat_tests, length-append, length-map, map-append, nat_cmp, slice_cmp, slice_get, option_map, Meaning}
+use Rattle.smol_str.proofs.Common.{◌≡◌, ℕ, ◌+◌, ◌<◌, List, [], ◌∷◌, ◌++◌, length, Bool, not, cond, Some, None, ap, ◌∙◌, arith, nat_tests, length-append, length-map, map-append, nat_cmp, slice_cmp, slice_get, option_map, Meaning}
 use Rattle.std.proofs.Common.{is_some}
 use Rattle.std.specs.List.{position}
 use Rattle.std.specs.List.Sorted.{IsSorted, IsSortedByKey}

@@ -1,7 +1,5 @@
-use Rattle.smol_str.proofs.CallerLemmas.{SplitAtChar-next}
+use Rattle.smol_str.proofs.CallerLemmas.{cutting}
 use Rattle.uses.proofs.cutting.fields.Goals as goal
 
-pub loop-field-preserved : goal.loop-field-preserved
-loop-field-preserved c =
-    SplitAtChar-next _ _ _ _ _ _ _ _ _ c.loop-field.invariant c.next.ensures.steps c.in-Some.is c.in_ok-new.ensures.ok
-    c.in_ok-push.ensures.items
+pub returns : goal.returns
+returns c = search cutting

@@ -1,5 +1,8 @@
-use Rattle.smol_str.proofs.CallerLemmas.{SplitAtText}
+-- The values are those of the pieces so far.
+use Rattle.std.proofs.Common.{map}
+use Rattle.smol_str.specs.Joined.{str_text}
+use Rattle.smol_str.specs.Meaning.{AreValuesOf}
 use Rattle.uses.proofs.cutting.fields_at.Given as goal
 
 abbrev pub invariant-loop-field : goal.invariant-loop-field
-invariant-loop-field l = SplitAtText l.line l.separator l.field-iterator l.fields.items
+invariant-loop-field l = AreValuesOf (map str_text l.yielded) l.fields.items

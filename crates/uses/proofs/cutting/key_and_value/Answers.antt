@@ -1,7 +1,8 @@
-use Rattle.std.proofs.Common.{rules}
-use Rattle.smol_str.proofs.CallerLemmas.{split_once-char}
+use Rattle.smol_str.proofs.CallerLemmas.{cutting}
 use Rattle.uses.proofs.cutting.key_and_value.Goals as goal
 
-pub returns : goal.returns
-returns c =
-    let parts = split_once-char _ c.utf8.line _ 61 c.split_once.ensures.cases in search (rules, parts)
+pub returns-clause-whole : goal.returns-clause-whole
+returns-clause-whole c = search cutting
+
+pub returns-clause-first : goal.returns-clause-first
+returns-clause-first c = search cutting
