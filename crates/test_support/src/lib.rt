@@ -10,6 +10,7 @@ pub use refuse::{
     Asked, Refusable, Refusals, can_refuse, count_asked, count_blocks, count_bytes, count_held,
     each_refused, end_refusals, made_requests, refuse_all, run_once, start_counts,
 };
+pub use std::alloc::{AllocError, Global};
 pub use std::test::Fail;
 pub use test::{
     Missing, Test, ended, has_text, holds, in_place, is_so, ok, ok_bytes, ok_string, ok_value,

@@ -13,7 +13,6 @@ mod values;
 
 use by_std::{Asks, asked_by, is_asked};
 use smol_str::{BLANK_NEWLINES, BLANK_SPACES, INLINE_CAP, SmolStr};
-use std::alloc::Global;
 use test_support::*;
 use things::Thing;
 

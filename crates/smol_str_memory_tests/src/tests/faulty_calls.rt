@@ -1,5 +1,4 @@
 //! Calls that do wrong where memory is refused: each fails its test.
-use std::alloc::{AllocError, Global};
 use std::cell::Cell;
 use test_support::*;
 

@@ -7,7 +7,6 @@ use smol_str::{
     FormatError, FromUtf8Fault, INLINE_CAP, Place, SmolStr, SmolStrBuilder, ToSmolStr,
     format_smolstr,
 };
-use std::alloc::Global;
 use std::error::Error;
 use std::fmt::{self, Display, Formatter, Write};
 use std::io;

@@ -2,7 +2,6 @@
 use serde_json::{Error, Value};
 use smol_str::SmolStr;
 use smol_str::json_string::{self, JsonFault, from_json, to_json};
-use std::alloc::{AllocError, Global};
 use test_support::*;
 
 /// The error is serde_json's own, with its line and column.

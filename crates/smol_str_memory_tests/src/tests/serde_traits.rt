@@ -2,7 +2,6 @@
 use serde::{Deserialize, Serialize};
 use serde_json::Error;
 use smol_str::{Place, SmolStr};
-use std::alloc::Global;
 use test_support::*;
 
 #[test]

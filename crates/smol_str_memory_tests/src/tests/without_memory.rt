@@ -5,7 +5,6 @@ use smol_str::json_string::from_json;
 use smol_str::kernel::{AsciiCase, convert_while_ascii, next_match};
 use smol_str::stream::write_steps;
 use smol_str::{INLINE_CAP, Place, SmolStr, SmolStrBuilder, StrExt, ValueAlloc};
-use std::alloc::Global;
 use std::cmp::Ordering;
 use std::fmt::Write;
 use std::hash::{DefaultHasher, Hash};

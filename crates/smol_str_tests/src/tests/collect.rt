@@ -5,7 +5,6 @@ ghost use Rattle.std.specs.Vec.Iter.{into_iter_items};
 
 use Place::{Heap, Inline, Static};
 use smol_str::{BLANK_NEWLINES, INLINE_CAP, Place, SmolStr, SmolStrBuilder};
-use std::alloc::{AllocError, Global};
 use std::vec::IntoIter;
 use test_support::*;
 

@@ -1,7 +1,6 @@
 //! Values from other texts, and back.
 use Place::{Heap, Inline, Static};
 use smol_str::{FromUtf8Fault, Place, SmolStr};
-use std::alloc::{AllocError, Global};
 use std::rc::RcStr;
 use test_support::*;
 

@@ -8,7 +8,6 @@ use smol_str::{
     FormatError, FromUtf8Fault, Place, SmolStr, SmolStrBuilder, Step, StrExt, ToSmolStr, build,
     format_smolstr,
 };
-use std::alloc::{AllocError, Global};
 use std::borrow::CowStr;
 use std::cmp::Ordering;
 use std::rc::RcStr;

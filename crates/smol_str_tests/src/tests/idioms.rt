@@ -1,7 +1,6 @@
 //! Values as std's traits have them: lent as a `str`, collected, extended, converted; and what a language tool writes.
 use Place::{Heap, Inline, Static};
 use smol_str::{FormatError, Place, SmolStr, SmolStrBuilder, StrExt, format_smolstr};
-use std::alloc::{AllocError, Global};
 use std::collections::HashMap;
 use std::convert::AsStr;
 use std::mem;

@@ -3,7 +3,6 @@ use super::replace::{assert_rows, upstream_rows};
 use Call::*;
 use Place::{Heap, Inline, Static};
 use smol_str::{Place, SmolStr, StrExt};
-use std::alloc::{AllocError, Global};
 use test_support::*;
 
 /// A case call.

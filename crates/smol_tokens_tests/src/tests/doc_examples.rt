@@ -5,7 +5,6 @@ use smol_str::borsh::{
     from_wire, length_prefix, split_wire,
 };
 use smol_str::stream::{ReadFault, fill, read_up_to, write_steps};
-use std::alloc::Global;
 use std::io;
 use test_support::*;
 

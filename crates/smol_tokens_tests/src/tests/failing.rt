@@ -3,7 +3,6 @@
 ghost use Rattle.std.specs.Prelude.{Some, ◌≡◌, []};
 
 use smol_str::stream::CHUNK;
-use std::alloc::Global;
 use std::fmt::Debug;
 use std::io;
 use std::io::{ErrorKind, Read, Write};

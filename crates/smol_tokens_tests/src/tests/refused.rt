@@ -6,7 +6,6 @@ use super::words::mode_by;
 use smol_str::stream::CHUNK;
 use smol_tokens_core::mode::Mode;
 use smol_tokens_core::run::run;
-use std::alloc::Global;
 use test_support::*;
 
 /// The words of a mode, and how many requests a run makes on each of the inputs.

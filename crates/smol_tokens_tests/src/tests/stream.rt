@@ -10,7 +10,6 @@ use smol_str::borsh::{
 };
 use smol_str::stream::{CHUNK, ReadFault, fill, read_all, read_up_to, write_steps};
 use smol_str::{INLINE_CAP, SmolStr};
-use std::alloc::Global;
 use test_support::*;
 
 /// A call that reads.

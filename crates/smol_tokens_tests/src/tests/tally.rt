@@ -2,7 +2,6 @@
 use smol_str::{Place, SmolStr};
 use smol_tokens_core::fault::RunFault;
 use smol_tokens_core::tally::{AddFault, Tally};
-use std::alloc::Global;
 use test_support::*;
 
 /// Adds a token of this text so many times, and the count is as wanted then.

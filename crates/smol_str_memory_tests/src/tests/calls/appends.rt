@@ -5,7 +5,6 @@ use super::things::{Thing, changed};
 use super::{Row, Wants, check_calls, pieces};
 use Call::*;
 use smol_str::{Piece, SmolStrBuilder};
-use std::alloc::Global;
 use std::fmt::Write;
 use test_support::*;
 

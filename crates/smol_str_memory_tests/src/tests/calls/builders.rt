@@ -5,7 +5,6 @@ use super::things::{Thing, things_of};
 use super::{FREE, KEPT, Row, SHARED, check_calls};
 use Call::*;
 use smol_str::{SmolStr, SmolStrBuilder, ValueAlloc, finished};
-use std::alloc::Global;
 use std::default::Emptied;
 use test_support::*;
 

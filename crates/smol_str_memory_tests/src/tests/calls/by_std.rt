@@ -1,6 +1,5 @@
 //! What calls of std ask the heap for.
 use smol_str::INLINE_CAP;
-use std::alloc::Global;
 use std::rc::RcStr;
 use test_support::*;
 

@@ -4,7 +4,6 @@ use super::things::{Thing, things_of};
 use super::{On, Row, Wants, check_calls, leaked, shape_of};
 use Call::*;
 use smol_str::{SmolStr, StrExt};
-use std::alloc::{AllocError, Global};
 use test_support::*;
 
 #[derive(Clone, Copy)]

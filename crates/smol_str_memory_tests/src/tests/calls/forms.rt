@@ -6,7 +6,6 @@ use Call::*;
 use smol_str::SmolStr;
 use smol_str::borsh::{BorshDeserialize, DecodeFault, deserialize_limited, from_wire, split_wire};
 use smol_str::stream::{fill, read_all, read_up_to};
-use std::alloc::Global;
 use test_support::*;
 
 #[derive(Clone, Copy)]

@@ -6,7 +6,6 @@ use super::{Row, SHARED, Wants, check_calls};
 use serde_json::Value;
 use smol_str::SmolStr;
 use smol_str::json_string::{from_json, from_value, to_json, to_value};
-use std::alloc::Global;
 use test_support::*;
 
 #[derive(Clone, Copy)]

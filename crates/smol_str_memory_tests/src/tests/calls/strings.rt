@@ -5,7 +5,6 @@ use super::things::{Thing, things_of};
 use super::{KEPT, PRINTED, Row, SHARED, check_calls};
 use Call::*;
 use smol_str::{SmolStr, Step, build};
-use std::alloc::Global;
 use std::borrow::CowStr;
 use std::slice::from_ref;
 use test_support::*;

@@ -5,7 +5,6 @@ use super::things::{Thing, things_of};
 use super::{PRINTED, Row, SHARED, Wants, check_calls, pieces};
 use Call::*;
 use smol_str::{SmolStr, SmolStrBuilder, ToSmolStr, format_smolstr};
-use std::alloc::{AllocError, Global};
 use std::borrow::CowStr;
 use test_support::*;
 

@@ -6,7 +6,6 @@ use super::{FREE, Row, Wants, check_calls};
 use Call::*;
 use smol_str::borsh::BorshSerialize;
 use smol_str::{INLINE_CAP, SmolStr};
-use std::alloc::Global;
 use test_support::*;
 
 #[derive(Clone, Copy)]
