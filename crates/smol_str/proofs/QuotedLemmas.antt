@@ -151,20 +151,16 @@ read-plain b t h =
 pub quoted-plain : (b t : List ℕ) → IsPlain t → b ≡ in_quotes (encode_utf8_all t) → IsPlainJson b t
 quoted-plain b t h is = (h, ([], [], refl, refl, is))
 
--- the one value of a JSON text
-pub value-same : (text t : List ℕ) (v : Meaning) → IsJsonText text v.text → IsValueOf v.text v → IsJsonText text t → IsValueOf t v
-value-same text t v reads is e = subst (λ x. IsValueOf x v) (encodes_same v.text t cc) is
-
 -- the value of the text that was read
-module _ (text s : List ℕ) (u : IsUtf8 s) (reads : read text ≡ Some (value.string s)) where
-  pub read-same : (t : List ℕ) → IsJsonText text t → t ≡ chars s
-  read-same t e = encodes_same t (chars s) (cc (encodes-chars s u))
+module _ (text s : List ℕ) (reads : IsJsonText text s) where
+  pub read-same : (t : List ℕ) → IsJsonText text t → t ≡ s
+  read-same t e = encodes_same t s cc
 
-  pub value-read : (v : Meaning) → IsValueOf (chars s) v → IsJsonText text v.text
-  value-read v h = reads ∙ ap (λ b. Some (value.string b)) (sym (encodes-chars s u)) ∙ ap (λ t. Some (json_value t)) (sym h.text)
+  pub value-read : (v : Meaning) → IsValueOf s v → IsJsonText text v.text
+  value-read v h = rw h.text reads
 
-  pub value-of : (v : Meaning) → IsValueOf (chars s) v → (t : List ℕ) → IsJsonText text t → IsValueOf t v
-  value-of v h t e = subst (λ x. IsValueOf x v) (sym (read-same t e)) h
+  pub value-of : (v : Meaning) → IsValueOf s v → (t : List ℕ) → IsJsonText text t → IsValueOf t v
+  value-of v h t e = rw (read-same t e) h
 
 pub ruleset values_read = (read-same, value-read, value-of, read-plain)
 

@@ -6,7 +6,7 @@
 ghost use Rattle.std.specs.Prelude.{◌≡◌, ◌↔◌, ◌<◌, ◌/◌, ◌%◌, ℕ, List, [], ◌∷◌, ◌++◌, false, IsTrue, MatchOption, drop, length, IfOk, IfErr, OnOk, OnErr, IsOkAnd, IfSome, None, Some, encode_utf8_all};
 ghost use Rattle.std.specs.Char.{digit_char};
 ghost use Rattle.std.specs.List.{list_all, prefix_len};
-ghost use Rattle.std.specs.Str.{IsUtf8};
+ghost use Rattle.std.specs.Str.{chars};
 ghost use Rattle.std.specs.String.{string_bytes};
 ghost use Rattle.json.specs.Print.{escape, escape_byte};
 ghost use Rattle.serde_json.specs.Data.{string};
@@ -258,8 +258,7 @@ pub fn from_json(alloc: Global, text: &str) -> Result<SmolStr, JsonFault>
 /// The text in a JSON text that is one plain string, with nothing but white space around it.
 #[inline(always)]
 fn plain_text(text: &str) -> Option<&str>
-    ensures some { IfSome result (λ s. read text.now ≡ Some (string s.now)) }
-    ensures utf8 { IfSome result (λ s. IsUtf8 s.now) }
+    ensures some { IfSome result (λ plain. IsJsonText text.now (chars plain.now)) }
     ensures none { result ≡ None → (t : List ℕ) → ¬ (IsPlainJson text.now t) }
 {
     let (plain, rest) = split_plain(behind_quote(text)?);

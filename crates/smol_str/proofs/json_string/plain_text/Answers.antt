@@ -1,4 +1,5 @@
-use Rattle.smol_str.proofs.Common.{◌∙◌, sym, false≢true}
+use Rattle.smol_str.proofs.Common.{◌∙◌, ap, rules, sym, false≢true, Some, encodes-chars}
+use Rattle.serde_json.specs.Data.{string}
 use Rattle.smol_str.proofs.QuotedLemmas.{read-cut, front-escaped, opens, closes}
 use Rattle.smol_str.proofs.json_string.plain_text.Goals as goal
 
@@ -9,6 +10,7 @@ pub returns-then-is_closed-clause-some : goal.returns-then-is_closed-clause-some
 returns-then-is_closed-clause-some c =
     let cut = c.split_plain.ensures in
     read-cut _ _ _ c.in_ok-behind_quote.ensures _ (front-escaped _ _ _ cut.plain cut.rest) (c.is_closed.ensures.0 c.if-is_closed.true)
+    ∙ ap (λ s. Some (string s)) (sym (encodes-chars c.split_plain.result.0.now (search rules)))
 
 pub returns-else-is_closed-clause-none : goal.returns-else-is_closed-clause-none
 returns-else-is_closed-clause-none c = λ _ t h.
