@@ -1,5 +1,5 @@
 //! The builder of a text.
-ghost use Rattle.std.specs.Prelude.{◌≡◌, ◌↔◌, ◌<◌, [], ◌∷◌, ◌++◌, IsSome, IfSome, IfOk, IfErr, OnOk, OnErr, IsTrue, false, encode_utf8_all};
+ghost use Rattle.std.specs.Prelude.{◌≡◌, ◌↔◌, ◌<◌, [], ◌∷◌, IsSome, IfSome, IfOk, IfErr, OnOk, OnErr, IsTrue, false, encode_utf8_all};
 ghost use Rattle.std.specs.Str.{IsAscii, chars, all_scalars};
 ghost use Rattle.std.specs.String.{string_bytes};
 ghost use Rattle.smol_str.specs.Text.{size, IsShort, IsResident};
@@ -229,7 +229,9 @@ impl SmolStrBuilder {
             BuilderRepr::Heap(heap) => heap.push_str(text),
             BuilderRepr::Inline(short) => {
                 // Memory first: a refusal leaves the buffer as it is.
-                let heap = both(self.alloc, short.as_str(), text, spare)?;
+                let mut heap = with_spare(self.alloc, short.len() + text.len(), spare)?;
+                heap.push_str(short.as_str())?;
+                heap.push_str(text)?;
                 self.repr = BuilderRepr::Heap(heap);
                 Ok(())
             }
@@ -339,16 +341,12 @@ impl From<SmolStrBuilder> for AllocError {
     }
 }
 
-/// Two texts in a row, with room for `spare` bytes more. Out of line, so that an append to the heap needs few registers.
-#[inline(never)]
-fn both(alloc: Global, front: &str, back: &str, spare: usize) -> Result<String, AllocError>
-    ensures { IfOk result (λ heap. string_bytes heap ≡ front.now ++ back.now) }
+/// An empty `String` with room for `len` bytes and `spare` more.
+#[inline(always)]
+fn with_spare(alloc: Global, len: usize, spare: usize) -> Result<String, AllocError>
+    ensures { IfOk result (λ heap. string_bytes heap ≡ []) }
 {
-    let room = (front.len() + back.len()).saturating_add(spare);
-    let mut heap = String::with_capacity(alloc, room)?;
-    heap.push_str(front)?;
-    heap.push_str(back)?;
-    Ok(heap)
+    String::with_capacity(alloc, len.saturating_add(spare))
 }
 
 /// One ASCII byte as a text.
