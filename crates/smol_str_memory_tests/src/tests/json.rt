@@ -84,15 +84,9 @@ fn check_read(test: &Test, json: &str, text: &str) {
 }
 
 /// The escapes of two bytes, and what they stand for.
-static ESCAPES: [(&str, &str); 7] = [
-    ("\\\"", "\""),
-    ("\\\\", "\\"),
-    ("\\b", "\u{8}"),
-    ("\\f", "\u{c}"),
-    ("\\n", "\n"),
-    ("\\r", "\r"),
-    ("\\t", "\t"),
-];
+static ESCAPES: [&str; 7] = ["\\\"", "\\\\", "\\b", "\\f", "\\n", "\\r", "\\t"];
+
+static ESCAPED: [&str; 7] = ["\"", "\\", "\u{8}", "\u{c}", "\n", "\r", "\t"];
 
 static BORDERS: [usize; 7] = [0, 15, 16, 17, 31, 32, 33];
 
@@ -100,12 +94,12 @@ static BORDERS: [usize; 7] = [0, 15, 16, 17, 31, 32, 33];
 #[test]
 fn escapes(rt: HostRuntime) -> Result<(), Fail> {
     let test = Test::begin(rt);
-    for &(escape, character) in &ESCAPES {
+    for index in 0..7 {
         for &count in &BORDERS {
-            let text = around(&test, character, count);
-            let escaped = around(&test, escape, count);
-            let json = ok_string(&test, joined(test.alloc, "\"", escaped.as_str()));
-            let json = ok_string(&test, joined(test.alloc, json.as_str(), "\""));
+            let letters = test.repeated("a", count);
+            let text = between(&test, ESCAPED[index], letters.as_str());
+            let escaped = between(&test, ESCAPES[index], letters.as_str());
+            let json = between(&test, "\"", escaped.as_str());
             check_read(&test, json.as_str(), text.as_str());
             check_written(&test, &test.value(text.as_str()), json.as_str());
         }
@@ -113,10 +107,9 @@ fn escapes(rt: HostRuntime) -> Result<(), Fail> {
     test.end()
 }
 
-/// So many letters between two of a text.
-fn around(test: &Test, text: &str, count: usize) -> String {
-    let back = ok_string(test, repeated_and(test.alloc, "a", count, text));
-    ok_string(test, joined(test.alloc, text, back.as_str()))
+fn between(test: &Test, end: &str, text: &str) -> String {
+    let front = ok_string(test, joined(test.alloc, end, text));
+    ok_string(test, joined(test.alloc, front.as_str(), end))
 }
 
 /// JSON values that are no strings.
