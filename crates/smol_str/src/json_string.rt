@@ -29,7 +29,7 @@ use std::error::Error;
 use std::fmt;
 use std::fmt::{Display, Formatter, Write};
 
-/// For how many bytes of escapes a JSON text is given room at once, and its two quotes.
+/// Room for the two quotes of a JSON text, and for some escapes.
 const SPARE: usize = 8;
 
 /// Why JSON made no value.
