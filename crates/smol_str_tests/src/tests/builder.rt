@@ -16,7 +16,7 @@ enum Piece {
 /// Pieces; the text that they make, a text so many times and then an end; and its place.
 type Row = (&'static [Piece], (&'static str, usize, &'static str), Place);
 
-static ROWS: [Row; 19] = table! {
+static ROWS: &[Row] = &table! {
     (&[], ("", 0, ""), Inline);
     (&[Char('a'), Text("bc")], ("", 0, "abc"), Inline);
     (&[Text("ab")], ("", 0, "ab"), Inline);
@@ -38,15 +38,10 @@ static ROWS: [Row; 19] = table! {
     (&[Times("a", 1000)], ("a", 1000, ""), Heap);
 };
 
-/// The table, behind a function: one that names it is dear to prove.
-fn rows() -> &'static [Row] {
-    &ROWS
-}
-
 #[test]
 fn test_builder_push_str(rt: HostRuntime) -> Result<(), Fail> {
     let test = Test::begin(rt);
-    for row in rows() {
+    for row in ROWS {
         assert_pieces(&test, SmolStrBuilder::new(test.alloc), row);
     }
     test.end()
@@ -55,7 +50,7 @@ fn test_builder_push_str(rt: HostRuntime) -> Result<(), Fail> {
 #[test]
 fn test_builder_push(rt: HostRuntime) -> Result<(), Fail> {
     let test = Test::begin(rt);
-    for row in rows() {
+    for row in ROWS {
         let text = text_of(&test, row);
         let builder = of_characters(&test, text.as_str());
         assert_finishes(&test, builder, text.as_str(), row.2);
@@ -66,7 +61,7 @@ fn test_builder_push(rt: HostRuntime) -> Result<(), Fail> {
 #[test]
 fn steps(rt: HostRuntime) -> Result<(), Fail> {
     let test = Test::begin(rt);
-    for row in rows() {
+    for row in ROWS {
         let large = ok(&test, SmolStrBuilder::with_capacity(test.alloc, 100));
         assert_pieces(&test, large, row);
         assert_steps_at(&test, 0, row);

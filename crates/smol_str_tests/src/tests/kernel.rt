@@ -5,7 +5,7 @@ use smol_str::{INLINE_CAP, InlineBuffer};
 use test_support::*;
 
 /// Short texts, a case, the ASCII front in that case, and how many zeros are behind it.
-static FRONTS: [(&str, AsciiCase, &str, usize); 11] = table! {
+static FRONTS: &[(&str, AsciiCase, &str, usize)] = &table! {
     ("ABCDEFGHIJéKLMNOPQ", Lower, "abcdefghij", 29);
     ("@AZ[", Lower, "@az[", 35);
     ("", Upper, "", 39);
@@ -19,15 +19,10 @@ static FRONTS: [(&str, AsciiCase, &str, usize); 11] = table! {
     ("QQQQQQQQQQQQQQQQéQQQQQQQQQQQQQQQQQQQQQ", Lower, "qqqqqqqqqqqqqqqq", 23);
 };
 
-/// The table, behind a function: one that names it is dear to prove.
-fn front_rows() -> &'static [(&'static str, AsciiCase, &'static str, usize)] {
-    &FRONTS
-}
-
 #[test]
 fn fronts(rt: HostRuntime) -> Result<(), Fail> {
     let test = Test::begin(rt);
-    for &(text, case, front, zeros) in front_rows() {
+    for &(text, case, front, zeros) in FRONTS {
         assert_front(&test, text, case, front, zeros);
     }
     assert_front(&test, full_text(), Upper, full_capitals(), 0);

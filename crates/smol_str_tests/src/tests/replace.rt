@@ -10,7 +10,7 @@ const ALL: usize = usize::MAX;
 type Row = ([&'static str; 3], usize, &'static str);
 
 /// Those of upstream's test_str_ext are the first four.
-static ROWS: [Row; 19] = table! {
+static ROWS: &[Row] = &table! {
     (["foo_bar_baz", "ba", "do"], ALL, "foo_dor_doz");
     (["foo_bar_baz", "ba", "do"], 1, "foo_dor_baz");
     (["foo_bar_baz", "o", "u"], 1, "fuo_bar_baz");
@@ -32,11 +32,6 @@ static ROWS: [Row; 19] = table! {
     (["xb", "x", "a"], ALL, "ab");
 };
 
-/// The table, behind a function: one that names it is dear to prove.
-fn table() -> &'static [Row] {
-    &ROWS
-}
-
 /// The rows of upstream's test.
 pub fn upstream_rows() -> &'static [Row] {
     &ROWS[..4]
@@ -45,7 +40,7 @@ pub fn upstream_rows() -> &'static [Row] {
 #[test]
 fn rows(rt: HostRuntime) -> Result<(), Fail> {
     let test = Test::begin(rt);
-    assert_rows(&test, table());
+    assert_rows(&test, ROWS);
     test.end()
 }
 
