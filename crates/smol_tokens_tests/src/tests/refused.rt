@@ -9,7 +9,7 @@ use smol_tokens_core::run::run;
 use test_support::*;
 
 /// The words of a mode, and how many requests a run makes on each of the inputs.
-static MODES: [(Words, [u32; 6]); 7] = [
+static MODES: &[(Words, [u32; 6])] = &[
     (&["show"], [0, 3, 2, 4, 6, 7]),
     (&["join"], [1, 2, 2, 5, 6, 7]),
     (&["lower"], [0, 3, 2, 5, 6, 7]),
@@ -19,15 +19,11 @@ static MODES: [(Words, [u32; 6]); 7] = [
     (&["tokens"], [0, 6, 8, 8, 10, 11]),
 ];
 
-fn modes() -> &'static [(Words, [u32; 6])] {
-    &MODES
-}
-
 #[test]
 fn each_request_in_turn(rt: HostRuntime) -> Result<(), Fail> {
     let test = Test::begin(rt);
     let long = test.repeated("a", 5000);
-    for &(words, [empty, lines, short, blank, heap, large]) in modes() {
+    for &(words, [empty, lines, short, blank, heap, large]) in MODES {
         check_run(&test, words, "", empty);
         check_run(&test, words, "if\n\nx\n", lines);
         check_run(&test, words, "aaaaaaaaaaaaaaaaaaaaaaaa", short);

@@ -4,7 +4,7 @@ use smol_str::INLINE_CAP;
 use test_support::*;
 
 /// The words of a mode, an input, and the report on it.
-static REPORTS: [(Words, &str, &str); 34] = table! {
+static REPORTS: &[(Words, &str, &str)] = &table! {
     (&[], "abc", "inline 3 abc\n");
     (&["show"], "if\n\naaaaaaaaaaaaaaaaaaaaaaaa", "inline 2 if\ninline 0 \ninline 24 aaaaaaaaaaaaaaaaaaaaaaaa\n");
     (&["show"], "", "");
@@ -41,15 +41,10 @@ static REPORTS: [(Words, &str, &str); 34] = table! {
     (&["merge"], "18446744073709551614 a\n1 a\n", "18446744073709551615 a\n");
 };
 
-/// The table, behind a function: one that names it is dear to prove.
-fn reports() -> &'static [(Words, &'static str, &'static str)] {
-    &REPORTS
-}
-
 /// The words of a mode, how the report line for one of 9,000 `a` begins, and the letter made of an `a`.
 type Letters = (Words, &'static str, &'static str);
 
-static LETTERS: [Letters; 7] = [
+pub static LETTERS: &[Letters] = &[
     (&["show"], "heap 9000 ", "a"),
     (&["join"], "heap 9000 ", "a"),
     (&["lower"], "heap 9000 ", "a"),
@@ -58,10 +53,6 @@ static LETTERS: [Letters; 7] = [
     (&["replace", "aa", "xx"], "heap 9000 ", "x"),
     (&["tokens"], "1 ", "a"),
 ];
-
-pub fn letters() -> &'static [Letters] {
-    &LETTERS
-}
 
 /// The words of a mode, an input, and the report on it.
 #[derive(Drop)]
@@ -74,12 +65,12 @@ pub struct Row {
 /// The reports of the table, those on texts about the limit, and those on a line of 9,000 letters.
 pub fn all_rows(test: &Test) -> Vec<Row> {
     let mut all = Vec::new(test.alloc);
-    for &(words, input, report) in reports() {
+    for &(words, input, report) in REPORTS {
         push_row(test, &mut all, words, input, test.string(report));
     }
     push_full(test, &mut all);
     push_tokens(test, &mut all);
-    for &(words, front, letter) in letters() {
+    for &(words, front, letter) in LETTERS {
         push_letters(test, &mut all, words, front, letter);
     }
     all

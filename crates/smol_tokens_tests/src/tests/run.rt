@@ -4,7 +4,7 @@ use super::failing::{
     Drip, Kind, Reading, STEPS, Trickle, Writing, cause_of, empty_drip, fails_at_each_read,
     fails_at_each_write, trickle_of,
 };
-use super::reports::{all_rows, letters};
+use super::reports::{LETTERS, all_rows};
 use super::words::mode_by;
 use smol_str::stream::CHUNK;
 use smol_tokens_core::fault::RunFault;
@@ -116,7 +116,7 @@ const CHARACTERS: &str = "aßΔ\nC€🦀";
 #[test]
 fn end_after_each_byte(rt: HostRuntime) -> Result<(), Fail> {
     let test = Test::begin(rt);
-    for &(words, ..) in letters() {
+    for &(words, ..) in LETTERS {
         for end in 0..=CHARACTERS.len() {
             let is_whole = CHARACTERS.is_char_boundary(end);
             let wanted = if is_whole { None } else { Some(Kind::NotUtf8) };
@@ -140,7 +140,7 @@ fn check_ended(test: &Test, words: Words, input: &[u8], step: usize, wanted: Opt
 #[test]
 fn not_utf8(rt: HostRuntime) -> Result<(), Fail> {
     let test = Test::begin(rt);
-    for &(words, ..) in letters() {
+    for &(words, ..) in LETTERS {
         for count in [0, CHUNK - 1, 9000] {
             let input = ending_badly(&test, count);
             for step in STEPS {
@@ -160,7 +160,7 @@ fn ending_badly(test: &Test, count: usize) -> Vec<u8> {
 }
 
 /// An input, and how its merge ends.
-static FAULTS: [(&[u8], Kind); 25] = [
+static FAULTS: &[(&[u8], Kind)] = &[
     (b"1", Kind::NotCounts(1)),
     (b"\n", Kind::NotCounts(1)),
     (b"a\n", Kind::NotCounts(1)),
@@ -189,14 +189,10 @@ static FAULTS: [(&[u8], Kind); 25] = [
     (b"1 \xff\n", Kind::NotUtf8),
 ];
 
-fn faults() -> &'static [(&'static [u8], Kind)] {
-    &FAULTS
-}
-
 #[test]
 fn faults_of_merges(rt: HostRuntime) -> Result<(), Fail> {
     let test = Test::begin(rt);
-    for &(input, kind) in faults() {
+    for &(input, kind) in FAULTS {
         let (mut reader, mut out) = (input, Vec::new(test.alloc));
         let ended = run_by(&test, &["merge"], &mut reader, &mut out);
         same(&test, &ended, &Some(kind), &(input, kind));

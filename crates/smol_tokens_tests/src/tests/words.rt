@@ -64,7 +64,7 @@ fn check_mode(test: &Test, words: &[&str], printed: &str) {
     same_text(test, found.as_str(), printed, &words);
 }
 
-static WRONG: [&[&str]; 21] = [
+static WRONG: &[&[&str]] = &[
     &["Show"],
     &[""],
     &["show", "x"],
@@ -88,14 +88,10 @@ static WRONG: [&[&str]; 21] = [
     &["replace", "replace"],
 ];
 
-fn wrong() -> &'static [&'static [&'static str]] {
-    &WRONG
-}
-
 #[test]
 fn wrong_words(rt: HostRuntime) -> Result<(), Fail> {
     let test = Test::begin(rt);
-    for &words in wrong() {
+    for &words in WRONG {
         let mode = mode_of(strings(&test, words));
         holds(&test, mode.is_none(), &words);
     }
