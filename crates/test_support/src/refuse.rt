@@ -154,7 +154,7 @@ pub fn made_requests(test: &Test, asked: Asked, row: &impl Debug) {
 /// What was asked for since the counts began.
 pub fn count_asked(alloc: Global) -> Asked {
     Asked {
-        requests: count_requests(alloc),
+        requests: count(alloc, 5),
         bytes: count_bytes(alloc),
         held: count_held(alloc),
     }
@@ -180,11 +180,6 @@ impl Asked {
 /// Every count is 0 from here on.
 pub fn start_counts(alloc: Global) {
     let _ = is_granted(alloc, BASE + 4 * WORD);
-}
-
-/// How many requests for memory were made since the counts began.
-pub fn count_requests(alloc: Global) -> u32 {
-    count(alloc, 5)
 }
 
 /// How many bytes these requests asked for.

@@ -201,10 +201,7 @@ fn assert_hint(test: &Test, text: &str, lower: usize) {
     let strs = with_hint(strs_of(test, text), lower);
     assert_made(test, SmolStr::from_strs(alloc, strs), text);
     assert_strings_hint(test, text, lower);
-    let builder = extended_by_chars(test, text, lower);
-    assert_made(test, builder.into_value(), text);
-    let builder = extended_by_strs(test, text, lower);
-    assert_made(test, builder.into_value(), text);
+    assert_extending_hint(test, text, lower);
 }
 
 fn assert_strings_hint(test: &Test, text: &str, lower: usize) {
@@ -219,18 +216,15 @@ fn assert_strings_hint(test: &Test, text: &str, lower: usize) {
     assert_made(test, owned, text)
 }
 
-fn extended_by_chars(test: &Test, text: &str, lower: usize) -> SmolStrBuilder {
+fn assert_extending_hint(test: &Test, text: &str, lower: usize) {
     let mut builder = SmolStrBuilder::new(test.alloc);
     let chars = with_hint(chars_of(test, text), lower);
     ok(test, builder.extend_chars(chars));
-    builder
-}
-
-fn extended_by_strs(test: &Test, text: &str, lower: usize) -> SmolStrBuilder {
+    assert_made(test, builder.into_value(), text);
     let mut builder = SmolStrBuilder::new(test.alloc);
     let strs = with_hint(strs_of(test, text), lower);
     ok(test, builder.extend_strs(strs));
-    builder
+    assert_made(test, builder.into_value(), text);
 }
 
 /// There is a value of the text, which is no blank run.
