@@ -1,7 +1,7 @@
 -- For the symbol table: one name more, and ids that stay.
-use Rattle.std.proofs.Common.{◌≡◌, ℕ, ◌+◌, ◌<◌, ◌≤◌, List, [], ◌∷◌, ◌++◌, length, map, get_or, nat_lt, Bool, true, false, not, cond, if◌then◌else◌, is_some, Option, Some, None, refl, sym, ap, ◌∙◌, arith, length-append}
+use Rattle.std.proofs.Common.{◌≡◌, ℕ, ◌≤◌, List, [], ◌∷◌, ◌++◌, length, get_or, Bool, true, false, not, cond, if◌then◌else◌, is_some, Some, None, refl, sym, ap, ◌∙◌, arith}
 use Rattle.std.specs.Str.{bytes_eq, chars, IsUtf8}
-use Rattle.std.specs.List.{position, position_or_len, prefix_len, list_any, slice_get}
+use Rattle.std.specs.List.{position, position_or_len, list_any, slice_get}
 use Rattle.std.proofs.lemmas.Bool.Decides.{nat_tests}
 use Rattle.std.proofs.lemmas.List.{length-map, map-append}
 use Rattle.std.proofs.lemmas.List.Quantifiers.{position-Some}
@@ -11,30 +11,18 @@ use Rattle.std.proofs.lemmas.Slice.Eq.{bytes_eq-Decides}
 use Rattle.smol_str.specs.Meaning.{Meaning}
 use Rattle.indexmap.specs.IndexSet.{insert_key}
 use Rattle.smol_str.specs.Keys.{same_key, stands_for}
-use Rattle.smol_str.proofs.CallerLemmas.{position-more, stands_for-text}
+use Rattle.smol_str.proofs.CallerLemmas.{position-stays, position-new, position-texts, stands_for-text}
 use Rattle.smol_str.specs.Meaning.{texts}
 use Rattle.uses.specs.Names.{id_of, interned}
-
-or_none : (o : Option ℕ) → cond (is_some o) o None ≡ o
-or_none None = refl
-or_none (Some i) = refl
-
--- a new text has the id after all others
-pub id_of-new : (t : List ℕ) (names : List (List ℕ)) → id_of t names ≡ None →
-    id_of t (names ++ t ∷ []) ≡ Some (length names)
-id_of-new t names none =
-    rw none at (position-more {X = List ℕ} (λ name. bytes_eq t name) names t true ((bytes_eq-Decides t t).1 refl))
-
-stays_case : (t other : List ℕ) (names : List (List ℕ)) (id : ℕ) (b : Bool) → id_of t names ≡ Some id →
-    id_of t (cond b names (names ++ other ∷ [])) ≡ Some id
-stays_case t other names id true there = there
-stays_case t other names id false there =
-    rw there at (position-more {X = List ℕ} (λ name. bytes_eq t name) names other (bytes_eq t other) refl)
 
 -- a text keeps its id
 pub id_of-stays : (t other : List ℕ) (names : List (List ℕ)) (id : ℕ) → id_of t names ≡ Some id →
     id_of t (interned other names) ≡ Some id
-id_of-stays t other names id there = stays_case t other names id (is_some (id_of other names)) there
+id_of-stays t other names id there = by (is_some (id_of other names))
+  where
+    by : (b : Bool) → id_of t (cond b names (names ++ other ∷ [])) ≡ Some id
+    by true = there
+    by false = position-stays (λ name. bytes_eq t name) names other id there
 
 -- and the id gives it back
 pub id_of-back : (t : List ℕ) (names : List (List ℕ)) (id : ℕ) → id_of t names ≡ Some id → slice_get names id ≡ Some t
@@ -44,22 +32,10 @@ id_of-back t names id there =
 
 -- ---- names that are values in a list without repeats
 
-prefix_len-map : {X Y : Type 0} (p : Y → Bool) (f : X → Y) (xs : List X) →
-    prefix_len p (map f xs) ≡ prefix_len (λ x. p (f x)) xs
-prefix_len-map p f [] = refl
-prefix_len-map p f (x ∷ xs) = ap (λ n. cond (p (f x)) (1 + n) 0) (prefix_len-map p f xs)
-
--- the first name that has the text
-id_of-keys : (t : List ℕ) (keys : List Meaning) → position (λ key. bytes_eq t key.text) keys ≡ id_of t (texts keys)
-id_of-keys t keys =
-    let place = prefix_len-map (λ name. not (bytes_eq t name)) (λ (key : Meaning). key.text) keys in
-    let long = length-map keys (λ (key : Meaning). key.text) in
-    sym (λ i. cond (nat_lt (place i) (long i)) (Some (place i)) None)
-
--- and the first that a `&str` stands for
+-- the first that a `&str` stands for
 pub id_of-stands_for : (bs : List ℕ) (keys : List Meaning) → IsUtf8 bs →
     position (stands_for bs) keys ≡ id_of (chars bs) (texts keys)
-id_of-stands_for bs keys u = (λ i. position (λ key. stands_for-text bs key u i) keys) ∙ id_of-keys (chars bs) keys
+id_of-stands_for bs keys u = (λ i. position (λ key. stands_for-text bs key u i) keys) ∙ position-texts (bytes_eq (chars bs)) keys
 
 none_passes : {X : Type 0} (p : X → Bool) (xs : List X) → length xs ≤ position_or_len p xs → list_any p xs ≡ false
 none_passes p [] few = refl
@@ -74,7 +50,7 @@ none_passes p (x ∷ xs) few = by (p x) refl (none_passes p xs)
 module _ (t : List ℕ) (keys : List Meaning) (key : Meaning) (is : key.text ≡ t) (none : id_of t (texts keys) ≡ None) where
   last : position_or_len (same_key key) keys ≡ length keys
   last =
-      let unfound = id_of-keys key.text keys ∙ ap (λ t. id_of t (texts keys)) is ∙ none in
+      let unfound = position-texts (bytes_eq key.text) keys ∙ ap (λ t. id_of t (texts keys)) is ∙ none in
       grind (arith, nat_tests, unfound, prefix_len-le-length (λ y. not (same_key key y)) keys)
 
   added : texts (insert_key same_key keys key) ≡ texts keys ++ t ∷ []
@@ -88,5 +64,5 @@ module _ (t : List ℕ) (keys : List Meaning) (key : Meaning) (is : key.text ≡
 
   pub id_of-added : id_of t (texts (insert_key same_key keys key)) ≡ Some (position_or_len (same_key key) keys)
   id_of-added =
-      ap (id_of t) added ∙ id_of-new t (texts keys) none
+      ap (id_of t) added ∙ position-new (bytes_eq t) (texts keys) t ((bytes_eq-Decides t t).1 refl) none
       ∙ ap Some (length-map keys (λ (key : Meaning). key.text) ∙ sym last)

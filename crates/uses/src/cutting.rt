@@ -1,5 +1,5 @@
 //! Lines cut at a separator, and joined again.
-ghost use Rattle.std.specs.Prelude.{◌≡◌, ◌≢◌, ◌<◌, ◌++◌, ◌∷◌, [], ℕ, List, length, map, IfNone, IfOk, IfSome, MatchBool, OnErr, encode_utf8_all};
+ghost use Rattle.std.specs.Prelude.{◌≡◌, ◌≢◌, ◌<◌, ◌++◌, ◌∷◌, [], ℕ, List, length, map, set, IfNone, IfOk, IfSome, MatchBool, OnErr, encode_utf8_all};
 ghost use Rattle.std.specs.Str.{chars, trim};
 ghost use Rattle.smol_str.specs.Cut.{IsFirstAfter, Occurs, joined_by};
 ghost use Rattle.smol_str.specs.Joined.{str_text};
@@ -115,4 +115,22 @@ pub fn trimmed(alloc: Global, name: &SmolStr) -> Result<SmolStr, AllocError>
     ensures { IfOk result (λ v. IsValueOf (chars (trim (encode_utf8_all name.now.text))) v) }
 {
     SmolStr::new(alloc, name.trim())
+}
+
+/// A line with another text in place of one of its fields.
+#[tactic(auto, using(smol_str::proofs::CallerLemmas::texts, smol_str::proofs::CallerLemmas::cutting))]
+pub fn with_field(
+    alloc: Global,
+    line: &str,
+    at: usize,
+    text: SmolStr,
+) -> Result<SmolStr, AllocError>
+    ensures { IfOk result (λ v. IsValueOf
+        (joined_by (44 ∷ []) (set (cut (chars line.now) (44 ∷ []) (no_limit (chars line.now))) at text.text)) v) }
+{
+    let mut fields = fields(alloc, line)?;
+    if at < fields.len() {
+        fields[at] = text;
+    }
+    line_of(alloc, &fields, ",")
 }

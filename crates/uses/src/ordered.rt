@@ -11,6 +11,7 @@ use std::alloc::AllocError;
 use std::collections::BTreeMap;
 
 /// Puts values in the order of their texts.
+#[tactic(auto, using(smol_str::proofs::CallerLemmas::sorting))]
 pub fn sort_names(names: &mut Vec<SmolStr>) -> Result<(), AllocError>
     ensures same { IsPermutation names.old.items names.new.items }
     ensures sorted { OnOk result (IsSorted (slice_cmp nat_cmp) (texts names.new.items)) }

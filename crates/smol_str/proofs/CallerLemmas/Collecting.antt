@@ -1,5 +1,5 @@
 -- Collecting and extending from an iterator that gives a list.
-use Rattle.smol_str.proofs.Common.{◌≡◌, ℕ, ◌<◌, ◌++◌, String, Global, Bor, true, Option, Result, Ok, Err, IfOk, OnOk, OnErr, subst, List, [], length, take, drop, map, refl, sym, ap, ◌∙◌, arith, chars, IsUtf8, YieldsList, chars-encodes, take-append-drop, INLINE_CAP, size, IsShort, Meaning, IsValueOf, Draft, OnHeap, appended, joined, joined_strs, joined_strings, joined_string_refs, str_text, string_text, replaced_all, cut, no_limit, map-id, items_from_drains, None, place_of, rules, on_err_weaker, on_ok_weaker}
+use Rattle.smol_str.proofs.Common.{append-nil, ◌≡◌, ℕ, ◌<◌, ◌++◌, String, Global, Bor, true, Option, Result, Ok, Err, IfOk, OnOk, OnErr, subst, List, [], length, take, drop, map, refl, sym, ap, ◌∙◌, arith, chars, IsUtf8, YieldsList, chars-encodes, take-append-drop, INLINE_CAP, size, IsShort, Meaning, IsValueOf, Draft, OnHeap, appended, joined, joined_strs, joined_strings, joined_string_refs, str_text, string_text, replaced_all, cut, no_limit, map-id, items_from_drains, None, place_of, rules, on_err_weaker, on_ok_weaker}
 use Rattle.std.specs.Iterator.{Yields, DrainsIf}
 use Rattle.std.specs.Array.Iter.{array_steps, array_into_iter_items}
 use Rattle.std.specs.declared.array.IntoIter.{IntoIter}
@@ -226,6 +226,12 @@ module _ {n : ℕ} where
   array_strs_long s out =
       (refl, omega (arith, not_short-outgrown items_lent out (YieldsList-from_array (array_into_iter_items s) refl)))
 
+  -- and the text that they have
+  pub array_strs_collected : {E : Type 0} (m : Meaning → Meaning) (r : Result Meaning E) (t : List ℕ) (s : IntoIter (Bor (List ℕ)) n)
+      → IfOk r (Collected joined_strs array_steps s m) → ((y : Meaning) → m y ≡ y) → joined str_text (array_into_iter_items s) ≡ t
+      → IfOk r (λ y. IsValueOf t y)
+  array_strs_collected m r t s is eq one = rw one at (collected items_lent m r is eq (YieldsList-from_array (array_into_iter_items s) refl))
+
 -- and the same of a text that is split at another
 pub split_long : (s : Split (Bor (List ℕ))) → IsUtf8 (split_text s) → IsUtf8 (split_pattern s).now
     → 0 < length (split_pattern s).now → split_has_more s ≡ true
@@ -269,6 +275,8 @@ pub ruleset collecting = (
   split_refused,
   array_chars_long,
   array_strs_long,
+  array_strs_collected,
+  append-nil,
   split_long,
   strs_made,
   strings_made,

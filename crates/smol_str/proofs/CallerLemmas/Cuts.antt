@@ -5,6 +5,7 @@ use Rattle.std.specs.Str.Iter.{split_steps, split_text, split_has_more, split_pa
 use Rattle.std.specs.Str.Pattern.{FindsChar, FindsText, FindsTextPrefix, FindsTextSuffix, HasPrefixMatch, SplitsAroundMatch, StripsPrefix, StripsSuffix}
 use Rattle.std.specs.declared.str.Split.{Split}
 use Rattle.std.proofs.lemmas.Str.{IsUtf8-take}
+use Rattle.std.proofs.lemmas.List.{map-set, set_past}
 use Rattle.smol_str.specs.Meaning.{texts, AreValuesOf}
 use Rattle.smol_str.proofs.CallerLemmas.Wire.{items}
 use Rattle.smol_str.proofs.CutLemmas.Replace.{replaced-itself}
@@ -139,6 +140,8 @@ starts_with-text false bs nd u v none = strip_prefix-text bs nd u v None none
 
 pub ruleset cutting = (
   items,
+  map-set,
+  set_past,
   joined-values,
   split_at_char,
   split_at_text,

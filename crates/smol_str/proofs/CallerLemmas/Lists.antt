@@ -1,10 +1,10 @@
 -- Lists of values, and what they are as texts.
-use Rattle.smol_str.proofs.Common.{◌≡◌, ℕ, ◌+◌, ◌<◌, List, [], ◌∷◌, ◌++◌, length, Bool, not, cond, Some, None, ap, ◌∙◌, arith, nat_tests, length-append, length-map, map-append, nat_cmp, slice_cmp, slice_get, option_map, Meaning}
-use Rattle.std.proofs.Common.{is_some}
-use Rattle.std.specs.List.{position}
+use Rattle.smol_str.proofs.Common.{true, flat_map, joined_by, refl, sym, map, ◌≡◌, ℕ, ◌+◌, ◌<◌, List, [], ◌∷◌, ◌++◌, length, Bool, not, cond, Some, None, ap, ◌∙◌, arith, nat_tests, length-append, length-map, map-append, nat_cmp, slice_cmp, slice_get, option_map, Meaning, Result, OnOk, on_ok_weaker}
+use Rattle.std.proofs.Common.{is_some, nat_lt}
+use Rattle.std.specs.List.{position, prefix_len}
 use Rattle.std.specs.List.Sorted.{IsSorted, IsSortedByKey}
 use Rattle.std.proofs.lemmas.List.{get_or-map}
-use Rattle.std.proofs.lemmas.List.Folds.{prefix_len-append}
+use Rattle.std.proofs.lemmas.List.Folds.{prefix_len-append, flat_map-map}
 use Rattle.std.proofs.lemmas.List.Sums.{prefix_len-le-length}
 use Rattle.std.proofs.lemmas.Option.{slice_get-map}
 use Rattle.smol_str.specs.Meaning.{texts}
@@ -31,11 +31,42 @@ IsSorted-texts names up = λ k d low high.
       get_or-map (λ (v : Meaning). v.text) names k (key_of d) d before,
     ) (up k (key_of d) low within)
 
--- the first place at which a test passes, with one more element at the end
-pub position-more : {X : Type 0} (p : X → Bool) (xs : List X) (x : X) (b : Bool) → p x ≡ b →
-    position p (xs ++ x ∷ []) ≡ cond (is_some (position p xs)) (position p xs) (cond b (Some (length xs)) None)
-position-more p xs x b e =
-    let before = prefix_len-le-length (λ y. not (p y)) xs in
-    let after = prefix_len-append (λ y. not (p y)) xs (x ∷ []) in
-    let long = length-append xs (x ∷ []) in
-    grind (arith, nat_tests, before, after, long, e)
+-- so of a list that was sorted
+pub sorted-texts : {T E : Type 0} (r : Result T E) (names : List Meaning)
+    → OnOk r (IsSortedByKey (λ (v : Meaning). v.text) (slice_cmp nat_cmp) names) → OnOk r (IsSorted (slice_cmp nat_cmp) (texts names))
+sorted-texts r names up = on_ok_weaker r (IsSorted-texts names) up
+
+pub ruleset sorting = (sorted-texts, IsSorted-texts)
+
+-- the first place at which a test passes, with one more element at the end: it stays, or is the new one's
+module _ {X : Type 0} (p : X → Bool) (xs : List X) (x : X) where
+  position-more : (b : Bool) → p x ≡ b →
+      position p (xs ++ x ∷ []) ≡ cond (is_some (position p xs)) (position p xs) (cond b (Some (length xs)) None)
+  position-more b e =
+      let before = prefix_len-le-length (λ y. not (p y)) xs in
+      let after = prefix_len-append (λ y. not (p y)) xs (x ∷ []) in
+      let long = length-append xs (x ∷ []) in
+      grind (arith, nat_tests, before, after, long, e)
+
+  pub position-stays : (i : ℕ) → position p xs ≡ Some i → position p (xs ++ x ∷ []) ≡ Some i
+  position-stays i there = rw there at (position-more (p x) refl)
+
+  pub position-new : p x ≡ true → position p xs ≡ None → position p (xs ++ x ∷ []) ≡ Some (length xs)
+  position-new passes none = rw none at (position-more true passes)
+
+-- and of a test of texts, at values
+module _ (p : List ℕ → Bool) where
+  prefix_len-texts : (vs : List Meaning) → prefix_len p (texts vs) ≡ prefix_len (λ v. p v.text) vs
+  prefix_len-texts [] = refl
+  prefix_len-texts (v ∷ vs) = ap (λ n. cond (p v.text) (1 + n) 0) (prefix_len-texts vs)
+
+pub position-texts : (p : List ℕ → Bool) (vs : List Meaning) → position (λ v. p v.text) vs ≡ position p (texts vs)
+position-texts p vs =
+    let place = prefix_len-texts (λ t. not (p t)) vs in
+    let long = length-map vs (λ (v : Meaning). v.text) in
+    sym (λ i. cond (nat_lt (place i) (long i)) (Some (place i)) None)
+
+-- a loop that writes the first, and then the separator and each other, writes them joined
+pub joined-spelled : {X : Type 0} (f : X → List ℕ) (p : List ℕ) (x : X) (xs : List X)
+    → f x ++ flat_map (λ y. p ++ f y) xs ≡ joined_by p (map f (x ∷ xs))
+joined-spelled f p x xs = ap (λ t. f x ++ t) (sym (flat_map-map (λ q. p ++ q) f xs))
