@@ -17,7 +17,7 @@ use std::fmt;
 #[derive(Debug, Drop)]
 pub struct FormatError;
 
-/// The fault in a sentence, so that `?` may turn it into an `anyhow::Error`.
+/// The fault in a sentence.
 impl fmt::Display for FormatError {
     ghost output = { λ _. Some format_said };
 

@@ -66,7 +66,7 @@ impl<T: Drop> From<AllocFailed<T>> for JsonFault {
     }
 }
 
-/// The fault in a sentence, so that `?` may turn it into an `anyhow::Error`.
+/// The fault in a sentence.
 impl Display for JsonFault {
     ghost output = { json_said ⟦<serde_json::Error as Display>⟧.output };
 

@@ -44,7 +44,7 @@ impl From<AllocError> for ReadFault {
     }
 }
 
-/// The fault in a sentence, so that `?` may turn it into an `anyhow::Error`.
+/// The fault in a sentence.
 impl Display for ReadFault {
     ghost output = { read_said ⟦<io::Error as Display>⟧.output };
 

@@ -29,8 +29,8 @@ use std::marker::Model;
 /// values: those that [`SmolStr::new_static`] made and their clones, which are in place Static
 /// whatever their text.
 ///
-/// A text is *resident* where it has at most [`INLINE_CAP`] bytes or is a blank run, newlines and then
-/// spaces, few enough of each. To make a value of resident text takes no memory and is never refused.
+/// A text is *resident* where it has at most [`INLINE_CAP`] bytes or is a blank run. To make a value
+/// of resident text takes no memory and is never refused.
 ///
 /// ```
 /// let token = SmolStr::new(alloc, "if")?;
