@@ -195,15 +195,6 @@ pub fn push_values(builder: &mut SmolStrBuilder, values: &[SmolStr]) -> Result<(
     builder.extend_strs(values.iter().map(|value| value.as_str()))
 }
 
-/// A builder, and the characters of a text after it, from the last to the first.
-#[tactic(auto, using(smol_str::proofs::CallerLemmas::collecting))]
-pub fn push_reversed(builder: &mut SmolStrBuilder, text: &str) -> Result<(), AllocError>
-    ensures ok { OnOk result (builder.new ≡ appended builder.old (reverse (chars text.now))) }
-    ensures refused { OnErr result ((appended builder.old (reverse (chars text.now))).kind ≡ OnHeap) }
-{
-    builder.extend_chars(text.chars().rev())
-}
-
 /// A builder, and a text without its commas after it.
 #[tactic(auto, using(smol_str::proofs::CallerLemmas::collecting))]
 pub fn push_without_commas(builder: &mut SmolStrBuilder, text: &str) -> Result<(), AllocError>

@@ -1,7 +1,7 @@
 //! A builder in a loop, and two appends that fit.
 #![tactic(auto)]
 
-ghost use Rattle.std.specs.Prelude.{◌≡◌, ◌+◌, ◌≤◌, ◌++◌, ◌∷◌, length, IfOk, IsOk, OnErr};
+ghost use Rattle.std.specs.Prelude.{◌≡◌, ◌+◌, ◌≤◌, ◌++◌, ◌∷◌, [], length, IfOk, IsOk, OnErr};
 ghost use Rattle.std.specs.List.{flat_map};
 ghost use Rattle.std.specs.Str.{chars};
 ghost use Rattle.smol_str.specs.Text.{IsShort};
@@ -36,26 +36,15 @@ pub fn both(alloc: Global, first: &str, second: &str) -> Result<SmolStrBuilder, 
     Ok(builder)
 }
 
-/// A key and its value, with a comma between them.
+/// A key and its value, each with a comma behind it: as a character, and as a text.
 #[tactic(auto, using(smol_str::proofs::CallerLemmas::builders))]
 pub fn entry(alloc: Global, key: &str, value: &SmolStr) -> Result<SmolStr, AllocError>
-    ensures { IfOk result (λ v. IsValueOf (chars key.now ++ (44 ∷ value.now.text)) v) }
+    ensures { IfOk result (λ v. IsValueOf (chars key.now ++ (44 ∷ (value.now.text ++ (44 ∷ [])))) v) }
 {
     let mut builder = SmolStrBuilder::new(alloc);
     builder.push_str(key)?;
     builder.push(',')?;
     builder.push_str(value)?;
-    builder.into_value()
-}
-
-/// The same, by the comma as a text.
-#[tactic(auto, using(smol_str::proofs::CallerLemmas::builders))]
-pub fn entry_by_text(alloc: Global, key: &str, value: &SmolStr) -> Result<SmolStr, AllocError>
-    ensures { IfOk result (λ v. IsValueOf (chars key.now ++ (44 ∷ value.now.text)) v) }
-{
-    let mut builder = SmolStrBuilder::new(alloc);
-    builder.push_str(key)?;
     builder.push_str(",")?;
-    builder.push_str(value)?;
     builder.into_value()
 }

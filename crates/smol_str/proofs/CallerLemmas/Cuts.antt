@@ -1,5 +1,5 @@
 -- Texts that std cuts: `split` in a loop, `split_once`, `strip_prefix` and `strip_suffix`, at the level of texts.
-use Rattle.smol_str.proofs.Common.{items_from_drains, YieldsList, rules, ◌≡◌, ℕ, ◌-◌, ◌<◌, Bool, true, false, List, [], ◌∷◌, ◌++◌, length, drop, map, str_text, Bor, Option, Some, None, MatchOption, refl, sym, ap, ◌∙◌, subst, IsUtf8, chars, chars-append, encode_utf8_all, encodes-append, encodes-chars, Occurs, IsFirstAfter, joined_by, cut, no_limit, Meaning}
+use Rattle.smol_str.proofs.Common.{arith, IsUtf8-from_ascii, IsAscii-cons, IsAscii-nil, items_from_drains, YieldsList, rules, ◌≡◌, ℕ, ◌-◌, ◌<◌, Bool, true, false, List, [], ◌∷◌, ◌++◌, length, drop, map, str_text, Bor, Option, Some, None, MatchOption, refl, sym, ap, ◌∙◌, subst, IsUtf8, chars, chars-append, encode_utf8_all, encodes-append, encodes-chars, Occurs, IsFirstAfter, joined_by, cut, no_limit, Meaning}
 use Rattle.std.proofs.Common.{◌≢◌, IfNone, IfSome, MatchBool}
 use Rattle.std.specs.Str.Iter.{split_steps, split_text, split_has_more, split_pattern}
 use Rattle.std.specs.Str.Pattern.{FindsChar, FindsText, FindsTextPrefix, FindsTextSuffix, HasPrefixMatch, SplitsAroundMatch, StripsPrefix, StripsSuffix}
@@ -37,6 +37,16 @@ module _ (bs : List ℕ) (vs : List Meaning) (u : IsUtf8 bs) (xs : List (Bor (Li
       → AreValuesOf (cut (chars bs) (chars nd) (no_limit (chars bs))) vs
   split_at_text nd s t z first by v some so_far runs ends none same text more pattern is =
       all_given vs _ _ xs s t z first r so_far runs ends none same (gives-split by bs nd (λ s o t h. h) u v some is text more pattern)
+
+  -- and at a literal of one character
+  pub split_at_literal : (c : ℕ) (s t z first : Split (Bor (List ℕ))) (by : Bor (List ℕ)) → c < 128
+      → AreValuesOf (map str_text xs) vs → Yields (split_steps (λ (n : Bor (List ℕ)). FindsText n.now) (λ n m. m.now ≡ n.now)) s xs t
+      → split_steps (λ (n : Bor (List ℕ)). FindsText n.now) (λ n m. m.now ≡ n.now) t r z → r ≡ None → s ≡ first
+      → split_text first ≡ bs → split_has_more first ≡ true → split_pattern first ≡ by → by.now ≡ c ∷ []
+      → AreValuesOf (cut (chars bs) (chars (c ∷ [])) (no_limit (chars bs))) vs
+  split_at_literal c s t z first by low so_far runs ends none same text more pattern is =
+      split_at_text (c ∷ []) s t z first by (IsUtf8-from_ascii (c ∷ []) (IsAscii-cons c [] low IsAscii-nil)) (omega arith)
+      so_far runs ends none same text more pattern is
 
 -- joined where they were cut
 pub joined-values : (p : List ℕ) (values : List Meaning) (t : List ℕ) (n : ℕ) → AreValuesOf (cut t p n) values
@@ -139,12 +149,14 @@ starts_with-text true bs nd u v (n, (long, parts, boundary), at) = (chars (drop 
 starts_with-text false bs nd u v none = strip_prefix-text bs nd u v None none
 
 pub ruleset cutting = (
+  arith,
   items,
   map-set,
   set_past,
   joined-values,
   split_at_char,
   split_at_text,
+  split_at_literal,
   in_some,
   split_char-whole,
   split_char-first,
