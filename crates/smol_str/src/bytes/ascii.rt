@@ -10,9 +10,6 @@ use std::simd::prelude::*;
 /// How many bytes are mapped at a time.
 const LANES: usize = 16;
 
-/// How many are replaced at a time.
-const BLOCK: usize = 32;
-
 /// A case of ASCII letters.
 #[derive(Clone, Copy, PartialEq, Eq, Debug)]
 pub enum AsciiCase {
@@ -114,20 +111,6 @@ fn convert_part<const N: usize>(bytes: &mut [u8], at: usize, case: AsciiCase)
 #[inline(always)]
 #[tactic(auto, using(crate::proofs::CaseLemmas::Ascii::mappings))]
 pub(crate) fn replace_each(bytes: &mut [u8], from: u8, to: u8)
-    ensures { bytes.new ≡ each_replaced from to bytes.old }
-{
-    let mut at = 0;
-    while bytes.len() - at >= BLOCK {
-        replace_part::<BLOCK>(bytes, at, from, to);
-        at += BLOCK;
-    }
-    replace_by_lanes(&mut bytes[at..], from, to);
-}
-
-/// The same, fewer at a time.
-#[inline(always)]
-#[tactic(auto, using(crate::proofs::CaseLemmas::Ascii::mappings))]
-fn replace_by_lanes(bytes: &mut [u8], from: u8, to: u8)
     ensures { bytes.new ≡ each_replaced from to bytes.old }
 {
     let mut at = 0;
