@@ -1,6 +1,6 @@
 -- For the lanes of `kernel`: side by side they give what a map over the bytes gives.
 use Rattle.std.proofs.lemmas.Simd.{zip2_splat_left}
-use Rattle.smol_str.proofs.Common.{zero, ◌≡◌, ◌↔◌, ℕ, ◌+◌, ◌-◌, ◌%◌, ◌^◌, ◌≤◌, ◌<◌, List, [], ◌∷◌, false, cond, leb, ltb, length, map, replicate, refl, arith, w8, bit_and, nat_eq, not, zip2, sel_l, mask_l, top, Each1, to_ascii_lowercase, to_ascii_uppercase, lowercase_is, uppercase_is, mask_l-mod, tops_compared, length-map, common_steps, suc, IsAscii, IsAscii-nil, IsAscii-cons, nat_tests, if◌then◌else◌}
+use Rattle.smol_str.proofs.Common.{zero, ◌≡◌, ◌↔◌, ℕ, ◌+◌, ◌-◌, ◌%◌, ◌^◌, ◌≤◌, ◌<◌, List, [], ◌∷◌, false, cond, leb, ltb, length, map, replicate, refl, arith, w8, bit_and, nat_eq, not, zip2, sel_l, mask_l, top, Each1, to_ascii_lowercase, to_ascii_uppercase, lowercase_is, uppercase_is, mask_l-mod, tops_compared, length-map, common_steps, suc, IsAscii, IsAscii-nil, IsAscii-cons, nat_tests}
 
 abbrev pub at_most_mask : ℕ → ℕ → ℕ
 at_most_mask a b = cond (leb a b) 255 0
@@ -35,20 +35,6 @@ less x y = (x + (256 - y)) % 256
 
 pub upper-lanes : MapsLanes 97 122 less to_ascii_uppercase
 upper-lanes = grind (arith, common_steps, maps_lanes, uppercase_is)
-
-abbrev pub same_mask : ℕ → ℕ → ℕ
-same_mask a b = cond (nat_eq a b) 255 0
-
--- y in the lanes that hold x, and the others as they are
-module _ (x y : ℕ) where
-  one_replaced : (c : ℕ) → cond (top 7 (cond (nat_eq c x) 255 0)) y c ≡ (if nat_eq c x then y else c)
-  one_replaced c = grind (arith, nat_tests)
-
-  pub replaced-lanes : (cs : List ℕ) (n : ℕ) → length cs ≡ n
-      → sel_l (map (top 7) (zip2 same_mask cs (replicate n x))) (replicate n y) cs ≡ map (λ c. if nat_eq c x then y else c) cs
-  replaced-lanes [] zero long = refl
-  replaced-lanes (c ∷ cs) (suc n) long = λ i. one_replaced c i ∷ replaced-lanes cs n (omega arith) i
-  replaced-lanes cs n long = absurd (omega arith)
 
 -- a bit for each lane above 127
 high_bitmask : (v : List ℕ) (n : ℕ) → length v ≡ n → n ≤ 64

@@ -3,7 +3,6 @@ ghost use Rattle.std.specs.Prelude.{◌≡◌, ◌↔◌, ◌<◌, ◌≤◌, �
 ghost use Rattle.std.specs.Str.{IsAscii};
 ghost use Rattle.std.specs.Simd.Lanes.{Each1, put_chunk};
 ghost use Rattle.smol_str.specs.InCase.{converted, IsAsciiFront};
-ghost use Rattle.smol_str.specs.Replace.{each_replaced};
 
 use std::simd::prelude::*;
 
@@ -105,46 +104,6 @@ fn convert_part<const N: usize>(bytes: &mut [u8], at: usize, case: AsciiCase)
         }
     };
     mapped.copy_to_slice(&mut bytes[at..]);
-}
-
-/// Writes `to` over each byte `from`; no other byte changes.
-#[inline(always)]
-#[tactic(auto, using(crate::proofs::CaseLemmas::Ascii::mappings))]
-pub(crate) fn replace_each(bytes: &mut [u8], from: u8, to: u8)
-    ensures { bytes.new ≡ each_replaced from to bytes.old }
-{
-    let mut at = 0;
-    while bytes.len() - at >= LANES {
-        replace_part::<LANES>(bytes, at, from, to);
-        at += LANES;
-    }
-    if bytes.len() - at >= 8 {
-        replace_part::<8>(bytes, at, from, to);
-        at += 8;
-    }
-    replace_rest(&mut bytes[at..], from, to);
-}
-
-/// The same of the `N` bytes from an index on.
-#[inline(always)]
-fn replace_part<const N: usize>(bytes: &mut [u8], at: usize, from: u8, to: u8)
-    requires { at + N ≤ length bytes.old }
-    ensures { bytes.new ≡ put_chunk at bytes.old (each_replaced from to (take N (drop at bytes.old))) }
-{
-    let lanes = load::<N>(bytes, at);
-    let replaced = lanes.simd_eq(Simd::splat(from)).select(Simd::splat(to), lanes);
-    replaced.copy_to_slice(&mut bytes[at..]);
-}
-
-/// The same byte by byte.
-#[inline(always)]
-fn replace_rest(bytes: &mut [u8], from: u8, to: u8)
-    ensures { bytes.new ≡ each_replaced from to bytes.old }
-{
-    for at in 0..bytes.len() {
-        let byte = bytes[at];
-        bytes[at] = if byte == from { to } else { byte };
-    }
 }
 
 /// Whether a lane is past ASCII.

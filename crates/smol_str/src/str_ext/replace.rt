@@ -9,7 +9,6 @@ ghost use Rattle.smol_str.specs.Replacing.{IsReplacing};
 
 use crate::buffer::INLINE_CAP;
 use crate::builder::SmolStrBuilder;
-use crate::bytes::ascii::replace_each;
 use crate::bytes::bytes_from;
 use crate::bytes::search::{first_byte, next_index};
 use crate::value::SmolStr;
@@ -62,6 +61,17 @@ fn replace_byte(
     let mut bytes = Vec::from_slice(alloc, text.as_bytes())?;
     replace_each(&mut bytes, from, to);
     SmolStr::from_owned(unsafe { String::from_utf8_unchecked(bytes) })
+}
+
+/// Writes `to` over each byte `from`. Nothing is counted, so that the compiler takes many bytes at
+/// a time.
+fn replace_each(bytes: &mut [u8], from: u8, to: u8)
+    ensures { bytes.new ≡ each_replaced from to bytes.old }
+{
+    for at in 0..bytes.len() {
+        let byte = bytes[at];
+        bytes[at] = if byte == from { to } else { byte };
+    }
 }
 
 /// The same by pieces pushed into one builder. A text that is shorter than the pattern, or lacks its first byte, is copied.
