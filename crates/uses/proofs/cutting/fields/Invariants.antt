@@ -1,4 +1,3 @@
--- The values are those of the pieces so far.
 use Rattle.std.proofs.Common.{map}
 use Rattle.smol_str.specs.Joined.{str_text}
 use Rattle.smol_str.specs.Meaning.{AreValuesOf}
