@@ -108,8 +108,7 @@ fn escapes(rt: HostRuntime) -> Result<(), Fail> {
 }
 
 fn between(test: &Test, end: &str, text: &str) -> String {
-    let front = ok_string(test, joined(test.alloc, end, text));
-    ok_string(test, joined(test.alloc, front.as_str(), end))
+    test.joined(test.joined(end, text).as_str(), end)
 }
 
 /// JSON values that are no strings.
