@@ -39,12 +39,7 @@ pub(super) fn replace(
 /// The text with `to` in place of each character `from`, both ASCII.
 #[inline(always)]
 #[tactic(auto, using(crate::proofs::CutLemmas::Bytes::each_byte))]
-fn replace_byte(
-    alloc: Global,
-    text: &str,
-    from: u8,
-    to: u8,
-) -> Result<SmolStr, AllocError>
+fn replace_byte(alloc: Global, text: &str, from: u8, to: u8) -> Result<SmolStr, AllocError>
     requires ascii_from { from < 128 }
     requires ascii_to { to < 128 }
     ensures ok { IfOk result (λ v. IsValueOf (each_replaced from to (chars text.now)) v) }
