@@ -16,7 +16,8 @@ use memchr::memmem::Finder;
 use std::alloc::{AllocError, Global};
 
 /// The text with the first `count` matches of a pattern replaced. Where the limit leaves none out,
-/// one ASCII character is replaced by another byte for byte, and no other byte moves.
+/// one ASCII character is replaced by another byte for byte. A text that is shorter than the pattern
+/// is copied.
 #[inline(always)]
 pub(super) fn replace(
     alloc: Global,
@@ -32,6 +33,9 @@ pub(super) fn replace(
 {
     if from.len() == 1 && to.len() == 1 && count >= text.len() {
         return replace_byte(alloc, text, from.as_bytes()[0], to.as_bytes()[0]);
+    }
+    if text.len() < from.len() {
+        return SmolStr::new(alloc, text);
     }
     replace_matches(alloc, text, from, to, count)
 }
@@ -69,7 +73,7 @@ fn replace_each(bytes: &mut [u8], from: u8, to: u8)
     }
 }
 
-/// The same by pieces pushed into one builder. A text that is shorter than the pattern, or lacks its first byte, is copied.
+/// The same by pieces pushed into one builder. A text that lacks the pattern's first byte is copied.
 /// Slow path, kept out of line so that the fast path inlines.
 #[inline(never)]
 #[tactic(auto, using(crate::proofs::CutLemmas::Replacing::last_steps))]
@@ -85,9 +89,6 @@ fn replace_matches(
     ensures refused { OnErr result
         (¬ (IsShort (replaced (chars text.now) (chars from.now) (chars to.now) count))) }
 {
-    if text.len() < from.len() {
-        return SmolStr::new(alloc, text);
-    }
     if !from.is_empty() && first_byte(text.as_bytes(), from.as_bytes()).is_none() {
         return SmolStr::new(alloc, text);
     }
@@ -123,8 +124,7 @@ fn push_replaced(
 }
 
 /// Appends the new text before each of the first `count` characters, and at the end where the limit
-/// goes past them; returns the index where the rest begins. Out of line, where registers are free.
-#[inline(never)]
+/// goes past them; returns the index where the rest begins.
 fn push_between(
     builder: &mut SmolStrBuilder,
     text: &str,
