@@ -221,8 +221,7 @@ impl SmolStr {
     ///
     /// ```
     /// let token = SmolStr::new_inline("if");
-    /// let buffer = token.inline_buffer().ok_or("no buffer")?;
-    /// assert_eq!(rt; &buffer[..3], b"if\0".as_slice());
+    /// assert!(rt; token.inline_buffer().is_some_and(|buffer| buffer.starts_with(b"if\0")));
     /// ```
     pub fn inline_buffer(&self) -> Option<&InlineBuffer>
         ensures place { IsSome result ↔ (self.now.place ≡ Place.Inline) }

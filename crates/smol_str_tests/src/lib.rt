@@ -1,5 +1,4 @@
-//! Tests of the library through its public items, for what no clause says: outside values, builders and iterators, and the
-//! examples of the library's documentation.
+//! Tests of the library through its public items, for what no clause says: outside values, builders and iterators.
 #![tactic(auto)]
 
 #[cfg(test)]

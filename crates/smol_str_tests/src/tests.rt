@@ -1,10 +1,9 @@
-//! Tests of what no clause says: values and builders by rows from outside, and the examples of the documentation.
+//! Tests of what no clause says: values and builders by rows from outside.
 
 mod builder;
 mod collect;
 mod compare;
 mod convert;
-mod doc_examples;
 mod idioms;
 mod kernel;
 mod places;

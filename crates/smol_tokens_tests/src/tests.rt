@@ -1,6 +1,5 @@
 //! Whatever reads and writes, over readers and writers of every step that fail: the program in every mode, and wire forms;
 //! the program with memory refused, and tallies.
-mod doc_examples;
 mod failing;
 mod refused;
 mod reports;

@@ -120,30 +120,6 @@ macro_rules! table {
     };
 }
 
-/// What an example asserts: it is so.
-#[macro_export]
-macro_rules! expect {
-    ($rt:expr; $is_so:expr) => {
-        $crate::is_so($rt, $is_so, stringify!($is_so))
-    };
-}
-
-/// What an example asserts: the two are equal.
-#[macro_export]
-macro_rules! expect_eq {
-    ($rt:expr; $found:expr, $wanted:expr) => {
-        $crate::is_so($rt, $found == $wanted, stringify!($found))
-    };
-}
-
-/// An example has no fault.
-#[macro_export]
-macro_rules! expect_ok {
-    ($rt:expr; $example:expr) => {
-        $crate::ended($rt, $example, stringify!($example))
-    };
-}
-
 /// It is so, in a row of any type.
 pub fn holds(test: &Test, is_so: bool, row: &impl Debug) {
     test.compared.set(test.compared.get().saturating_add(1));
@@ -254,11 +230,6 @@ pub fn ok<T: Missing, E: Debug + Drop>(test: &Test, outcome: Result<T, E>) -> T 
             T::missing(test.alloc)
         }
     }
-}
-
-/// The example of this name has no fault.
-pub fn ended<E: Drop>(test: &Test, outcome: Result<(), E>, example: &str) {
-    is_so(test, outcome.is_ok(), example);
 }
 
 /// The value that a call makes.

@@ -1,7 +1,7 @@
 //! JSON strings: texts, and what is none.
 use serde_json::{Error, Value};
 use smol_str::SmolStr;
-use smol_str::json_string::{self, JsonFault, from_json, to_json};
+use smol_str::json_string::{JsonFault, from_json, to_json};
 use test_support::*;
 
 /// The error is serde_json's own, with its line and column.
@@ -233,34 +233,4 @@ fn check_there_and_back(test: &Test, value: &SmolStr) {
         Ok(back) => is_so(test, back == *value, "there and back"),
         Err(_) => test.fail(value),
     }
-}
-
-// The examples of the documentation.
-#[test]
-fn examples(rt: HostRuntime) -> Result<(), Fail> {
-    let test = Test::begin(rt);
-    let alloc = test.alloc;
-    expect_ok!(&test; to_value_example(&test, alloc));
-    expect_ok!(&test; to_json_example(&test, alloc));
-    expect_ok!(&test; from_json_example(&test, alloc));
-    test.end()
-}
-
-fn to_value_example(rt: &Test, alloc: Global) -> Result<(), AllocError> {
-    let name = SmolStr::new_inline("if");
-    let value = json_string::to_value(alloc, &name)?;
-    expect_eq!(rt; value.as_str(), Some("if"));
-    Ok(())
-}
-
-fn to_json_example(rt: &Test, alloc: Global) -> Result<(), AllocError> {
-    let quoted = json_string::to_json(alloc, &SmolStr::new_inline("a\"b"))?;
-    expect_eq!(rt; quoted.as_str(), "\"a\\\"b\"");
-    Ok(())
-}
-
-fn from_json_example(rt: &Test, alloc: Global) -> Result<(), JsonFault> {
-    let name = json_string::from_json(alloc, "\"if\"")?;
-    expect_eq!(rt; name.as_str(), "if");
-    Ok(())
 }

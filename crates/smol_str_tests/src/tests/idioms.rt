@@ -1,4 +1,4 @@
-//! Values as std's traits have them: lent as a `str`, collected, extended, converted; and what a language tool writes.
+//! Values as std's traits have them: lent as a `str`, made by `or_default`, converted; and what a language tool writes.
 use Place::{Heap, Inline, Static};
 use smol_str::{FormatError, Place, SmolStr, SmolStrBuilder, StrExt, format_smolstr};
 use std::collections::HashMap;
@@ -30,45 +30,6 @@ fn check_lent(test: &Test, text: &str) {
     same_str(test, AsStr::as_str(&test.builder(100, text)), text, "AsStr");
     let lent = Some(value);
     same_str(test, lent.as_deref().unwrap_or("none"), text, "as_deref");
-}
-
-// The texts of `calls/` are collected and extended by these calls too, and refused memory there.
-#[test]
-fn collected(rt: HostRuntime) -> Result<(), Fail> {
-    let test = Test::begin(rt);
-    let alloc = test.alloc;
-    let strings = [test.string("fn"), test.string(" é")];
-    let value = ok_value(&test, "fn é".chars().collect(alloc));
-    same_str(&test, &value, "fn é", "characters");
-    let value = ok_value(&test, "f,n, é".split(',').collect(alloc));
-    same_str(&test, &value, "fn é", "texts");
-    let value = ok_value(&test, strings.iter().collect(alloc));
-    same_str(&test, &value, "fn é", "strings that are lent");
-    let value = ok_value(&test, strings.into_iter().collect(alloc));
-    same_str(&test, &value, "fn é", "strings");
-    let value = ok_value(&test, long_blank().chars().collect(alloc));
-    has_text(&test, &value, long_blank(), Static, "a blank run");
-    test.end()
-}
-
-// What was there stays in front, in a buffer and on the heap.
-#[test]
-fn extended(rt: HostRuntime) -> Result<(), Fail> {
-    let test = Test::begin(rt);
-    check_extended(&test, test.builder(0, "let "));
-    check_extended(&test, test.builder(100, "let "));
-    test.end()
-}
-
-fn check_extended(test: &Test, mut builder: SmolStrBuilder) {
-    ok(test, builder.extend("x, y".split(", ")));
-    ok(test, builder.extend(['=', '1']));
-    ok(test, builder.extend([test.string(";")].iter()));
-    ok(test, builder.extend([test.string("//")]));
-    ok(test, builder.extend_chars(" a".chars()));
-    ok(test, builder.extend_strs(["b", "c"].into_iter()));
-    ok(test, builder.extend_strings([test.string("d")].iter()));
-    same_str(test, builder.as_str(), "let xy=1;// abcd", "extended");
 }
 
 #[test]

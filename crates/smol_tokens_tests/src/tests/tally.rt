@@ -35,8 +35,6 @@ fn counted(rt: HostRuntime) -> Result<(), Fail> {
     let mut tally = Tally::new(test.alloc);
     check_one_token(&test, &mut tally);
     check_two_tokens(&test, &mut tally);
-    let is_as_shown = tally_example(&test, test.alloc).is_ok();
-    is_so(&test, is_as_shown, "the example");
     test.end()
 }
 
@@ -231,12 +229,4 @@ fn a_fault_of_a_run_drops_the_token(rt: HostRuntime) -> Result<(), Fail> {
     drop(RunFault::from(AddFault::Full(test.value(long_text()))));
     is_so(&test, count_blocks(test.alloc) == 0, "blocks");
     test.end()
-}
-
-/// The example in the documentation of `Tally`.
-fn tally_example(rt: &Test, alloc: Global) -> Result<(), AddFault> {
-    let mut seen = Tally::new(alloc);
-    seen.add(SmolStr::new_inline("if"), 1)?;
-    expect_eq!(rt; seen.count(&SmolStr::new_inline("if")), Some(1));
-    Ok(())
 }
