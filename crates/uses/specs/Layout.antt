@@ -2,7 +2,6 @@
 --     untabbed t       t with four spaces in place of each tab
 --     spaced tokens    the tokens without tabs, with a space between each two
 --     line_text line   four spaces for each level, the tokens, and a newline
---     source lines     the lines one after another
 use Rattle.std.specs.Prelude.{ℕ, ◌*◌, ◌==◌, List, [], ◌∷◌, ◌++◌, replicate, if◌then◌else◌}
 use Rattle.std.specs.List.{flat_map}
 use Rattle.smol_str.specs.Meaning.{Meaning}
@@ -20,6 +19,3 @@ margin level = replicate (4 * level) 32
 
 abbrev pub line_text : Line → List ℕ
 line_text line = margin line.level ++ (spaced line.tokens.items ++ (10 ∷ []))
-
-abbrev pub source : List Line → List ℕ
-source lines = flat_map line_text lines

@@ -1,15 +1,20 @@
-//! Texts collected from iterators whose items the caller knows.
+//! Texts collected from iterators whose items the caller knows, through std's adapters too, and by a builder that draws
+//! them.
 #![tactic(auto)]
 
-ghost use Rattle.std.specs.Prelude.{◌≡◌, ◌<◌, ◌≤◌, ℕ, String, length, take, IfOk, IsOk, OnOk, OnErr};
+ghost use Rattle.std.specs.Prelude.{◌≡◌, ◌<◌, ◌≤◌, ◌==◌, ◌++◌, ◌∷◌, [], ℕ, String, codes, drop, length, not, reverse, take, IfOk, IsOk, OnOk, OnErr};
+ghost use Rattle.std.specs.List.{filter, prefix_len, slice_split};
 ghost use Rattle.std.specs.Str.{chars};
-ghost use Rattle.smol_str.specs.Text.{IsShort};
+ghost use Rattle.std.specs.Str.Lines.{lines};
+ghost use Rattle.smol_str.specs.Text.{IsShort, IsResident};
 ghost use Rattle.smol_str.specs.Meaning.{IsValueOf};
 ghost use Rattle.smol_str.specs.Draft.{OnHeap, appended};
-ghost use Rattle.smol_str.specs.Joined.{joined, string_text};
+ghost use Rattle.smol_str.specs.Joined.{joined, str_text, string_text};
+ghost use Rattle.smol_str.specs.Case.{upper};
+ghost use Rattle.smol_str.specs.Replace.{replaced_all};
 
-use crate::headline::of_characters;
-use smol_str::{INLINE_CAP, SmolStr, SmolStrBuilder};
+use crate::headline::{of_any_strs, of_characters, with_any_strs};
+use smol_str::{INLINE_CAP, SmolStr, SmolStrBuilder, ValueAlloc};
 use std::alloc::{AllocError, Global};
 
 /// The characters of a short text, which is never refused.
@@ -20,6 +25,151 @@ pub fn copied_short(alloc: Global, text: &str) -> Result<SmolStr, AllocError>
     ensures value { IfOk result (λ v. IsValueOf (chars text.now) v) }
 {
     of_characters(alloc, text)
+}
+
+/// The characters of two texts.
+#[tactic(auto, using(smol_str::proofs::CallerLemmas::collecting))]
+pub fn of_both(alloc: Global, first: &str, second: &str) -> Result<SmolStr, AllocError>
+    ensures value { IfOk result (λ v. IsValueOf (chars first.now ++ chars second.now) v) }
+    ensures refused { OnErr result (¬ (IsShort (chars first.now ++ chars second.now))) }
+{
+    SmolStr::from_chars(alloc, first.chars().chain(second.chars()))
+}
+
+/// A text without one character.
+#[tactic(auto, using(smol_str::proofs::CallerLemmas::collecting))]
+pub fn without(alloc: Global, text: &str, left_out: char) -> Result<SmolStr, AllocError>
+    ensures value { IfOk result (λ v. IsValueOf (filter (λ c. not (c == left_out)) (chars text.now)) v) }
+    ensures refused { OnErr result (¬ (IsShort (filter (λ c. not (c == left_out)) (chars text.now)))) }
+{
+    SmolStr::from_chars(alloc, text.chars().filter(|c| *c != left_out))
+}
+
+/// A text in upper case of ASCII.
+#[tactic(auto, using(smol_str::proofs::CallerLemmas::collecting))]
+pub fn in_capitals(alloc: Global, text: &str) -> Result<SmolStr, AllocError>
+    ensures value { IfOk result (λ v. IsValueOf (upper (chars text.now)) v) }
+    ensures refused { OnErr result (¬ (IsShort (upper (chars text.now)))) }
+{
+    SmolStr::from_chars(alloc, text.chars().map(|c| c.to_ascii_uppercase()))
+}
+
+/// The first three characters of a text.
+#[tactic(auto, using(smol_str::proofs::CallerLemmas::collecting))]
+pub fn first_three(alloc: Global, text: &str) -> Result<SmolStr, AllocError>
+    ensures value { IfOk result (λ v. IsValueOf (take 3 (chars text.now)) v) }
+    ensures refused { OnErr result (¬ (IsShort (take 3 (chars text.now)))) }
+{
+    SmolStr::from_chars(alloc, text.chars().take(3))
+}
+
+/// A text without its first character.
+#[tactic(auto, using(smol_str::proofs::CallerLemmas::collecting))]
+pub fn past_sign(alloc: Global, text: &str) -> Result<SmolStr, AllocError>
+    ensures value { IfOk result (λ v. IsValueOf (drop 1 (chars text.now)) v) }
+    ensures refused { OnErr result (¬ (IsShort (drop 1 (chars text.now)))) }
+{
+    SmolStr::from_chars(alloc, text.chars().skip(1))
+}
+
+/// A text up to its first comma.
+#[tactic(auto, using(smol_str::proofs::CallerLemmas::collecting))]
+pub fn up_to_comma(alloc: Global, text: &str) -> Result<SmolStr, AllocError>
+    ensures value { IfOk result (λ v. IsValueOf (take (prefix_len (λ c. not (c == 44)) (chars text.now)) (chars text.now)) v) }
+    ensures refused { OnErr result (¬ (IsShort (take (prefix_len (λ c. not (c == 44)) (chars text.now)) (chars text.now)))) }
+{
+    SmolStr::from_chars(alloc, text.chars().take_while(|c| *c != ','))
+}
+
+/// A text without the spaces in front.
+#[tactic(auto, using(smol_str::proofs::CallerLemmas::collecting))]
+pub fn past_spaces(alloc: Global, text: &str) -> Result<SmolStr, AllocError>
+    ensures value { IfOk result (λ v. IsValueOf (drop (prefix_len (λ c. c == 32) (chars text.now)) (chars text.now)) v) }
+    ensures refused { OnErr result (¬ (IsShort (drop (prefix_len (λ c. c == 32) (chars text.now)) (chars text.now)))) }
+{
+    SmolStr::from_chars(alloc, text.chars().skip_while(|c| *c == ' '))
+}
+
+/// The characters of all words.
+#[tactic(auto, using(smol_str::proofs::CallerLemmas::collecting))]
+pub fn letters_of(alloc: Global, words: &[&str]) -> Result<SmolStr, AllocError>
+    ensures value { IfOk result (λ v. IsValueOf (joined str_text words.now) v) }
+    ensures refused { OnErr result (¬ (IsShort (joined str_text words.now))) }
+{
+    SmolStr::from_chars(alloc, words.iter().flat_map(|word| word.chars()))
+}
+
+/// Two characters.
+#[tactic(auto, using(smol_str::proofs::CallerLemmas::collecting))]
+pub fn of_two_chars(alloc: Global, first: char, second: char) -> Result<SmolStr, AllocError>
+    ensures value { IfOk result (λ v. IsValueOf (first ∷ second ∷ []) v) }
+    ensures refused { OnErr result (¬ (IsShort (first ∷ second ∷ []))) }
+{
+    SmolStr::from_chars(alloc, [first, second].into_iter())
+}
+
+/// The texts of values.
+#[tactic(auto, using(smol_str::proofs::CallerLemmas::collecting))]
+pub fn of_values(alloc: Global, values: &[SmolStr]) -> Result<SmolStr, AllocError>
+    ensures value { IfOk result (λ v. IsValueOf (joined (λ value. value.text) values.now) v) }
+    ensures refused { OnErr result (¬ (IsShort (joined (λ value. value.text) values.now))) }
+{
+    SmolStr::from_strs(alloc, values.iter().map(|value| value.as_str()))
+}
+
+/// The texts of a list as one, by a function that is generic in an iterator and speaks of its run.
+#[tactic(auto, using(smol_str::proofs::CallerLemmas::collecting))]
+pub fn of_list(alloc: Global, parts: &[&str]) -> Result<SmolStr, AllocError>
+    ensures value { IfOk result (λ v. IsValueOf (joined str_text parts.now) v) }
+    ensures refused { OnErr result (¬ (IsShort (joined str_text parts.now))) }
+{
+    of_any_strs(alloc, parts.iter().copied())
+}
+
+/// The texts of a list from the last to the first.
+#[tactic(auto, using(smol_str::proofs::CallerLemmas::collecting))]
+pub fn of_parts_reversed(alloc: Global, parts: &[&str]) -> Result<SmolStr, AllocError>
+    ensures value { IfOk result (λ v. IsValueOf (joined str_text (reverse parts.now)) v) }
+    ensures refused { OnErr result (¬ (IsShort (joined str_text (reverse parts.now)))) }
+{
+    SmolStr::from_strs(alloc, parts.iter().copied().rev())
+}
+
+/// Two texts with a dash between them.
+#[tactic(auto, using(smol_str::proofs::CallerLemmas::collecting), unfolding(smol_str::specs::Collect::Collected))]
+pub fn with_dash(alloc: Global, first: &str, second: &str) -> Result<SmolStr, AllocError>
+    ensures value { IfOk result (λ v. IsValueOf (joined chars (first.now ∷ codes "-" ∷ second.now ∷ [])) v) }
+    ensures refused { OnErr result (¬ (IsShort (joined chars (first.now ∷ codes "-" ∷ second.now ∷ [])))) }
+{
+    SmolStr::from_strs(alloc, [first, "-", second].into_iter())
+}
+
+/// Two texts.
+#[tactic(auto, using(smol_str::proofs::CallerLemmas::collecting), unfolding(smol_str::specs::Collect::Collected))]
+pub fn of_pair(alloc: Global, first: &str, second: &str) -> Result<SmolStr, AllocError>
+    ensures value { IfOk result (λ v. IsValueOf (chars first.now ++ chars second.now) v) }
+    ensures refused { OnErr result (¬ (IsShort (chars first.now ++ chars second.now))) }
+{
+    SmolStr::from_strs(alloc, [first, second].into_iter())
+}
+
+/// A text without its line ends.
+#[tactic(auto, using(smol_str::proofs::CallerLemmas::collecting))]
+pub fn in_one_line(alloc: Global, text: &str) -> Result<SmolStr, AllocError>
+    ensures value { IfOk result (λ v. IsValueOf (joined chars (lines text.now)) v) }
+    ensures refused { OnErr result (¬ (IsShort (joined chars (lines text.now)))) }
+{
+    SmolStr::from_strs(alloc, text.lines())
+}
+
+/// A text without each match of another, which is not empty.
+#[tactic(auto, using(smol_str::proofs::CallerLemmas::collecting))]
+pub fn without_text(alloc: Global, text: &str, left_out: &str) -> Result<SmolStr, AllocError>
+    requires some { 0 < length left_out.now }
+    ensures value { IfOk result (λ v. IsValueOf (replaced_all (chars text.now) (chars left_out.now) []) v) }
+    ensures refused { OnErr result (¬ (IsShort (replaced_all (chars text.now) (chars left_out.now) []))) }
+{
+    SmolStr::from_strs(alloc, text.split(left_out))
 }
 
 /// The texts of `String`s that are handed over.
@@ -49,4 +199,50 @@ pub fn push_strings(builder: &mut SmolStrBuilder, texts: &[String]) -> Result<()
     ensures refused { OnErr result ((appended builder.old (joined string_text texts.now)).kind ≡ OnHeap) }
 {
     builder.extend_strings(texts.iter())
+}
+
+/// A builder, and the texts of values after it.
+#[tactic(auto, using(smol_str::proofs::CallerLemmas::collecting))]
+pub fn push_values(builder: &mut SmolStrBuilder, values: &[SmolStr]) -> Result<(), AllocError>
+    ensures ok { OnOk result (builder.new ≡ appended builder.old (joined (λ value. value.text) values.now)) }
+    ensures refused { OnErr result ((appended builder.old (joined (λ value. value.text) values.now)).kind ≡ OnHeap) }
+{
+    builder.extend_strs(values.iter().map(|value| value.as_str()))
+}
+
+/// A builder, and a text without its commas after it.
+#[tactic(auto, using(smol_str::proofs::CallerLemmas::collecting))]
+pub fn push_without_commas(builder: &mut SmolStrBuilder, text: &str) -> Result<(), AllocError>
+    ensures ok { OnOk result
+        (builder.new ≡ appended builder.old (joined chars (slice_split (λ b. b == 44) text.now))) }
+    ensures refused { OnErr result
+        ((appended builder.old (joined chars (slice_split (λ b. b == 44) text.now))).kind ≡ OnHeap) }
+{
+    builder.extend_strs(text.split(','))
+}
+
+/// The same behind what a builder has.
+#[tactic(auto, using(smol_str::proofs::CallerLemmas::collecting))]
+pub fn push_list(builder: &mut SmolStrBuilder, parts: &[&str]) -> Result<(), AllocError>
+    ensures ok { OnOk result (builder.new ≡ appended builder.old (joined str_text parts.now)) }
+{
+    with_any_strs(builder, parts.iter().copied())
+}
+
+/// Two texts, by a builder: a generic caller.
+pub fn of_two<A: ValueAlloc>(alloc: A, first: &str, second: &str) -> Result<A::Value, AllocError>
+    ensures value { IfOk result (λ v. IsValueOf (chars first.now ++ chars second.now) (A.meaning v)) }
+{
+    let mut builder = alloc.builder();
+    builder.push_str(first)?;
+    builder.push_str(second)?;
+    A::value_of(builder)
+}
+
+/// A builder's value, as collecting ends.
+pub fn of_filled(builder: SmolStrBuilder) -> Result<SmolStr, AllocError>
+    ensures value { IfOk result (λ v. IsValueOf builder.text v) }
+    ensures refused { OnErr result (¬ (IsResident builder.text)) }
+{
+    Global::value_of(builder)
 }

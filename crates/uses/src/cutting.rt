@@ -4,10 +4,10 @@ ghost use Rattle.std.specs.Str.{chars, trim};
 ghost use Rattle.smol_str.specs.Cut.{IsFirstAfter, Occurs, joined_by};
 ghost use Rattle.smol_str.specs.Joined.{str_text};
 ghost use Rattle.smol_str.specs.Meaning.{AreValuesOf, IsValueOf, texts};
-ghost use Rattle.smol_str.specs.Replace.{cut, no_limit};
+ghost use Rattle.smol_str.specs.Replace.{cut, each_replaced, no_limit};
 ghost use Rattle.smol_str.specs.Text.{IsShort};
 
-use smol_str::SmolStr;
+use smol_str::{SmolStr, StrExt};
 use std::alloc::{AllocError, Global};
 
 /// The fields of a line, which commas separate.
@@ -133,4 +133,13 @@ pub fn with_field(
         fields[at] = text;
     }
     line_of(alloc, &fields, ",")
+}
+
+/// A name with a hyphen (U+002D) in place of each underscore (U+005F), character by character.
+#[tactic(auto, using(smol_str::proofs::CallerLemmas::replacing))]
+pub fn hyphenated(alloc: Global, name: &str) -> Result<SmolStr, AllocError>
+    ensures value { IfOk result (λ v. IsValueOf (each_replaced 95 45 (chars name.now)) v) }
+    ensures refused { OnErr result (¬ (IsShort (chars name.now))) }
+{
+    name.replace_smolstr(alloc, "_", "-")
 }

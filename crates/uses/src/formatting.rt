@@ -1,5 +1,5 @@
 //! Values of what is printed, by callers that know what their arguments print.
-ghost use Rattle.std.specs.Prelude.{◌≡◌, ◌++◌, codes, replicate, IfOk, OnOk, encode_utf8_all};
+ghost use Rattle.std.specs.Prelude.{◌≡◌, ◌++◌, codes, replicate, IfOk, encode_utf8_all};
 ghost use Rattle.std.specs.Str.{chars};
 ghost use Rattle.std.specs.Fmt.{decimal};
 ghost use Rattle.smol_str.specs.declared.value.place.Place.TheVariants.{Static};
@@ -9,14 +9,6 @@ ghost use Rattle.smol_str.specs.Text.{place_of};
 
 use smol_str::{FormatError, SmolStr, SmolStrBuilder, ToSmolStr, finished, format_smolstr};
 use std::alloc::Global;
-use std::fmt;
-
-/// Two words with a sign between them.
-pub fn words(alloc: Global) -> Result<SmolStr, FormatError>
-    ensures { IfOk result (λ v. encode_utf8_all v.text ≡ codes "a-b") }
-{
-    format_smolstr!(alloc; "{}-{}", "a", "b")
-}
 
 /// A word, a number and a value.
 pub fn line(alloc: Global, word: &str, number: u64, value: &SmolStr) -> Result<SmolStr, FormatError>
@@ -41,19 +33,11 @@ pub fn copied(alloc: Global, text: &str) -> Result<SmolStr, FormatError>
     text.to_smolstr(alloc)
 }
 
-/// A builder, and a number after it.
-pub fn push_number(builder: &mut SmolStrBuilder, number: u64) -> fmt::Result
-    ensures { OnOk result
-        (encode_utf8_all builder.new.text ≡ encode_utf8_all builder.old.text ++ decimal number) }
+/// What a builder has, and after it a number and a sign.
+pub fn signed(mut builder: SmolStrBuilder, number: u64) -> Result<SmolStr, FormatError>
+    ensures { IfOk result (λ v. encode_utf8_all v.text ≡
+        encode_utf8_all builder.text ++ (decimal number ++ codes "-")) }
 {
-    write!(builder, "{number}")
-}
-
-/// A number and a sign, by a builder that was printed to.
-pub fn signed(alloc: Global, number: u64) -> Result<SmolStr, FormatError>
-    ensures { IfOk result (λ v. encode_utf8_all v.text ≡ decimal number ++ codes "-") }
-{
-    let mut builder = SmolStrBuilder::new(alloc);
     write!(builder, "{number}-")?;
     finished(builder)
 }

@@ -29,11 +29,6 @@ pub fn is_if(token: &SmolStr) -> bool
     &**token == "if"
 }
 
-/// Whether a token begins a comment, by methods of `str`.
-pub fn is_comment(token: &SmolStr) -> bool {
-    token.starts_with("//") || token.trim().is_empty()
-}
-
 /// The value of whatever lends a text: a `&str`, a `String`, a value, a builder.
 pub fn value_of<T: AsStr>(alloc: Global, text: &T) -> Result<SmolStr, AllocError>
     ensures value { IfOk result (λ v. IsValueOf (chars (T.text text.now)) v) }

@@ -3,7 +3,7 @@ ghost use Rattle.std.specs.Prelude.{◌≡◌, ◌∷◌, ◌++◌, codes, IfOk,
 ghost use Rattle.smol_str.specs.Draft.{appended};
 ghost use Rattle.smol_str.specs.Text.{place_of};
 ghost use Rattle.smol_str.specs.Meaning.{IsValueOf};
-ghost use Rattle.uses.specs.Layout.{untabbed, spaced, margin, line_text, source};
+ghost use Rattle.uses.specs.Layout.{untabbed, spaced, margin, line_text};
 
 use smol_str::{FormatError, SmolStr, SmolStrBuilder, StrExt, format_smolstr};
 use std::alloc::{AllocError, Global};
@@ -79,24 +79,4 @@ fn print_line(alloc: Global, margin: &SmolStr, row: &SmolStr) -> Result<SmolStr,
     ensures place { IfOk result (λ v. v.place ≡ place_of v.text) }
 {
     format_smolstr!(alloc; "{margin}{row}\n")
-}
-
-/// The text of all lines.
-#[tactic(auto, using(smol_str::proofs::CallerLemmas::builders))]
-pub fn lay_out(alloc: Global, lines: &[Line]) -> Result<SmolStr, FormatError>
-    ensures { IfOk result (λ v. IsValueOf (source lines.now) v) }
-{
-    let mut whole = SmolStrBuilder::new(alloc);
-    for line in lines {
-        push_line(alloc, &mut whole, line)?;
-    }
-    Ok(whole.into_value()?)
-}
-
-#[tactic(auto, using(smol_str::proofs::CallerLemmas::builders))]
-fn push_line(alloc: Global, whole: &mut SmolStrBuilder, line: &Line) -> Result<(), FormatError>
-    ensures { OnOk result (whole.new ≡ appended whole.old (line_text line.now)) }
-{
-    whole.push_str(&lay_out_line(alloc, line)?)?;
-    Ok(())
 }

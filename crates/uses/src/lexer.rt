@@ -1,14 +1,12 @@
 //! A lexer: a source is cut into words, runs of blanks and single other characters, and no character of it is lost.
-ghost use Rattle.std.specs.Prelude.{◌≡◌, ◌≢◌, ◌<◌, ◌≤◌, [], ◌∷◌, length, All, IfOk, IfSome, OnErr, MatchOption};
-ghost use Rattle.std.specs.List.{flat_map};
+ghost use Rattle.std.specs.Prelude.{◌≡◌, ◌≢◌, ◌<◌, ◌≤◌, ℕ, List, [], ◌∷◌, length, All, IfOk, IfSome, MatchOption};
+ghost use Rattle.std.specs.List.{concat, flat_map};
 ghost use Rattle.std.specs.Str.{chars};
-ghost use Rattle.smol_str.specs.Text.{IsShort, IsResident};
-ghost use Rattle.smol_str.specs.Meaning.{IsValueOf};
+ghost use Rattle.smol_str.specs.Text.{IsResident};
 ghost use Rattle.smol_str.specs.Meaning.{texts};
 ghost use Rattle.uses.specs.Tokens.{IsToken, AreLongest, IsFirstToken, IsLeftAfter};
 ghost use Rattle.uses.specs.Tokens.{is_word_character, is_blank, goes_on};
 
-use crate::building::joined;
 use smol_str::{Place, SmolStr, laws};
 use std::alloc::{AllocError, Global};
 
@@ -30,22 +28,11 @@ pub fn lex(alloc: Global, source: &str) -> Result<Vec<SmolStr>, AllocError>
     Ok(tokens)
 }
 
-/// The tokens of a source joined again by a builder.
-pub fn unlex(alloc: Global, source: &str, tokens: &[SmolStr]) -> Result<SmolStr, AllocError>
-    requires lossless { flat_map (λ token. token.text) tokens.now ≡ chars source.now }
-    ensures value { IfOk result (λ whole. IsValueOf (chars source.now) whole) }
-    ensures refused { OnErr result (¬ (IsShort (chars source.now))) }
-{
-    joined(alloc, tokens)
-}
-
-/// A source through both.
-pub fn there_and_back(alloc: Global, source: &str) -> Result<SmolStr, AllocError>
-    ensures { IfOk result (λ whole. IsValueOf (chars source.now) whole) }
-{
-    let tokens = lex(alloc, source)?;
-    unlex(alloc, source, &tokens)
-}
+/// Two cuts of a text into tokens which are as long as they can be are one.
+pub fn one_lexing()
+    ensures { (tokens others : List (List ℕ)) → concat tokens ≡ concat others →
+        All IsToken tokens → All IsToken others → AreLongest tokens [] → AreLongest others [] → tokens ≡ others }
+{}
 
 /// The first token of a text, and what follows it.
 fn split_token(text: &str) -> Option<(&str, &str)>

@@ -1,13 +1,14 @@
 //! Lists of values on the wire: how many they are, and then their wire forms, as borsh has a `Vec` of strings.
-ghost use Rattle.std.specs.Prelude.{◌≡◌, ◌<◌, ◌++◌, length, IfOk, IfErr, IfSome, MatchOption};
+ghost use Rattle.std.specs.Prelude.{◌≡◌, ◌<◌, ◌∷◌, [], ◌++◌, length, IfOk, IfErr, IfSome, MatchOption};
 ghost use Rattle.std.specs.Int.{w32, to_le_bytes};
 ghost use Rattle.uses.specs.Lists.{CanBeListed, list_form, AfterListFault, AfterUnlisted};
 ghost use Rattle.smol_str.specs.Meaning.{texts};
+ghost use Rattle.smol_str.specs.Wire.{HasWire};
 
 use smol_str::SmolStr;
 use smol_str::borsh::{BorshSerialize, DecodeFault, EncodeFault, length_prefix, split_wire};
-use std::alloc::Global;
-use std::io::Write;
+use std::alloc::{AllocError, Global};
+use std::io::{self, Write};
 
 /// The form of a list.
 #[tactic(auto, using(smol_str::proofs::CallerLemmas::items))]
@@ -54,6 +55,7 @@ fn split_count(bytes: &[u8]) -> Option<(u32, &[u8])>
     Some((count_in(prefix), rest))
 }
 
+#[tactic(auto, using(std::proofs::lemmas::Nat::le_bytes_4))]
 fn count_in(prefix: &[u8; 4]) -> u32
     ensures { to_le_bytes w32 result ≡ prefix.now }
 {
@@ -78,16 +80,6 @@ pub fn read_back<'a>(
     }
 }
 
-/// A list written, with `rest` behind it, and read back.
-pub fn there_and_back(alloc: Global, values: &[SmolStr], rest: &[u8]) -> Option<Vec<SmolStr>>
-    ensures { IfSome result (λ read. texts read.items ≡ texts values.now) }
-{
-    let mut bytes = write_list(alloc, values).ok()?;
-    bytes.extend_from_slice(rest).ok()?;
-    let (read, _rest) = read_back(alloc, bytes.as_slice(), values, rest)?;
-    Some(read)
-}
-
 /// Bytes of a list of which the end is missing: no list is read of them, wherever they were cut.
 pub fn read_cut(alloc: Global, bytes: &[u8], missing: &[u8], values: &[SmolStr]) -> DecodeFault
     requires listed { CanBeListed (texts values.now) }
@@ -98,5 +90,37 @@ pub fn read_cut(alloc: Global, bytes: &[u8], missing: &[u8], values: &[SmolStr])
     match read_list(alloc, bytes) {
         Ok(_read) => unreachable!(),
         Err(fault) => fault,
+    }
+}
+
+/// The form of a list that has one.
+pub fn write_known(alloc: Global, values: &[SmolStr]) -> Result<Vec<u8>, io::Error>
+    requires listed { CanBeListed (texts values.now) }
+    ensures form { IfOk result (λ bytes. bytes.items ≡ list_form (texts values.now)) }
+{
+    match write_list(alloc, values) {
+        Ok(bytes) => Ok(bytes),
+        Err(EncodeFault::Io(error)) => Err(error),
+        Err(EncodeFault::TooLong) => unreachable!(),
+    }
+}
+
+/// The list of one value, whose form the bytes are, with `rest` behind it.
+pub fn read_known<'a>(
+    alloc: Global,
+    bytes: &'a [u8],
+    value: &SmolStr,
+    rest: &[u8],
+) -> Result<(Vec<SmolStr>, &'a [u8]), AllocError>
+    requires sized { HasWire value.now.text }
+    requires written { bytes.now ≡ list_form (value.now.text ∷ []) ++ rest.now }
+{
+    let _text = value.as_str();
+    match read_list(alloc, bytes) {
+        Ok(read) => Ok(read),
+        Err(DecodeFault::OutOfMemory) => Err(AllocError),
+        Err(DecodeFault::Ended) => unreachable!(),
+        Err(DecodeFault::NotUtf8(_)) => unreachable!(),
+        Err(DecodeFault::Io(_)) => unreachable!(),
     }
 }

@@ -54,19 +54,6 @@ pub fn read_record<R: Read>(
     Ok(Record { level, message })
 }
 
-/// The bytes of records.
-#[tactic(auto, using(smol_str::proofs::CallerLemmas::items))]
-pub fn write_all(alloc: Global, records: &[Record]) -> Result<Vec<u8>, EncodeFault>
-    ensures sized { OnOk result (All HasForm records.now) }
-    ensures ok { IfOk result (λ bytes. bytes.items ≡ forms records.now) }
-{
-    let mut bytes = Vec::new(alloc);
-    for entry in records {
-        write_record(&mut bytes, entry)?;
-    }
-    Ok(bytes)
-}
-
 /// Reads so many records, and no byte behind them.
 #[tactic(auto, using(smol_str::proofs::CallerLemmas::items))]
 pub fn read_all<R: Read>(
@@ -124,33 +111,6 @@ pub fn read_back<'a>(
     match read_all(alloc, &mut reader, records.len(), limit) {
         Ok(read) => Some((read, reader)),
         Err(_fault) => None,
-    }
-}
-
-/// A record whose form the bytes are, with `rest` behind it: that they end early is not told.
-pub fn read_known(
-    alloc: Global,
-    bytes: &[u8],
-    entry: &Record,
-    rest: &[u8],
-    limit: usize,
-) -> Result<Vec<Record>, LimitedFault>
-    requires sized { HasForm entry.now }
-    requires written { bytes.now ≡ form entry.now ++ rest.now }
-    ensures whole { IfErr result (λ fault. ¬ (fault ≡ LimitedFault.Decode DecodeFault.Ended)) }
-{
-    let (_level, _message) = (entry.level.as_str(), entry.message.as_str());
-    let mut reader = bytes;
-    read_all(alloc, &mut reader, 1, limit)
-}
-
-/// No records: reading none cannot fail.
-pub fn read_none<R: Read>(alloc: Global, reader: &mut R, limit: usize) -> Vec<Record>
-    ensures { length result.items ≡ 0 }
-{
-    match read_all(alloc, reader, 0, limit) {
-        Ok(records) => records,
-        Err(_fault) => unreachable!(),
     }
 }
 

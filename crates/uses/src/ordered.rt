@@ -1,14 +1,15 @@
-//! Values in order: sorted, two sorted lists as one, and looked up.
+//! Values sorted, two lists as one in order, and values looked up in lists and maps.
 ghost use Rattle.std.specs.Prelude.{◌≡◌, ◌++◌, OnOk, OnErr, IfOk, option_copied};
 ghost use Rattle.std.specs.Ordering.{nat_cmp};
 ghost use Rattle.std.specs.Cmp.Lexicographic.{slice_cmp};
 ghost use Rattle.std.specs.List.Sorted.{IsSorted, IsPermutation};
-ghost use Rattle.smol_str.specs.Keys.{ordered_value_at, has_text, is_before};
+ghost use Rattle.smol_str.specs.Keys.{ordered_value_at, value_at, has_text, is_before};
 ghost use Rattle.smol_str.specs.Meaning.{texts};
 
 use smol_str::SmolStr;
 use std::alloc::AllocError;
-use std::collections::BTreeMap;
+use std::collections::{BTreeMap, HashMap};
+use std::hash::BuildHasher;
 
 /// Puts values in the order of their texts.
 #[tactic(auto, using(smol_str::proofs::CallerLemmas::sorting))]
@@ -38,6 +39,16 @@ pub fn find<'a>(ids: &'a BTreeMap<SmolStr, usize>, name: &SmolStr) -> Option<&'a
     ensures { option_copied result ≡ ordered_value_at name.now.text ids.now }
 {
     ids.get(name)
+}
+
+/// What a hashed map has at a name's text.
+pub fn number_of<'a, S: BuildHasher>(
+    numbers: &'a HashMap<SmolStr, u64, S>,
+    name: &SmolStr,
+) -> Option<&'a u64>
+    ensures { option_copied result ≡ value_at name.now.text numbers.now }
+{
+    numbers.get(name)
 }
 
 /// Whether a list of keywords has a name.

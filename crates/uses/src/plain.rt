@@ -1,7 +1,7 @@
 //! A caller with no contract, no tactic and no proof: words counted, sorted, printed, replaced, and written as JSON.
 use anyhow::{Context, Result};
 use serde::{Deserialize, Serialize};
-use smol_str::{SmolStr, SmolStrBuilder, StrExt, format_smolstr};
+use smol_str::{SmolStr, SmolStrBuilder, StrExt};
 use std::alloc::Global;
 use std::collections::HashMap;
 
@@ -35,8 +35,7 @@ pub fn listed(alloc: Global, counts: &[Count]) -> Result<SmolStr> {
         if &**word == "let" {
             continue;
         }
-        lines.push_str(&format_smolstr!(alloc; "{word}: {times}")?)?;
-        lines.push('\n')?;
+        writeln!(lines, "{word}: {times}")?;
     }
     Ok(lines.into_value()?)
 }

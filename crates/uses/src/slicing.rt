@@ -1,21 +1,12 @@
 //! What a caller does with an index or a buffer that a call returns.
 #![tactic(auto)]
 
-ghost use Rattle.std.specs.Prelude.{◌≡◌, ◌<◌, ◌≤◌, ◌↔◌, ◌++◌, [], codes, drop, length, IfNone, IfSome, IsTrue};
+ghost use Rattle.std.specs.Prelude.{◌≡◌, ◌<◌, ◌≤◌, ◌↔◌, ◌++◌, [], drop, length, IfNone, IfSome, IsTrue};
 ghost use Rattle.std.specs.Str.{IsCharBoundary, chars};
 ghost use Rattle.smol_str.specs.Cut.{IsFirstAfter, Occurs};
 
 use smol_str::kernel::{AsciiCase, convert_while_ascii, next_match};
 use smol_str::{INLINE_CAP, SmolStr, SmolStrBuilder};
-
-/// What stands before the first comma of a text, and behind it.
-pub fn at_comma(text: &str) -> Option<(&str, &str)>
-    ensures { IfSome result (λ parts.
-        chars text.now ≡ chars parts.0.now ++ (chars (codes ",") ++ chars parts.1.now)) }
-{
-    let found = next_match(text, 0, ",")?;
-    Some((&text[..found], &text[found + 1..]))
-}
 
 /// A text cut at the first match of a pattern; `None` where the pattern stands nowhere in it.
 pub fn cut_at<'a>(text: &'a str, pattern: &str) -> Option<(&'a str, &'a str)>

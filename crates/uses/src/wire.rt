@@ -1,17 +1,20 @@
-//! A value there and back: its wire form written, and read again by both calls.
-ghost use Rattle.std.specs.Prelude.{◌≡◌, ◌<◌, ◌+◌, ◌≤◌, ◌++◌, ℕ, List, length, Some, IfOk, IfErr, IfSome, OnErr};
+//! A value there and back: its wire form written, and read again by both calls. Readers that are read to their end, and
+//! bytes that are no text.
+ghost use Rattle.std.specs.Prelude.{◌≡◌, ◌<◌, ◌+◌, ◌≤◌, ◌++◌, ℕ, List, [], drop, length, take, Some, IfOk, IfErr, IfSome, OnOk, OnErr};
 ghost use Rattle.std.specs.Io.KnownBytes.{Keeps};
 ghost use Rattle.smol_str.specs.Stream.{Gave};
-ghost use Rattle.std.specs.Str.{chars};
+ghost use Rattle.std.specs.Str.{IsUtf8, chars};
+ghost use Rattle.std.specs.Str.Lossy.{utf8_invalid_len};
 ghost use Rattle.smol_str.specs.Text.{size, IsResident, place_of};
 ghost use Rattle.smol_str.specs.Meaning.{IsValueOf};
-ghost use Rattle.smol_str.specs.Wire.{HasWire, wire, prefix_size};
+ghost use Rattle.smol_str.specs.Wire.{HasWire, body, prefix_size, wire};
 
 use smol_str::borsh::{
     BorshDeserialize, BorshSerialize, DecodeFault, EncodeFault, LimitedFault, deserialize_limited,
     from_wire, split_wire,
 };
-use smol_str::{INLINE_CAP, SmolStr};
+use smol_str::stream::{ReadFault, read_all};
+use smol_str::{FromUtf8Fault, INLINE_CAP, SmolStr};
 use std::alloc::{AllocError, Global};
 use std::io::{Read, Write};
 
@@ -143,4 +146,81 @@ pub fn read_from_peer<R: Read>(
         (4 ≤ length bytes) × (INLINE_CAP < prefix_size bytes))) }
 {
     deserialize_limited(alloc, reader, limit)
+}
+
+/// The same of a form that is known, with `rest` behind it: that it ended early is not told, nor that it is no text.
+#[tactic(auto, using(smol_str::proofs::CallerLemmas::forms))]
+pub fn read_known_from_peer(
+    alloc: Global,
+    bytes: &[u8],
+    text: &str,
+    rest: &[u8],
+    limit: usize,
+) -> Result<SmolStr, LimitedFault>
+    requires sized { HasWire (chars text.now) }
+    requires form { bytes.now ≡ wire (chars text.now) ++ rest.now }
+{
+    let mut reader = bytes;
+    match deserialize_limited(alloc, &mut reader, limit) {
+        Err(LimitedFault::Decode(DecodeFault::Ended | DecodeFault::NotUtf8(_))) => unreachable!(),
+        read => read,
+    }
+}
+
+/// All bytes of a reader. It is at its end then, so that more reading gives nothing.
+pub fn read_out<R: Read>(
+    alloc: Global,
+    reader: &mut R,
+    bytes: &[u8],
+) -> Result<(Vec<u8>, Vec<u8>), ReadFault>
+    requires known { R.remaining reader.old ≡ Some bytes.now }
+    ensures whole { IfOk result (λ read. read.0.items ≡ bytes.now) }
+    ensures nothing { IfOk result (λ read. read.1.items ≡ []) }
+    ensures left { OnOk result (R.remaining reader.new ≡ Some []) }
+{
+    let whole = read_all(alloc, reader)?;
+    let more = read_all(alloc, reader)?;
+    Ok((whole, more))
+}
+
+/// What a reader has behind bytes that ended within a value: nothing.
+pub fn read_behind_early_end<R: Read>(
+    alloc: Global,
+    reader: &mut R,
+    bytes: &[u8],
+) -> Option<Vec<u8>>
+    requires known { R.remaining reader.old ≡ Some bytes.now }
+    ensures { IfSome result (λ more. more.items ≡ []) }
+{
+    match SmolStr::deserialize_reader(alloc, reader) {
+        Err(DecodeFault::Ended) => read_all(alloc, reader).ok(),
+        _ => None,
+    }
+}
+
+/// What stands before the first bytes that are no text, and what behind them; `None` where all of them are text.
+pub fn around_invalid(alloc: Global, bytes: &[u8]) -> Option<(&[u8], &[u8])>
+    ensures front { IfSome result (λ parts. IsUtf8 parts.0.now) }
+    ensures behind { IfSome result (λ parts. parts.1.now
+        ≡ drop (length parts.0.now + utf8_invalid_len (drop (length parts.0.now) bytes.now)) bytes.now) }
+{
+    match SmolStr::from_utf8(alloc, bytes) {
+        Err(FromUtf8Fault::NotUtf8(fault)) => {
+            let (front, rest) = bytes.split_at(fault.valid_up_to());
+            let invalid = fault.error_len().unwrap_or(rest.len());
+            Some((front, &rest[invalid..]))
+        }
+        Ok(_) | Err(FromUtf8Fault::OutOfMemory) => None,
+    }
+}
+
+/// How many bytes of a body on the wire are text, where not all of them are.
+pub fn valid_in_body(alloc: Global, bytes: &[u8]) -> Option<usize>
+    ensures front { IfSome result (λ n. IsUtf8 (take n (body bytes.now))) }
+    ensures within { IfSome result (λ n. n < length (body bytes.now)) }
+{
+    match from_wire(alloc, bytes) {
+        Err(DecodeFault::NotUtf8(fault)) => Some(fault.valid_up_to()),
+        Ok(_) | Err(_) => None,
+    }
 }

@@ -1,6 +1,6 @@
 use Rattle.std.proofs.Common.{[], append-nil, ◌∙◌}
 use Rattle.uses.proofs.ListLemmas.{one_begins}
-use Rattle.uses.proofs.known_lists.read_known.Goals as goal
+use Rattle.uses.proofs.lists.read_known.Goals as goal
 
 pub unreachable-requires : goal.unreachable-requires
 unreachable-requires c =
