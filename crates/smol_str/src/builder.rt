@@ -304,7 +304,7 @@ impl SmolStrBuilder {
         match repr {
             BuilderRepr::Inline(text) => Ok(SmolStr::from_inline(text.duplicate())),
             // `Ok(x?)`: returning x as it comes would build the value in memory in both arms.
-            BuilderRepr::Heap(text) => Ok(SmolStr::from_owned(text)?),
+            BuilderRepr::Heap(text) => Ok(value_from(text)?),
         }
     }
 }
@@ -347,6 +347,15 @@ fn with_spare(alloc: Global, len: usize, spare: usize) -> Result<String, AllocEr
     ensures { IfOk result (λ heap. string_bytes heap ≡ []) }
 {
     String::with_capacity(alloc, len.saturating_add(spare))
+}
+
+/// Slow path of `into_value`, kept out of line so that the fast path inlines.
+#[inline(never)]
+fn value_from(text: String) -> Result<SmolStr, AllocError>
+    ensures ok { IfOk result (λ v. IsValueOf (chars (string_bytes text)) v) }
+    ensures refused { OnErr result (¬ (IsResident (chars (string_bytes text)))) }
+{
+    Ok(SmolStr::from_owned(text)?)
 }
 
 /// One ASCII byte as a text.

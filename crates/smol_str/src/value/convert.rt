@@ -133,7 +133,7 @@ impl SmolStr {
     /// let token = SmolStr::from_owned(String::from_str(alloc, "if")?)?;
     /// assert_eq!(rt; token.place(), Place::Inline);
     /// ```
-    #[inline(never)]
+    #[inline(always)]
     pub fn from_owned(text: String) -> Result<SmolStr, AllocError>
         ensures ok { IfOk result (λ v. IsValueOf (chars (string_bytes text)) v) }
         ensures refused { OnErr result (¬ (IsResident (chars (string_bytes text)))) }
