@@ -46,6 +46,15 @@ module _ (p : ℕ → Bool) where
   pub run-end : (xs : List ℕ) (k : ℕ) → k ≤ prefix_len p xs → (k < length xs → p (get_or xs k 0) ≡ false) → prefix_len p xs ≡ k
   run-end xs k h stop = grind (arith, prefix_len_passes p xs k 0, prefix_len-le-length p xs)
 
+-- zeros are not plain
+run-zeros : (n : ℕ) → prefix_len is_plain (replicate n 0) ≡ 0
+run-zeros zero = refl
+run-zeros (suc n) = refl
+
+pub run-padded : (xs : List ℕ) (n : ℕ) → prefix_len is_plain (xs ++ replicate n 0) ≡ prefix_len is_plain xs
+run-padded [] n = run-zeros n
+run-padded (x ∷ xs) n = grind (arith, common_steps, run-padded xs n)
+
 pub ruleset runs = (run-part, whole-run, run-more, run-end, prefix_len-le-length)
 
 -- ---- by lanes

@@ -1,10 +1,10 @@
 -- JSON strings by their bytes: what is written for a text, and what is read as it.
-use Rattle.smol_str.proofs.Common.{◌≡◌, ◌↔◌, Bool, IsTrue, ◌≤◌, ◌<◌, ℕ, List, [], ◌∷◌, ◌++◌, true, Some, refl, sym, ap, ◌∙◌, subst, arith, list_all, length, take, drop, append-nil, common_steps, nat_tests, encode, encode_utf8_all, take-append-drop, and_parts, IsUtf8, chars, encodes-chars, encodes_same, encodes-append, append_assoc, Meaning, IsValueOf, Result, IfOk, String, Global, string_bytes, IfOk-weaker}
+use Rattle.smol_str.proofs.Common.{◌≡◌, ◌↔◌, Bool, IsTrue, IsAscii-nil, IsAscii-cons, ◌≤◌, ◌<◌, ℕ, List, [], ◌∷◌, ◌++◌, true, Some, refl, sym, ap, ◌∙◌, subst, arith, list_all, length, take, drop, append-nil, common_steps, nat_tests, encode, encode_utf8_all, take-append-drop, and_parts, IsUtf8, chars, encodes-chars, encodes_same, encodes-append, append_assoc, Meaning, IsValueOf, Result, IfOk, String, Global, string_bytes, IfOk-weaker}
 use Rattle.std.proofs.Common.{ap₂, option_and_then}
 use Rattle.std.specs.List.{prefix_len}
 use Rattle.std.proofs.lemmas.Grind.{flat_map-append}
 use Rattle.std.proofs.lemmas.List.Folds.{list_all-append}
-use Rattle.std.proofs.lemmas.Str.{encode_ascii}
+use Rattle.std.proofs.lemmas.Str.{encode_ascii, IsUtf8-append, IsUtf8-from_ascii}
 use Rattle.smol_str.proofs.TextLemmas.Utf8.{Form, one, two, three, four, form}
 use Rattle.smol_str.specs.Plain.{is_plain, is_space, IsPlain, IsPlainJson, in_quotes}
 use Rattle.smol_str.specs.Json.{json_value, IsJsonText}
@@ -103,6 +103,12 @@ escape-next e json behind after b is more = cc (append_assoc json (escape_byte b
 pub compact-plain : (s : List ℕ) → list_all is_plain s ≡ true → compact_text (value.string s) ≡ in_quotes s
 compact-plain s h = ap (λ e. 34 ∷ (e ++ 34 ∷ [])) (escape-plain s h)
 
+pub quoted_utf8 : (s b : List ℕ) → IsUtf8 s → b ≡ in_quotes s → IsUtf8 b
+quoted_utf8 s b u is = rw is (IsUtf8-append (34 ∷ []) (s ++ 34 ∷ []) quote (IsUtf8-append s (34 ∷ []) u quote))
+  where
+    quote : IsUtf8 (34 ∷ [])
+    quote = IsUtf8-from_ascii (34 ∷ []) (grind (arith, common_steps, IsAscii-cons, IsAscii-nil))
+
 -- bytes past ASCII are plain
 high : (x : ℕ) → 128 ≤ x → is_plain x ≡ true
 high x h = grind (arith, nat_tests, common_steps)
@@ -165,9 +171,9 @@ module _ (text s : List ℕ) (reads : IsJsonText text s) where
 pub ruleset values_read = (read-same, value-read, value-of, read-plain)
 
 -- plain bytes in quotes are what is written
-pub quoted-compact : {E : Type 0} (r : Result (String Global) E) (bytes : List ℕ) → IsTrue (list_all is_plain bytes)
+pub quoted-compact : {E : Type 0} (r : Result (String Global) E) (bytes t : List ℕ) → bytes ≡ encode_utf8_all t → IsTrue (list_all is_plain (encode_utf8_all t))
     → IfOk r (λ json. string_bytes json ≡ in_quotes bytes) → IfOk r (λ json. string_bytes json ≡ compact_text (value.string bytes))
-quoted-compact r bytes plain h = IfOk-weaker r _ _ (λ json e. e ∙ sym (compact-plain bytes plain)) h
+quoted-compact r bytes t is plain h = IfOk-weaker r _ _ (λ json e. e ∙ sym (compact-plain bytes (rw is plain))) h
 
 -- what is written for the bytes of a text
 module _ {E : Type 0} (r : Result (String Global) E) (bytes t : List ℕ) (is : bytes ≡ encode_utf8_all t)
@@ -181,4 +187,4 @@ module _ {E : Type 0} (r : Result (String Global) E) (bytes t : List ℕ) (is : 
   pub written-plain : IsPlain t → IfOk r (λ json. string_bytes json ≡ in_quotes (encode_utf8_all t))
   written-plain plain = IfOk-weaker r _ _ (λ json e. e ∙ compact-plain _ (plain-encoded t plain)) written-compact
 
-pub ruleset texts_written = (written-compact, written-back, written-plain)
+pub ruleset texts_written = (quoted-compact, written-compact, written-back, written-plain)

@@ -21,7 +21,9 @@ ghost use Rattle.smol_str.specs.Said.{json_said};
 ghost use Rattle.smol_str.specs.Json.{json_value, IsJsonText, IsJsonOf, AfterValueFault, AfterJsonFault};
 
 use crate::builder::SmolStrBuilder;
-use crate::bytes::plain::{is_all_plain, is_all_spaces, split_ascii, split_plain, without_spaces};
+use crate::bytes::plain::{
+    is_all_plain, is_all_spaces, plain_len, split_ascii, split_plain, without_spaces,
+};
 use crate::value::SmolStr;
 use serde_json::Value;
 use std::alloc::{AllocError, AllocFailed, Global};
@@ -129,17 +131,22 @@ pub fn to_json(alloc: Global, value: &SmolStr) -> Result<String, AllocError>
     ensures plain { IsPlain value.now.text →
         IfOk result (λ json. string_bytes json ≡ in_quotes (encode_utf8_all value.now.text)) }
 {
-    written(alloc, value.as_str())
+    if is_plain_value(value) {
+        in_quotes(alloc, value.as_str())
+    } else {
+        escaped(alloc, value.as_str())
+    }
 }
 
-/// The compact JSON of a text.
-fn written(alloc: Global, text: &str) -> Result<String, AllocError>
-    ensures { IfOk result (λ json. string_bytes json ≡ compact_text (string text.now)) }
+/// Whether the text of a value is plain. The zeros behind a short one are not, so its whole buffer
+/// is read in place of as many bytes as it has.
+#[inline(always)]
+fn is_plain_value(value: &SmolStr) -> bool
+    ensures { IsTrue result ↔ IsTrue (list_all is_plain (encode_utf8_all value.now.text)) }
 {
-    if is_all_plain(text) {
-        in_quotes(alloc, text)
-    } else {
-        escaped(alloc, text)
+    match value.inline_buffer() {
+        Some(buffer) => plain_len(buffer) == value.len(),
+        None => is_all_plain(value.as_str()),
     }
 }
 
@@ -148,11 +155,11 @@ fn written(alloc: Global, text: &str) -> Result<String, AllocError>
 fn in_quotes(alloc: Global, text: &str) -> Result<String, AllocError>
     ensures { IfOk result (λ json. string_bytes json ≡ in_quotes text.now) }
 {
-    let mut json = String::with_capacity(alloc, text.len() + 2)?;
-    json.push('"')?;
-    json.push_str(text)?;
-    json.push('"')?;
-    Ok(json)
+    let mut json = Vec::with_capacity(alloc, text.len() + 2)?;
+    json.push_reserved(b'"');
+    json.extend_from_slice(text.as_bytes())?;
+    json.push_reserved(b'"');
+    Ok(unsafe { String::from_utf8_unchecked(json) })
 }
 
 /// The compact JSON of a text that needs escapes.

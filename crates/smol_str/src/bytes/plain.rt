@@ -39,7 +39,7 @@ pub(crate) fn split_ascii(text: &str) -> Option<(u8, &str)>
 
 /// How many plain bytes come first. Where there are few, few are tested at a time.
 #[inline(always)]
-fn plain_len(bytes: &[u8]) -> usize
+pub(crate) fn plain_len(bytes: &[u8]) -> usize
     ensures { result ≡ prefix_len is_plain bytes.now }
 {
     match bytes.len() {
