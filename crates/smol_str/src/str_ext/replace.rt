@@ -143,8 +143,9 @@ fn push_between(
         let Some(character) = text[index..].chars().next() else {
             return Ok(index);
         };
-        builder.push(character)?;
+        // Before the push, where the compiler knows of most characters that they have one byte.
         index += character.len_utf8();
+        builder.push(character)?;
     }
     Ok(index)
 }
