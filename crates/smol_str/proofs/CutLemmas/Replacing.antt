@@ -15,6 +15,9 @@ first_char : (b : List ℕ) (r : Option ℕ) → r ≡ slice_get b 0 → MatchOp
 first_char [] r e = rw e refl
 first_char (c ∷ s) r e = rw e (s, refl)
 
+pub replacing-start : (t p w : List ℕ) (n m : ℕ) (b : Draft) → b ≡ empty_draft InBuffer → m ≡ n → IsReplacing t p w n m b 0
+replacing-start t p w n m b empty is = rw (empty, is) (record { done = []; rest = t; parts = refl; at = refl; draft = refl; text = refl })
+
 -- in the text bs, with its first i bytes done
 module _ (bs p w : List ℕ) (n m : ℕ) (b : Draft) (i : ℕ) (h : IsReplacing (chars bs) p w n m b i) (u : IsUtf8 bs) where
   pub replacing-boundary : IsCharBoundary bs i

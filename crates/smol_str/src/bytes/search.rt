@@ -13,7 +13,7 @@ use std::simd::prelude::*;
 const NEAR: usize = 64;
 
 /// How many of them are tested at once.
-const LANES: usize = 32;
+pub(crate) const LANES: usize = 32;
 
 /// The index of the first match of the needle.
 pub(crate) fn find(bytes: &[u8], needle: &[u8]) -> Option<usize>
@@ -87,6 +87,22 @@ fn marks<const N: usize>(byte: u8, bytes: &[u8], at: usize) -> u64
         (bit_at result k ≡ 1) ↔ ((k < N) × Passes (is_byte byte) bytes.now (at + k)) }
 {
     load::<N>(bytes, at).simd_eq(Simd::splat(byte)).to_bitmask()
+}
+
+/// How many bytes are `byte`. The last lanes may overlap those before them.
+#[inline(never)]
+pub(crate) fn count_byte(byte: u8, bytes: &[u8]) -> usize
+    requires { LANES ≤ length bytes.now }
+{
+    let last = bytes.len() - LANES;
+    let mut total: usize = 0;
+    let mut at = 0;
+    while at < last {
+        total = total.saturating_add(marks::<LANES>(byte, bytes, at).count_ones() as usize);
+        at += LANES;
+    }
+    let rest = marks::<LANES>(byte, bytes, last) >> (at - last);
+    total.saturating_add(rest.count_ones() as usize)
 }
 
 /// The index of the first match of the needle, by the search that was prepared for it; one or two

@@ -10,7 +10,7 @@ ghost use Rattle.smol_str.specs.Replacing.{IsReplacing};
 use crate::buffer::INLINE_CAP;
 use crate::builder::SmolStrBuilder;
 use crate::bytes::bytes_from;
-use crate::bytes::search::{first_byte, next_index};
+use crate::bytes::search::{LANES, count_byte, first_byte, next_index};
 use crate::value::SmolStr;
 use memchr::memmem::Finder;
 use std::alloc::{AllocError, Global};
@@ -168,19 +168,32 @@ fn push_matches(
     ensures refused { OnErr result
         (¬ (IsShort (replaced (chars text.now) (chars from.now) (chars to.now) count))) }
 {
-    // A builder that leaves its buffer asks for room for the rest of the text at once, and for some
-    // more where the text grows.
-    let growth = if to.len() > from.len() { INLINE_CAP } else { 0 };
+    // A builder that leaves its buffer asks for room for all that is to come.
+    let mut left = text.len().saturating_add(growth(text, from, to, count));
+    let step = from.len().max(to.len());
     let mut index = 0;
     for taken in 0..count {
         let Some(skipped) = next_index(bytes_from(text, index), from.as_bytes(), search) else {
             return Ok(index);
         };
         let found = index + skipped;
-        let rest = (text.len() - found).saturating_add(growth);
-        builder.push_with_spare(&text[index..found], rest)?;
-        builder.push_with_spare(to, rest.saturating_sub(from.len()))?;
+        left = left.saturating_sub(skipped);
+        builder.push_with_spare(&text[index..found], left)?;
+        left = left.saturating_sub(step);
+        builder.push_with_spare(to, left)?;
         index = found + from.len();
     }
     Ok(index)
+}
+
+/// By how much the text grows. It is counted for a pattern of one byte, else a guess.
+fn growth(text: &str, from: &str, to: &str, count: usize) -> usize {
+    if to.len() <= from.len() {
+        return 0;
+    }
+    if from.len() != 1 || text.len() < LANES {
+        return INLINE_CAP;
+    }
+    let matches = count_byte(from.as_bytes()[0], text.as_bytes());
+    matches.min(count).saturating_mul(to.len() - 1)
 }

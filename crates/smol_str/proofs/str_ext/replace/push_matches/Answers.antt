@@ -1,8 +1,11 @@
 use Rattle.smol_str.proofs.Common.{◌+◌, ◌-◌, chars, arith, common_steps}
 use Rattle.smol_str.proofs.TextLemmas.Places.{OnErr-always}
 use Rattle.smol_str.proofs.BuilderLemmas.Push.{appended-heap}
-use Rattle.smol_str.proofs.CutLemmas.Replacing.{replacing-boundary, replacing-inside, replacing-found, replacing-none, appended-both, second-heap, match-boundary, match-end, match-piece, match-step, match-refused}
+use Rattle.smol_str.proofs.CutLemmas.Replacing.{replacing-start, replacing-boundary, replacing-inside, replacing-found, replacing-none, appended-both, second-heap, match-boundary, match-end, match-piece, match-step, match-refused}
 use Rattle.smol_str.proofs.str_ext.replace.push_matches.Goals as goal
+
+pub loop-taken-init : goal.loop-taken-init
+loop-taken-init c = replacing-start _ _ _ _ _ _ c.requires.empty (omega arith)
 
 pub bytes_from-requires : goal.bytes_from-requires
 bytes_from-requires c = replacing-inside _ _ _ _ _ _ _ c.loop-taken.invariant c.utf8.text
