@@ -1,5 +1,6 @@
 -- JSON strings, for module `json_string`.
 use Rattle.smol_str.proofs.Common.{String, Global, string_bytes, rules, ◌≡◌, ℕ, List, Some, Result, sym, ap, ◌∙◌, IsResident, chars, encodes-chars, encodes_same, IsUtf8-string_bytes, place_of, Meaning, IsValueOf, common_steps, arith}
+use Rattle.smol_str.proofs.TextLemmas.Places.{IfErr-is}
 use Rattle.std.specs.Result.{IfOk, IfErr}
 use Rattle.serde_json.specs.Data as json
 use Rattle.serde_json.specs.Read.{read}
@@ -9,7 +10,6 @@ use Rattle.smol_str.specs.declared.json_string.JsonFault.{JsonFault}
 use Rattle.smol_str.specs.declared.json_string.JsonFault.TheVariants.{OutOfMemory}
 use Rattle.smol_str.specs.Json.{json_value, IsJsonText, IsJsonOf, AfterValueFault, AfterJsonFault}
 use Rattle.smol_str.proofs.QuotedLemmas.{some_bytes}
-use Rattle.smol_str.proofs.WireLemmas.Stream.{IfErr-is}
 
 -- a string value is the JSON value of its text
 pub view-chars : (v : value.Value) (s : String Global) → v ≡ value.String s →

@@ -8,8 +8,8 @@ use Rattle.std.proofs.lemmas.Iterator.Splits.{YieldsList-from_shown_while}
 use Rattle.smol_str.proofs.IteratorLemmas.{weaker}
 use Rattle.smol_str.proofs.CutLemmas.Cut.{IsCut-cut, IsCut-unique, IsCutAt-step, IsCutAt-unmatched, joined_one, joined_more}
 use Rattle.smol_str.proofs.CutLemmas.Replace.{whole_cut, match_count-limit}
-use Rattle.smol_str.proofs.CutLemmas.Match.{earlier, some_char}
-use Rattle.smol_str.proofs.TextLemmas.Places.{size-chars}
+use Rattle.smol_str.proofs.CutLemmas.Match.{earlier}
+use Rattle.smol_str.proofs.TextLemmas.Places.{size-chars, some_char}
 use Rattle.smol_str.proofs.TextLemmas.Split.{drop-parts, scalars_parts}
 use Rattle.smol_str.proofs.CutLemmas.Sync.{StandsBetween-bytes}
 

@@ -1,5 +1,6 @@
 -- For collecting, extending and building by steps: items drawn and appended one after another.
 use Rattle.smol_str.proofs.Common.{true, false, false≢true, ◌⊎◌, inr, ◌≡◌, ℕ, ◌<◌, List, [], ◌∷◌, ◌++◌, length, take, drop, map, Option, Some, Result, Ok, Err, IfOk, OnOk, OnErr, refl, ap, ◌∙◌, subst, arith, rules, inl, length-append, length-take, YieldsList, items_from_drains, append-nil, length-map, IsShort, IsResident, but_last, Draft, InBuffer, OnHeap, empty_draft, appended, joined, Meaning, IsValueOf, on_err_weaker, IfOk-weaker}
+use Rattle.smol_str.proofs.TextLemmas.Lists.{length_but_last}
 use Rattle.std.specs.Iterator.{Yields, YieldsThen, Drains, DrainsIf, ExtendsWithItems}
 use Rattle.std.specs.Iterator.Runs.{Run}
 use Rattle.std.proofs.iter.runs.Lists.{Yields-both}
@@ -10,7 +11,6 @@ use Rattle.smol_str.specs.Collect.{AppendedAll, StoppedAt, Collected, Outgrown}
 use Rattle.smol_str.proofs.TextLemmas.Places.{IsShort-front}
 use Rattle.smol_str.proofs.BuilderLemmas.Draft.{appended-twice, OnHeap-long}
 use Rattle.smol_str.proofs.BuilderLemmas.Push.{appended-heap}
-use Rattle.smol_str.proofs.CutLemmas.Cut.{length_but_last}
 
 -- after one item more
 pub appended-last : {A : Type 0} (f : A → List ℕ) (old now new : Draft) (xs : List A) (x : A)

@@ -1,5 +1,6 @@
 -- For `str_ext::ascii_case` and `str_ext::full_case`: the ASCII front of a text and the rest of it, in a case.
 use Rattle.smol_str.proofs.Common.{◌≡◌, ℕ, List, [], ◌++◌, length, take, drop, sym, ap, ◌∙◌, arith, append_assoc, length-append, IsUtf8, IsAscii, IsCharBoundary, chars, encode_utf8_all, take_at, IsUtf8-from_ascii, chars-IsAscii, encodes-IsAscii, IsAscii-from_all, AsciiCase, Lower, Upper, size, IsShort, padded, front, converted, Draft, InBuffer, OnHeap, empty_draft, appended, common_steps, rules, suc, ◌<◌, ◌∷◌, Bool, false, Option, None, flat_map, refl, append-nil, ne_eqb, to_ascii_lowercase, chars-encodes, INLINE_CAP, Occurs, lower, upper, lowercased, uppercased, IsAsciiText, HasSigma, letter, letters, full_case, mapped, IsMappedAlone, length-map, nat_tests, lowercase_is, uppercase_is}
+use Rattle.smol_str.proofs.TextLemmas.Lists.{not_later}
 use Rattle.smol_str.proofs.CaseLemmas.Letters.{lowercase_moves, uppercase_moves}
 use Rattle.smol_str.proofs.CaseLemmas.Ascii.{front-parts, size-converted, front-append, IsAscii-converted, IsAscii-chars, ascii-converted}
 use Rattle.smol_str.proofs.BuilderLemmas.Push.{appended-heap}
@@ -8,11 +9,8 @@ use Rattle.std.specs.Option.{is_some}
 use Rattle.std.specs.Char.Unicode.ToLowercase.{to_lowercase}
 use Rattle.std.specs.StrCase.Lower.{lowercase_chars, is_in_word_after}
 use Rattle.std.proofs.lemmas.Grind.{flat_map-append}
-use Rattle.smol_str.proofs.TextLemmas.Places.{OnErr-always, size-chars}
+use Rattle.smol_str.proofs.TextLemmas.Places.{OnErr-always, size-chars, some_char, chars-empty}
 use Rattle.smol_str.proofs.BuilderLemmas.Draft.{OnHeap-long, appended-twice}
-use Rattle.smol_str.proofs.CutLemmas.Cut.{not_later}
-use Rattle.smol_str.proofs.CutLemmas.Match.{some_char}
-use Rattle.smol_str.proofs.CutLemmas.Replacing.{chars-empty}
 
 pub IsAscii-front : (t : List ℕ) → IsAscii (front t)
 IsAscii-front t = IsAscii-from_all (front t) (front-parts t).2

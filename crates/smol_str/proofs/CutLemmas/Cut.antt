@@ -2,6 +2,7 @@
 use Rattle.smol_str.proofs.Common.{◌≡◌, ◌↔◌, ℕ, ◌+◌, ◌-◌, ◌<◌, ◌≤◌, zero, suc, min, List, [], ◌∷◌, ◌++◌, Bool, true, false, cond, Option, Some, None, ◌⊎◌, inl, inr, ⊎_elim, length, drop, option_map, unwrap_or, MatchOption, refl, sym, ap, ◌∙◌, arith, length-append, append_assoc, append-nil, take-append-drop, nat_eq, concat, starts_with, flat_map, false≢true, false_from_ne_true, Decides-eqb, take_at, take-append-le, append_cancel_left, All, All-nil, All-cons, All-head, All-tail, Occurs, but_last, IsFirstAfter, joined_by, IsCutAt, IsSpelled, IsCutBetween, IsCut, first_match, cut_at, spell, cut_between, cut, rules}
 use Rattle.std.proofs.lemmas.Slice.Eq.{starts_is}
 pub use Rattle.smol_str.proofs.TextLemmas.Lists.{head_same, tail_same}
+use Rattle.smol_str.proofs.TextLemmas.Lists.{not_later, length_but_last}
 
 -- pieces joined, a piece at a time
 pub joined_one : (p q : List ℕ) → joined_by p (q ∷ []) ≡ q
@@ -9,10 +10,6 @@ joined_one p q = append-nil q
 
 pub joined_more : (p q r : List ℕ) (rs : List (List ℕ)) → joined_by p (q ∷ r ∷ rs) ≡ q ++ (p ++ joined_by p (r ∷ rs))
 joined_more p q r rs = ap (λ xs. q ++ xs) (append_assoc p r (flat_map (λ y. p ++ y) rs))
-
--- what stands nowhere in a text stands nowhere in its tail
-pub not_later : (p : List ℕ) (c : ℕ) (t : List ℕ) → ¬ Occurs p (c ∷ t) → ¬ Occurs p t
-not_later p c t none o = none (c ∷ o.0, o.1, ap (λ xs. c ∷ xs) o.2)
 
 -- the last item, as a list
 abbrev pub last_part : List ℕ → List ℕ
@@ -25,10 +22,6 @@ two_parts p r = refl
 -- q followed by p is q and p without its last character, and then that character
 pub append-last_part : (p q x : List ℕ) → q ++ (p ++ x) ≡ (q ++ but_last p) ++ (last_part p ++ x)
 append-last_part p q x = sym (append_assoc q (but_last p) (last_part p ++ x) ∙ ap (λ s. q ++ s) (two_parts p x))
-
-pub length_but_last : {X : Type 0} (p : List X) → length (but_last p) ≡ length p - 1
-length_but_last (x ∷ y ∷ rest) = omega (arith, length_but_last (y ∷ rest))
-length_but_last p = omega arith
 
 -- a piece of one character
 abbrev One : List ℕ → Type 0

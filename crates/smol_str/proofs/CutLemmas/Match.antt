@@ -1,9 +1,9 @@
 -- For `kernel::next_match`: the first place of a pattern's bytes is the first match of its characters.
-use Rattle.smol_str.proofs.Common.{◌≡◌, ◌↔◌, get_or, ℕ, ◌+◌, ◌<◌, List, [], ◌++◌, Option, None, Some, length, take, drop, refl, sym, ap, ◌∙◌, subst, arith, length-append, append_assoc, take-append-drop, length-take-le, IsUtf8, chars, encode_utf8_all, encodes-append, encodes-chars, length-le-encodes, take_at, drop_at, length-drop, take-append-le, size, Occurs, StandsAt, IsCharBoundary, but_last, IsNextMatch, same_Some, nil_from_length, ⊎_elim, cases_lt, ◌≤◌, ◌-◌, IsFirstAfter, IsCharBoundary-start, IsUtf8-drop, chars-append, common_steps, rules}
+use Rattle.smol_str.proofs.Common.{◌≡◌, ◌↔◌, get_or, ℕ, ◌+◌, ◌<◌, List, [], ◌++◌, Option, None, Some, length, take, drop, refl, sym, ap, ◌∙◌, subst, arith, length-append, append_assoc, take-append-drop, length-take-le, IsUtf8, chars, encode_utf8_all, encodes-append, encodes-chars, length-le-encodes, take_at, drop_at, length-drop, take-append-le, size, Occurs, StandsAt, IsCharBoundary, but_last, IsNextMatch, same_Some, ⊎_elim, cases_lt, ◌≤◌, ◌-◌, IsFirstAfter, IsCharBoundary-start, IsUtf8-drop, chars-append, common_steps, rules}
 use Rattle.memchr.specs.Find.{OccursAt, FindsNeedle, is_byte, IsFirstByte}
 use Rattle.memchr.proofs.lemmas.FindLemmas.{OccursAt-byte, byte-OccursAt}
 use Rattle.memchr.proofs.lemmas.MatchLemmas.{OccursAt-split, OccursAt-from_part}
-use Rattle.smol_str.proofs.TextLemmas.Places.{size-append, size-chars}
+use Rattle.smol_str.proofs.TextLemmas.Places.{size-append, size-chars, some_char}
 use Rattle.smol_str.proofs.CutLemmas.Cut.{last_part, one_first, sooner}
 use Rattle.smol_str.proofs.CutLemmas.Sync.{StandsAt-bytes}
 use Rattle.smol_str.proofs.TextLemmas.Split.{boundary-parts, drop-parts, chars-take, chars-drop}
@@ -51,13 +51,6 @@ module _ (a b p : List ℕ) (i : ℕ) where
       let x = earlier b p h.0 h.1 h.2 some o in
       f.0.before (size x.0.0) (omega arith) (omega arith) (chars_stand b p x.0.0 x.0.1 x.0.2) in
       search (rules, arith, h.2, first, size-append)
-
--- a pattern that is not empty has a character
-pub some_char : (nd : List ℕ) → IsUtf8 nd → 0 < length nd → 0 < length (chars nd)
-some_char nd u some =
-    ⊎_elim (λ l. l)
-    (λ none. absurd (omega (arith, size-chars nd u, ap size (nil_from_length (chars nd) (omega arith)))))
-    (cases_lt 0 (length (chars nd)))
 
 -- at most one place is that of the next match
 pub one_next : (a b p : List ℕ) (i j : ℕ) → 0 < length p → IsNextMatch a b p i → IsNextMatch a b p j → i ≡ j

@@ -1,6 +1,6 @@
 -- For `str_ext::replace`: replacing match by match.
 use Rattle.smol_str.proofs.Common.{◌≡◌, ℕ, ◌+◌, ◌-◌, ◌<◌, ◌≤◌, List, [], ◌∷◌, ◌++◌, length, take, drop, None, Some, refl, sym, ap, ◌∙◌, subst, arith, append_assoc, append-nil, length-append, Option, MatchOption, Bool, true, not, Result, IfOk, IsUtf8, IsCharBoundary, chars, encode_utf8_all, len_utf8, slice_get, encode, length-encode, length-le-encodes, chars-nil, size, IsShort, Occurs, IsNextMatch, IsOnlyCut, joined_by, cut, Meaning, IsValueOf, replaced, replaced_all, IsReplacing, Draft, InBuffer, OnHeap, empty_draft, appended, nil_from_length, IfOk-weaker, nat_tests, common_steps, rules}
-use Rattle.smol_str.proofs.TextLemmas.Places.{size-append, size-chars, IsShort-front, OnErr-always}
+use Rattle.smol_str.proofs.TextLemmas.Places.{size-append, size-chars, IsShort-front, OnErr-always, chars-empty}
 use Rattle.std.specs.Option.{is_some}
 use Rattle.std.proofs.lemmas.Bool.{true≢false}
 use Rattle.memchr.specs.Find.{FindsNeedle}
@@ -157,9 +157,6 @@ module _ (t w : List ℕ) (n m l : ℕ) (b : Draft) (i : ℕ) (h : IsReplacing t
   pub before-refused : (rest : List ℕ) → h.rest ≡ rest → (appended b w).kind ≡ OnHeap → ¬ (IsShort (replaced t [] w n))
   before-refused [] e heap = replacing-refused t [] w n m 0 b i h [] [] w e (end-made e) heap
   before-refused (c ∷ r) e heap = taken-refused c r e (appended-heap b w (c ∷ []) heap)
-
-pub chars-empty : (bs : List ℕ) → length bs ≡ 0 → chars bs ≡ []
-chars-empty bs e = ap chars (nil_from_length bs e) ∙ chars-nil
 
 -- the rest appended
 module _ (bs p w : List ℕ) (n : ℕ) (b : Draft) (i : ℕ) (h : IsReplacing (chars bs) p w n 0 b i) (u : IsUtf8 bs) where

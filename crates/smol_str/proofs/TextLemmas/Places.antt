@@ -1,5 +1,6 @@
 -- For makers, conversions and comparisons: texts, their bytes and their places.
-use Rattle.smol_str.proofs.Common.{nil_from_length, ◌≡◌, ◌↔◌, ℕ, ◌+◌, ◌<◌, ◌≤◌, List, [], ◌∷◌, ◌++◌, length, encode_utf8, encode_utf8_all, length-append, length-le-encodes, true, false, nat_le, nat_eq, Result, OnOk, OnErr, is_ok, sym, ap, arith, chars, IsUtf8, pointwise, bytes_decides, encodes-chars, chars-IsAscii, encodes-IsAscii, encodes_same, encodes-append, chars_from_encodes, length-encode, len_utf8_bounds, IsUtf8-string_bytes, append-nil, nat_tests, Decides-and, Decides-like, same_from_decides, INLINE_CAP, size, is_short, IsShort, IsBlankRun, IsResident, ◌⊎◌, common_steps, rules}
+use Rattle.smol_str.proofs.Common.{nil_from_length, ◌≡◌, ◌↔◌, ℕ, ◌+◌, ◌<◌, ◌≤◌, List, [], ◌∷◌, ◌++◌, length, encode_utf8, encode_utf8_all, length-append, length-le-encodes, true, false, nat_le, nat_eq, Result, OnOk, OnErr, is_ok, sym, ap, arith, chars, IsUtf8, pointwise, bytes_decides, encodes-chars, chars-IsAscii, encodes-IsAscii, encodes_same, encodes-append, chars_from_encodes, length-encode, len_utf8_bounds, IsUtf8-string_bytes, append-nil, nat_tests, Decides-and, Decides-like, same_from_decides, INLINE_CAP, size, is_short, IsShort, IsBlankRun, IsResident, ◌⊎◌, common_steps, rules, cases_lt, chars-nil, err_from_is_err_and, ⊎_elim, ◌∙◌}
+use Rattle.std.specs.Result.{IsErrAnd, IfErr}
 use Rattle.std.specs.Bool.{Decides}
 use Rattle.smol_str.specs.Shared.{SharedText, shared_bytes}
 use Rattle.smol_str.specs.declared.value.place.Place.TheVariants.{Inline, Static, Heap}
@@ -9,6 +10,16 @@ use Rattle.smol_str.proofs.TextLemmas.Blank.{IsAscii-blank_run, Passes-from_IsBl
 -- a text's size is its number of bytes
 pub size-chars : (bs : List ℕ) → IsUtf8 bs → size (chars bs) ≡ length bs
 size-chars bs u = ap length (encodes-chars bs u)
+
+pub chars-empty : (bs : List ℕ) → length bs ≡ 0 → chars bs ≡ []
+chars-empty bs e = ap chars (nil_from_length bs e) ∙ chars-nil
+
+-- a pattern that is not empty has a character
+pub some_char : (nd : List ℕ) → IsUtf8 nd → 0 < length nd → 0 < length (chars nd)
+some_char nd u some =
+    ⊎_elim (λ l. l)
+    (λ none. absurd (omega (arith, size-chars nd u, ap size (nil_from_length (chars nd) (omega arith)))))
+    (cases_lt 0 (length (chars nd)))
 
 -- a text of no bytes is the empty one
 pub no-bytes : {P : Type 0} (t : List ℕ) → (P ↔ (size t ≡ 0)) → (P ↔ (t ≡ []))
@@ -92,6 +103,10 @@ chars-one c bs u e = chars-of (c ∷ []) bs u (cc (append-nil (encode_utf8 c)))
 -- what holds anyway holds of an `Err`
 pub OnErr-always : {T E : Type 0} (r : Result T E) (P : Type 0) → P → OnErr r P
 OnErr-always r P h = search rules
+
+-- a result that is known to be a fault
+pub IfErr-is : {T F : Type 0} (P : F → Type 0) (r : Result T F) (f : F) → IsErrAnd r (λ fault. fault ≡ f) → P f → IfErr r P
+IfErr-is P r f failed p = search (rules, arith, err_from_is_err_and)
 
 -- a fact for `Ok`, from the test
 pub OnOk-if : {T E : Type 0} (r : Result T E) (P : Type 0) → (is_ok r ≡ true → P) → OnOk r P

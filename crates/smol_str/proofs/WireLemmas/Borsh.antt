@@ -12,8 +12,8 @@ use Rattle.std.proofs.Common.{drop_of_length-le}
 use borrow.Rule.Slice.PartMut.{put_mid}
 use Rattle.smol_str.specs.Stream.{AppendsBeginning, GaveAllBelow, GaveBelow, GaveUpTo}
 use Rattle.smol_str.specs.WireFaults.{AfterDecodeFault, GaveTooFew, GaveSomeOfBody, HasReadBody, HasReadLarge, NeedsMemory, AfterBodyFault, StatesAtMost, AfterLimitedFault, of_utf8_fault}
-use Rattle.smol_str.proofs.TextLemmas.Places.{size-chars}
-use Rattle.smol_str.proofs.WireLemmas.Stream.{IfErr-is, beginning-of_first, beginning-of_second, Consumes-full}
+use Rattle.smol_str.proofs.TextLemmas.Places.{size-chars, IfErr-is}
+use Rattle.smol_str.proofs.WireLemmas.Stream.{beginning-of_first, beginning-of_second, Consumes-full}
 
 -- ---- faults that another call's become
 

@@ -1,8 +1,7 @@
 -- A beginning of what is written in two parts: for `serialize`, which writes a size and then a text. And what a
 -- reader gave that failed: for `stream`.
-use Rattle.smol_str.proofs.Common.{◌≡◌, Result, err_from_is_err_and, ℕ, ◌+◌, ◌<◌, ◌≤◌, length, List, ◌++◌, Option, arith, append_assoc, length-append, Appends, Appends-trans, Consumes, Consumes-trans, rules, take, subst, take_all}
+use Rattle.smol_str.proofs.Common.{ℕ, ◌+◌, ◌<◌, ◌≤◌, length, List, ◌++◌, Option, arith, append_assoc, length-append, Appends, Appends-trans, Consumes, Consumes-trans, rules, take, subst, take_all}
 use Rattle.smol_str.specs.Stream.{AppendsBeginning, GaveBelow, GaveUpTo}
-use Rattle.std.specs.Result.{IsErrAnd, IfErr}
 
 module _ (first second : List ℕ) where
   pub beginning-of_first : (a b : Option (List ℕ)) → AppendsBeginning a b first
@@ -13,10 +12,6 @@ module _ (first second : List ℕ) where
   pub beginning-of_second : (a b c : Option (List ℕ)) → Appends a b first → AppendsBeginning b c second
       → AppendsBeginning a c (first ++ second)
   beginning-of_second a b c p h = search (rules, arith, append_assoc, Appends-trans)
-
--- a result that is known to be a fault
-pub IfErr-is : {T F : Type 0} (P : F → Type 0) (r : Result T F) (f : F) → IsErrAnd r (λ fault. fault ≡ f) → P f → IfErr r P
-IfErr-is P r f failed p = search (rules, arith, err_from_is_err_and)
 
 -- ---- reading
 

@@ -1,5 +1,6 @@
 use Rattle.smol_str.proofs.Common.{arith, rules}
-use Rattle.smol_str.proofs.WireLemmas.Stream.{IfErr-is, Consumes-full}
+use Rattle.smol_str.proofs.TextLemmas.Places.{IfErr-is}
+use Rattle.smol_str.proofs.WireLemmas.Stream.{Consumes-full}
 use Rattle.smol_str.proofs.WireLemmas.Borsh.{AfterBodyFault-of_text}
 use Rattle.smol_str.proofs.borsh.read_into.Goals as goal
 

@@ -1,5 +1,5 @@
-use Rattle.smol_str.proofs.WireLemmas.Stream.{IfErr-is}
 use Rattle.smol_str.specs.declared.json_string.JsonFault.TheVariants.{OutOfMemory}
+use Rattle.smol_str.proofs.TextLemmas.Places.{IfErr-is}
 use Rattle.smol_str.specs.Json.{AfterJsonFault}
 use Rattle.smol_str.proofs.QuotedLemmas.{some_bytes}
 use Rattle.smol_str.proofs.json_string.from_json.Goals as goal

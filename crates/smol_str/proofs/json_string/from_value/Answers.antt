@@ -1,5 +1,5 @@
 use Rattle.smol_str.proofs.Common.{◌∙◌, sym}
-use Rattle.smol_str.proofs.WireLemmas.Stream.{IfErr-is}
+use Rattle.smol_str.proofs.TextLemmas.Places.{IfErr-is}
 use Rattle.smol_str.specs.declared.json_string.JsonFault.TheVariants.{OutOfMemory}
 use Rattle.smol_str.specs.Json.{AfterValueFault}
 use Rattle.serde_json.specs.View.{view}

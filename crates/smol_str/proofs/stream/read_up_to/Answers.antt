@@ -1,5 +1,6 @@
 use Rattle.smol_str.proofs.Common.{arith, ℕ, ◌+◌, ◌<◌, ◌≤◌, List, take, length, length-take, length-take-le}
-use Rattle.smol_str.proofs.WireLemmas.Stream.{GaveBelow-after, GaveUpTo-after, IfErr-is}
+use Rattle.smol_str.proofs.TextLemmas.Places.{IfErr-is}
+use Rattle.smol_str.proofs.WireLemmas.Stream.{GaveBelow-after, GaveUpTo-after}
 use Rattle.smol_str.proofs.stream.read_up_to.Goals as goal
 
 -- where there was no room for n bytes at the most, n is not 0

@@ -1,6 +1,6 @@
 use Rattle.smol_str.proofs.Common.{◌∙◌}
+use Rattle.smol_str.proofs.TextLemmas.Places.{IfErr-is}
 use Rattle.smol_str.proofs.WireLemmas.Borsh.{begun-in_short, begun-in_prefix, begun-in_bytes, short-form}
-use Rattle.smol_str.proofs.WireLemmas.Stream.{IfErr-is}
 use Rattle.smol_str.proofs.borsh.SmolStrBorshSerialize.serialize.Goals as goal
 
 pub returns-in_err-write_steps-clause-fault : goal.returns-in_err-write_steps-clause-fault

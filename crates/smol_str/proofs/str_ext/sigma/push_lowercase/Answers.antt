@@ -1,7 +1,6 @@
 use Rattle.smol_str.proofs.Common.{sym, ◌∙◌, append-nil}
-use Rattle.smol_str.proofs.TextLemmas.Places.{OnErr-always}
+use Rattle.smol_str.proofs.TextLemmas.Places.{OnErr-always, chars-empty}
 use Rattle.smol_str.proofs.BuilderLemmas.Push.{new-part}
-use Rattle.smol_str.proofs.CutLemmas.Replacing.{chars-empty}
 use Rattle.std.proofs.lemmas.Str.{IsUtf8-past_char, chars_past_char}
 use Rattle.smol_str.proofs.str_ext.sigma.push_lowercase.Goals as goal
 
