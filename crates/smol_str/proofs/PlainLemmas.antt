@@ -47,12 +47,9 @@ module _ (p : ℕ → Bool) where
   run-end xs k h stop = grind (arith, prefix_len_passes p xs k 0, prefix_len-le-length p xs)
 
 -- zeros are not plain
-run-zeros : (n : ℕ) → prefix_len is_plain (replicate n 0) ≡ 0
-run-zeros zero = refl
-run-zeros (suc n) = refl
-
 pub run-padded : (xs : List ℕ) (n : ℕ) → prefix_len is_plain (xs ++ replicate n 0) ≡ prefix_len is_plain xs
-run-padded [] n = run-zeros n
+run-padded [] zero = refl
+run-padded [] (suc n) = refl
 run-padded (x ∷ xs) n = grind (arith, common_steps, run-padded xs n)
 
 pub ruleset runs = (run-part, whole-run, run-more, run-end, prefix_len-le-length)
