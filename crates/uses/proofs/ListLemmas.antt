@@ -8,7 +8,6 @@ use Rattle.smol_str.specs.Wire.{HasWire, wire}
 use Rattle.smol_str.specs.WireFaults.{AfterFromWireFault}
 use Rattle.smol_str.proofs.CallerLemmas.{form_is_whole, form-cut-utf8, count-apart, forms-apart, AreRead, next_form}
 use Rattle.uses.specs.Lists.{CanBeListed, forms, list_form, BeginsWithList, AfterListFault}
-use Rattle.smol_str.specs.Meaning.{texts}
 
 -- lists whose forms are one, and what follows them
 pub lists-apart : (ss ts : List (List ℕ)) (x y : List ℕ) → CanBeListed ss → CanBeListed ts

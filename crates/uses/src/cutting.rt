@@ -1,17 +1,17 @@
-//! Lines cut at a separator, and joined again.
-ghost use Rattle.std.specs.Prelude.{◌≡◌, ◌≢◌, ◌<◌, ◌++◌, ◌∷◌, [], ℕ, List, length, map, set, IfNone, IfOk, IfSome, MatchBool, OnErr, encode_utf8_all};
-ghost use Rattle.std.specs.Str.{chars, trim};
+//! Lines cut at a separator, and joined again; what a caller does with an index or a buffer that a call returns.
+ghost use Rattle.std.specs.Prelude.{◌≡◌, ◌≢◌, ◌<◌, ◌≤◌, ◌↔◌, ◌++◌, ◌∷◌, [], ℕ, List, drop, length, map, set, IfNone, IfOk, IfSome, IsTrue, MatchBool, OnErr, encode_utf8_all};
+ghost use Rattle.std.specs.Str.{IsCharBoundary, chars, trim};
 ghost use Rattle.smol_str.specs.Cut.{IsFirstAfter, Occurs, joined_by};
 ghost use Rattle.smol_str.specs.Joined.{str_text};
 ghost use Rattle.smol_str.specs.Meaning.{AreValuesOf, IsValueOf, texts};
 ghost use Rattle.smol_str.specs.Replace.{cut, each_replaced, no_limit};
 ghost use Rattle.smol_str.specs.Text.{IsShort};
 
-use smol_str::{SmolStr, StrExt};
+use smol_str::kernel::{AsciiCase, convert_while_ascii, next_match};
+use smol_str::{INLINE_CAP, SmolStr, SmolStrBuilder, StrExt};
 use std::alloc::{AllocError, Global};
 
 /// The fields of a line, which commas separate.
-#[tactic(auto, using(smol_str::proofs::CallerLemmas::cutting))]
 pub fn fields(alloc: Global, line: &str) -> Result<Vec<SmolStr>, AllocError>
     ensures { IfOk result (λ fields.
         AreValuesOf (cut (chars line.now) (44 ∷ []) (no_limit (chars line.now))) fields.items) }
@@ -24,7 +24,6 @@ pub fn fields(alloc: Global, line: &str) -> Result<Vec<SmolStr>, AllocError>
 }
 
 /// The same at any separator.
-#[tactic(auto, using(smol_str::proofs::CallerLemmas::cutting))]
 pub fn fields_at(alloc: Global, line: &str, separator: &str) -> Result<Vec<SmolStr>, AllocError>
     requires some { 0 < length separator.now }
     ensures { IfOk result (λ fields.
@@ -142,4 +141,58 @@ pub fn hyphenated(alloc: Global, name: &str) -> Result<SmolStr, AllocError>
     ensures refused { OnErr result (¬ (IsShort (chars name.now))) }
 {
     name.replace_smolstr(alloc, "_", "-")
+}
+
+/// A text cut at the first match of a pattern; `None` where the pattern stands nowhere in it.
+pub fn cut_at<'a>(text: &'a str, pattern: &str) -> Option<(&'a str, &'a str)>
+    requires some { 0 < length pattern.now }
+    ensures whole { IfSome result (λ parts.
+        chars text.now ≡ chars parts.0.now ++ (chars pattern.now ++ chars parts.1.now)) }
+    ensures first { IfSome result (λ parts. IsFirstAfter (chars pattern.now) (chars parts.0.now)) }
+    ensures none { IfNone result (¬ Occurs (chars pattern.now) (chars text.now)) }
+{
+    let found = next_match(text, 0, pattern)?;
+    Some((&text[..found], &text[found + pattern.len()..]))
+}
+
+/// What stands between a byte index and the next match of a pattern, and behind the match.
+pub fn at_next<'a>(text: &'a str, from: usize, pattern: &str) -> Option<(&'a str, &'a str)>
+    requires boundary { IsCharBoundary text.now from }
+    requires some { 0 < length pattern.now }
+    ensures first { IfSome result (λ parts. IsFirstAfter (chars pattern.now) (chars parts.0.now)) }
+    ensures none { IfNone result (¬ Occurs (chars pattern.now) (chars (drop from text.now))) }
+{
+    let found = next_match(text, from, pattern)?;
+    Some((&text[from..found], &text[found + pattern.len()..]))
+}
+
+/// How many bytes the ASCII front of a short text has, which are read off the buffer.
+pub fn front_len(text: &str) -> Option<usize>
+    ensures { IfSome result (λ len. len ≤ length text.now) }
+{
+    if text.len() > INLINE_CAP {
+        return None;
+    }
+    let (buffer, len) = convert_while_ascii(text, AsciiCase::Lower);
+    Some(buffer[..len].len())
+}
+
+/// The bytes of a value's text, read off its buffer.
+pub fn bytes_inside(value: &SmolStr) -> Option<&[u8]> {
+    let buffer = value.inline_buffer()?;
+    Some(&buffer[..value.len()])
+}
+
+/// The bytes of a builder's text, read off its buffer.
+pub fn bytes_so_far(builder: &SmolStrBuilder) -> Option<&[u8]> {
+    let buffer = builder.inline_buffer()?;
+    Some(&buffer[..builder.len()])
+}
+
+/// Whether a value and a builder have no text.
+pub fn have_nothing(value: &SmolStr, builder: &SmolStrBuilder) -> (bool, bool)
+    ensures value { IsTrue result.0 ↔ (value.now.text ≡ []) }
+    ensures builder { IsTrue result.1 ↔ (builder.now.text ≡ []) }
+{
+    (value.is_empty(), builder.is_empty())
 }

@@ -2,8 +2,9 @@
 //! in common, whichever way each was made.
 //!
 //! Each way ensures `value`, that the value is of exactly the text that is meant and lies in the place of that text; and
-//! `refused`, that memory may be refused only for text that is not resident, or not short where it comes in parts.
-ghost use Rattle.std.specs.Prelude.{◌≡◌, ◌<◌, ◌≤◌, ◌⊎◌, ◌↔◌, ◌++◌, [], ◌∷◌, length, IfOk, OnOk, OnErr, IsTrue};
+//! `refused`, that memory may be refused only for text that is not resident, or not short where it comes in parts. At the
+//! end stand values that cannot fail, or that lie where the caller knows.
+ghost use Rattle.std.specs.Prelude.{◌≡◌, ◌<◌, ◌≤◌, ◌⊎◌, ◌↔◌, ◌++◌, [], ◌∷◌, length, codes, encode_utf8_all, IfOk, IsOk, OnOk, OnErr, IsTrue};
 ghost use Rattle.std.specs.Str.{chars, IsUtf8};
 ghost use Rattle.std.specs.String.{string_bytes};
 ghost use Rattle.std.specs.Ordering.{nat_cmp};
@@ -17,12 +18,13 @@ ghost use Rattle.smol_str.specs.Meaning.{IsValueOf};
 ghost use Rattle.smol_str.specs.Joined.{joined, joined_strs, joined_strings, joined_string_refs, string_text};
 ghost use Rattle.smol_str.specs.Collect.{Collected, Outgrown, AppendedAll, StoppedAt};
 ghost use Rattle.smol_str.specs.Steps.{step_text};
-ghost use Rattle.smol_str.specs.Case.{lower, upper, lowercased, uppercased};
+ghost use Rattle.smol_str.specs.Case.{IsAsciiText, lower, upper, lowercased, uppercased};
 ghost use Rattle.smol_str.specs.InCase.{converted};
+ghost use Rattle.smol_str.specs.declared.value.place.Place.TheVariants.{Heap};
 ghost use Rattle.smol_str.specs.Replace.{replaced, replaced_all};
 
 use smol_str::kernel::AsciiCase;
-use smol_str::{INLINE_CAP, Place, SmolStr, SmolStrBuilder, Step, StrExt, ValueAlloc, build};
+use smol_str::{INLINE_CAP, Place, SmolStr, SmolStrBuilder, Step, StrExt, ValueAlloc, build, laws};
 use std::alloc::{AllocError, Global};
 use std::borrow::CowStr;
 use std::boxed::BoxedStr;
@@ -411,4 +413,48 @@ pub fn hashes_as_text<H: Hasher>(value: &SmolStr, text: &str, state: &mut H, tex
 {
     value.hash(state);
     text.hash(text_state);
+}
+
+/// A constant: the condition of `new_inline` is computed.
+pub fn keyword() -> SmolStr
+    ensures { IsValueOf (chars (codes "if")) result }
+{
+    SmolStr::new_inline("if")
+}
+
+/// A value of resident text is not on the heap; the law says it of the text's place.
+pub fn off_the_heap(alloc: Global, text: &str) -> Result<SmolStr, AllocError>
+    ensures { IfOk result (λ v. IsResident (chars text.now) → ¬ (v.place ≡ Heap)) }
+{
+    laws::places();
+    SmolStr::new(alloc, text)
+}
+
+/// Full case of short ASCII text, which is never refused; by the laws it is as long as the text.
+pub fn ascii_in_full_case(alloc: Global, text: &str) -> Result<(SmolStr, SmolStr), AllocError>
+    ensures { OnErr result (¬ (IsAsciiText (chars text.now) × IsShort (chars text.now))) }
+{
+    laws::full_case();
+    laws::ascii_case();
+    Ok((
+        text.to_lowercase_smolstr(alloc)?,
+        text.to_uppercase_smolstr(alloc)?,
+    ))
+}
+
+/// A clone of a value that is not on the heap.
+pub fn second(value: &SmolStr) -> Result<SmolStr, AllocError>
+    requires { ¬ (value.now.place ≡ Heap) }
+    ensures ok { IsOk result }
+    ensures same { IfOk result (λ copy. copy ≡ value.now) }
+{
+    value.clone()
+}
+
+/// A `String` of a value's text: never refused where that is the empty text.
+pub fn owned(alloc: Global, value: SmolStr) -> Result<String, SmolStr>
+    ensures text { IfOk result (λ text. string_bytes text ≡ encode_utf8_all value.text) }
+    ensures refused { OnErr result (¬ (value.text ≡ [])) }
+{
+    value.into_string(alloc)
 }

@@ -17,7 +17,6 @@ pub struct Line {
 }
 
 /// A token with four spaces in place of each tab.
-#[tactic(auto, using(smol_str::proofs::CallerLemmas::texts, smol_str::proofs::CallerLemmas::replacing))]
 pub fn without_tabs(alloc: Global, token: &SmolStr) -> Result<SmolStr, AllocError>
     ensures { IfOk result (λ v. IsValueOf (untabbed token.now.text) v) }
 {
@@ -25,7 +24,6 @@ pub fn without_tabs(alloc: Global, token: &SmolStr) -> Result<SmolStr, AllocErro
 }
 
 /// The tokens with a space between each two.
-#[tactic(auto, using(smol_str::proofs::CallerLemmas::builders))]
 pub fn in_a_row(alloc: Global, tokens: &[SmolStr]) -> Result<SmolStr, AllocError>
     ensures { IfOk result (λ v. IsValueOf (spaced tokens.now) v) }
 {

@@ -1,17 +1,21 @@
-//! Lists of values on the wire: how many they are, and then their wire forms, as borsh has a `Vec` of strings.
-ghost use Rattle.std.specs.Prelude.{◌≡◌, ◌<◌, ◌∷◌, [], ◌++◌, length, IfOk, IfErr, IfSome, MatchOption};
+//! Lists of values on the wire: how many they are, and then their wire forms, as borsh has a `Vec` of strings. Messages
+//! behind one another: what is left of them after each outcome, so that a caller knows where the next begins.
+ghost use Rattle.std.specs.Prelude.{◌≡◌, ◌+◌, ◌<◌, ◌≤◌, ◌∷◌, [], ◌++◌, drop, length, IfOk, IfErr, IfSome, OnOk, OnErr, MatchOption};
+ghost use Rattle.std.specs.Str.{IsUtf8};
 ghost use Rattle.std.specs.Int.{w32, to_le_bytes};
 ghost use Rattle.uses.specs.Lists.{CanBeListed, list_form, AfterListFault, AfterUnlisted};
 ghost use Rattle.smol_str.specs.Meaning.{texts};
-ghost use Rattle.smol_str.specs.Wire.{HasWire};
+ghost use Rattle.smol_str.specs.Wire.{HasEndedEarly, HasWire, body, prefix_size};
 
 use smol_str::SmolStr;
-use smol_str::borsh::{BorshSerialize, DecodeFault, EncodeFault, length_prefix, split_wire};
+use smol_str::borsh::{
+    BorshDeserialize, BorshSerialize, DecodeFault, EncodeFault, LimitedFault, STACK_BODY,
+    deserialize_limited, length_prefix, split_wire,
+};
 use std::alloc::{AllocError, Global};
 use std::io::{self, Write};
 
 /// The form of a list.
-#[tactic(auto, using(smol_str::proofs::CallerLemmas::items))]
 pub fn write_list(alloc: Global, values: &[SmolStr]) -> Result<Vec<u8>, EncodeFault>
     ensures listed { IfOk result (λ bytes. CanBeListed (texts values.now)) }
     ensures form { IfOk result (λ bytes. bytes.items ≡ list_form (texts values.now)) }
@@ -123,4 +127,49 @@ pub fn read_known<'a>(
         Err(DecodeFault::NotUtf8(_)) => unreachable!(),
         Err(DecodeFault::Io(_)) => unreachable!(),
     }
+}
+
+/// The next message; `None` for one that is no text, and then the message behind it is the next. So it is where there is no
+/// memory for a message of at most [`STACK_BODY`] bytes.
+pub fn next_message(alloc: Global, messages: &mut &[u8]) -> Result<Option<SmolStr>, DecodeFault>
+    ensures behind { OnOk result
+        (messages.new.now ≡ drop (4 + prefix_size messages.old.now) messages.old.now) }
+    ensures within { OnErr result
+        (length messages.old.now ≤ length messages.new.now + (4 + prefix_size messages.old.now)) }
+    ensures ended { IfErr result (λ fault. fault ≡ DecodeFault.Ended → messages.new.now ≡ []) }
+    ensures begun { IfErr result (λ fault. fault ≡ DecodeFault.OutOfMemory →
+        length messages.new.now + 4 < length messages.old.now) }
+    ensures skipped { IfErr result (λ fault. fault ≡ DecodeFault.OutOfMemory →
+        prefix_size messages.old.now ≤ STACK_BODY → IsUtf8 (body messages.old.now)
+        × (messages.new.now ≡ drop (4 + prefix_size messages.old.now) messages.old.now)) }
+{
+    match SmolStr::deserialize_reader(alloc, messages) {
+        Ok(value) => Ok(Some(value)),
+        Err(DecodeFault::NotUtf8(_)) => Ok(None),
+        Err(fault) => Err(fault),
+    }
+}
+
+/// The next message of at most `limit` bytes. Of a longer one its size alone is read.
+pub fn next_limited(
+    alloc: Global,
+    messages: &mut &[u8],
+    limit: usize,
+) -> Result<SmolStr, LimitedFault>
+    ensures allowed { prefix_size messages.old.now ≤ limit →
+        IfErr result (λ fault. ¬ (fault ≡ LimitedFault.TooLong)) }
+    ensures longer { 4 ≤ length messages.old.now → limit < prefix_size messages.old.now →
+        OnErr result (length messages.old.now ≤ length messages.new.now + 4) }
+    ensures skipped { IfErr result (λ fault. fault ≡ LimitedFault.TooLong →
+        messages.new.now ≡ drop 4 messages.old.now) }
+{
+    deserialize_limited(alloc, messages, limit)
+}
+
+/// The first message, and the others: whatever the memory, one that is cut short or no text is told as that.
+pub fn split_message(alloc: Global, messages: &[u8]) -> Result<(SmolStr, &[u8]), DecodeFault>
+    ensures tested { IfErr result (λ fault. fault ≡ DecodeFault.OutOfMemory →
+        (¬ HasEndedEarly messages.now) × IsUtf8 (body messages.now)) }
+{
+    split_wire(alloc, messages)
 }

@@ -7,9 +7,7 @@ ghost use Rattle.smol_str.specs.Stream.{Gave, AppendsBeginning};
 ghost use Rattle.uses.specs.declared.log_records.Record.{Record};
 ghost use Rattle.uses.specs.LogRecords.{HasForm, form, forms, texts, AfterRecordFault, AfterNextFault, AfterReadFault};
 
-use smol_str::borsh::{
-    BorshSerialize, DecodeFault, EncodeFault, LimitedFault, deserialize_limited,
-};
+use smol_str::borsh::{BorshSerialize, EncodeFault, LimitedFault, deserialize_limited};
 use smol_str::json_string::to_json;
 use smol_str::{SmolStr, laws};
 use std::alloc::{AllocError, Global};
@@ -26,7 +24,6 @@ pub struct Record {
 }
 
 /// Writes a record.
-#[tactic(auto, using(smol_str::proofs::CallerLemmas::parts))]
 pub fn write_record<W: Write>(writer: &mut W, entry: &Record) -> Result<(), EncodeFault>
     ensures sized { OnOk result (HasForm entry.now) }
     ensures ok { OnOk result (Appends (W.contents writer.old) (W.contents writer.new) (form entry.now)) }
@@ -38,7 +35,6 @@ pub fn write_record<W: Write>(writer: &mut W, entry: &Record) -> Result<(), Enco
 }
 
 /// Reads a record whose message has at most `limit` bytes.
-#[tactic(auto, using(smol_str::proofs::CallerLemmas::parts))]
 pub fn read_record<R: Read>(
     alloc: Global,
     reader: &mut R,
@@ -55,7 +51,6 @@ pub fn read_record<R: Read>(
 }
 
 /// Reads so many records, and no byte behind them.
-#[tactic(auto, using(smol_str::proofs::CallerLemmas::items))]
 pub fn read_all<R: Read>(
     alloc: Global,
     reader: &mut R,

@@ -3,7 +3,7 @@ use anyhow::{Context, Result};
 use serde::{Deserialize, Serialize};
 use smol_str::{SmolStr, SmolStrBuilder, StrExt};
 use std::alloc::Global;
-use std::collections::HashMap;
+use std::collections::BTreeMap;
 
 /// A word, and how often it came.
 #[derive(Drop, Serialize, Deserialize)]
@@ -14,7 +14,7 @@ pub struct Count {
 
 /// The words of a text, each once, in their order.
 pub fn counts(alloc: Global, text: &str) -> Result<Vec<Count>> {
-    let mut table: HashMap<SmolStr, u32> = HashMap::new(alloc);
+    let mut table: BTreeMap<SmolStr, u32> = BTreeMap::new(alloc);
     for word in text.split_whitespace() {
         let times = table.entry(SmolStr::new(alloc, word)?)?.or_default();
         *times = times.saturating_add(1);
@@ -23,7 +23,6 @@ pub fn counts(alloc: Global, text: &str) -> Result<Vec<Count>> {
     for (word, times) in table {
         counts.push(Count { word, times })?;
     }
-    counts.sort_by(|left, right| left.word.cmp(&right.word))?;
     Ok(counts)
 }
 

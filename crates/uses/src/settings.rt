@@ -63,7 +63,6 @@ impl Settings {
     }
 
     /// Sets a key, which is not made lower.
-    #[tactic(auto, using(crate::proofs::SettingLemmas::inserts))]
     pub fn set(&mut self, key: SmolStr, value: SmolStr) -> Result<(), AllocError>
         ensures ok { OnOk result (self.new ≡ with_setting self.old (Some (key.text, value.text))) }
         ensures unchanged { OnErr result (self.new ≡ self.old) }

@@ -1,5 +1,5 @@
 use Rattle.uses.proofs.MessageLemmas.{behind-value, within, nothing_left, some_came, skipped}
-use Rattle.uses.proofs.messages.next_message.Goals as goal
+use Rattle.uses.proofs.lists.next_message.Goals as goal
 
 pub returns-in-Ok-clause-behind : goal.returns-in-Ok-clause-behind
 returns-in-Ok-clause-behind c = behind-value _ _ _ c.in-Ok.ensures.value.0 c.in-Ok.ensures.ok
