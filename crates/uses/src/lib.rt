@@ -17,6 +17,7 @@ pub mod lists;
 pub mod log_records;
 pub mod ordered;
 pub mod plain;
+pub mod scopes;
 pub mod settings;
 pub mod symbols;
 pub mod wire;

@@ -1,10 +1,13 @@
 -- Maps with values as keys, at texts.
-use Rattle.smol_str.proofs.Common.{◌≡◌, ℕ, Bor, Option, Some, List, [], ◌∷◌, Bool, false, cond, false≢true, refl, ap, arith, IsUtf8, bytes_eq, chars, encodes-chars, encodes_same, false_from_ne_true, option_map, if◌then◌else◌, Meaning, rules}
+use Rattle.smol_str.proofs.Common.{◌≡◌, ◌+◌, ◌++◌, ◌∙◌, ℕ, Bor, Option, None, Some, List, [], ◌∷◌, length, take, get_or, Bool, false, cond, false≢true, refl, sym, ap, arith, common_steps, IsUtf8, bytes_eq, chars, encodes-chars, encodes_same, false_from_ne_true, option_map, if◌then◌else◌, Meaning, rules}
+use Rattle.std.proofs.Common.{set}
+use Rattle.std.proofs.lemmas.List.{take_more_set}
+use Rattle.std.specs.HashMap.{HashMap}
 use Rattle.std.specs.Map.{lookup, KeepsOthers}
-use Rattle.std.specs.Option.{option_copied}
+use Rattle.std.specs.Option.{option_copied, option_or}
 use Rattle.std.proofs.lemmas.Slice.Eq.{bytes_eq-Decides}
 use Rattle.smol_str.specs.declared.value.place.Place.TheVariants.{Inline}
-use Rattle.smol_str.specs.Keys.{same_key, stands_for, with_entry, entry_texts}
+use Rattle.smol_str.specs.Keys.{value_at, innermost, same_key, stands_for, with_entry, entry_texts}
 
 -- ---- maps with values as keys
 
@@ -74,3 +77,35 @@ module _ {V : Type 0} (key t : List ℕ) (v : V) where
       → lookup (bytes_eq key) (with_entry es t v) ≡ cond (bytes_eq key t) (Some v) (lookup (bytes_eq key) es)
   lookup-with_entry [] = refl
   lookup-with_entry (e ∷ es) = search (rules, arith, bytes_eq-Decides, false≢true, false_from_ne_true, lookup-with_entry es)
+
+-- ---- maps one inside another, the innermost last
+
+option_or-assoc : {V : Type 0} (a b c : Option V) → option_or (option_or a b) c ≡ option_or a (option_or b c)
+option_or-assoc None b c = refl
+option_or-assoc (Some v) b c = refl
+
+set-last : {M : Type 0} (xs : List M) (i : ℕ) (m : M) → i + 1 ≡ length xs → set xs i m ≡ take i xs ++ m ∷ []
+set-last xs i m e = let more = take_more_set xs i m (omega arith) in grind (arith, common_steps, more)
+
+same-last : {M : Type 0} (xs : List M) (i : ℕ) (m : M) → i + 1 ≡ length xs → m ≡ get_or xs i m → xs ≡ take i xs ++ m ∷ []
+same-last xs i m e h = grind (arith, common_steps)
+
+-- one map more, a change of the last, and what this leaves
+module _ {V S : Type 0} (t : List ℕ) where
+  pub innermost-push : (ms : List (HashMap Meaning V S)) (m : HashMap Meaning V S)
+      → innermost t (ms ++ m ∷ []) ≡ option_or (value_at t m) (innermost t ms)
+  innermost-push [] m = search rules
+  innermost-push (n ∷ ms) m =
+      ap (λ o. option_or o (value_at t n)) (innermost-push ms m) ∙ option_or-assoc (value_at t m) (innermost t ms) (value_at t n)
+
+  pub innermost-set : (ms : List (HashMap Meaning V S)) (i : ℕ) (m : HashMap Meaning V S) → i + 1 ≡ length ms
+      → innermost t (set ms i m) ≡ option_or (value_at t m) (innermost t (take i ms))
+  innermost-set ms i m e = ap (innermost t) (set-last ms i m e) ∙ innermost-push (take i ms) m
+
+  pub innermost-kept : (ms : List (HashMap Meaning V S)) (i : ℕ) (m n : HashMap Meaning V S) → i + 1 ≡ length ms
+      → m ≡ get_or ms i m → value_at t n ≡ value_at t m → innermost t (set ms i n) ≡ innermost t ms
+  innermost-kept ms i m n e is same =
+      innermost-set ms i n e ∙ ap (λ o. option_or o (innermost t (take i ms))) same
+      ∙ sym (ap (innermost t) (same-last ms i m e is) ∙ innermost-push (take i ms) m)
+
+pub ruleset scopes = (innermost-push, innermost-set, innermost-kept)
