@@ -26,7 +26,7 @@
 --                                         `split_once`, `strip_prefix`, `strip_suffix`, `starts_with`, at texts
 --     split_at_literal                    that loop at a literal of one character
 --     split_once-char, split_once-text, strip_prefix-text, strip_suffix-text    what these calls say, of texts
---     sorting     a ruleset: values that were sorted, as texts
+--     sorting     a ruleset: values that were sorted, as texts; texts-once: and then each text once
 --     texts-push, text_at, joined-spelled    lists of values, as texts; joined by a loop that writes the first apart
 --     position-stays, position-new, position-texts    the first place at which a test passes, with one more at the end
 --     chars-one                           the text of a byte of ASCII, as that of a literal
@@ -41,7 +41,7 @@ pub use Rattle.smol_str.proofs.CallerLemmas.Collecting.{chars_collected, chars_r
 pub use Rattle.smol_str.proofs.CallerLemmas.Wire.{Holds-parts, form_is_whole, form-utf8, form-text, form-held, form-read, form-known, forms, form-cut-held, form-cut-long, form-cut-utf8, form-cut-text, count-apart, items-apart, forms-apart, begun_first, begun_second, parts, text-at, items, forms-next, forms-more, AreRead, one_read, all_read, next_form}
 pub use Rattle.smol_str.proofs.CallerLemmas.Maps.{key_of, same_key-other, text-kept, updates, text-set, stands_for-text, lookup-stands_for, lookup-lent, lookups, entry_texts-insert, lookup-with_entry, innermost-push, innermost-set, innermost-kept, scopes}
 pub use Rattle.smol_str.proofs.CallerLemmas.Cuts.{split_at_char, split_at_text, split_at_literal, joined-values, in_some, split_char-whole, split_char-first, split_char-none, prefix-rest, prefix-none, suffix-front, suffix-none, starts_with-text, cutting, split_once-char, split_once-text, strip_prefix-text, strip_suffix-text}
-pub use Rattle.smol_str.proofs.CallerLemmas.Lists.{texts-push, text_at, IsSorted-texts, sorted-texts, sorting, position-stays, position-new, position-texts, joined-spelled}
+pub use Rattle.smol_str.proofs.CallerLemmas.Lists.{texts-push, text_at, IsSorted-texts, sorted-texts, texts-once, sorting, position-stays, position-new, position-texts, joined-spelled}
 -- what std's iterators give
 pub use Rattle.smol_str.proofs.IteratorLemmas.{iterators, gives-chars, gives-rev_chars, gives-slice, gives-map_lent}
 pub use Rattle.smol_str.proofs.PieceLemmas.{gives-split, gives-split_at}

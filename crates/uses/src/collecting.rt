@@ -1,7 +1,5 @@
 //! Texts collected from iterators whose items the caller knows, through std's adapters too, and by a builder that draws
 //! them.
-#![tactic(auto)]
-
 ghost use Rattle.std.specs.Prelude.{◌≡◌, ◌<◌, ◌≤◌, ◌==◌, ◌++◌, ◌∷◌, [], ℕ, String, codes, drop, length, not, reverse, take, IfOk, IsOk, OnOk, OnErr};
 ghost use Rattle.std.specs.List.{filter, prefix_len, slice_split};
 ghost use Rattle.std.specs.Str.{chars};

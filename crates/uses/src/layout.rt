@@ -17,6 +17,7 @@ pub struct Line {
 }
 
 /// A token with four spaces in place of each tab.
+#[tactic(auto, using(smol_str::proofs::CallerLemmas::texts, smol_str::proofs::CallerLemmas::replacing))]
 pub fn without_tabs(alloc: Global, token: &SmolStr) -> Result<SmolStr, AllocError>
     ensures { IfOk result (λ v. IsValueOf (untabbed token.now.text) v) }
 {

@@ -2,7 +2,7 @@
 ghost use Rattle.std.specs.Prelude.{◌≡◌, ◌++◌, OnOk, OnErr, IfOk, option_copied};
 ghost use Rattle.std.specs.Ordering.{nat_cmp};
 ghost use Rattle.std.specs.Cmp.Lexicographic.{slice_cmp};
-ghost use Rattle.std.specs.List.Sorted.{IsSorted, IsPermutation};
+ghost use Rattle.std.specs.List.Sorted.{IsPermutation, IsSorted, IsStrictlySortedBy};
 ghost use Rattle.smol_str.specs.Keys.{ordered_value_at, value_at, has_text, is_before};
 ghost use Rattle.smol_str.specs.Meaning.{texts};
 
@@ -32,6 +32,15 @@ pub fn sorted_union(
     left.append(&mut right)?;
     sort_names(&mut left)?;
     Ok(left)
+}
+
+/// The values in the order of their texts, each text once.
+pub fn sorted_once(mut names: Vec<SmolStr>) -> Result<Vec<SmolStr>, AllocError>
+    ensures { IfOk result (λ once. IsStrictlySortedBy (slice_cmp nat_cmp) (texts once.items)) }
+{
+    sort_names(&mut names)?;
+    names.dedup();
+    Ok(names)
 }
 
 /// What an ordered map has at a value's text.

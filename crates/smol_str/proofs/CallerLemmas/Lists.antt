@@ -1,8 +1,13 @@
 -- Lists of values, and what they are as texts.
-use Rattle.smol_str.proofs.Common.{true, flat_map, joined_by, refl, sym, map, ◌≡◌, ℕ, ◌+◌, ◌<◌, List, [], ◌∷◌, ◌++◌, length, Bool, not, cond, Some, None, ap, ◌∙◌, arith, nat_tests, length-append, length-map, map-append, nat_cmp, slice_cmp, slice_get, option_map, Meaning, Result, OnOk, on_ok_weaker}
+use Rattle.smol_str.proofs.Common.{true, flat_map, joined_by, refl, sym, map, ◌≡◌, ℕ, ◌+◌, ◌<◌, List, [], ◌∷◌, ◌++◌, length, Bool, not, cond, Some, None, ap, ◌∙◌, arith, nat_tests, length-append, length-map, map-append, nat_cmp, slice_cmp, slice_get, option_map, Meaning, Result, OnOk, on_ok_weaker, rules}
 use Rattle.std.proofs.Common.{is_some, nat_lt}
-use Rattle.std.specs.List.{position, prefix_len}
-use Rattle.std.specs.List.Sorted.{IsSorted, IsSortedByKey}
+use Rattle.std.specs.List.{position, prefix_len, dedup, dedup_from}
+use Rattle.std.specs.List.Retain.{IsFiltered, DiffersFromLast}
+use Rattle.std.specs.List.Sorted.{IsSorted, IsSortedByKey, IsStrictlySortedBy}
+use Rattle.std.specs.Cmp.Lexicographic.{nat_list_cmp_total, texts_ties}
+use Rattle.std.specs.Str.{bytes_eq}
+use Rattle.std.proofs.lemmas.List.Filters.{dedup_is}
+use Rattle.std.proofs.lemmas.List.Kept.{IsStrictlySortedBy-dedup}
 use Rattle.std.proofs.lemmas.List.{get_or-map}
 use Rattle.std.proofs.lemmas.List.Folds.{prefix_len-append, flat_map-map}
 use Rattle.std.proofs.lemmas.List.Sums.{prefix_len-le-length}
@@ -37,6 +42,24 @@ pub sorted-texts : {T E : Type 0} (r : Result T E) (names : List Meaning)
 sorted-texts r names up = on_ok_weaker r (IsSorted-texts names) up
 
 pub ruleset sorting = (sorted-texts, IsSorted-texts)
+
+-- and then each text once, by `dedup`
+module _ (E : List ℕ → List ℕ → Bool) where
+  texts-dedup_from : (v : Meaning) (vs : List Meaning)
+      → texts (dedup_from (λ x y. E x.text y.text) v vs) ≡ dedup_from E v.text (texts vs)
+  texts-dedup_from v [] = refl
+  texts-dedup_from v (w ∷ vs) = search (rules, texts-dedup_from v vs, texts-dedup_from w vs)
+
+  texts-dedup : (vs : List Meaning) → texts (dedup (λ x y. E x.text y.text) vs) ≡ dedup E (texts vs)
+  texts-dedup [] = refl
+  texts-dedup (v ∷ vs) = texts-dedup_from v vs
+
+pub texts-once : (old new : List Meaning) → IsFiltered (DiffersFromLast (λ x y. bytes_eq x.text y.text)) [] old new
+    → IsSorted (slice_cmp nat_cmp) (texts old) → IsStrictlySortedBy (slice_cmp nat_cmp) (texts new)
+texts-once old new kept up =
+    let same : texts new ≡ dedup bytes_eq (texts old) =
+    ap texts (dedup_is (λ x y. bytes_eq x.text y.text) old new kept) ∙ texts-dedup bytes_eq old in
+    rw same (IsStrictlySortedBy-dedup nat_list_cmp_total texts_ties (texts old) up)
 
 -- the first place at which a test passes, with one more element at the end: it stays, or is the new one's
 module _ {X : Type 0} (p : X → Bool) (xs : List X) (x : X) where
