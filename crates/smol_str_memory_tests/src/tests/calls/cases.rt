@@ -45,7 +45,7 @@ static CALLS: [Row<Call>; 18] = table! {
     (Replace("a", "a"), REPLACE, AS_LONG);
     (Replace("a", " "), REPLACE, Exactly([0, 0, 1, 1, 2, 2, 2], [0, 0, 320, 40, 5040, 5040, 70_040]));
     (ReplaceSome("a", "b", 0), REPLACEN, COPIED);
-    (Replace("a", "éé"), REPLACE, Exactly([0, 3, 0, 3, 4, 2, 4], [0, 364, 0, 367, 35_523, 5040, 490_523]));
+    (Replace("a", "éé"), REPLACE, Exactly([0, 2, 0, 2, 2, 2, 2], [0, 196, 0, 200, 20_040, 5040, 280_040]));
     (Replace("aa", "bb"), REPLACE, COPIED);
     (Replace("aa", "b"), REPLACE, Exactly([0, 0, 0, 0, 2, 2, 2], [0, 0, 0, 0, 5000, 5040, 70_000]));
     (Replace("", "-"), REPLACE, Exactly([0, 2, 6, 3, 9, 9, 13], [0, 119, 2489, 277, 20_185, 20_185, 323_545]));
@@ -54,7 +54,7 @@ static CALLS: [Row<Call>; 18] = table! {
     (ReplaceSome("aa", "bb", 1), REPLACEN, COPIED);
     (Replace("ab", "-"), REPLACE, COPIED);
     (ReplaceWhole, REPLACE, Exactly([0; 7], [0; 7]));
-    (ReplaceByWhole, REPLACEN, Exactly([0, 2, 0, 2, 2, 2, 2], [0, 117, 0, 158, 10_078, 5040, 140_078]));
+    (ReplaceByWhole, REPLACEN, Exactly([0, 2, 0, 2, 2, 2, 2], [0, 117, 0, 119, 10_039, 5040, 140_039]));
 };
 
 #[test]
