@@ -1,5 +1,7 @@
-//! Tests of what no clause says: values and builders by rows from outside.
+//! Tests of what no clause says: values, builders and wire forms by rows from outside.
 
+mod borsh;
+mod borsh_faults;
 mod builder;
 mod collect;
 mod compare;
@@ -9,6 +11,7 @@ mod kernel;
 mod places;
 mod replace;
 mod str_ext;
+mod stream;
 
 use smol_str::{BLANK_NEWLINES, BLANK_SPACES, INLINE_CAP};
 use test_support::*;

@@ -1,5 +1,5 @@
-//! Tests of the program, and of what else reads and writes, for what no clause says: over outside values, over readers and
-//! writers that fail, and with memory refused. Beside them callers of the program's core, proved by its contracts.
+//! Tests of the program, for what no clause says: over outside values, over readers and writers that fail, and with memory
+//! refused. Beside them callers of the program's core, proved by its contracts.
 #![tactic(auto)]
 
 #[cfg(test)]

@@ -2,10 +2,15 @@
 //! the limits. A test takes all of it, by `use test_support::*`.
 #![tactic(auto)]
 
+mod failing;
 mod refuse;
 mod test;
 mod texts;
 
+pub use failing::{
+    Cause, Drip, Kind, Reading, STEPS, Trickle, Writing, cause_of, empty_drip, fails_at_each_read,
+    fails_at_each_write, trickle_of,
+};
 pub use refuse::{
     Asked, Refusable, Refusals, can_refuse, count_asked, count_blocks, count_bytes, count_held,
     each_refused, end_refusals, made_requests, refuse_all, run_once, start_counts,

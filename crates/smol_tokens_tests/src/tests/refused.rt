@@ -1,5 +1,4 @@
 //! `run` with memory refused: nothing is written, or all.
-use super::failing::{Drip, Kind, empty_drip};
 use super::reports::report_by;
 use super::run::{Words, fixed_state, kind_of};
 use super::words::mode_by;

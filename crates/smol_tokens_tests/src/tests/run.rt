@@ -1,9 +1,5 @@
 //! `run` in every mode, over readers and writers of every step, which fail at each call, over inputs that are not UTF-8, and
 //! over what is no count lines.
-use super::failing::{
-    Drip, Kind, Reading, STEPS, Trickle, Writing, cause_of, empty_drip, fails_at_each_read,
-    fails_at_each_write, trickle_of,
-};
 use super::reports::{LETTERS, all_rows};
 use super::words::mode_by;
 use smol_str::stream::CHUNK;

@@ -1,5 +1,4 @@
 //! Wire forms, written and read again.
-use super::failing::trickle_of;
 use smol_str::borsh::{BorshDeserialize, BorshSerialize, DecodeFault, from_wire, length_prefix};
 use smol_str::{INLINE_CAP, Place, SmolStr, StrExt};
 use test_support::*;

@@ -2,11 +2,13 @@
 //! call.
 ghost use Rattle.std.specs.Prelude.{Some, ◌≡◌, []};
 
+use crate::refuse::{count_blocks, start_counts};
+use crate::test::{Test, holds, same};
 use smol_str::stream::CHUNK;
+use std::alloc::Global;
 use std::fmt::Debug;
 use std::io;
 use std::io::{ErrorKind, Read, Write};
-use test_support::*;
 
 /// How many bytes a call the readers and writers give and take at most.
 pub const STEPS: [usize; 7] = [1, 2, 3, CHUNK - 1, CHUNK, CHUNK + 1, usize::MAX];

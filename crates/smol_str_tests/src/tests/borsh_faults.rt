@@ -1,6 +1,5 @@
 //! Bytes that hold no wire form, and memory refused and counted.
-use super::failing::{Kind, STEPS, Trickle, cause_of, trickle_of};
-use super::wire::letters;
+use super::borsh::letters;
 use smol_str::borsh::{
     BorshDeserialize, DecodeFault, LimitedFault, deserialize_limited, from_wire, split_wire,
 };

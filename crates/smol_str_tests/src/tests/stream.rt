@@ -1,10 +1,6 @@
 //! Each call that reads or writes, over readers and writers of every step, which end after each byte and fail at each call.
-use super::failing::{
-    Drip, Kind, Reading, Trickle, Writing, cause_of, empty_drip, fails_at_each_read,
-    fails_at_each_write, trickle_of,
-};
-use super::wire::{LETTERS, ROWS, form_of, of_units, ok_found};
-use super::wire_faults::{kind_of, kind_of_limited};
+use super::borsh::{LETTERS, ROWS, form_of, of_units, ok_found};
+use super::borsh_faults::{kind_of, kind_of_limited};
 use smol_str::borsh::{
     BorshDeserialize, BorshSerialize, EncodeFault, deserialize_limited, from_wire,
 };
