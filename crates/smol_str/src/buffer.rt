@@ -14,7 +14,6 @@ mod words;
 use crate::bytes::ascii::{AsciiCase, convert_all, is_all_ascii};
 use std::cmp::Ordering;
 use std::marker::Model;
-pub(crate) use words::same_text;
 use words::{copy_packed, order_words, pack, pack_char, same_words, write_ascii, write_at};
 
 /// The most bytes of a text that lies in the value itself.

@@ -1,10 +1,11 @@
-//! Bytes, below texts and buffers: slices, zeroed arrays, searches and ASCII. It uses no other
+//! Bytes, below texts and buffers: slices, zeroed arrays, words, searches and ASCII. It uses no other
 //! module.
 ghost use Rattle.std.specs.Prelude.{◌≡◌, ◌≤◌, length, drop};
 
 pub(crate) mod ascii;
 pub(crate) mod plain;
 pub(crate) mod search;
+pub(crate) mod words;
 
 /// `text[from..]` as bytes, stated with `drop`.
 #[inline(always)]

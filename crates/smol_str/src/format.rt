@@ -99,24 +99,15 @@ impl<T: fmt::Display> ToSmolStr for T {
     fn to_smolstr(&self, alloc: Global) -> Result<SmolStr, FormatError> {
         let mut builder = SmolStrBuilder::new(alloc);
         builder.write_fmt(self)?;
-        finished(builder)
+        Ok(builder.into_value()?)
     }
-}
-
-/// The value of a builder that was printed to: what [`format_smolstr!`](crate::format_smolstr) ends
-/// with.
-pub fn finished(builder: SmolStrBuilder) -> Result<SmolStr, FormatError>
-    ensures ok { IfOk result (λ v. IsValueOf builder.text v) }
-    ensures refused { OnErr result (¬ (IsResident builder.text)) }
-{
-    Ok(builder.into_value()?)
 }
 
 /// The value of the printed arguments, as `Result<SmolStr, FormatError>`: `format!` with the allocator
 /// first, parted by a semicolon.
 ///
-/// It expands to a builder, a print to it and [`finished`] in the caller's own body, and needs no
-/// import.
+/// It expands to a builder, a print to it and [`SmolStrBuilder::into_value`] in the caller's own body,
+/// and needs no import.
 ///
 /// ```
 /// let name = format_smolstr!(alloc; "{}-{:02}", "a", 7)?;
@@ -127,7 +118,7 @@ macro_rules! format_smolstr {
     ($alloc:expr; $($arg:tt)+) => {{
         let mut builder = $crate::SmolStrBuilder::new($alloc);
         match builder.write_fmt(format_args!($($arg)+)) {
-            Ok(()) => $crate::finished(builder),
+            Ok(()) => builder.into_value().or(Err($crate::FormatError)),
             Err(_) => Err($crate::FormatError),
         }
     }};

@@ -14,7 +14,7 @@
 //!     kernel             building blocks for loops of your own
 //!     buffer  stream     a short text in its own bytes; reading and writing by single calls
 //!     shared             the shared text of a value on the heap: the one line to change for several threads
-//!     bytes              slices, zeroed arrays, searches, ASCII and plain JSON
+//!     bytes              slices, zeroed arrays, words, searches, ASCII and plain JSON
 //! ```
 #![tactic(auto)]
 
@@ -37,7 +37,7 @@ pub use buffer::{INLINE_CAP, InlineBuffer};
 pub use builder::SmolStrBuilder;
 pub use collect::steps::{Step, build};
 pub use collect::{Piece, ValueAlloc};
-pub use format::{FormatError, ToSmolStr, finished};
+pub use format::{FormatError, ToSmolStr};
 pub use str_ext::StrExt;
 pub use value::SmolStr;
 pub use value::blank::{BLANK_NEWLINES, BLANK_SPACES};

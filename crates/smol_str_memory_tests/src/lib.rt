@@ -1,5 +1,4 @@
-//! Tests of what each call of the library asks the heap for, of what stands where that is refused, and of texts that are
-//! printed, and written and read as JSON.
+//! Tests of what each call of the library asks the heap for, and of what stands where that is refused.
 #![tactic(auto)]
 
 #[cfg(test)]

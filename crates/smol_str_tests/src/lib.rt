@@ -1,5 +1,5 @@
-//! Tests of the library through its public items, for what no clause says: outside values, builders and
-//! iterators, and wire forms over readers and writers that fail.
+//! Tests of the library through its public items, for what no clause says. A file has the name of the module that it
+//! tests.
 #![tactic(auto)]
 
 #[cfg(test)]

@@ -1,17 +1,16 @@
-//! Tests of what no clause says: values, builders and wire forms by rows from outside.
+//! Tests of what no clause says, by rows from outside.
 
 mod borsh;
-mod borsh_faults;
 mod builder;
 mod collect;
-mod compare;
-mod convert;
+mod format;
 mod idioms;
+mod json_string;
 mod kernel;
-mod places;
-mod replace;
+mod serde_impls;
 mod str_ext;
 mod stream;
+mod value;
 
 use smol_str::{BLANK_NEWLINES, BLANK_SPACES, INLINE_CAP};
 use test_support::*;

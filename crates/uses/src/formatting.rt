@@ -7,7 +7,7 @@ ghost use Rattle.uses.specs.Widths.{right_aligned};
 ghost use Rattle.smol_str.specs.Meaning.{IsValueOf};
 ghost use Rattle.smol_str.specs.Text.{place_of};
 
-use smol_str::{FormatError, SmolStr, SmolStrBuilder, ToSmolStr, finished, format_smolstr};
+use smol_str::{FormatError, SmolStr, SmolStrBuilder, ToSmolStr, format_smolstr};
 use std::alloc::Global;
 
 /// A word, a number and a value.
@@ -39,7 +39,7 @@ pub fn signed(mut builder: SmolStrBuilder, number: u64) -> Result<SmolStr, Forma
         encode_utf8_all builder.text ++ (decimal number ++ codes "-")) }
 {
     write!(builder, "{number}-")?;
-    finished(builder)
+    Ok(builder.into_value()?)
 }
 
 /// A number, with spaces before it where it is narrow.

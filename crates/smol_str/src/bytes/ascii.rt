@@ -4,6 +4,7 @@ ghost use Rattle.std.specs.Str.{IsAscii};
 ghost use Rattle.std.specs.Simd.Lanes.{Each1, put_chunk};
 ghost use Rattle.smol_str.specs.InCase.{converted, IsAsciiFront};
 
+use crate::bytes::words::load;
 use std::simd::prelude::*;
 
 /// How many bytes are mapped at a time.
@@ -114,15 +115,4 @@ fn has_high<const N: usize>(lanes: Simd<u8, N>) -> bool
     ensures { (result ≡ false) ↔ IsAscii lanes.entry }
 {
     lanes.simd_gt(Simd::splat(127)).any()
-}
-
-/// The `N` bytes from an index on.
-#[inline(always)]
-pub(crate) fn load<const N: usize>(bytes: &[u8], at: usize) -> Simd<u8, N>
-    requires { at + N ≤ length bytes.now }
-    ensures lanes { result ≡ take N (drop at bytes.now) }
-    ensures long { length result ≡ N }
-    ensures fits { Each1 (λ x. x < 256) result }
-{
-    Simd::from_slice(&bytes[at..])
 }

@@ -3,7 +3,7 @@ ghost use Rattle.std.specs.Prelude.{◌≡◌, ◌↔◌, ◌<◌, ◌≤◌, �
 ghost use Rattle.std.specs.List.{list_all, prefix_len};
 ghost use Rattle.smol_str.specs.Plain.{is_plain, is_space};
 
-use crate::bytes::ascii::load;
+use crate::bytes::words::load;
 use std::simd::prelude::*;
 
 /// The plain text before the first character that is not, and the rest.

@@ -4,7 +4,7 @@ ghost use Rattle.std.specs.Prelude.{◌≡◌, ◌↔◌, ◌<◌, ◌≤◌, �
 ghost use Rattle.std.specs.Int.{bit_at};
 ghost use Rattle.memchr.specs.Find.{FindsNeedle, OccursAt, IsFirst, IsFirstByte, Passes, is_byte};
 
-use crate::bytes::ascii::load;
+use crate::bytes::words::load;
 use memchr::memmem::Finder;
 use memchr::{memchr, memmem};
 use std::simd::prelude::*;

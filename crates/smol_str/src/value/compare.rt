@@ -12,7 +12,8 @@ ghost use Rattle.smol_str.specs.Buffer.{HaveOneBuffer};
 
 use super::place::Place;
 use super::{Repr, SmolStr};
-use crate::buffer::{INLINE_CAP, InlineText, same_text};
+use crate::buffer::{INLINE_CAP, InlineText};
+use crate::bytes::words::same_text;
 use std::cmp::Ordering;
 use std::hash::{Hash, Hasher};
 

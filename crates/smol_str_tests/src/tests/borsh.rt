@@ -1,4 +1,6 @@
 //! Wire forms, written and read again.
+pub mod fault;
+
 use smol_str::borsh::{BorshDeserialize, BorshSerialize, DecodeFault, from_wire, length_prefix};
 use smol_str::{INLINE_CAP, Place, SmolStr, StrExt};
 use test_support::*;

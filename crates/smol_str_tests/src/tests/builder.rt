@@ -1,7 +1,9 @@
-//! Builders: what is appended by calls and by lists of steps, and large capacities.
+//! Builders: what is appended by calls and by lists of steps, large capacities, and empty builders as std makes them.
 use Piece::{Char, Text, Times};
 use Place::{Heap, Inline, Static};
-use smol_str::{INLINE_CAP, Place, SmolStrBuilder, Step, build};
+use smol_str::{INLINE_CAP, Place, SmolStr, SmolStrBuilder, Step, build};
+use std::collections::HashMap;
+use std::mem;
 use test_support::*;
 
 /// What a row appends.
@@ -225,4 +227,27 @@ fn assert_room(test: &Test, mut builder: SmolStrBuilder) {
     refuse_all(test.alloc);
     ok(test, builder.push_str(full_text()));
     is_so(test, !end_refusals(test.alloc), "room");
+}
+
+#[test]
+fn empty_builders(rt: HostRuntime) -> Result<(), Fail> {
+    let test = Test::begin(rt);
+    let mut pages: HashMap<SmolStr, SmolStrBuilder> = HashMap::new(test.alloc);
+    is_so(&test, print_at(&mut pages, "ab").is_ok(), "an entry");
+    is_so(&test, print_at(&mut pages, "c").is_ok(), "the same entry");
+    let page = pages.get(&SmolStr::new_static("page"));
+    let text = page.map_or("none", |page| page.as_str());
+    same_str(&test, text, "abc", "or_default");
+    let mut builder = test.builder(100, "taken");
+    let taken = ok(&test, mem::try_take(&mut builder));
+    same_str(&test, taken.as_str(), "taken", "try_take");
+    is_so(&test, builder.is_empty(), "try_take");
+    test.end()
+}
+
+fn print_at(pages: &mut HashMap<SmolStr, SmolStrBuilder>, text: &str) -> Result<(), AllocError> {
+    pages
+        .entry(SmolStr::new_static("page"))?
+        .or_default()
+        .push_str(text)
 }

@@ -1,7 +1,9 @@
 //! Case, against outside rows.
-use super::replace::{assert_rows, upstream_rows};
+mod replace;
+
 use Call::*;
 use Place::{Heap, Inline, Static};
+use replace::{assert_rows, upstream_rows};
 use smol_str::{Place, SmolStr, StrExt};
 use test_support::*;
 

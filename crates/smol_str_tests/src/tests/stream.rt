@@ -1,6 +1,6 @@
 //! Each call that reads or writes, over readers and writers of every step, which end after each byte and fail at each call.
+use super::borsh::fault::{kind_of, kind_of_limited};
 use super::borsh::{LETTERS, ROWS, form_of, of_units, ok_found};
-use super::borsh_faults::{kind_of, kind_of_limited};
 use smol_str::borsh::{
     BorshDeserialize, BorshSerialize, EncodeFault, deserialize_limited, from_wire,
 };

@@ -1,7 +1,9 @@
 //! `run` in every mode, over readers and writers of every step, which fail at each call, over inputs that are not UTF-8, and
 //! over what is no count lines.
-use super::reports::{LETTERS, all_rows};
-use super::words::mode_by;
+mod refused;
+
+use super::mode::mode_by;
+use super::report::{LETTERS, all_rows};
 use smol_str::stream::CHUNK;
 use smol_tokens_core::fault::RunFault;
 use smol_tokens_core::run::run;

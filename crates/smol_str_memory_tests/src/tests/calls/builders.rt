@@ -4,7 +4,7 @@ use super::by_std::Asks::{Nothing, Owned};
 use super::things::{Thing, things_of};
 use super::{FREE, KEPT, Row, SHARED, check_calls};
 use Call::*;
-use smol_str::{SmolStr, SmolStrBuilder, ValueAlloc, finished};
+use smol_str::{SmolStr, SmolStrBuilder, ValueAlloc};
 use std::default::Emptied;
 use test_support::*;
 
@@ -22,10 +22,9 @@ enum Call {
     /// Of a builder that has room for its text alone.
     IntoValueFull,
     ValueOf,
-    Finished,
 }
 
-static CALLS: [Row<Call>; 11] = table! {
+static CALLS: [Row<Call>; 10] = table! {
     (Cloned, "SmolStrBuilder::clone", AsStd(Nothing, Nothing, Owned, Owned));
     (CloneLarge, "SmolStrBuilder::clone", AsStd(Nothing, Owned, Owned, Owned));
     (Emptied, "SmolStrBuilder::emptied", FREE);
@@ -36,7 +35,6 @@ static CALLS: [Row<Call>; 11] = table! {
     (IntoValueLarge, "SmolStrBuilder::into_value", KEPT);
     (IntoValueFull, "SmolStrBuilder::into_value", KEPT);
     (ValueOf, "ValueAlloc::value_of", KEPT);
-    (Finished, "format::finished", KEPT);
 };
 
 #[test]
@@ -64,7 +62,6 @@ impl super::Call for Call {
             FromBuilder => things_of(SmolStr::from_builder(builder)),
             IntoValue | IntoValueLarge | IntoValueFull => { things_of(builder.into_value()) }
             ValueOf => things_of(Global::value_of(builder)),
-            Finished => things_of(finished(builder)),
         }
     }
 }

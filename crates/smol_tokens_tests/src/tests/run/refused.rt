@@ -1,7 +1,7 @@
 //! `run` with memory refused: nothing is written, or all.
-use super::reports::report_by;
-use super::run::{Words, fixed_state, kind_of};
-use super::words::mode_by;
+use super::super::mode::mode_by;
+use super::super::report::report_by;
+use super::{Words, fixed_state, kind_of};
 use smol_str::stream::CHUNK;
 use smol_tokens_core::mode::Mode;
 use smol_tokens_core::run::run;

@@ -1,7 +1,7 @@
 use Rattle.smol_str.proofs.Common.{◌≡◌, ◌≤◌, ◌+◌, ◌-◌, length, take, take-take, ap, arith, refl, rules}
 use Rattle.smol_str.specs.Words.{word}
 use Rattle.smol_str.proofs.BufferLemmas.Words.{AreBytes, same-last, same_from, more-same}
-use Rattle.smol_str.proofs.buffer.words.same_bytes.Goals as goal
+use Rattle.smol_str.proofs.bytes.words.same_bytes.Goals as goal
 
 pub returns-then-len-le16 : goal.returns-then-len-le16
 returns-then-len-le16 c =

@@ -1,4 +1,8 @@
 //! Where texts are kept.
+mod compare;
+mod convert;
+mod deref;
+
 use Place::{Heap, Inline, Static};
 use smol_str::{BLANK_NEWLINES, BLANK_SPACES, INLINE_CAP, InlineBuffer, Place, SmolStr};
 use test_support::*;

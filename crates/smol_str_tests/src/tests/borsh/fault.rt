@@ -1,5 +1,5 @@
 //! Bytes that hold no wire form, and memory refused and counted.
-use super::borsh::letters;
+use super::letters;
 use smol_str::borsh::{
     BorshDeserialize, DecodeFault, LimitedFault, deserialize_limited, from_wire, split_wire,
 };

@@ -148,14 +148,18 @@ fn assert_hands_out(test: &Test, value: SmolStr, shared: &RcStr) {
 #[test]
 fn places_of_shared_texts(rt: HostRuntime) -> Result<(), Fail> {
     let test = Test::begin(rt);
-    assert_place_of_shared(&test, "ab", Inline);
-    assert_place_of_shared(&test, "aaaaaaaaaaaaaaaaaaaaaaaa", Inline);
-    assert_place_of_shared(&test, "                        ", Inline);
-    assert_place_of_shared(&test, long_blank(), Static);
+    check_shared(&test, "é", Inline);
+    check_shared(&test, "aaaaaaaaaaaaaaaaaaaaaaaa", Inline);
+    check_shared(&test, "                        ", Inline);
+    check_shared(&test, long_blank(), Static);
+    check_shared(&test, long_text(), Heap);
     test.end()
 }
 
-fn assert_place_of_shared(test: &Test, text: &str, place: Place) {
+fn check_shared(test: &Test, text: &str, place: Place) {
     let value = of_shared(test, RcStr::from_str(test.alloc, text));
     has_text(test, &value, text, place, "from_rc_str");
+    let shared = RcStr::from_str(test.alloc, text);
+    let value = shared.map_or(SmolStr::default(), |shared| shared.into());
+    has_text(test, &value, text, place, "From<RcStr>");
 }

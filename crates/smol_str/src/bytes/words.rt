@@ -1,0 +1,117 @@
+//! Words and lanes of any bytes: read, and compared.
+ghost use Rattle.std.specs.Prelude.{◌≡◌, ◌↔◌, IsTrue, ◌+◌, ◌<◌, ◌≤◌, length, take, drop, nat_eq};
+ghost use Rattle.std.specs.Cmp.Lexicographic.{pointwise};
+ghost use Rattle.std.specs.Simd.Lanes.{Each1};
+ghost use Rattle.smol_str.specs.Words.{word};
+
+use std::simd::prelude::*;
+
+/// The `N` bytes from an index on.
+#[inline(always)]
+pub(crate) fn load<const N: usize>(bytes: &[u8], at: usize) -> Simd<u8, N>
+    requires { at + N ≤ length bytes.now }
+    ensures lanes { result ≡ take N (drop at bytes.now) }
+    ensures long { length result ≡ N }
+    ensures fits { Each1 (λ x. x < 256) result }
+{
+    Simd::from_slice(&bytes[at..])
+}
+
+/// Eight bytes from `at` on, with zeros past the end.
+#[inline(always)]
+pub(crate) fn word_at(bytes: &[u8], at: usize) -> u64
+    requires { 8 ≤ length bytes.now }
+    ensures { result ≡ word 8 bytes.now at }
+{
+    let len = bytes.len();
+    // First, so that a whole word takes one test.
+    if at <= len - 8 {
+        return read_u64(bytes, at);
+    }
+    if at >= len {
+        return 0;
+    }
+    read_u64(bytes, len - 8) >> (8 * (8 - (len - at)))
+}
+
+/// All of the bytes, which are fewer than eight.
+#[inline(always)]
+pub(crate) fn front_word(bytes: &[u8]) -> u64
+    requires { length bytes.now < 8 }
+    ensures { result ≡ word 8 bytes.now 0 }
+{
+    let len = bytes.len();
+    if len >= 4 {
+        return read_u32(bytes, 0) + ((read_u32(bytes, len - 4) >> (8 * (8 - len))) << 32);
+    }
+    match len {
+        0 => 0,
+        1 => bytes[0] as u64,
+        2 => bytes[0] as u64 + bytes[1] as u64 * 0x100,
+        _ => bytes[0] as u64 + bytes[1] as u64 * 0x100 + bytes[2] as u64 * 0x1_0000,
+    }
+}
+
+#[inline(always)]
+pub(crate) fn read_u64(bytes: &[u8], at: usize) -> u64
+    requires { at + 8 ≤ length bytes.now }
+    ensures { result ≡ word 8 bytes.now at }
+{
+    u64::from_le_bytes(*bytes[at..].first_chunk::<8>().unwrap())
+}
+
+#[inline(always)]
+fn read_u32(bytes: &[u8], at: usize) -> u64
+    requires { at + 4 ≤ length bytes.now }
+    ensures { result ≡ word 4 bytes.now at }
+{
+    u32::from_le_bytes(*bytes[at..].first_chunk::<4>().unwrap()) as u64
+}
+
+/// Whether the texts are equal. From 8 to 32 bytes they are compared by two or four words, which takes fewer instructions
+/// than std's comparison; that is as good for others.
+#[inline(always)]
+pub(crate) fn same_text(left: &str, right: &str) -> bool
+    ensures { result ≡ pointwise nat_eq left.now right.now }
+{
+    let len = left.len();
+    if len != right.len() {
+        return false;
+    }
+    if len < 8 || len > 32 {
+        return left == right;
+    }
+    same_bytes(left.as_bytes(), right.as_bytes())
+}
+
+/// Whether the bytes are equal: the first words and the last, which may overlap.
+#[inline(always)]
+fn same_bytes(left: &[u8], right: &[u8]) -> bool
+    requires long { length left.now ≡ length right.now }
+    requires least { 8 ≤ length left.now }
+    requires most { length left.now ≤ 32 }
+    ensures { result ≡ pointwise nat_eq left.now right.now }
+{
+    let len = left.len();
+    if len <= 16 {
+        return same_two(left, right, 0, len - 8);
+    }
+    if !same_two(left, right, 0, 8) {
+        return false;
+    }
+    same_two(left, right, len - 16, len - 8)
+}
+
+/// Whether two words are equal; neither decides alone, so that nothing branches between them.
+#[inline(always)]
+fn same_two(left: &[u8], right: &[u8], first: usize, second: usize) -> bool
+    requires first_left { first + 8 ≤ length left.now }
+    requires first_right { first + 8 ≤ length right.now }
+    requires second_left { second + 8 ≤ length left.now }
+    requires second_right { second + 8 ≤ length right.now }
+    ensures { IsTrue result ↔ (word 8 left.now first ≡ word 8 right.now first)
+        × (word 8 left.now second ≡ word 8 right.now second) }
+{
+    (read_u64(left, first) == read_u64(right, first))
+        & (read_u64(left, second) == read_u64(right, second))
+}
