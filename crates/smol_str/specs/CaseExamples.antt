@@ -6,8 +6,7 @@ use Rattle.std.specs.Char.Unicode.ToUppercase.{to_uppercase, uppercase_runs, upp
 use Rattle.std.specs.Char.Unicode.Cased.{is_cased, cased_ranges}
 use Rattle.std.specs.Char.Unicode.CaseIgnorable.{is_case_ignorable, case_ignorable_ranges}
 use Rattle.smol_str.specs.declared.bytes.ascii.AsciiCase.TheVariants.{Lower, Upper}
-use Rattle.smol_str.specs.Case.{lower, upper, front, lowercased, uppercased}
-use Rattle.smol_str.specs.InCase.{converted, full_case, mapped}
+use Rattle.smol_str.specs.Case.{lower, upper, front, lowercased, uppercased, converted, full_case, mapped}
 
 lower_mixed : lower (97 ∷ 223 ∷ 916 ∷ 67 ∷ []) ≡ 97 ∷ 223 ∷ 916 ∷ 99 ∷ []
 lower_mixed = refl

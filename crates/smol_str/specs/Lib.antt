@@ -19,7 +19,6 @@ pub mod Case
 pub mod Cut
 pub mod Replace
 pub mod Replacing
-pub mod InCase
 pub mod Wire
 pub mod Plain
 pub mod Json

@@ -6,8 +6,7 @@ ghost use Rattle.std.specs.Ordering.{nat_cmp};
 ghost use Rattle.std.specs.Cmp.Lexicographic.{slice_cmp};
 ghost use Rattle.smol_str.specs.Text.{size, IsShort};
 ghost use Rattle.smol_str.specs.Buffer.{padded};
-ghost use Rattle.smol_str.specs.Case.{IsAsciiText};
-ghost use Rattle.smol_str.specs.InCase.{converted};
+ghost use Rattle.smol_str.specs.Case.{IsAsciiText, converted};
 
 mod words;
 

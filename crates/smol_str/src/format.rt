@@ -40,7 +40,7 @@ impl From<AllocError> for FormatError {
     }
 }
 
-/// So that `?` may follow a refused `push`; what comes back of it is dropped.
+/// For `?` after a refused `push`; the item that comes back is dropped.
 impl<T: Drop> From<AllocFailed<T>> for FormatError {
     fn from(_error: AllocFailed<T>) -> FormatError {
         FormatError

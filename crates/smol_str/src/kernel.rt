@@ -4,8 +4,7 @@ ghost use Rattle.std.specs.Prelude.{◌≡◌, ◌↔◌, ◌<◌, ◌≤◌, �
 ghost use Rattle.std.specs.Str.{IsCharBoundary, chars};
 ghost use Rattle.smol_str.specs.Text.{size};
 ghost use Rattle.smol_str.specs.Buffer.{padded};
-ghost use Rattle.smol_str.specs.Case.{front};
-ghost use Rattle.smol_str.specs.InCase.{converted};
+ghost use Rattle.smol_str.specs.Case.{front, converted};
 ghost use Rattle.smol_str.specs.Cut.{Occurs, StandsAt, IsFirstAfter, IsNextMatch};
 
 use crate::buffer::{INLINE_CAP, InlineBuffer, InlineText};

@@ -10,7 +10,7 @@ ghost use Rattle.smol_str.specs.Said.{read_said};
 ghost use Rattle.smol_str.specs.declared.stream.ReadFault.TheVariants.{OutOfMemory, Io};
 
 use crate::bytes::zeros;
-use std::alloc::{AllocError, Global};
+use std::alloc::{AllocError, AllocFailed, Global};
 use std::error::Error;
 use std::fmt::{Display, Formatter};
 use std::io::{ErrorKind, Read, Write};
@@ -40,6 +40,15 @@ impl From<AllocError> for ReadFault {
     ghost from_gives = { λ error fault. fault ≡ OutOfMemory };
 
     fn from(_error: AllocError) -> ReadFault {
+        ReadFault::OutOfMemory
+    }
+}
+
+/// For `?` after a refused `push`; the item that comes back is dropped.
+impl<T: Drop> From<AllocFailed<T>> for ReadFault {
+    ghost from_gives = { λ error fault. fault ≡ OutOfMemory };
+
+    fn from(_error: AllocFailed<T>) -> ReadFault {
         ReadFault::OutOfMemory
     }
 }

@@ -4,8 +4,7 @@ ghost use Rattle.std.specs.Str.{chars, all_scalars};
 ghost use Rattle.smol_str.specs.Shared.{shared_bytes};
 ghost use Rattle.smol_str.specs.Text.{size, IsShort, IsResident, place_of};
 ghost use Rattle.smol_str.specs.Buffer.{padded};
-ghost use Rattle.smol_str.specs.Case.{IsAsciiText};
-ghost use Rattle.smol_str.specs.InCase.{converted};
+ghost use Rattle.smol_str.specs.Case.{IsAsciiText, converted};
 ghost use Rattle.smol_str.specs.Meaning.{IsValueOf};
 
 pub mod blank;

@@ -1,5 +1,5 @@
 -- For the laws of parts: the lines, the tally and the report of a text by those of its parts, and merges of merges.
-use Rattle.std.proofs.Common.{◌≡◌, ℕ, ◌<◌, ◌≤◌, ◌==◌, ◌^◌, List, [], ◌∷◌, ◌++◌, Bool, true, false, cond, length, get_or, refl, sym, ◌∙◌, arith, rules, inl, inr}
+use Rattle.std.proofs.Common.{◌≡◌, ℕ, ◌<◌, ◌≤◌, ◌==◌, ◌^◌, List, [], ◌∷◌, ◌++◌, Bool, cond, length, get_or, refl, sym, ◌∙◌, arith, rules, inl, inr}
 use Rattle.std.specs.Prelude.{All, count_by, ◌↔◌}
 use Rattle.std.specs.List.{flat_map, onto_first}
 use Rattle.std.proofs.lemmas.List.{map-append}

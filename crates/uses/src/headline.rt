@@ -18,8 +18,7 @@ ghost use Rattle.smol_str.specs.Meaning.{IsValueOf};
 ghost use Rattle.smol_str.specs.Joined.{joined, joined_strs, joined_strings, joined_string_refs, string_text};
 ghost use Rattle.smol_str.specs.Collect.{Collected, Outgrown, AppendedAll, StoppedAt};
 ghost use Rattle.smol_str.specs.Steps.{step_text};
-ghost use Rattle.smol_str.specs.Case.{IsAsciiText, lower, upper, lowercased, uppercased};
-ghost use Rattle.smol_str.specs.InCase.{converted};
+ghost use Rattle.smol_str.specs.Case.{IsAsciiText, lower, upper, lowercased, uppercased, converted};
 ghost use Rattle.smol_str.specs.declared.value.place.Place.TheVariants.{Heap};
 ghost use Rattle.smol_str.specs.Replace.{replaced, replaced_all};
 

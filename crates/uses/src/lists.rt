@@ -12,7 +12,7 @@ use smol_str::borsh::{
     BorshDeserialize, BorshSerialize, DecodeFault, EncodeFault, LimitedFault, STACK_BODY,
     deserialize_limited, length_prefix, split_wire,
 };
-use std::alloc::{AllocError, Global};
+use std::alloc::{AllocError, AllocFailed, Global};
 use std::io::{self, Write};
 
 /// The form of a list.
@@ -30,6 +30,17 @@ pub fn write_list(alloc: Global, values: &[SmolStr]) -> Result<Vec<u8>, EncodeFa
         value.serialize(&mut bytes)?;
     }
     Ok(bytes)
+}
+
+/// A list with a value more. `?` turns a refused `push` into each fault that has a case for it.
+pub fn with_value<F: From<AllocFailed<SmolStr>>>(
+    mut list: Vec<SmolStr>,
+    value: SmolStr,
+) -> Result<Vec<SmolStr>, F>
+    ensures { IfOk result (λ all. texts all.items ≡ texts list.items ++ value.text ∷ []) }
+{
+    list.push(value)?;
+    Ok(list)
 }
 
 /// The list whose form the bytes begin with, and the bytes behind that form.

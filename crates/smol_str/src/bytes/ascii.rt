@@ -2,7 +2,7 @@
 ghost use Rattle.std.specs.Prelude.{◌≡◌, ◌↔◌, ◌<◌, ◌≤◌, ◌+◌, false, IsTrue, length, take, drop, slice_index};
 ghost use Rattle.std.specs.Str.{IsAscii};
 ghost use Rattle.std.specs.Simd.Lanes.{Each1, put_chunk};
-ghost use Rattle.smol_str.specs.InCase.{converted, IsAsciiFront};
+ghost use Rattle.smol_str.specs.Case.{converted, IsAsciiFront};
 
 use crate::bytes::words::load;
 use std::simd::prelude::*;

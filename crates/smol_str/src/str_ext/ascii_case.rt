@@ -3,7 +3,7 @@ ghost use Rattle.std.specs.Prelude.{IfOk, OnErr};
 ghost use Rattle.std.specs.Str.{chars};
 ghost use Rattle.smol_str.specs.Text.{IsShort};
 ghost use Rattle.smol_str.specs.Meaning.{IsValueOf};
-ghost use Rattle.smol_str.specs.InCase.{converted};
+ghost use Rattle.smol_str.specs.Case.{converted};
 
 use crate::buffer::INLINE_CAP;
 use crate::kernel::AsciiCase;

@@ -3,7 +3,7 @@
 ghost use Rattle.std.specs.Prelude.{◌≡◌, [], ◌∷◌, IfSome};
 ghost use Rattle.std.specs.Char.Unicode.ToLowercase.{to_lowercase};
 ghost use Rattle.std.specs.Char.Unicode.ToUppercase.{to_uppercase};
-ghost use Rattle.smol_str.specs.InCase.{mapped};
+ghost use Rattle.smol_str.specs.Case.{mapped};
 
 use crate::kernel::AsciiCase;
 

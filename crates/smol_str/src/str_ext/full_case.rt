@@ -5,8 +5,7 @@ ghost use Rattle.std.specs.Str.{chars};
 ghost use Rattle.smol_str.specs.Text.{IsShort};
 ghost use Rattle.smol_str.specs.Meaning.{IsValueOf};
 ghost use Rattle.smol_str.specs.Draft.{InBuffer, OnHeap, empty_draft, appended};
-ghost use Rattle.smol_str.specs.Case.{front};
-ghost use Rattle.smol_str.specs.InCase.{converted, full_case, mapped, IsMappedAlone};
+ghost use Rattle.smol_str.specs.Case.{front, converted, full_case, mapped, IsMappedAlone};
 ghost use Rattle.smol_str.specs.declared.bytes.ascii.AsciiCase.TheVariants.{Lower};
 
 use super::ascii_case::to_ascii_case_on_heap;

@@ -42,7 +42,7 @@ impl From<AllocError> for FromUtf8Fault {
     }
 }
 
-/// So that `?` may follow a refused `push`; what comes back of it is dropped.
+/// For `?` after a refused `push`; the item that comes back is dropped.
 impl<T: Drop> From<AllocFailed<T>> for FromUtf8Fault {
     ghost use Rattle.smol_str.specs.declared.value.convert.FromUtf8Fault.TheVariants.{OutOfMemory};
 

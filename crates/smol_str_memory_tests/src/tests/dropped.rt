@@ -1,6 +1,7 @@
 //! What comes back where memory is refused, or is left then, is dropped.
 use smol_str::borsh::{DecodeFault, LimitedFault};
 use smol_str::json_string::JsonFault;
+use smol_str::stream::ReadFault;
 use smol_str::{FormatError, FromUtf8Fault, SmolStr};
 use std::alloc::{AllocError, AllocFailed};
 use test_support::*;
@@ -16,6 +17,7 @@ fn what_came_back(rt: HostRuntime) -> Result<(), Fail> {
     check_pushed::<JsonFault>(&test, "JsonFault");
     check_pushed::<DecodeFault>(&test, "DecodeFault");
     check_pushed::<LimitedFault>(&test, "LimitedFault");
+    check_pushed::<ReadFault>(&test, "ReadFault");
     is_so(&test, count_blocks(test.alloc) == 0, "blocks");
     test.end()
 }
