@@ -91,7 +91,6 @@ pub static ROWS: &[Row] = &[
     row(b'b', "builder clone", 10, 1, draws::NONE, ANY, "SmolStrBuilder::clone"),
     row(b'b', "finish", 8, 1, draws::NONE, ANY, "SmolStrBuilder::finish"),
     row(b'b', "from_builder", 8, 1, draws::NONE, ANY, "SmolStr::from_builder"),
-    row(b'b', "finished", 8, 1, draws::NONE, ANY, "format::finished"),
     row(b'b', "into_value", 8, 1, draws::NONE, ANY, "SmolStrBuilder::into_value"),
     row(b'b', "builder ==", 5, 1, draws::NONE, ANY, "SmolStrBuilder::eq"),
     row(b'b', "Piece::append_to", 8, 5, draws::PIECE, ANY, "Piece::append_to"),

@@ -149,7 +149,7 @@ impl SmolStrBuilder {
     {
         let code = character as u32;
         if code < 0x80 {
-            // Of one byte, so that no other length is tested for.
+            // A one-byte `str`, so the compiler drops the tests of other lengths.
             if self.push_short(ascii_text(&[code as u8])) {
                 return Ok(());
             }

@@ -14,7 +14,7 @@
 //! So two texts are equal where their words are, and the first words that differ order them: if one
 //! text is a prefix of the other, zeros follow it and then a smaller length, so it sorts first. A text
 //! is written by words too, since loading a word just after byte stores stalls.
-ghost use Rattle.std.specs.Prelude.{◌≡◌, ◌↔◌, IsTrue, ◌+◌, ◌*◌, ◌<◌, ◌≤◌, ℕ, List, length, take, drop, nat_eq, OnSome, encode_utf8};
+ghost use Rattle.std.specs.Prelude.{◌≡◌, ◌+◌, ◌≤◌, ℕ, List, length, take, drop, nat_eq, OnSome, encode_utf8};
 ghost use Rattle.std.specs.Iterator.{IsFinite, YieldsThen};
 ghost use Rattle.std.specs.Str.{IsAscii};
 ghost use Rattle.std.specs.Ordering.{nat_cmp};

@@ -251,3 +251,19 @@ fn print_at(pages: &mut HashMap<SmolStr, SmolStrBuilder>, text: &str) -> Result<
         .or_default()
         .push_str(text)
 }
+
+#[test]
+fn builders_compared(rt: HostRuntime) -> Result<(), Fail> {
+    let test = Test::begin(rt);
+    assert_compared(&test, "ab", true);
+    assert_compared(&test, "b", false);
+    test.end()
+}
+
+/// Whether a builder of `ab` on the heap equals one of the text that is inline.
+fn assert_compared(test: &Test, text: &str, are_equal: bool) {
+    let heap = test.builder(100, "ab");
+    let inline = test.builder(0, text);
+    same_flag(test, heap == inline, are_equal, text);
+    same_flag(test, heap != inline, !are_equal, text);
+}

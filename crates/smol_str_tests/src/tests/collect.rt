@@ -280,18 +280,41 @@ fn extend_by_four(builder: &mut SmolStrBuilder) -> Result<(), AllocError> {
     builder.extend_strs(["b", "c", "de", "f"].into_iter())
 }
 
+// The texts of `calls/` are collected and extended by these calls too, and refused memory there.
 #[test]
-fn builders_compared(rt: HostRuntime) -> Result<(), Fail> {
+fn collected(rt: HostRuntime) -> Result<(), Fail> {
     let test = Test::begin(rt);
-    assert_compared(&test, "ab", true);
-    assert_compared(&test, "b", false);
+    let alloc = test.alloc;
+    let strings = [test.string("fn"), test.string(" é")];
+    let value = ok_value(&test, "fn é".chars().collect(alloc));
+    same_str(&test, &value, "fn é", "characters");
+    let value = ok_value(&test, "f,n, é".split(',').collect(alloc));
+    same_str(&test, &value, "fn é", "texts");
+    let value = ok_value(&test, strings.iter().collect(alloc));
+    same_str(&test, &value, "fn é", "strings that are lent");
+    let value = ok_value(&test, strings.into_iter().collect(alloc));
+    same_str(&test, &value, "fn é", "strings");
+    let value = ok_value(&test, long_blank().chars().collect(alloc));
+    has_text(&test, &value, long_blank(), Static, "a blank run");
     test.end()
 }
 
-/// Whether a builder of `ab` on the heap equals one of the text that is inline.
-fn assert_compared(test: &Test, text: &str, are_equal: bool) {
-    let heap = test.builder(100, "ab");
-    let inline = test.builder(0, text);
-    same_flag(test, heap == inline, are_equal, text);
-    same_flag(test, heap != inline, !are_equal, text);
+// What was there stays in front, in a buffer and on the heap.
+#[test]
+fn extended(rt: HostRuntime) -> Result<(), Fail> {
+    let test = Test::begin(rt);
+    check_extended(&test, test.builder(0, "let "));
+    check_extended(&test, test.builder(100, "let "));
+    test.end()
+}
+
+fn check_extended(test: &Test, mut builder: SmolStrBuilder) {
+    ok(test, builder.extend("x, y".split(", ")));
+    ok(test, builder.extend(['=', '1']));
+    ok(test, builder.extend([test.string(";")].iter()));
+    ok(test, builder.extend([test.string("//")]));
+    ok(test, builder.extend_chars(" a".chars()));
+    ok(test, builder.extend_strs(["b", "c"].into_iter()));
+    ok(test, builder.extend_strings([test.string("d")].iter()));
+    same_str(test, builder.as_str(), "let xy=1;// abcd", "extended");
 }
