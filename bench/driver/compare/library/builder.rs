@@ -109,7 +109,6 @@ impl Write for Pieces {
     fn write_str(&mut self, text: &str) -> fmt::Result { Ok(self.0.push(text.to_string())) }
 }
 
-
 pub fn build(_: Global, capacity: usize, steps: &[Step]) -> Made {
     let mut builder = Upstream::with_capacity(capacity);
     steps.iter().for_each(|step| builder.push_str(&step.to_string()));
