@@ -1,7 +1,7 @@
 -- What came of drawing the items of an iterator, one after another, in std's words for the runs of an iterator; `texts`
 -- says the text of a list of items.
 --     Collected m v          the iterator came to its end, and v, which means m v, is the value of the text of all items
---     Outgrown               items came whose text is not short
+--     Outgrown               items came whose text is not short: only then may collecting be refused memory
 --     AppendedAll old new    the iterator came to its end, and the text of all items was appended
 --     StoppedAt old new      of the items that came, the text of all but the last was appended; with the last the builder
 --                            would be on the heap

@@ -1,4 +1,4 @@
-//! A short text in a buffer of its own.
+//! A short text in a buffer of its own, as a value keeps it inline; `packing` has the words that it is packed into.
 ghost use Rattle.std.specs.Prelude.{◌≡◌, ◌↔◌, IsTrue, ◌+◌, ◌≤◌, ℕ, List, [], ◌∷◌, ◌++◌, length, OnSome, encode_utf8_all};
 ghost use Rattle.std.specs.Iterator.{IsFinite, YieldsThen};
 ghost use Rattle.std.specs.Str.{chars, all_scalars};
@@ -8,12 +8,12 @@ ghost use Rattle.smol_str.specs.Text.{size, IsShort};
 ghost use Rattle.smol_str.specs.Buffer.{padded};
 ghost use Rattle.smol_str.specs.Case.{IsAsciiText, converted};
 
-mod words;
+mod packing;
 
 use crate::bytes::ascii::{AsciiCase, convert_all, is_all_ascii};
+use packing::{copy_packed, order_words, pack, pack_char, same_words, write_ascii, write_at};
 use std::cmp::Ordering;
 use std::marker::Model;
-use words::{copy_packed, order_words, pack, pack_char, same_words, write_ascii, write_at};
 
 /// The most bytes of a text that lies in the value itself.
 pub const INLINE_CAP: usize = 39;

@@ -1,4 +1,4 @@
--- For the builder: its text and kind, before and after an append.
+-- For the builder: its text and kind, before and after an append; appends are associative (`appended-twice`).
 use Rattle.smol_str.proofs.Common.{◌≡◌, ℕ, ◌<◌, List, [], ◌++◌, append-nil, refl, append_assoc, arith, ◌⊎◌, nat_tests, INLINE_CAP, IsShort, Draft, Kind, InBuffer, OnHeap, kind_with, kind_for, appended, empty_draft, common_steps, rules}
 use Rattle.smol_str.proofs.TextLemmas.Places.{is_short-true, is_short-false, IsShort-front}
 

@@ -1,4 +1,5 @@
-//! Replacement: byte for byte, or by pieces pushed into one builder.
+//! Replacement: byte for byte, or by pieces pushed into one builder. Memory is asked for where the result is long: for a
+//! copy in `replace_byte`, else by the builder's appends and `into_value`.
 ghost use Rattle.std.specs.Prelude.{◌≡◌, ◌<◌, ◌≤◌, [], length, IfOk, OnErr, MatchOption};
 ghost use Rattle.std.specs.Str.{chars};
 ghost use Rattle.smol_str.specs.Text.{IsShort};

@@ -1,6 +1,6 @@
 use Rattle.smol_str.proofs.Common.{◌≡◌, ◌*◌, ◌+◌, ◌-◌, ◌∙◌, arith, rules, PACKED_LEN}
 use Rattle.smol_str.proofs.BufferLemmas.WordOrder.{order-differ, order-last, order-same}
-use Rattle.smol_str.proofs.buffer.words.order_words.Goals as goal
+use Rattle.smol_str.proofs.buffer.packing.order_words.Goals as goal
 
 pub returns-then-a-b : goal.returns-then-a-b
 returns-then-a-b c = search (rules, arith, order-differ)

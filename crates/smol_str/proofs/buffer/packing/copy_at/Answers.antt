@@ -1,5 +1,5 @@
 use Rattle.smol_str.proofs.Common.{arith, common_steps, put_chunk_is}
-use Rattle.smol_str.proofs.buffer.words.copy_at.Goals as goal
+use Rattle.smol_str.proofs.buffer.packing.copy_at.Goals as goal
 
 pub returns : goal.returns
 returns g c =

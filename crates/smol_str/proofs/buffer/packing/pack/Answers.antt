@@ -1,7 +1,7 @@
 use Rattle.smol_str.proofs.Common.{◌≡◌, ◌*◌, ◌+◌, arith, rules, PACKED_LEN}
 use Rattle.smol_str.proofs.BufferLemmas.Words.{one-word, pack-end, pack-step, all-with_zeros}
-use Rattle.smol_str.proofs.buffer.words.pack.Goals.{then-bytes-lt8, else-bytes-lt8+else-loop-i-test}
-use Rattle.smol_str.proofs.buffer.words.pack.Goals as goal
+use Rattle.smol_str.proofs.buffer.packing.pack.Goals.{then-bytes-lt8, else-bytes-lt8+else-loop-i-test}
+use Rattle.smol_str.proofs.buffer.packing.pack.Goals as goal
 
 pub loop-i-preserved : goal.loop-i-preserved
 loop-i-preserved c =

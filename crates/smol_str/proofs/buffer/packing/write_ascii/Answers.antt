@@ -1,6 +1,6 @@
 use Rattle.smol_str.proofs.Common.{◌≡◌, ℕ, List, ◌+◌, ◌<◌, ◌++◌, [], ◌∷◌, suc, length, take, drop, set, get_or, append_assoc, length-append, length-take-le, take-append-drop, drop-cons, set_at, arith, IsAscii-nil, IsAscii-push, put_at}
 use Rattle.std.proofs.iter.Next.{said}
-use Rattle.smol_str.proofs.buffer.words.write_ascii.Goals as goal
+use Rattle.smol_str.proofs.buffer.packing.write_ascii.Goals as goal
 
 -- one byte more
 put-last : (old : List ℕ) (s n : ℕ) (xs : List ℕ) (x : ℕ) → n ≡ s + length xs → n < length old

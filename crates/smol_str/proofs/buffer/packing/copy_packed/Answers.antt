@@ -1,6 +1,6 @@
 use Rattle.smol_str.proofs.Common.{◌∙◌, sym, arith, take_all, refl}
 use Rattle.smol_str.proofs.BufferLemmas.Words.{copy-step}
-use Rattle.smol_str.proofs.buffer.words.copy_packed.Goals as goal
+use Rattle.smol_str.proofs.buffer.packing.copy_packed.Goals as goal
 
 pub returns : goal.returns
 returns c =

@@ -1,7 +1,7 @@
 -- The words so far are those of the text and zeros behind it.
 use Rattle.smol_str.proofs.Common.{◌≡◌, ◌*◌, length, take, PACKED_LEN}
 use Rattle.smol_str.proofs.BufferLemmas.Words.{with_zeros}
-use Rattle.smol_str.proofs.buffer.words.pack.Given as goal
+use Rattle.smol_str.proofs.buffer.packing.pack.Given as goal
 
 abbrev pub invariant-loop-i : goal.invariant-loop-i
 invariant-loop-i l = record {

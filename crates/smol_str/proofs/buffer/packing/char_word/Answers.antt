@@ -1,7 +1,7 @@
 use Rattle.smol_str.proofs.Common.{arith}
 use Rattle.smol_str.specs.Words.{word}
 use Rattle.smol_str.proofs.TextLemmas.Utf8.{is_one, is_two, is_three, is_four}
-use Rattle.smol_str.proofs.buffer.words.char_word.Goals as goal
+use Rattle.smol_str.proofs.buffer.packing.char_word.Goals as goal
 
 pub returns-then-code-lt128 : goal.returns-then-code-lt128
 unfolding word

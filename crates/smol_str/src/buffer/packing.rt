@@ -1,4 +1,4 @@
-//! Short texts by whole words.
+//! Short texts, packed into whole words.
 //!
 //! A text of `n` bytes is packed with the zeros behind it and its length into whole words:
 //!
