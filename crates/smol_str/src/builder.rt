@@ -229,8 +229,8 @@ impl SmolStrBuilder {
             BuilderRepr::Heap(heap) => heap.push_str(text),
             BuilderRepr::Inline(short) => {
                 // Memory first: a refusal leaves the buffer as it is.
-                let mut heap = with_spare(self.alloc, short.len() + text.len(), spare)?;
-                heap.push_str(short.as_str())?;
+                let room = text.len().saturating_add(spare);
+                let mut heap = with_room(self.alloc, short.as_str(), room)?;
                 heap.push_str(text)?;
                 self.repr = BuilderRepr::Heap(heap);
                 Ok(())
@@ -341,12 +341,16 @@ impl From<SmolStrBuilder> for AllocError {
     }
 }
 
-/// An empty `String` with room for `len` bytes and `spare` more.
+/// A `String` of a short text with room for so many bytes more.
 #[inline(always)]
-fn with_spare(alloc: Global, len: usize, spare: usize) -> Result<String, AllocError>
-    ensures { IfOk result (λ heap. string_bytes heap ≡ []) }
+fn with_room(alloc: Global, text: &str, room: usize) -> Result<String, AllocError>
+    ensures { IfOk result (λ heap. string_bytes heap ≡ text.now) }
 {
-    String::with_capacity(alloc, len.saturating_add(spare))
+    let mut heap = String::with_capacity(alloc, text.len().saturating_add(room))?;
+    if !text.is_empty() {
+        heap.push_str(text)?;
+    }
+    Ok(heap)
 }
 
 /// Slow path of `into_value`, kept out of line so that the fast path inlines.

@@ -118,7 +118,10 @@ macro_rules! format_smolstr {
     ($alloc:expr; $($arg:tt)+) => {{
         let mut builder = $crate::SmolStrBuilder::new($alloc);
         match builder.write_fmt(format_args!($($arg)+)) {
-            Ok(()) => builder.into_value().or(Err($crate::FormatError)),
+            Ok(()) => match builder.into_value() {
+                Ok(value) => Ok(value),
+                Err(_) => Err($crate::FormatError),
+            },
             Err(_) => Err($crate::FormatError),
         }
     }};

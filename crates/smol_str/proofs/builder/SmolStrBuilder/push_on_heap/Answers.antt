@@ -5,5 +5,5 @@ use Rattle.smol_str.proofs.builder.SmolStrBuilder.push_on_heap.Goals as goal
 pub returns-in-Heap-clause-ok : goal.returns-in-Heap-clause-ok
 returns-in-Heap-clause-ok c = search (rules, arith, OnOk-if, chars-append, IsUtf8-string_bytes) fits 60
 
-pub returns-in_ok-push_str-in-Inline-2-clause-ok : goal.returns-in_ok-push_str-in-Inline-2-clause-ok
-returns-in_ok-push_str-in-Inline-2-clause-ok c = search (rules, arith, chars-append, chars-of) fits 60
+pub returns-in_ok-push_str-in-Inline-clause-ok : goal.returns-in_ok-push_str-in-Inline-clause-ok
+returns-in_ok-push_str-in-Inline-clause-ok c = search (rules, arith, chars-append, chars-of) fits 60
