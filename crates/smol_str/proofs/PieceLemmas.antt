@@ -28,7 +28,7 @@ lacks_char c (d ∷ t) (other, none) (x ∷ a, r, e) = lacks_char c t none (a, r
 
 module _ (w : List ℕ) (u : IsUtf8 w) where
   -- a pattern that stands between bytes, as characters
-  found_parts : (p : List ℕ) (i j : ℕ) → 0 < length p → drop i w ≡ encode_utf8_all p ++ drop j w
+  pub found_parts : (p : List ℕ) (i j : ℕ) → 0 < length p → drop i w ≡ encode_utf8_all p ++ drop j w
       → (0 < j) × IsUtf8 (take i w) × IsUtf8 (drop j w) × (chars w ≡ chars (take i w) ++ (p ++ chars (drop j w)))
   found_parts p i j some e =
       let h = StandsBetween-bytes (chars w) p (take i w) (drop j w) some (cc (encodes-chars w u, take-append-drop i w, e)) in

@@ -2,7 +2,6 @@
 ghost use Rattle.std.specs.Prelude.{◌≡◌, ◌↔◌, ℕ, List, String, IfOk, OnOk, OnErr, IsTrue, codes, reverse, encode_utf8_all};
 ghost use Rattle.std.specs.Iterator.{Drains, IsFinite};
 ghost use Rattle.std.specs.List.{join_by};
-ghost use Rattle.std.specs.Rc.{rc_str_bytes};
 ghost use Rattle.std.specs.Str.{chars};
 ghost use Rattle.std.specs.String.{string_bytes};
 ghost use Rattle.serde.specs.Event.{Logs, text};
@@ -18,7 +17,6 @@ use smol_str::{SmolStr, SmolStrBuilder};
 use std::alloc::{AllocError, Global};
 use std::collections::HashMap;
 use std::convert::AsStr;
-use std::rc::RcStr;
 
 /// Whether a token is `if`.
 pub fn is_if(token: &SmolStr) -> bool
@@ -114,13 +112,6 @@ pub fn push_characters<U: IntoIterator<Item = char>>(
         × StoppedAt (λ items. items) U.IntoIter.next_gives it builder.old builder.new) }
 {
     builder.extend(characters)
-}
-
-/// A text that is shared already, which takes no memory.
-pub fn of_shared(shared: RcStr) -> SmolStr
-    ensures { IsValueOf (chars (rc_str_bytes shared)) result }
-{
-    SmolStr::from(shared)
 }
 
 /// What was printed so far at each name: a builder for a new one.

@@ -1,5 +1,5 @@
 //! Values sorted, two lists as one in order, and values looked up in lists and maps.
-ghost use Rattle.std.specs.Prelude.{◌≡◌, ◌++◌, OnOk, OnErr, IfOk, option_copied};
+ghost use Rattle.std.specs.Prelude.{◌≡◌, ◌++◌, OnOk, OnErr, IfOk, Some, false, option_copied, slice_get};
 ghost use Rattle.std.specs.Ordering.{nat_cmp};
 ghost use Rattle.std.specs.Cmp.Lexicographic.{slice_cmp};
 ghost use Rattle.std.specs.List.Sorted.{IsPermutation, IsSorted, IsStrictlySortedBy};
@@ -41,6 +41,16 @@ pub fn sorted_once(mut names: Vec<SmolStr>) -> Result<Vec<SmolStr>, AllocError>
     sort_names(&mut names)?;
     names.dedup();
     Ok(names)
+}
+
+/// Where a name stands in names in the order of their texts.
+#[tactic(auto, using(smol_str::proofs::CallerLemmas::sorting))]
+pub fn index_of(names: &[SmolStr], name: &SmolStr) -> Result<usize, usize>
+    requires sorted { IsSorted (slice_cmp nat_cmp) (texts names.now) }
+    ensures found { IfOk result (λ i. slice_get (texts names.now) i ≡ Some name.now.text) }
+    ensures none { OnErr result (has_text name.now.text names.now ≡ false) }
+{
+    names.binary_search(name)
 }
 
 /// What an ordered map has at a value's text.

@@ -1,15 +1,16 @@
 -- Texts that std cuts: `split` in a loop, `split_once`, `strip_prefix` and `strip_suffix`, at the level of texts.
-use Rattle.smol_str.proofs.Common.{arith, IsUtf8-from_ascii, IsAscii-cons, IsAscii-nil, items_from_drains, YieldsList, rules, ◌≡◌, ℕ, ◌-◌, ◌<◌, Bool, true, false, List, [], ◌∷◌, ◌++◌, length, drop, map, str_text, Bor, Option, Some, None, MatchOption, refl, sym, ap, ◌∙◌, subst, IsUtf8, chars, chars-append, encode_utf8_all, encodes-append, encodes-chars, Occurs, IsFirstAfter, joined_by, cut, no_limit, Meaning}
+use Rattle.smol_str.proofs.Common.{arith, IsUtf8-from_ascii, IsAscii-cons, IsAscii-nil, items_from_drains, YieldsList, rules, ◌≡◌, ℕ, ◌-◌, ◌<◌, Bool, true, false, List, [], ◌∷◌, ◌++◌, length, drop, map, str_text, Bor, Option, Some, None, MatchOption, refl, sym, ap, ◌∙◌, subst, IsTrue, all_scalars, IsUtf8, chars, chars-nil, chars-append, encode_utf8, encode_utf8_all, append-nil, encodes-append, encodes-chars, Occurs, IsFirstAfter, joined_by, cut, no_limit, Meaning}
 use Rattle.std.proofs.Common.{◌≢◌, IfNone, IfSome, MatchBool}
 use Rattle.std.specs.Str.Iter.{split_steps, split_text, split_has_more, split_pattern}
-use Rattle.std.specs.Str.Pattern.{FindsChar, FindsText, FindsTextPrefix, FindsTextSuffix, HasPrefixMatch, SplitsAroundMatch, StripsPrefix, StripsSuffix}
+use Rattle.std.specs.Str.Pattern.{FindsChar, FindsCharPrefix, FindsText, FindsTextPrefix, FindsTextSuffix, HasCharAt, HasPrefixMatch, SplitsAroundMatch, StripsPrefix, StripsSuffix}
 use Rattle.std.specs.declared.str.Split.{Split}
 use Rattle.std.proofs.lemmas.Str.{IsUtf8-take}
 use Rattle.std.proofs.lemmas.List.{map-set, set_past}
 use Rattle.smol_str.specs.Meaning.{texts, AreValuesOf}
+use Rattle.smol_str.proofs.CallerLemmas.Texts.{chars-as_str}
 use Rattle.smol_str.proofs.CallerLemmas.Wire.{items}
 use Rattle.smol_str.proofs.CutLemmas.Replace.{replaced-itself}
-use Rattle.smol_str.proofs.PieceLemmas.{Finds, found_char, found_text, gives-split, gives-split_at}
+use Rattle.smol_str.proofs.PieceLemmas.{Finds, found_parts, found_char, found_text, gives-split, gives-split_at}
 use Rattle.std.specs.Iterator.{Yields}
 
 -- ---- a loop over `split` that makes a value of each piece, where `AreValuesOf (map str_text l.yielded) l.values.items`
@@ -148,6 +149,57 @@ pub starts_with-text : (b : Bool) (bs nd : List ℕ) → IsUtf8 bs → IsUtf8 nd
 starts_with-text true bs nd u v (n, (long, parts, boundary), at) = (chars (drop n bs), ap chars parts ∙ chars-append nd (drop n bs) v)
 starts_with-text false bs nd u v none = strip_prefix-text bs nd u v None none
 
+-- at a character
+module _ (bs : List ℕ) (c : ℕ) (u : IsUtf8 bs) where
+  char_lacks : FindsCharPrefix c bs None → (rest : List ℕ) → chars bs ≢ c ∷ rest
+  char_lacks none rest e = none (encode_utf8_all rest) (sym (encodes-chars bs u) ∙ ap encode_utf8_all e)
+
+  char_rest : (n : ℕ) → HasCharAt c bs 0 n → chars bs ≡ c ∷ chars (drop n bs)
+  char_rest n at =
+      (found_parts bs u (c ∷ []) 0 n (omega arith) (cc (at.split, append-nil (encode_utf8 c)))).3
+      ∙ ap (λ q. q ++ (c ∷ chars (drop n bs))) chars-nil
+
+  strip_prefix-char : (r : Option (Bor (List ℕ))) → MatchOption r (FindsCharPrefix c bs None) (λ x. StripsPrefix (FindsCharPrefix c) bs x.now)
+      → MatchOption r ((rest : List ℕ) → chars bs ≢ c ∷ rest) (λ x. chars bs ≡ c ∷ chars x.now)
+  strip_prefix-char None none = char_lacks none
+  strip_prefix-char (Some x) (n, at, is, fits) = rw is (char_rest n at)
+
+  pub char_prefix-rest : (r : Option (Bor (List ℕ))) → MatchOption r (FindsCharPrefix c bs None) (λ x. StripsPrefix (FindsCharPrefix c) bs x.now)
+      → IfSome r (λ x. chars bs ≡ c ∷ chars x.now)
+  char_prefix-rest r said = some_of _ r _ (strip_prefix-char r said)
+
+  pub char_prefix-none : (r : Option (Bor (List ℕ))) → MatchOption r (FindsCharPrefix c bs None) (λ x. StripsPrefix (FindsCharPrefix c) bs x.now)
+      → IfNone r ((rest : List ℕ) → chars bs ≢ c ∷ rest)
+  char_prefix-none r said = none_of _ r _ (strip_prefix-char r said)
+
+  pub starts_with-char : (b : Bool) → MatchBool b (HasPrefixMatch (FindsCharPrefix c) bs) (FindsCharPrefix c bs None)
+      → MatchBool b ((rest : List ℕ) × (chars bs ≡ c ∷ rest)) ((rest : List ℕ) → chars bs ≢ c ∷ rest)
+  starts_with-char true (n, at, cut) = (chars (drop n bs), char_rest n at)
+  starts_with-char false none = char_lacks none
+
+-- in the arms of a `match` on a value's text t
+module _ (t bs nd : List ℕ) (lent : bs ≡ encode_utf8_all t) (scalars : IsTrue (all_scalars t)) (v : IsUtf8 nd) where
+  lent_utf8 : IsUtf8 bs
+  lent_utf8 = (t, (scalars, sym lent))
+
+  pub prefix_known : (x w : List ℕ) → w ≡ chars x → StripsPrefix (FindsTextPrefix nd) bs x
+      → t ≡ chars nd ++ w
+  prefix_known x w read said =
+      sym (chars-as_str t bs scalars lent) ∙ strip_prefix-text bs nd lent_utf8 v (Some (record { ref_ptr = (0, 0); now = x })) said ∙ ap (λ q. chars nd ++ q) (sym read)
+
+  pub prefix_missing : (r : Option (Bor (List ℕ))) → r ≡ None → MatchOption r (FindsTextPrefix nd bs None) (λ x. StripsPrefix (FindsTextPrefix nd) bs x.now)
+      → (rest : List ℕ) → t ≢ chars nd ++ rest
+  prefix_missing r is said rest e = strip_prefix-text bs nd lent_utf8 v None (rw is at said) rest (chars-as_str t bs scalars lent ∙ e)
+
+  pub suffix_known : (x w : List ℕ) → w ≡ chars x → StripsSuffix (FindsTextSuffix nd) bs x
+      → t ≡ w ++ chars nd
+  suffix_known x w read said =
+      sym (chars-as_str t bs scalars lent) ∙ strip_suffix-text bs nd lent_utf8 v (Some (record { ref_ptr = (0, 0); now = x })) said ∙ ap (λ q. q ++ chars nd) (sym read)
+
+  pub suffix_missing : (r : Option (Bor (List ℕ))) → r ≡ None → MatchOption r (FindsTextSuffix nd bs None) (λ x. StripsSuffix (FindsTextSuffix nd) bs x.now)
+      → (front : List ℕ) → t ≢ front ++ chars nd
+  suffix_missing r is said front e = strip_suffix-text bs nd lent_utf8 v None (rw is at said) front (chars-as_str t bs scalars lent ∙ e)
+
 pub ruleset cutting = (
   arith,
   items,
@@ -166,4 +218,9 @@ pub ruleset cutting = (
   suffix-front,
   suffix-none,
   starts_with-text,
+  char_prefix-rest,
+  char_prefix-none,
+  starts_with-char,
+  prefix_missing,
+  suffix_missing,
 )

@@ -1,17 +1,22 @@
 -- Lists of values, and what they are as texts.
-use Rattle.smol_str.proofs.Common.{true, flat_map, joined_by, refl, sym, map, ◌≡◌, ℕ, ◌+◌, ◌<◌, List, [], ◌∷◌, ◌++◌, length, Bool, not, cond, Some, None, ap, ◌∙◌, arith, nat_tests, length-append, length-map, map-append, nat_cmp, slice_cmp, slice_get, option_map, Meaning, Result, OnOk, on_ok_weaker, rules}
+use Rattle.smol_str.proofs.Common.{true, false, ⊎_elim, cases_lt, get_or, Ok, Err, IfOk, OnErr, flat_map, joined_by, refl, sym, map, ◌≡◌, ℕ, ◌+◌, ◌<◌, List, [], ◌∷◌, ◌++◌, length, Bool, not, cond, Some, None, ap, ◌∙◌, arith, nat_tests, length-append, length-map, map-append, nat_cmp, slice_cmp, slice_get, option_map, Meaning, Result, OnOk, on_ok_weaker, rules}
 use Rattle.std.proofs.Common.{is_some, nat_lt}
-use Rattle.std.specs.List.{position, prefix_len, dedup, dedup_from}
+use Rattle.std.specs.List.{position, prefix_len, dedup, dedup_from, HoldsAt}
 use Rattle.std.specs.List.Retain.{IsFiltered, DiffersFromLast}
-use Rattle.std.specs.List.Sorted.{IsSorted, IsSortedByKey, IsStrictlySortedBy}
+use Rattle.std.specs.List.Sorted.{IsSorted, IsSortedByKey, IsStrictlySortedBy, IsBinarySearchResult, IsNonDecreasingBy, IsSearchInRange}
+use Rattle.std.specs.Ordering.{is_eq, ordering_index}
+use Rattle.std.specs.declared.cmp.Ordering.TheVariants.{Equal}
 use Rattle.std.specs.Cmp.Lexicographic.{nat_list_cmp_total, texts_ties}
 use Rattle.std.specs.Str.{bytes_eq}
 use Rattle.std.proofs.lemmas.List.Filters.{dedup_is}
 use Rattle.std.proofs.lemmas.List.Kept.{IsStrictlySortedBy-dedup}
 use Rattle.std.proofs.lemmas.List.{get_or-map}
-use Rattle.std.proofs.lemmas.List.Folds.{prefix_len-append, flat_map-map}
+use Rattle.std.proofs.lemmas.List.Folds.{prefix_len-append, flat_map-map, list_any_none}
+use Rattle.std.proofs.lemmas.List.Sorted.{searchable_from_sorted}
+use Rattle.std.proofs.lemmas.Slice.Eq.{bytes_eq-Decides}
 use Rattle.std.proofs.lemmas.List.Sums.{prefix_len-le-length}
-use Rattle.std.proofs.lemmas.Option.{slice_get-map}
+use Rattle.std.proofs.lemmas.Option.{slice_get-map, slice_get-get_or}
+use Rattle.smol_str.specs.Keys.{has_text}
 use Rattle.smol_str.specs.Meaning.{texts}
 use Rattle.smol_str.proofs.CallerLemmas.Maps.{key_of}
 
@@ -41,7 +46,36 @@ pub sorted-texts : {T E : Type 0} (r : Result T E) (names : List Meaning)
     → OnOk r (IsSortedByKey (λ (v : Meaning). v.text) (slice_cmp nat_cmp) names) → OnOk r (IsSorted (slice_cmp nat_cmp) (texts names))
 sorted-texts r names up = on_ok_weaker r (IsSorted-texts names) up
 
-pub ruleset sorting = (sorted-texts, IsSorted-texts)
+-- `binary_search` in sorted values
+module _ (r : Result ℕ ℕ) (vs : List Meaning) (t : List ℕ) where
+  pub value_found : IfOk r (HoldsAt (λ y. slice_cmp nat_cmp y.text t ≡ Equal) vs) → IsSearchInRange r (length vs)
+      → IfOk r (λ i. slice_get (texts vs) i ≡ Some t)
+  value_found at range = by r at range where
+    by : (r : Result ℕ ℕ) → IfOk r (HoldsAt (λ y. slice_cmp nat_cmp y.text t ≡ Equal) vs) → IsSearchInRange r (length vs)
+        → IfOk r (λ i. slice_get (texts vs) i ≡ Some t)
+    by (Ok i) at range =
+        let v = get_or vs i (key_of t) in
+        let same : v.text ≡ t = (bytes_eq-Decides v.text t).0 (texts_ties v.text t ∙ ap is_eq (at (key_of t))) in
+        text_at vs i v (slice_get-get_or vs i (key_of t) range) ∙ ap Some same
+    by (Err i) at range = tt
+
+  pub value_missing : IsSorted (slice_cmp nat_cmp) (texts vs) → IsBinarySearchResult (λ y. slice_cmp nat_cmp y.text t) vs r
+      → OnErr r (has_text t vs ≡ false)
+  value_missing up said = by r said where
+    rises : IsNonDecreasingBy (λ (y : Meaning). ordering_index (slice_cmp nat_cmp y.text t)) vs
+    rises i j d le lt =
+        rw (← get_or-map (λ (v : Meaning). v.text) vs i d d.text (omega arith), ← get_or-map (λ (v : Meaning). v.text) vs j d d.text lt)
+        (searchable_from_sorted nat_list_cmp_total (λ q. q) (texts vs) t up i j d.text le (omega (arith, length-map vs (λ (v : Meaning). v.text))))
+
+    by : (r : Result ℕ ℕ) → IsBinarySearchResult (λ y. slice_cmp nat_cmp y.text t) vs r → OnErr r (has_text t vs ≡ false)
+    by (Ok i) said = tt
+    by (Err i) said =
+        let parted = said rises in
+        list_any_none (λ v. bytes_eq v.text t) vs (λ k d lt. ⊎_elim
+        (λ below. texts_ties (get_or vs k d).text t ∙ ap is_eq (parted.0 k d (omega arith) below))
+        (λ from. texts_ties (get_or vs k d).text t ∙ ap is_eq (parted.1 k d from lt)) (cases_lt k i))
+
+pub ruleset sorting = (sorted-texts, IsSorted-texts, value_found, value_missing)
 
 -- and then each text once, by `dedup`
 module _ (E : List ℕ → List ℕ → Bool) where

@@ -1,7 +1,7 @@
 -- Maps with values as keys, at texts.
-use Rattle.smol_str.proofs.Common.{◌≡◌, ◌+◌, ◌++◌, ◌∙◌, ℕ, Bor, Option, None, Some, List, [], ◌∷◌, length, take, get_or, Bool, false, cond, false≢true, refl, sym, ap, arith, common_steps, IsUtf8, bytes_eq, chars, encodes-chars, encodes_same, false_from_ne_true, option_map, if◌then◌else◌, Meaning, rules}
+use Rattle.smol_str.proofs.Common.{◌≡◌, ◌+◌, ◌≤◌, ◌++◌, ◌∙◌, ℕ, Bor, Option, None, Some, List, [], ◌∷◌, length, length-map, map, take, get_or, Bool, false, cond, false≢true, refl, sym, ap, arith, common_steps, IsUtf8, bytes_eq, chars, encodes-chars, encodes_same, false_from_ne_true, option_map, if◌then◌else◌, Meaning, rules}
 use Rattle.std.proofs.Common.{set}
-use Rattle.std.proofs.lemmas.List.{take_more_set}
+use Rattle.std.proofs.lemmas.List.{take_more_set, take-map, take-set-le}
 use Rattle.std.specs.HashMap.{HashMap}
 use Rattle.std.specs.Map.{lookup, KeepsOthers}
 use Rattle.std.specs.Option.{option_copied, option_or}
@@ -108,4 +108,9 @@ module _ {V S : Type 0} (t : List ℕ) where
       innermost-set ms i n e ∙ ap (λ o. option_or o (innermost t (take i ms))) same
       ∙ sym (ap (innermost t) (same-last ms i m e is) ∙ innermost-push (take i ms) m)
 
-pub ruleset scopes = (innermost-push, innermost-set, innermost-kept)
+-- seen as lists, the others stay
+pub take-changed : {M N : Type 0} (f : M → N) (ms : List M) (n i : ℕ) (m : M) → n ≤ i
+    → take n (map f (set ms i m)) ≡ take n (map f ms)
+take-changed f ms n i m low = take-map f n (set ms i m) ∙ ap (map f) (take-set-le n ms i m low) ∙ sym (take-map f n ms)
+
+pub ruleset scopes = (innermost-push, innermost-set, innermost-kept, take-changed, length-map)
