@@ -1,6 +1,7 @@
 -- Texts that std cuts: `split` in a loop, `split_once`, `strip_prefix` and `strip_suffix`, at the level of texts.
-use Rattle.smol_str.proofs.Common.{arith, IsUtf8-from_ascii, IsAscii-cons, IsAscii-nil, items_from_drains, YieldsList, rules, ◌≡◌, ℕ, ◌-◌, ◌<◌, Bool, true, false, List, [], ◌∷◌, ◌++◌, length, drop, map, str_text, Bor, Option, Some, None, MatchOption, refl, sym, ap, ◌∙◌, subst, IsTrue, all_scalars, IsUtf8, chars, chars-nil, chars-append, encode_utf8, encode_utf8_all, append-nil, encodes-append, encodes-chars, Occurs, IsFirstAfter, joined_by, cut, no_limit, Meaning}
+use Rattle.smol_str.proofs.Common.{arith, flat_map, IsUtf8-from_ascii, IsAscii-cons, IsAscii-nil, items_from_drains, YieldsList, rules, ◌≡◌, ℕ, ◌-◌, ◌<◌, Bool, true, false, List, [], ◌∷◌, ◌++◌, length, drop, map, str_text, Bor, Option, Some, None, MatchOption, refl, sym, ap, ◌∙◌, subst, IsTrue, all_scalars, IsUtf8, chars, chars-nil, chars-append, encode_utf8, encode_utf8_all, append-nil, encodes-append, encodes-chars, Occurs, IsFirstAfter, joined_by, cut, no_limit, Meaning}
 use Rattle.std.proofs.Common.{◌≢◌, IfNone, IfSome, MatchBool}
+use Rattle.std.specs.List.{join_by}
 use Rattle.std.specs.Str.Iter.{split_steps, split_text, split_has_more, split_pattern}
 use Rattle.std.specs.Str.Pattern.{FindsChar, FindsCharPrefix, FindsText, FindsTextPrefix, FindsTextSuffix, HasCharAt, HasPrefixMatch, SplitsAroundMatch, StripsPrefix, StripsSuffix}
 use Rattle.std.specs.declared.str.Split.{Split}
@@ -53,6 +54,21 @@ module _ (bs : List ℕ) (vs : List Meaning) (u : IsUtf8 bs) (xs : List (Bor (Li
 pub joined-values : (p : List ℕ) (values : List Meaning) (t : List ℕ) (n : ℕ) → AreValuesOf (cut t p n) values
     → joined_by p (texts values) ≡ t
 joined-values p values t n these = ap (joined_by p) these.text ∙ replaced-itself t p n
+
+-- values joined by std's `join`, whose contract speaks of bytes: those of the joined text
+module _ (p : List ℕ) (u : IsUtf8 p) where
+  bytes-behind : (vs : List Meaning) → flat_map (λ (v : Meaning). p ++ encode_utf8_all v.text) vs
+      ≡ encode_utf8_all (flat_map (λ (t : List ℕ). chars p ++ t) (texts vs))
+  bytes-behind [] = refl
+  bytes-behind (v ∷ vs) =
+      let more = flat_map (λ (t : List ℕ). chars p ++ t) (texts vs) in
+      cc (bytes-behind vs, encodes-append (chars p ++ v.text) more, encodes-append (chars p) v.text, encodes-chars p u)
+
+  pub joined-bytes : (vs : List Meaning) → join_by (λ (v : Meaning). encode_utf8_all v.text) p vs
+      ≡ encode_utf8_all (joined_by (chars p) (texts vs))
+  joined-bytes [] = refl
+  joined-bytes (v ∷ vs) =
+      cc (bytes-behind vs, encodes-append v.text (flat_map (λ (t : List ℕ). chars p ++ t) (texts vs)))
 
 -- ---- a text cut once
 
