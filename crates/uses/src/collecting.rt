@@ -1,5 +1,4 @@
-//! Texts collected from iterators whose items the caller knows, through std's adapters too, and by a builder that draws
-//! them.
+//! Texts collected from iterators whose items the caller knows, through adapters of std too.
 ghost use Rattle.std.specs.Prelude.{◌≡◌, ◌<◌, ◌≤◌, ◌==◌, ◌++◌, ◌∷◌, [], ℕ, String, codes, drop, length, not, reverse, take, IfOk, IsOk, OnOk, OnErr};
 ghost use Rattle.std.specs.List.{filter, prefix_len, slice_split};
 ghost use Rattle.std.specs.Str.{chars};

@@ -1,5 +1,4 @@
-//! Lists of values on the wire: how many they are, and then their wire forms, as borsh has a `Vec` of strings. Messages
-//! behind one another: what is left of them after each outcome, so that a caller knows where the next begins.
+//! Lists of values on the wire, as borsh has a `Vec` of strings; messages behind one another, and what is left of them.
 ghost use Rattle.std.specs.Prelude.{◌≡◌, ◌+◌, ◌<◌, ◌≤◌, ◌∷◌, [], ◌++◌, drop, length, IfOk, IfErr, IfSome, OnOk, OnErr, MatchOption};
 ghost use Rattle.std.specs.Str.{IsUtf8};
 ghost use Rattle.std.specs.Int.{w32, to_le_bytes};
@@ -32,15 +31,11 @@ pub fn write_list(alloc: Global, values: &[SmolStr]) -> Result<Vec<u8>, EncodeFa
     Ok(bytes)
 }
 
-/// A list with a value more. `?` turns a refused `push` into each fault that has a case for it.
-pub fn with_value<F: From<AllocFailed<SmolStr>>>(
-    mut list: Vec<SmolStr>,
-    value: SmolStr,
-) -> Result<Vec<SmolStr>, F>
-    ensures { IfOk result (λ all. texts all.items ≡ texts list.items ++ value.text ∷ []) }
+/// Adds a value. `?` turns a refused `push` into each fault that has a case for it.
+pub fn add<F: From<AllocFailed<SmolStr>>>(list: &mut Vec<SmolStr>, name: SmolStr) -> Result<(), F>
+    ensures { OnOk result (texts list.new.items ≡ texts list.old.items ++ name.text ∷ []) }
 {
-    list.push(value)?;
-    Ok(list)
+    Ok(list.push(name)?)
 }
 
 /// The list whose form the bytes begin with, and the bytes behind that form.
