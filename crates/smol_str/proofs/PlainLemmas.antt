@@ -1,13 +1,16 @@
 -- Plain bytes: how many come first, by lanes, and what JSON writes for them.
-use Rattle.smol_str.proofs.Common.{◌↔◌, IsTrue, nat_eq, ◌≡◌, ◌∙◌, ap, sym, get_or-drop, length-drop, drop_at, ℕ, zero, suc, ◌+◌, ◌-◌, ◌%◌, ◌^◌, ◌<◌, ◌≤◌, List, [], ◌∷◌, ◌++◌, Bool, true, false, cond, ltb, length, map, replicate, take, drop, refl, arith, subst, rules, get_or, get_or-take, common_steps, nat_tests, mask_l-mod, length-map, zip2, mask_l, top, ne_eqb, min, list_all, IsUtf8, IsCharBoundary}
+use Rattle.smol_str.proofs.Common.{take-append-drop, nat_eq, ◌≡◌, ap, get_or-drop, length-drop, drop_at, ℕ, zero, suc, ◌+◌, ◌-◌, ◌%◌, ◌^◌, ◌<◌, ◌≤◌, List, [], ◌∷◌, ◌++◌, Bool, true, false, cond, ltb, length, map, replicate, take, drop, refl, arith, subst, rules, get_or, get_or-take, common_steps, nat_tests, mask_l-mod, length-map, zip2, mask_l, top, ne_eqb, min, list_all, IsUtf8, IsCharBoundary}
 use Rattle.std.proofs.Common.{eqb, ◌||◌, bit_or, true≢false}
 use Rattle.std.specs.List.{prefix_len}
 use Rattle.std.proofs.lemmas.List.Sums.{prefix_len_passes, prefix_len_stops, prefix_len-le-length, list_all-from_AllPass}
 use Rattle.std.proofs.lemmas.List.Folds.{length-prefix_len, prefix_len-append}
-use Rattle.std.proofs.lemmas.Str.{IsCharBoundary-after_ascii}
+use Rattle.std.proofs.lemmas.Str.{lead_after_ascii}
+use Rattle.std.proofs.lemmas.Option.{slice_get_within, get_or_from_slice_get}
 use Rattle.std.proofs.lemmas.Simd.{first_set_mask_l}
 use Rattle.std.specs.Int.Count.{count_trailing_zeros}
 use Rattle.smol_str.specs.Plain.{is_plain, is_space}
+use Rattle.json.specs.Print.{escape}
+use Rattle.json.proofs.Printed.Strings.{escape_byte_plain}
 
 -- ---- a run is the longest front that passes a test
 
@@ -23,28 +26,15 @@ module _ (p : ℕ → Bool) where
   pub run-passes : (xs : List ℕ) → list_all p (take (prefix_len p xs) xs) ≡ true
   run-passes xs = list_all-from_AllPass p _ (λ k d low. search (rules, get_or-take, prefix_len_passes, length-prefix_len))
 
-  pub run-all : (xs : List ℕ) → (prefix_len p xs ≡ length xs) ↔ (list_all p xs ≡ true)
-  run-all [] = (λ _. refl, λ _. refl)
-  run-all (x ∷ xs) = (λ h. grind (arith, common_steps, run-all xs), λ h. grind (arith, common_steps, run-all xs))
-
-  pub whole-run : (xs : List ℕ) (n : ℕ) → n ≡ prefix_len p xs → IsTrue (nat_eq n (length xs)) ↔ IsTrue (list_all p xs)
-  whole-run xs n is = (λ t. (run-all xs).0 (grind (arith, nat_tests)), λ t. grind (arith, nat_tests, (run-all xs).1 t))
+  pub whole-run : (xs : List ℕ) → nat_eq (prefix_len p xs) (length xs) ≡ list_all p xs
+  whole-run [] = refl
+  whole-run (x ∷ xs) = grind (arith, common_steps, nat_tests, whole-run xs)
 
   pub cut-run : (xs ys : List ℕ) (y : ℕ) → list_all p xs ≡ true → p y ≡ false → drop (prefix_len p (xs ++ y ∷ ys)) (xs ++ y ∷ ys) ≡ y ∷ ys
-  cut-run xs ys y h stop = drop_at xs (y ∷ ys) _ (grind (arith, common_steps, prefix_len-append p xs (y ∷ ys), (run-all xs).1 h))
+  cut-run xs ys y h stop = drop_at xs (y ∷ ys) _ (rw (prefix_len-append p xs (y ∷ ys), whole-run xs, h, stop) (omega arith))
 
-  pub run-stop : (xs ys : List ℕ) (y : ℕ) → drop (prefix_len p xs) xs ≡ y ∷ ys → p y ≡ false
-  run-stop xs ys y is =
-      let n = prefix_len p xs in
-      let first : get_or xs n 0 ≡ y = ap (λ k. get_or xs k 0) (omega arith) ∙ sym (get_or-drop n xs 0 0) ∙ ap (λ l. get_or l 0 0) is in
-      subst (λ z. p z ≡ false) first (prefix_len_stops p xs 0 (omega (arith, length-drop n xs, ap length is)))
-
-  -- one more of the run, and its end
-  pub run-more : (xs : List ℕ) (k : ℕ) → k ≤ prefix_len p xs → k < length xs → p (get_or xs k 0) ≡ true → k + 1 ≤ prefix_len p xs
-  run-more xs k h low pass = grind (arith, prefix_len_stops p xs 0)
-
-  pub run-end : (xs : List ℕ) (k : ℕ) → k ≤ prefix_len p xs → (k < length xs → p (get_or xs k 0) ≡ false) → prefix_len p xs ≡ k
-  run-end xs k h stop = grind (arith, prefix_len_passes p xs k 0, prefix_len-le-length p xs)
+  pub run-stop : (xs : List ℕ) → 0 < length (drop (prefix_len p xs) xs) → p (get_or (drop (prefix_len p xs) xs) 0 0) ≡ false
+  run-stop xs some = grind (arith, common_steps, prefix_len_stops p xs 0, get_or-drop (prefix_len p xs) xs 0 0)
 
 -- zeros are not plain
 pub run-padded : (xs : List ℕ) (n : ℕ) → prefix_len is_plain (xs ++ replicate n 0) ≡ prefix_len is_plain xs
@@ -52,7 +42,15 @@ run-padded [] zero = refl
 run-padded [] (suc n) = refl
 run-padded (x ∷ xs) n = grind (arith, common_steps, run-padded xs n)
 
-pub ruleset runs = (run-part, whole-run, run-more, run-end, prefix_len-le-length)
+-- plain bytes are written as they stand
+pub escape-plain : (s : List ℕ) → list_all is_plain s ≡ true → escape s ≡ s
+escape-plain [] h = refl
+escape-plain (x ∷ s) h = grind (arith, nat_tests, common_steps, escape_byte_plain x, escape-plain s)
+
+pub escape-front : (xs : List ℕ) → escape (take (prefix_len is_plain xs) xs) ≡ take (prefix_len is_plain xs) xs
+escape-front xs = escape-plain _ (run-passes is_plain xs)
+
+pub ruleset runs = (run-part, whole-run, run-padded, prefix_len-le-length)
 
 -- ---- by lanes
 
@@ -91,14 +89,15 @@ module _ (v : List ℕ) (n : ℕ) (long : length v ≡ n) (few : n ≤ 64) where
 -- ---- where a text may be cut
 
 -- white space and what is not plain are ASCII
-pub boundary-spaces : (bs : List ℕ) (k : ℕ) → 0 < k → IsUtf8 bs → k ≤ prefix_len is_space bs → IsCharBoundary bs k
-boundary-spaces bs k some u h =
-    let last = prefix_len_passes is_space bs (k - 1) 0 (omega arith) in
-    subst (IsCharBoundary bs) (omega arith)
-    (IsCharBoundary-after_ascii bs (k - 1) u (omega (arith, prefix_len-le-length is_space bs)) (grind (arith, nat_tests, last)))
+pub lead-spaces : (bs : List ℕ) (k : ℕ) → 0 < k → IsUtf8 bs → k ≡ prefix_len is_space bs → k < length bs → 128 ≤ get_or bs k 0 → 192 ≤ get_or bs k 0
+lead-spaces bs k some u is h = grind (arith, nat_tests, common_steps, prefix_len_passes is_space bs (k - 1) 0, lead_after_ascii bs (k - 1))
 
-pub boundary-plain : (bs : List ℕ) (k : ℕ) → k ≡ prefix_len is_plain bs → IsCharBoundary bs k
-boundary-plain bs k is = (
-  omega (arith, prefix_len-le-length is_plain bs),
-  λ low high. absurd (true≢false (grind (arith, nat_tests, common_steps, prefix_len_stops is_plain bs 0))),
-)
+pub lead-second : (bs : List ℕ) (k : ℕ) → k ≡ 1 → IsUtf8 bs → get_or bs 0 0 < 128 → k < length bs → 128 ≤ get_or bs k 0 → 192 ≤ get_or bs k 0
+lead-second bs k is u low h = grind (arith, common_steps, lead_after_ascii bs 0)
+
+pub low-stop : (bs : List ℕ) (k : ℕ) → k ≡ prefix_len is_plain bs → k < length bs → get_or bs k 0 < 128
+low-stop bs k is h = grind (arith, nat_tests, common_steps, prefix_len_stops is_plain bs 0)
+
+pub ruleset seconds = (lead-second, slice_get_within, get_or_from_slice_get)
+
+pub ruleset fronts = (low-stop, lead-spaces, prefix_len-le-length, escape-front, run-stop, take-append-drop)

@@ -3,7 +3,7 @@
 //! serde's traits write and read a value too, in any format; the contracts of these calls speak of the
 //! JSON value and of the bytes. What a JSON value is, and which text reads as which value, is
 //! `serde_json`'s own.
-ghost use Rattle.std.specs.Prelude.{◌≡◌, ◌↔◌, ◌<◌, ◌/◌, ◌%◌, ℕ, List, [], ◌∷◌, ◌++◌, false, IsTrue, MatchOption, drop, length, IfOk, IfErr, OnOk, OnErr, IsOkAnd, IfSome, None, Some, encode_utf8_all};
+ghost use Rattle.std.specs.Prelude.{◌≡◌, ◌<◌, ◌/◌, ◌%◌, ℕ, List, [], ◌∷◌, ◌++◌, false, MatchOption, drop, length, true, IfOk, IfErr, OnOk, OnErr, IsOkAnd, IfSome, None, Some, encode_utf8_all};
 ghost use Rattle.std.specs.Char.{digit_char};
 ghost use Rattle.std.specs.List.{list_all, prefix_len};
 ghost use Rattle.std.specs.Str.{chars};
@@ -141,8 +141,9 @@ pub fn to_json(alloc: Global, value: &SmolStr) -> Result<String, AllocError>
 /// Whether the text of a value is plain. The zeros behind a short one are not, so its whole buffer
 /// is read in place of as many bytes as it has.
 #[inline(always)]
+#[tactic(auto, using(crate::proofs::PlainLemmas::runs))]
 fn is_plain_value(value: &SmolStr) -> bool
-    ensures { IsTrue result ↔ IsTrue (list_all is_plain (encode_utf8_all value.now.text)) }
+    ensures { result ≡ list_all is_plain (encode_utf8_all value.now.text) }
 {
     match value.inline_buffer() {
         Some(buffer) => plain_len(buffer) == value.len(),
@@ -153,7 +154,8 @@ fn is_plain_value(value: &SmolStr) -> bool
 /// A text in quotes, as plain text is written.
 #[inline(always)]
 fn in_quotes(alloc: Global, text: &str) -> Result<String, AllocError>
-    ensures { IfOk result (λ json. string_bytes json ≡ in_quotes text.now) }
+    requires { escape text.now ≡ text.now }
+    ensures { IfOk result (λ json. string_bytes json ≡ compact_text (string text.now)) }
 {
     let mut json = Vec::with_capacity(alloc, text.len() + 2)?;
     json.push_reserved(b'"');
@@ -164,6 +166,7 @@ fn in_quotes(alloc: Global, text: &str) -> Result<String, AllocError>
 
 /// The compact JSON of a text that needs escapes.
 #[inline(never)]
+#[tactic(auto, using(crate::proofs::QuotedLemmas::escapes))]
 fn escaped(alloc: Global, text: &str) -> Result<String, AllocError>
     ensures { IfOk result (λ json. string_bytes json ≡ compact_text (string text.now)) }
 {
@@ -264,6 +267,7 @@ pub fn from_json(alloc: Global, text: &str) -> Result<SmolStr, JsonFault>
 
 /// The text in a JSON text that is one plain string, with nothing but white space around it.
 #[inline(always)]
+#[tactic(auto, using(crate::proofs::QuotedLemmas::cuts))]
 fn plain_text(text: &str) -> Option<&str>
     ensures some { IfSome result (λ plain. IsJsonText text.now (chars plain.now)) }
     ensures none { result ≡ None → (t : List ℕ) → ¬ (IsPlainJson text.now t) }
@@ -279,16 +283,28 @@ fn behind_quote(text: &str) -> Option<&str>
         ((rest : List ℕ) → ¬ (drop (prefix_len is_space text.now) text.now ≡ 34 ∷ rest))
         (λ rest. drop (prefix_len is_space text.now) text.now ≡ 34 ∷ rest.now) }
 {
-    without_spaces(text).strip_prefix('"')
+    after_quote(without_spaces(text))
+}
+
+/// What comes after a quote.
+#[inline(always)]
+#[tactic(auto, using(std::proofs::lemmas::Str::Pattern::strip_prefix_char))]
+fn after_quote(text: &str) -> Option<&str>
+    ensures { MatchOption result ((rest : List ℕ) → ¬ (text.now ≡ 34 ∷ rest))
+        (λ rest. text.now ≡ 34 ∷ rest.now) }
+{
+    text.strip_prefix('"')
 }
 
 /// Whether a quote and white space are all.
 #[inline(always)]
 fn is_closed(rest: &str) -> bool
-    ensures { IsTrue result ↔ ((behind : List ℕ) × IsTrue (list_all is_space behind)
-        × (rest.now ≡ 34 ∷ behind)) }
+    ensures closed { result ≡ true → (behind : List ℕ) × (list_all is_space behind ≡ true)
+        × (rest.now ≡ 34 ∷ behind) }
+    ensures open { result ≡ false → (behind : List ℕ) → list_all is_space behind ≡ true →
+        ¬ (rest.now ≡ 34 ∷ behind) }
 {
-    match rest.strip_prefix('"') {
+    match after_quote(rest) {
         Some(behind) => is_all_spaces(behind),
         None => false,
     }
@@ -296,6 +312,7 @@ fn is_closed(rest: &str) -> bool
 
 /// The value of any JSON text. A string whose escapes all have two bytes is read in place.
 #[inline(never)]
+#[tactic(auto, using(crate::proofs::QuotedLemmas::values_read))]
 fn read_value(alloc: Global, text: &str) -> Result<SmolStr, JsonFault>
     ensures text { IfOk result (λ v. IsJsonText text.now v.text) }
     ensures of_text { (t : List ℕ) → IsJsonText text.now t → IfOk result (λ v. IsValueOf t v) }
@@ -308,6 +325,7 @@ fn read_value(alloc: Global, text: &str) -> Result<SmolStr, JsonFault>
 }
 
 /// The value of a JSON text that is one string whose escapes all have two bytes.
+#[tactic(auto, using(crate::proofs::QuotedLemmas::cuts))]
 fn unescaped(alloc: Global, text: &str) -> Result<Option<SmolStr>, AllocError>
     ensures text { IfOk result (λ read. IfSome read (λ v. IsJsonText text.now v.text)) }
     ensures place { IfOk result (λ read. IfSome read (λ v. IsValueOf v.text v)) }
@@ -326,6 +344,7 @@ fn unescaped(alloc: Global, text: &str) -> Result<Option<SmolStr>, AllocError>
 }
 
 /// Appends plain text and escapes of two bytes; returns what comes after them.
+#[tactic(auto, using(crate::proofs::QuotedLemmas::unescapes))]
 fn push_unescaped<'a>(builder: &mut SmolStrBuilder, text: &'a str) -> Result<&'a str, AllocError>
     requires { builder.old ≡ empty_draft InBuffer }
     ensures { IfOk result (λ rest. text.now ≡ escape (encode_utf8_all builder.new.text) ++ rest.now) }

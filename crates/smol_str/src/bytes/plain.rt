@@ -1,6 +1,7 @@
 //! The front of bytes that JSON writes as they stand, and that of its white space.
-ghost use Rattle.std.specs.Prelude.{◌≡◌, ◌↔◌, ◌<◌, ◌≤◌, ◌+◌, ◌∷◌, ℕ, List, None, IfSome, IsTrue, length, take, drop};
+ghost use Rattle.std.specs.Prelude.{◌≡◌, ◌<◌, ◌≤◌, ◌+◌, ◌∷◌, ◌++◌, None, false, IfSome, length, take, drop, slice_index};
 ghost use Rattle.std.specs.List.{list_all, prefix_len};
+ghost use Rattle.json.specs.Print.{escape};
 ghost use Rattle.smol_str.specs.Plain.{is_plain, is_space};
 
 use crate::bytes::words::load;
@@ -8,8 +9,11 @@ use std::simd::prelude::*;
 
 /// The plain text before the first character that is not, and the rest.
 #[inline(always)]
+#[tactic(auto, using(crate::proofs::PlainLemmas::fronts))]
 pub(crate) fn split_plain(text: &str) -> (&str, &str)
-    ensures plain { result.0.now ≡ take (prefix_len is_plain text.now) text.now }
+    ensures whole { text.now ≡ result.0.now ++ result.1.now }
+    ensures escape { escape result.0.now ≡ result.0.now }
+    ensures stops { 0 < length result.1.now → is_plain (slice_index result.1.now 0) ≡ false }
     ensures rest { result.1.now ≡ drop (prefix_len is_plain text.now) text.now }
 {
     text.split_at(plain_len(text.as_bytes()))
@@ -19,17 +23,18 @@ pub(crate) fn split_plain(text: &str) -> (&str, &str)
 #[inline(always)]
 #[tactic(auto, using(crate::proofs::PlainLemmas::runs))]
 pub(crate) fn is_all_plain(text: &str) -> bool
-    ensures { IsTrue result ↔ IsTrue (list_all is_plain text.now) }
+    ensures { result ≡ list_all is_plain text.now }
 {
     plain_len(text.as_bytes()) == text.len()
 }
 
 /// The first byte of a text that begins with an ASCII character, and the rest.
 #[inline(always)]
+#[tactic(auto, using(crate::proofs::PlainLemmas::seconds))]
 pub(crate) fn split_ascii(text: &str) -> Option<(u8, &str)>
     ensures ascii { IfSome result (λ cut. cut.0 < 128) }
     ensures some { IfSome result (λ cut. text.now ≡ cut.0 ∷ cut.1.now) }
-    ensures none { result ≡ None → (c : ℕ) (rest : List ℕ) → c < 128 → ¬ (text.now ≡ c ∷ rest) }
+    ensures none { result ≡ None → 0 < length text.now → 128 ≤ slice_index text.now 0 }
 {
     match text.as_bytes().first() {
         Some(&byte) if byte < 128 => Some((byte, &text[1..])),
@@ -91,6 +96,7 @@ fn plain_lanes<const N: usize>(bytes: &[u8], at: usize) -> usize
 
 /// The text without the white space before it.
 #[inline(always)]
+#[tactic(auto, using(crate::proofs::PlainLemmas::fronts))]
 pub(crate) fn without_spaces(text: &str) -> &str
     ensures { result.now ≡ drop (prefix_len is_space text.now) text.now }
 {
@@ -99,26 +105,20 @@ pub(crate) fn without_spaces(text: &str) -> &str
 
 /// How many bytes of white space come first.
 #[inline(always)]
-#[tactic(auto, using(crate::proofs::PlainLemmas::runs))]
 fn spaces_len(bytes: &[u8]) -> usize
     ensures { result ≡ prefix_len is_space bytes.now }
 {
-    let mut at = 0;
-    while at < bytes.len() {
-        let byte = bytes[at];
-        if byte != b' ' && byte != b'\t' && byte != b'\n' && byte != b'\r' {
-            return at;
-        }
-        at += 1;
-    }
-    at
+    bytes
+        .iter()
+        .take_while(|byte| matches!(**byte, b' ' | b'\t' | b'\n' | b'\r'))
+        .count()
 }
 
 /// Whether the text is white space as a whole.
 #[inline(always)]
 #[tactic(auto, using(crate::proofs::PlainLemmas::runs))]
 pub(crate) fn is_all_spaces(text: &str) -> bool
-    ensures { IsTrue result ↔ IsTrue (list_all is_space text.now) }
+    ensures { result ≡ list_all is_space text.now }
 {
     spaces_len(text.as_bytes()) == text.len()
 }

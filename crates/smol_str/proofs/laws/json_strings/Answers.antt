@@ -1,10 +1,11 @@
-use Rattle.smol_str.proofs.QuotedLemmas.{read-compact, compact-plain, plain-encoded, quoted-plain, read-plain}
+use Rattle.smol_str.proofs.Common.{[], refl}
+use Rattle.smol_str.proofs.QuotedLemmas.{read-compact, escape-encoded, read-plain}
 use Rattle.smol_str.proofs.laws.json_strings.Goals as goal
 
 pub returns : goal.returns
 returns c = record {
   back = λ t. read-compact _;
-  plain = λ t plain. compact-plain _ (plain-encoded t plain);
-  quoted = quoted-plain;
+  plain = λ t plain. rw (escape-encoded t plain);
+  quoted = λ b t h is. (h, ([], [], refl, refl, is));
   read = read-plain;
 }
