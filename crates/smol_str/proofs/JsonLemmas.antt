@@ -1,7 +1,7 @@
 -- JSON strings, for module `json_string`.
 use Rattle.smol_str.proofs.Common.{String, Global, string_bytes, rules, ◌≡◌, ℕ, List, Some, Result, sym, ap, ◌∙◌, IsResident, chars, encodes-chars, encodes_same, IsUtf8-string_bytes, place_of, Meaning, IsValueOf, common_steps, arith}
 use Rattle.smol_str.proofs.TextLemmas.Places.{IfErr-is}
-use Rattle.std.specs.Result.{IfOk, IfErr}
+use Rattle.std.specs.Result.{IfOk, IfErr, IsErrAnd}
 use Rattle.serde_json.specs.Data as json
 use Rattle.serde_json.specs.Read.{read}
 use Rattle.serde_json.specs.View.{view}
@@ -12,9 +12,8 @@ use Rattle.smol_str.specs.Json.{json_value, IsJsonText, IsJsonOf, AfterValueFaul
 use Rattle.smol_str.proofs.QuotedLemmas.{some_bytes}
 
 -- a string value is the JSON value of its text
-pub view-chars : (v : value.Value) (s : String Global) → v ≡ value.String s →
-    view v ≡ json_value (chars (string_bytes s))
-view-chars v s is = grind (arith, common_steps, encodes-chars, IsUtf8-string_bytes, value.the_lemmas)
+pub view-chars : (s : String Global) → view (value.String s) ≡ json_value (chars (string_bytes s))
+view-chars s = grind (arith, common_steps, encodes-chars, IsUtf8-string_bytes, value.the_lemmas)
 
 -- two texts with one JSON value are one
 pub json_value-same : (s t : List ℕ) → json_value s ≡ json_value t → s ≡ t
@@ -24,8 +23,9 @@ pub IsJsonOf-IsValueOf : (t : List ℕ) (v : Meaning) → IsValueOf t v → IsJs
 IsJsonOf-IsValueOf t v h = record { text = ap json_value (sym h.text); place = h.place ∙ ap place_of (sym h.text) }
 
 -- the string of a text that is not resident: so is each text of which it is the string
-pub not_resident : (d : json.Data) (s : List ℕ) → d ≡ json_value s → ¬ (IsResident s) → AfterValueFault d OutOfMemory
-not_resident d s is long = search (rules, json_value-same)
+pub AfterValueFault-memory : {T : Type 0} (r : Result T JsonFault) (s : String Global) → IsErrAnd r (λ fault. fault ≡ OutOfMemory)
+    → ¬ (IsResident (chars (string_bytes s))) → IfErr r (AfterValueFault (view (value.String s)))
+AfterValueFault-memory r s is long = IfErr-is (AfterValueFault _) r OutOfMemory is (search (rules, view-chars, json_value-same))
 
 -- a fault of the value that bytes read as
 pub AfterJsonFault-read : {T : Type 0} (r : Result T JsonFault) (bs : List ℕ) (d : json.Data) → read bs ≡ Some d
@@ -38,4 +38,4 @@ IsJsonText-read r bs d e h = search rules
 
 pub ruleset read_texts = (IsJsonText-read, AfterJsonFault-read)
 
-pub ruleset read_values = (view-chars, json_value-same, IsJsonOf-IsValueOf, IfErr-is)
+pub ruleset read_values = (view-chars, json_value-same, IsJsonOf-IsValueOf, AfterValueFault-memory)

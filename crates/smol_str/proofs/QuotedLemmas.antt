@@ -7,7 +7,11 @@ use Rattle.std.proofs.lemmas.List.Folds.{list_all-append}
 use Rattle.std.proofs.lemmas.Str.{encode_ascii, IsUtf8-append, IsUtf8-from_ascii}
 use Rattle.smol_str.proofs.TextLemmas.Utf8.{Form, form}
 use Rattle.smol_str.specs.Plain.{is_plain, is_space, IsPlain, IsPlainJson, in_quotes}
-use Rattle.smol_str.specs.Json.{json_value, IsJsonText}
+use Rattle.smol_str.specs.Json.{json_value, IsJsonText, AfterJsonFault}
+use Rattle.smol_str.specs.declared.json_string.JsonFault.{JsonFault}
+use Rattle.smol_str.specs.declared.json_string.JsonFault.TheVariants.{OutOfMemory}
+use Rattle.std.specs.Result.{IfErr, IsErrAnd}
+use Rattle.smol_str.proofs.TextLemmas.Places.{IfErr-is}
 use Rattle.smol_str.proofs.PlainLemmas.{escape-plain, run-passes, cut-run}
 use Rattle.serde_json.specs.Data as value
 use Rattle.serde_json.specs.Read.{read, of_json}
@@ -95,7 +99,11 @@ module _ (text s : List ℕ) (reads : IsJsonText text s) where
   pub value-of : (v : Meaning) → IsValueOf s v → (t : List ℕ) → IsJsonText text t → IsValueOf t v
   value-of v h t e = rw (read-same t e) h
 
-pub ruleset values_read = (read-same, value-read, value-of, read-plain)
+pub AfterJsonFault-memory : {T : Type 0} (r : Result T JsonFault) (bs : List ℕ) (d : value.Data) → IsErrAnd r (λ fault. fault ≡ OutOfMemory) → read bs ≡ Some d
+    → IfErr r (AfterJsonFault bs)
+AfterJsonFault-memory r bs d is reads = IfErr-is (AfterJsonFault bs) r OutOfMemory is (some_bytes bs d reads)
+
+pub ruleset values_read = (read-same, value-read, value-of, read-plain, AfterJsonFault-memory)
 
 -- ---- what is written
 
