@@ -1,5 +1,5 @@
 -- Plain bytes: how many come first, by lanes, and what JSON writes for them.
-use Rattle.smol_str.proofs.Common.{take-append-drop, nat_eq, ◌≡◌, ap, get_or-drop, length-drop, drop_at, ℕ, zero, suc, ◌+◌, ◌-◌, ◌%◌, ◌^◌, ◌<◌, ◌≤◌, List, [], ◌∷◌, ◌++◌, Bool, true, false, cond, ltb, length, map, replicate, take, drop, refl, arith, subst, rules, get_or, get_or-take, common_steps, nat_tests, mask_l-mod, length-map, zip2, mask_l, top, ne_eqb, min, list_all, IsUtf8, IsCharBoundary}
+use Rattle.smol_str.proofs.Common.{sym, take-append-drop, nat_eq, ◌≡◌, ap, get_or-drop, length-drop, drop_at, ℕ, zero, suc, ◌+◌, ◌-◌, ◌%◌, ◌^◌, ◌<◌, ◌≤◌, List, [], ◌∷◌, ◌++◌, Bool, true, false, cond, ltb, length, map, replicate, take, drop, refl, arith, subst, rules, get_or, get_or-take, common_steps, nat_tests, mask_l-mod, length-map, zip2, mask_l, top, ne_eqb, min, list_all, IsUtf8, IsCharBoundary}
 use Rattle.std.proofs.Common.{eqb, ◌||◌, bit_or, true≢false}
 use Rattle.std.specs.List.{prefix_len}
 use Rattle.std.proofs.lemmas.List.Sums.{prefix_len_passes, prefix_len_stops, prefix_len-le-length, list_all-from_AllPass}
@@ -11,6 +11,10 @@ use Rattle.std.specs.Int.Count.{count_trailing_zeros}
 use Rattle.smol_str.specs.Plain.{is_plain, is_space}
 use Rattle.json.specs.Print.{escape}
 use Rattle.json.proofs.Printed.Strings.{escape_byte_plain}
+
+-- bytes past ASCII are plain
+pub high : (x : ℕ) → 128 ≤ x → is_plain x ≡ true
+high x h = grind (arith, nat_tests, common_steps)
 
 -- ---- a run is the longest front that passes a test
 
@@ -33,9 +37,6 @@ module _ (p : ℕ → Bool) where
   pub cut-run : (xs ys : List ℕ) (y : ℕ) → list_all p xs ≡ true → p y ≡ false → drop (prefix_len p (xs ++ y ∷ ys)) (xs ++ y ∷ ys) ≡ y ∷ ys
   cut-run xs ys y h stop = drop_at xs (y ∷ ys) _ (rw (prefix_len-append p xs (y ∷ ys), whole-run xs, h, stop) (omega arith))
 
-  pub run-stop : (xs : List ℕ) → 0 < length (drop (prefix_len p xs) xs) → p (get_or (drop (prefix_len p xs) xs) 0 0) ≡ false
-  run-stop xs some = grind (arith, common_steps, prefix_len_stops p xs 0, get_or-drop (prefix_len p xs) xs 0 0)
-
 -- zeros are not plain
 pub run-padded : (xs : List ℕ) (n : ℕ) → prefix_len is_plain (xs ++ replicate n 0) ≡ prefix_len is_plain xs
 run-padded [] zero = refl
@@ -57,34 +58,26 @@ pub ruleset runs = (run-part, whole-run, run-padded, prefix_len-le-length)
 abbrev is_stop : ℕ → Bool
 is_stop x = eqb x 34 || eqb x 92 || ltb x 32
 
-abbrev compared : (ℕ → ℕ → Bool) → List ℕ → ℕ → ℕ → List ℕ
-compared test v n x = zip2 (λ a b. cond (test a b) 255 0) v (replicate n x)
+abbrev compared : (ℕ → ℕ → Bool) → List ℕ → ℕ → List ℕ
+compared test v x = zip2 (λ a b. cond (test a b) 255 0) v (replicate (length v) x)
 
-abbrev pub marks : List ℕ → ℕ → List ℕ
-marks v n = zip2 bit_or (zip2 bit_or (compared eqb v n 34) (compared eqb v n 92)) (compared ltb v n 32)
+abbrev pub marks : List ℕ → List ℕ
+marks v = zip2 bit_or (zip2 bit_or (compared eqb v 34) (compared eqb v 92)) (compared ltb v 32)
 
 one_lane : (a b c : Bool) → top 7 (bit_or (bit_or (cond a 255 0) (cond b 255 0)) (cond c 255 0)) ≡ (a || b || c)
 one_lane a b c = grind (arith, common_steps)
 
-tops : (v : List ℕ) (n : ℕ) → length v ≡ n → map (top 7) (marks v n) ≡ map is_stop v
-tops [] zero long = refl
-tops (x ∷ v) (suc n) long = λ i. one_lane (eqb x 34) (eqb x 92) (ltb x 32) i ∷ tops v n (omega arith) i
-tops v n long = absurd (omega arith)
+tops : (v : List ℕ) → map (top 7) (marks v) ≡ map is_stop v
+tops [] = refl
+tops (x ∷ v) = λ i. one_lane (eqb x 34) (eqb x 92) (ltb x 32) i ∷ tops v i
 
 -- how many lanes come before the first stop, by the mask of the stops
-module _ (v : List ℕ) (n : ℕ) (long : length v ≡ n) (few : n ≤ 64) where
-  abbrev pub mask : ℕ
-  mask = mask_l (map (top 7) (marks v n)) % 2 ^ 64
+abbrev pub mask : List ℕ → ℕ
+mask v = mask_l (map (top 7) (marks v)) % 2 ^ 64
 
-  first : cond (eqb mask 0) n (count_trailing_zeros 64 mask) ≡ prefix_len is_plain v
-  first =
-      rw (tops v n long, mask_l-mod (map is_stop v) 64 (omega (arith, length-map v is_stop))) (first_set_mask_l is_stop v n long few)
-
-  pub no_stop : mask ≡ 0 → n ≡ prefix_len is_plain v
-  no_stop none = rw none at first
-
-  pub first_stop : ¬ (mask ≡ 0) → count_trailing_zeros 64 mask ≡ prefix_len is_plain v
-  first_stop some = rw (ne_eqb mask 0 some) at first
+pub first_stop : (v : List ℕ) → length v ≤ 64 → prefix_len is_plain v ≡ cond (eqb (mask v) 0) (length v) (count_trailing_zeros 64 (mask v))
+first_stop v few =
+    rw (tops v, mask_l-mod (map is_stop v) 64 (omega (arith, length-map v is_stop))) (sym (first_set_mask_l is_stop v (length v) refl few))
 
 -- ---- where a text may be cut
 
@@ -95,9 +88,9 @@ lead-spaces bs k some u is h = grind (arith, nat_tests, common_steps, prefix_len
 pub lead-second : (bs : List ℕ) (k : ℕ) → k ≡ 1 → IsUtf8 bs → get_or bs 0 0 < 128 → k < length bs → 128 ≤ get_or bs k 0 → 192 ≤ get_or bs k 0
 lead-second bs k is u low h = grind (arith, common_steps, lead_after_ascii bs 0)
 
-pub low-stop : (bs : List ℕ) (k : ℕ) → k ≡ prefix_len is_plain bs → k < length bs → get_or bs k 0 < 128
-low-stop bs k is h = grind (arith, nat_tests, common_steps, prefix_len_stops is_plain bs 0)
+pub plain-stop : (bs : List ℕ) (k : ℕ) → k ≡ prefix_len is_plain bs → k < length bs → (get_or bs k 0 < 128) × (is_plain (get_or bs k 0) ≡ false)
+plain-stop bs k is h = let stop = prefix_len_stops is_plain bs 0 in (grind (arith, nat_tests, common_steps, stop), grind (arith, stop))
 
 pub ruleset seconds = (lead-second, slice_get_within, get_or_from_slice_get)
 
-pub ruleset fronts = (low-stop, lead-spaces, prefix_len-le-length, escape-front, run-stop, take-append-drop)
+pub ruleset fronts = (plain-stop, lead-spaces, prefix_len-le-length, escape-front, get_or-drop, take-append-drop)

@@ -12,7 +12,7 @@ use Rattle.smol_str.specs.declared.json_string.JsonFault.{JsonFault}
 use Rattle.smol_str.specs.declared.json_string.JsonFault.TheVariants.{OutOfMemory}
 use Rattle.std.specs.Result.{IfErr, IsErrAnd}
 use Rattle.smol_str.proofs.TextLemmas.Places.{IfErr-is}
-use Rattle.smol_str.proofs.PlainLemmas.{escape-plain, run-passes, cut-run}
+use Rattle.smol_str.proofs.PlainLemmas.{high, escape-plain, run-passes, cut-run}
 use Rattle.serde_json.specs.Data as value
 use Rattle.serde_json.specs.Read.{read, of_json}
 use Rattle.serde_json.specs.Written.{compact_text}
@@ -47,10 +47,6 @@ some_bytes [] d e = cc
 some_bytes (b ∷ bs) d e = omega arith
 
 -- ---- a text is plain exactly where its bytes are
-
--- bytes past ASCII are plain
-pub high : (x : ℕ) → 128 ≤ x → is_plain x ≡ true
-high x h = grind (arith, nat_tests, common_steps)
 
 plain-character : (c : ℕ) → Form c → list_all is_plain (encode c) ≡ is_plain c
 plain-character c h = grind (arith, common_steps, high)

@@ -288,12 +288,14 @@ fn behind_quote(text: &str) -> Option<&str>
 
 /// What comes after a quote.
 #[inline(always)]
-#[tactic(auto, using(std::proofs::lemmas::Str::Pattern::strip_prefix_char))]
 fn after_quote(text: &str) -> Option<&str>
     ensures { MatchOption result ((rest : List ℕ) → ¬ (text.now ≡ 34 ∷ rest))
         (λ rest. text.now ≡ 34 ∷ rest.now) }
 {
-    text.strip_prefix('"')
+    match split_ascii(text) {
+        Some((b'"', rest)) => Some(rest),
+        _ => None,
+    }
 }
 
 /// Whether a quote and white space are all.
@@ -368,7 +370,10 @@ fn short_escape(text: &str) -> Option<(char, &str)>
     ensures escape { IfSome result (λ found. text.now ≡ escape_byte found.0 ++ found.1.now) }
     ensures shorter { IfSome result (λ found. length found.1.now < length text.now) }
 {
-    let (letter, rest) = split_ascii(text.strip_prefix('\\')?)?;
+    let (b'\\', escape) = split_ascii(text)? else {
+        return None;
+    };
+    let (letter, rest) = split_ascii(escape)?;
     Some((escaped_by(letter)?, rest))
 }
 

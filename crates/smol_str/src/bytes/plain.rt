@@ -78,6 +78,7 @@ fn plain_len_by<const N: usize>(bytes: &[u8]) -> usize
 
 /// How many of `N` bytes from an index on come before the first that is not plain.
 #[inline(always)]
+#[tactic(auto, using(crate::proofs::PlainLemmas::first_stop))]
 fn plain_lanes<const N: usize>(bytes: &[u8], at: usize) -> usize
     requires few { N ≤ 64 }
     requires within { at + N ≤ length bytes.now }
