@@ -1,23 +1,100 @@
--- JSON strings, for module `json_string`.
-use Rattle.smol_str.proofs.Common.{String, Global, string_bytes, rules, ◌≡◌, ℕ, List, Some, Result, sym, ap, ◌∙◌, IsResident, chars, encodes-chars, encodes_same, IsUtf8-string_bytes, place_of, Meaning, IsValueOf, common_steps, arith}
+-- JSON strings: what is written for a text, what is read as it, and when each fault comes.
+use Rattle.smol_str.proofs.Common.{nil_from_length, ◌≡◌, ◌<◌, ℕ, List, [], ◌∷◌, ◌++◌, true, Some, refl, sym, ap, ◌∙◌, rules, arith, list_all, length, take, drop, append-nil, common_steps, nat_tests, encode, encode_utf8_all, take-append-drop, chars, encodes-chars, encodes_same, encodes-append, append_assoc, IsUtf8-string_bytes, IsResident, place_of, Meaning, IsValueOf, Result, IfOk, String, Global, string_bytes, IfOk-weaker}
+use Rattle.std.proofs.Common.{ap₂, option_and_then}
+use Rattle.std.specs.List.{prefix_len}
+use Rattle.std.specs.Result.{IfErr, IsErrAnd}
+use Rattle.std.proofs.lemmas.Grind.{flat_map-append}
+use Rattle.std.proofs.lemmas.List.Folds.{list_all-append}
+use Rattle.std.proofs.lemmas.Str.{encode_ascii}
+use Rattle.smol_str.proofs.TextLemmas.Utf8.{Form, form}
 use Rattle.smol_str.proofs.TextLemmas.Places.{IfErr-is}
-use Rattle.std.specs.Result.{IfOk, IfErr, IsErrAnd}
-use Rattle.serde_json.specs.Data as json
-use Rattle.serde_json.specs.Read.{read}
-use Rattle.serde_json.specs.View.{view}
-use Rattle.serde_json.specs.declared.value.Value as value
+use Rattle.smol_str.proofs.PlainLemmas.{high, escape-plain, run-passes, cut-run}
+use Rattle.smol_str.specs.Plain.{is_plain, is_space, IsPlain, IsPlainJson, in_quotes}
+use Rattle.smol_str.specs.Json.{json_value, IsJsonText, IsJsonOf, AfterValueFault, AfterJsonFault}
 use Rattle.smol_str.specs.declared.json_string.JsonFault.{JsonFault}
 use Rattle.smol_str.specs.declared.json_string.JsonFault.TheVariants.{OutOfMemory}
-use Rattle.smol_str.specs.Json.{json_value, IsJsonText, IsJsonOf, AfterValueFault, AfterJsonFault}
-use Rattle.smol_str.proofs.QuotedLemmas.{some_bytes}
+use Rattle.serde_json.specs.Data.{Data, string}
+use Rattle.serde_json.specs.Read.{read, of_json}
+use Rattle.serde_json.specs.View.{view}
+use Rattle.serde_json.specs.Written.{compact_text}
+use Rattle.serde_json.specs.declared.value.Value as value
+use Rattle.serde_json.proofs.OnLiterals.{serde_json_on_literals}
+use Rattle.json.specs.Json as json
+use Rattle.json.specs.Lex.{token, string_token, lex, between, punctuate, fresh}
+use Rattle.json.specs.Print.{escape}
+use Rattle.json.proofs.Printed.Strings.{content-escape, lex-escape}
 
--- a string value is the JSON value of its text
-pub view-chars : (s : String Global) → view (value.String s) ≡ json_value (chars (string_bytes s))
-view-chars s = grind (arith, common_steps, encodes-chars, IsUtf8-string_bytes, value.the_lemmas)
+-- ---- a string that was written is read, with white space around it
+
+lex-spaces : (g r : List ℕ) → list_all is_space g ≡ true → lex between (g ++ r) ≡ lex between r
+unfolding lex
+lex-spaces [] r h = refl
+lex-spaces (x ∷ g) r h = grind (arith, common_steps, nat_tests, lex-spaces g r)
+
+read-spaced : (g s h : List ℕ) → list_all is_space g ≡ true → list_all is_space h ≡ true
+    → read (g ++ 34 ∷ (escape s ++ 34 ∷ h)) ≡ Some (string s)
+unfolding serde_json_on_literals punctuate lex
+read-spaced g s h before behind =
+    ap (λ ls. option_and_then of_json (option_and_then (λ p. json.if_last p.0 p.1) (json.value 127 (punctuate fresh ls))))
+    (lex-spaces g _ before
+    ∙ ap₂ (λ o l. token (string_token o) ∷ l) (content-escape s h) (lex-escape s h ∙ ap (lex between) (sym (append-nil h)) ∙ lex-spaces h [] behind))
+
+pub read-compact : (s : List ℕ) → read (compact_text (string s)) ≡ Some (string s)
+read-compact s = read-spaced [] s [] refl refl
+
+-- ---- a text is plain exactly where its bytes are
+
+plain-character : (c : ℕ) → Form c → list_all is_plain (encode c) ≡ is_plain c
+plain-character c h = grind (arith, common_steps, high)
+
+plain-encoded : (t : List ℕ) → list_all is_plain (encode_utf8_all t) ≡ list_all is_plain t
+plain-encoded [] = refl
+plain-encoded (c ∷ t) = rw (list_all-append, plain-character c (form c), plain-encoded t)
+
+pub escape-encoded : (t : List ℕ) → IsPlain t → escape (encode_utf8_all t) ≡ encode_utf8_all t
+escape-encoded t h = escape-plain _ (rw (plain-encoded t) h)
+
+-- ---- what is read in place, and what is written
+
+pub ruleset escapes = (high, nil_from_length)
+
+pub ruleset unescapes = (encodes-append, encodes-chars, encode_ascii, flat_map-append, append_assoc, append-nil)
+
+-- white space, a quote and plain text are cut where plain JSON has them
+pub cut-spaces : (text t : List ℕ) (h : IsPlainJson text t) → drop (prefix_len is_space text) text ≡ 34 ∷ (encode_utf8_all t ++ 34 ∷ h.1.1)
+cut-spaces text t h = rw h.1.4 (cut-run is_space h.1.0 _ 34 h.1.2 refl)
+
+pub cut-plain : (rest t h : List ℕ) → IsPlain t → rest ≡ encode_utf8_all t ++ 34 ∷ h → drop (prefix_len is_plain rest) rest ≡ 34 ∷ h
+cut-plain rest t h plain is = rw is (cut-run is_plain (encode_utf8_all t) h 34 (rw (plain-encoded t) plain) refl)
+
+-- what was cut is read
+pub read-cut : (text rest s behind : List ℕ) → drop (prefix_len is_space text) text ≡ 34 ∷ rest → rest ≡ escape s ++ 34 ∷ behind
+    → list_all is_space behind ≡ true → read text ≡ Some (string s)
+read-cut text rest s behind opened inner closed =
+    let whole : text ≡ take (prefix_len is_space text) text ++ 34 ∷ (escape s ++ 34 ∷ behind) = cc (take-append-drop (prefix_len is_space text) text) in
+    ap read whole ∙ read-spaced _ s behind (run-passes is_space text) closed
+
+pub ruleset cuts = (cut-spaces, cut-plain, read-cut, encodes-chars)
+
+-- what is written for a text
+module _ {E : Type 0} (r : Result (String Global) E) (t : List ℕ) (h : IfOk r (λ json. string_bytes json ≡ compact_text (json_value t))) where
+  pub written-back : IfOk r (λ json. IsJsonText (string_bytes json) t)
+  written-back = IfOk-weaker r _ _ (λ json e. ap read e ∙ read-compact _) h
+
+  pub written-plain : IsPlain t → IfOk r (λ json. string_bytes json ≡ in_quotes (encode_utf8_all t))
+  written-plain plain = IfOk-weaker r _ _ (λ json e. e ∙ rw (escape-encoded t plain)) h
+
+pub ruleset texts_written = (escape-plain, written-back, written-plain)
+
+-- ---- values, and faults
 
 -- two texts with one JSON value are one
 pub json_value-same : (s t : List ℕ) → json_value s ≡ json_value t → s ≡ t
 json_value-same s t e = encodes_same s t cc
+
+-- a string value is the JSON value of its text
+pub view-chars : (s : String Global) → view (value.String s) ≡ json_value (chars (string_bytes s))
+view-chars s = grind (arith, common_steps, encodes-chars, IsUtf8-string_bytes, value.the_lemmas)
 
 pub IsJsonOf-IsValueOf : (t : List ℕ) (v : Meaning) → IsValueOf t v → IsJsonOf (json_value t) v
 IsJsonOf-IsValueOf t v h = record { text = ap json_value (sym h.text); place = h.place ∙ ap place_of (sym h.text) }
@@ -27,15 +104,39 @@ pub AfterValueFault-memory : {T : Type 0} (r : Result T JsonFault) (s : String G
     → ¬ (IsResident (chars (string_bytes s))) → IfErr r (AfterValueFault (view (value.String s)))
 AfterValueFault-memory r s is long = IfErr-is (AfterValueFault _) r OutOfMemory is (search (rules, view-chars, json_value-same))
 
--- a fault of the value that bytes read as
-pub AfterJsonFault-read : {T : Type 0} (r : Result T JsonFault) (bs : List ℕ) (d : json.Data) → read bs ≡ Some d
-    → IfErr r (AfterValueFault d) → IfErr r (AfterJsonFault bs)
-AfterJsonFault-read r bs d e h = search (rules, some_bytes)
+pub ruleset read_values = (view-chars, json_value-same, IsJsonOf-IsValueOf, AfterValueFault-memory)
 
-pub IsJsonText-read : {E : Type 0} (r : Result Meaning E) (bs : List ℕ) (d : json.Data) → read bs ≡ Some d
+-- plain JSON of a text is read as that text
+pub read-plain : (b t : List ℕ) → IsPlainJson b t → IsJsonText b t
+read-plain b t h = ap read h.1.4 ∙ rw (escape-encoded t h.0) at (read-spaced h.1.0 (encode_utf8_all t) h.1.1 h.1.2 h.1.3)
+
+-- the value of the text that was read
+module _ (text s : List ℕ) (reads : IsJsonText text s) where
+  pub read-same : (t : List ℕ) → IsJsonText text t → t ≡ s
+  read-same t e = encodes_same t s cc
+
+  pub value-read : (v : Meaning) → IsValueOf s v → IsJsonText text v.text
+  value-read v h = rw h.text reads
+
+  pub value-of : (v : Meaning) → IsValueOf s v → (t : List ℕ) → IsJsonText text t → IsValueOf t v
+  value-of v h t e = rw (read-same t e) h
+
+-- no bytes are no JSON text
+some_bytes : (bs : List ℕ) (d : Data) → read bs ≡ Some d → 0 < length bs
+unfolding serde_json_on_literals
+some_bytes [] d e = cc
+some_bytes (b ∷ bs) d e = omega arith
+
+-- what is known of the value that bytes read as
+module _ {T : Type 0} (r : Result T JsonFault) (bs : List ℕ) (d : Data) (reads : read bs ≡ Some d) where
+  pub AfterJsonFault-memory : IsErrAnd r (λ fault. fault ≡ OutOfMemory) → IfErr r (AfterJsonFault bs)
+  AfterJsonFault-memory is = IfErr-is (AfterJsonFault bs) r OutOfMemory is (some_bytes bs d reads)
+
+  pub AfterJsonFault-read : IfErr r (AfterValueFault d) → IfErr r (AfterJsonFault bs)
+  AfterJsonFault-read h = search (rules, some_bytes)
+
+pub IsJsonText-read : {E : Type 0} (r : Result Meaning E) (bs : List ℕ) (d : Data) → read bs ≡ Some d
     → IfOk r (IsJsonOf d) → IfOk r (λ v. IsJsonText bs v.text)
 IsJsonText-read r bs d e h = search rules
 
-pub ruleset read_texts = (IsJsonText-read, AfterJsonFault-read)
-
-pub ruleset read_values = (view-chars, json_value-same, IsJsonOf-IsValueOf, AfterValueFault-memory)
+pub ruleset values_read = (read-same, value-read, value-of, read-plain, AfterJsonFault-memory, AfterJsonFault-read, IsJsonText-read)

@@ -9,5 +9,4 @@ pub mod WireLemmas
 mod IteratorLemmas
 mod PieceLemmas
 mod PlainLemmas
-mod QuotedLemmas
 mod JsonLemmas

@@ -123,7 +123,7 @@ pub fn from_value(alloc: Global, value: &Value) -> Result<SmolStr, JsonFault>
 /// let quoted = json_string::to_json(alloc, &SmolStr::new_inline("a\"b"))?;
 /// assert_eq!(rt; quoted.as_str(), "\"a\\\"b\"");
 /// ```
-#[tactic(auto, using(crate::proofs::QuotedLemmas::texts_written))]
+#[tactic(auto, using(crate::proofs::JsonLemmas::texts_written))]
 pub fn to_json(alloc: Global, value: &SmolStr) -> Result<String, AllocError>
     ensures compact { IfOk result (λ json.
         string_bytes json ≡ compact_text (json_value value.now.text)) }
@@ -166,7 +166,7 @@ fn in_quotes(alloc: Global, text: &str) -> Result<String, AllocError>
 
 /// The compact JSON of a text that needs escapes.
 #[inline(never)]
-#[tactic(auto, using(crate::proofs::QuotedLemmas::escapes))]
+#[tactic(auto, using(crate::proofs::JsonLemmas::escapes))]
 fn escaped(alloc: Global, text: &str) -> Result<String, AllocError>
     ensures { IfOk result (λ json. string_bytes json ≡ compact_text (string text.now)) }
 {
@@ -251,7 +251,7 @@ fn push_control(json: &mut String, byte: u8) -> Result<(), AllocError>
 /// let name = json_string::from_json(alloc, "\"if\"")?;
 /// assert_eq!(rt; name.as_str(), "if");
 /// ```
-#[tactic(auto, using(crate::proofs::QuotedLemmas::values_read))]
+#[tactic(auto, using(crate::proofs::JsonLemmas::values_read))]
 pub fn from_json(alloc: Global, text: &str) -> Result<SmolStr, JsonFault>
     ensures text { IfOk result (λ v. IsJsonText text.now v.text) }
     ensures of_text { (t : List ℕ) → IsJsonText text.now t → IfOk result (λ v. IsValueOf t v) }
@@ -267,7 +267,7 @@ pub fn from_json(alloc: Global, text: &str) -> Result<SmolStr, JsonFault>
 
 /// The text in a JSON text that is one plain string, with nothing but white space around it.
 #[inline(always)]
-#[tactic(auto, using(crate::proofs::QuotedLemmas::cuts))]
+#[tactic(auto, using(crate::proofs::JsonLemmas::cuts))]
 fn plain_text(text: &str) -> Option<&str>
     ensures some { IfSome result (λ plain. IsJsonText text.now (chars plain.now)) }
     ensures none { result ≡ None → (t : List ℕ) → ¬ (IsPlainJson text.now t) }
@@ -314,7 +314,7 @@ fn is_closed(rest: &str) -> bool
 
 /// The value of any JSON text. A string whose escapes all have two bytes is read in place.
 #[inline(never)]
-#[tactic(auto, using(crate::proofs::QuotedLemmas::values_read))]
+#[tactic(auto, using(crate::proofs::JsonLemmas::values_read))]
 fn read_value(alloc: Global, text: &str) -> Result<SmolStr, JsonFault>
     ensures text { IfOk result (λ v. IsJsonText text.now v.text) }
     ensures of_text { (t : List ℕ) → IsJsonText text.now t → IfOk result (λ v. IsValueOf t v) }
@@ -327,7 +327,7 @@ fn read_value(alloc: Global, text: &str) -> Result<SmolStr, JsonFault>
 }
 
 /// The value of a JSON text that is one string whose escapes all have two bytes.
-#[tactic(auto, using(crate::proofs::QuotedLemmas::cuts))]
+#[tactic(auto, using(crate::proofs::JsonLemmas::cuts))]
 fn unescaped(alloc: Global, text: &str) -> Result<Option<SmolStr>, AllocError>
     ensures text { IfOk result (λ read. IfSome read (λ v. IsJsonText text.now v.text)) }
     ensures place { IfOk result (λ read. IfSome read (λ v. IsValueOf v.text v)) }
@@ -346,7 +346,7 @@ fn unescaped(alloc: Global, text: &str) -> Result<Option<SmolStr>, AllocError>
 }
 
 /// Appends plain text and escapes of two bytes; returns what comes after them.
-#[tactic(auto, using(crate::proofs::QuotedLemmas::unescapes))]
+#[tactic(auto, using(crate::proofs::JsonLemmas::unescapes))]
 fn push_unescaped<'a>(builder: &mut SmolStrBuilder, text: &'a str) -> Result<&'a str, AllocError>
     requires { builder.old ≡ empty_draft InBuffer }
     ensures { IfOk result (λ rest. text.now ≡ escape (encode_utf8_all builder.new.text) ++ rest.now) }
@@ -398,7 +398,7 @@ fn escaped_by(letter: u8) -> Option<char>
 
 /// The same, as `serde_json` reads it.
 #[inline(never)]
-#[tactic(auto, using(crate::proofs::JsonLemmas::read_texts))]
+#[tactic(auto, using(crate::proofs::JsonLemmas::values_read))]
 fn read_any(alloc: Global, text: &str) -> Result<SmolStr, JsonFault>
     ensures text { IfOk result (λ v. IsJsonText text.now v.text) }
     ensures of_text { (t : List ℕ) → IsJsonText text.now t → IfOk result (λ v. IsValueOf t v) }

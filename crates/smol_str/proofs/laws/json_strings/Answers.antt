@@ -1,5 +1,5 @@
 use Rattle.smol_str.proofs.Common.{[], refl}
-use Rattle.smol_str.proofs.QuotedLemmas.{read-compact, escape-encoded, read-plain}
+use Rattle.smol_str.proofs.JsonLemmas.{read-compact, escape-encoded, read-plain}
 use Rattle.smol_str.proofs.laws.json_strings.Goals as goal
 
 pub returns : goal.returns
