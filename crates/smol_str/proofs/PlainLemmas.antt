@@ -37,6 +37,13 @@ module _ (p : ℕ → Bool) where
   pub cut-run : (xs ys : List ℕ) (y : ℕ) → list_all p xs ≡ true → p y ≡ false → drop (prefix_len p (xs ++ y ∷ ys)) (xs ++ y ∷ ys) ≡ y ∷ ys
   cut-run xs ys y h stop = drop_at xs (y ∷ ys) _ (rw (prefix_len-append p xs (y ∷ ys), whole-run xs, h, stop) (omega arith))
 
+  -- one more of the run, and its end
+  pub run-more : (xs : List ℕ) (k : ℕ) → k ≤ prefix_len p xs → k < length xs → p (get_or xs k 0) ≡ true → k + 1 ≤ prefix_len p xs
+  run-more xs k h low pass = grind (arith, prefix_len_stops p xs 0)
+
+  pub run-end : (xs : List ℕ) (k : ℕ) → k ≤ prefix_len p xs → (k < length xs → p (get_or xs k 0) ≡ false) → prefix_len p xs ≡ k
+  run-end xs k h stop = grind (arith, prefix_len_passes p xs k 0, prefix_len-le-length p xs)
+
 -- zeros are not plain
 pub run-padded : (xs : List ℕ) (n : ℕ) → prefix_len is_plain (xs ++ replicate n 0) ≡ prefix_len is_plain xs
 run-padded [] zero = refl
@@ -51,7 +58,7 @@ escape-plain (x ∷ s) h = grind (arith, nat_tests, common_steps, escape_byte_pl
 pub escape-front : (xs : List ℕ) → escape (take (prefix_len is_plain xs) xs) ≡ take (prefix_len is_plain xs) xs
 escape-front xs = escape-plain _ (run-passes is_plain xs)
 
-pub ruleset runs = (run-part, whole-run, run-padded, prefix_len-le-length)
+pub ruleset runs = (run-part, run-more, run-end, whole-run, run-padded, prefix_len-le-length)
 
 -- ---- by lanes
 

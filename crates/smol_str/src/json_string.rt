@@ -288,14 +288,12 @@ fn behind_quote(text: &str) -> Option<&str>
 
 /// What comes after a quote.
 #[inline(always)]
+#[tactic(auto, using(std::proofs::lemmas::Str::Pattern::strip_prefix_char))]
 fn after_quote(text: &str) -> Option<&str>
     ensures { MatchOption result ((rest : List ℕ) → ¬ (text.now ≡ 34 ∷ rest))
         (λ rest. text.now ≡ 34 ∷ rest.now) }
 {
-    match split_ascii(text) {
-        Some((b'"', rest)) => Some(rest),
-        _ => None,
-    }
+    text.strip_prefix('"')
 }
 
 /// Whether a quote and white space are all.

@@ -106,24 +106,26 @@ pub(crate) fn without_spaces(text: &str) -> &str
 
 /// How many bytes of white space come first.
 #[inline(always)]
+#[tactic(auto, using(crate::proofs::PlainLemmas::runs))]
 fn spaces_len(bytes: &[u8]) -> usize
     ensures { result ≡ prefix_len is_space bytes.now }
 {
-    bytes.iter().take_while(|byte| is_white(**byte)).count()
+    let mut at = 0;
+    while at < bytes.len() {
+        let byte = bytes[at];
+        if byte != b' ' && byte != b'\t' && byte != b'\n' && byte != b'\r' {
+            return at;
+        }
+        at += 1;
+    }
+    at
 }
 
 /// Whether the text is white space as a whole.
 #[inline(always)]
+#[tactic(auto, using(crate::proofs::PlainLemmas::runs))]
 pub(crate) fn is_all_spaces(text: &str) -> bool
     ensures { result ≡ list_all is_space text.now }
 {
-    text.as_bytes().iter().all(|byte| is_white(*byte))
-}
-
-/// Whether a byte is white space of JSON.
-#[inline(always)]
-fn is_white(byte: u8) -> bool
-    ensures { result ≡ is_space byte }
-{
-    matches!(byte, b' ' | b'\t' | b'\n' | b'\r')
+    spaces_len(text.as_bytes()) == text.len()
 }
