@@ -6,7 +6,7 @@ use Rattle.std.specs.Result.{IfErr, IsErrAnd}
 use Rattle.std.proofs.lemmas.Grind.{flat_map-append}
 use Rattle.std.proofs.lemmas.List.Folds.{list_all-append}
 use Rattle.std.proofs.lemmas.Str.{encode_ascii}
-use Rattle.smol_str.proofs.TextLemmas.Utf8.{Form, form}
+use Rattle.smol_str.proofs.TextLemmas.Utf8.{form}
 use Rattle.smol_str.proofs.TextLemmas.Places.{IfErr-is}
 use Rattle.smol_str.proofs.PlainLemmas.{high, escape-plain, run-passes, cut-run}
 use Rattle.smol_str.specs.Plain.{is_plain, is_space, IsPlain, IsPlainJson, in_quotes}
@@ -44,28 +44,16 @@ read-compact s = read-spaced [] s [] refl refl
 
 -- ---- a text is plain exactly where its bytes are
 
-plain-character : (c : ℕ) → Form c → list_all is_plain (encode c) ≡ is_plain c
-plain-character c h = grind (arith, common_steps, high)
-
-plain-encoded : (t : List ℕ) → list_all is_plain (encode_utf8_all t) ≡ list_all is_plain t
+pub plain-encoded : (t : List ℕ) → list_all is_plain (encode_utf8_all t) ≡ list_all is_plain t
 plain-encoded [] = refl
-plain-encoded (c ∷ t) = rw (list_all-append, plain-character c (form c), plain-encoded t)
+plain-encoded (c ∷ t) = grind (arith, common_steps, high, form c, list_all-append, plain-encoded t)
 
 pub escape-encoded : (t : List ℕ) → IsPlain t → escape (encode_utf8_all t) ≡ encode_utf8_all t
 escape-encoded t h = escape-plain _ (rw (plain-encoded t) h)
 
 -- ---- what is read in place, and what is written
 
-pub ruleset escapes = (high, nil_from_length)
-
-pub ruleset unescapes = (encodes-append, encodes-chars, encode_ascii, flat_map-append, append_assoc, append-nil)
-
--- white space, a quote and plain text are cut where plain JSON has them
-pub cut-spaces : (text t : List ℕ) (h : IsPlainJson text t) → drop (prefix_len is_space text) text ≡ 34 ∷ (encode_utf8_all t ++ 34 ∷ h.1.1)
-cut-spaces text t h = rw h.1.4 (cut-run is_space h.1.0 _ 34 h.1.2 refl)
-
-pub cut-plain : (rest t h : List ℕ) → IsPlain t → rest ≡ encode_utf8_all t ++ 34 ∷ h → drop (prefix_len is_plain rest) rest ≡ 34 ∷ h
-cut-plain rest t h plain is = rw is (cut-run is_plain (encode_utf8_all t) h 34 (rw (plain-encoded t) plain) refl)
+pub ruleset pieces = (high, nil_from_length, encodes-append, encodes-chars, encode_ascii, flat_map-append, append_assoc, append-nil)
 
 -- what was cut is read
 pub read-cut : (text rest s behind : List ℕ) → drop (prefix_len is_space text) text ≡ 34 ∷ rest → rest ≡ escape s ++ 34 ∷ behind
@@ -74,7 +62,7 @@ read-cut text rest s behind opened inner closed =
     let whole : text ≡ take (prefix_len is_space text) text ++ 34 ∷ (escape s ++ 34 ∷ behind) = cc (take-append-drop (prefix_len is_space text) text) in
     ap read whole ∙ read-spaced _ s behind (run-passes is_space text) closed
 
-pub ruleset cuts = (cut-spaces, cut-plain, read-cut, encodes-chars)
+pub ruleset cuts = (cut-run, plain-encoded, read-cut, encodes-chars)
 
 -- what is written for a text
 module _ {E : Type 0} (r : Result (String Global) E) (t : List ℕ) (h : IfOk r (λ json. string_bytes json ≡ compact_text (json_value t))) where
@@ -110,6 +98,8 @@ pub ruleset read_values = (view-chars, json_value-same, IsJsonOf-IsValueOf, Afte
 pub read-plain : (b t : List ℕ) → IsPlainJson b t → IsJsonText b t
 read-plain b t h = ap read h.1.4 ∙ rw (escape-encoded t h.0) at (read-spaced h.1.0 (encode_utf8_all t) h.1.1 h.1.2 h.1.3)
 
+pub ruleset laws = (read-compact, escape-encoded, read-plain)
+
 -- the value of the text that was read
 module _ (text s : List ℕ) (reads : IsJsonText text s) where
   pub read-same : (t : List ℕ) → IsJsonText text t → t ≡ s
@@ -117,9 +107,6 @@ module _ (text s : List ℕ) (reads : IsJsonText text s) where
 
   pub value-read : (v : Meaning) → IsValueOf s v → IsJsonText text v.text
   value-read v h = rw h.text reads
-
-  pub value-of : (v : Meaning) → IsValueOf s v → (t : List ℕ) → IsJsonText text t → IsValueOf t v
-  value-of v h t e = rw (read-same t e) h
 
 -- no bytes are no JSON text
 some_bytes : (bs : List ℕ) (d : Data) → read bs ≡ Some d → 0 < length bs
@@ -139,4 +126,4 @@ pub IsJsonText-read : {E : Type 0} (r : Result Meaning E) (bs : List ℕ) (d : D
     → IfOk r (IsJsonOf d) → IfOk r (λ v. IsJsonText bs v.text)
 IsJsonText-read r bs d e h = search rules
 
-pub ruleset values_read = (read-same, value-read, value-of, read-plain, AfterJsonFault-memory, AfterJsonFault-read, IsJsonText-read)
+pub ruleset values_read = (read-same, value-read, read-plain, AfterJsonFault-memory, AfterJsonFault-read, IsJsonText-read)

@@ -9,6 +9,7 @@ use Rattle.std.proofs.lemmas.Option.{slice_get_within, get_or_from_slice_get}
 use Rattle.std.proofs.lemmas.Simd.{first_set_mask_l}
 use Rattle.std.specs.Int.Count.{count_trailing_zeros}
 use Rattle.smol_str.specs.Plain.{is_plain, is_space}
+use Rattle.json.specs.Run.{is_stop}
 use Rattle.json.specs.Print.{escape}
 use Rattle.json.proofs.Printed.Strings.{escape_byte_plain}
 
@@ -55,15 +56,9 @@ pub escape-plain : (s : List ℕ) → list_all is_plain s ≡ true → escape s 
 escape-plain [] h = refl
 escape-plain (x ∷ s) h = grind (arith, nat_tests, common_steps, escape_byte_plain x, escape-plain s)
 
-pub escape-front : (xs : List ℕ) → escape (take (prefix_len is_plain xs) xs) ≡ take (prefix_len is_plain xs) xs
-escape-front xs = escape-plain _ (run-passes is_plain xs)
-
 pub ruleset runs = (run-part, run-more, run-end, whole-run, run-padded, prefix_len-le-length)
 
 -- ---- by lanes
-
-abbrev is_stop : ℕ → Bool
-is_stop x = eqb x 34 || eqb x 92 || ltb x 32
 
 abbrev compared : (ℕ → ℕ → Bool) → List ℕ → ℕ → List ℕ
 compared test v x = zip2 (λ a b. cond (test a b) 255 0) v (replicate (length v) x)
@@ -71,12 +66,9 @@ compared test v x = zip2 (λ a b. cond (test a b) 255 0) v (replicate (length v)
 abbrev pub marks : List ℕ → List ℕ
 marks v = zip2 bit_or (zip2 bit_or (compared eqb v 34) (compared eqb v 92)) (compared ltb v 32)
 
-one_lane : (a b c : Bool) → top 7 (bit_or (bit_or (cond a 255 0) (cond b 255 0)) (cond c 255 0)) ≡ (a || b || c)
-one_lane a b c = grind (arith, common_steps)
-
 tops : (v : List ℕ) → map (top 7) (marks v) ≡ map is_stop v
 tops [] = refl
-tops (x ∷ v) = λ i. one_lane (eqb x 34) (eqb x 92) (ltb x 32) i ∷ tops v i
+tops (x ∷ v) = grind (arith, common_steps, tops v)
 
 -- how many lanes come before the first stop, by the mask of the stops
 abbrev pub mask : List ℕ → ℕ
@@ -100,4 +92,4 @@ plain-stop bs k is h = let stop = prefix_len_stops is_plain bs 0 in (grind (arit
 
 pub ruleset seconds = (lead-second, slice_get_within, get_or_from_slice_get)
 
-pub ruleset fronts = (plain-stop, lead-spaces, prefix_len-le-length, escape-front, get_or-drop, take-append-drop)
+pub ruleset fronts = (plain-stop, lead-spaces, prefix_len-le-length, run-passes, escape-plain, get_or-drop, take-append-drop)

@@ -166,7 +166,7 @@ fn in_quotes(alloc: Global, text: &str) -> Result<String, AllocError>
 
 /// The compact JSON of a text that needs escapes.
 #[inline(never)]
-#[tactic(auto, using(crate::proofs::JsonLemmas::escapes))]
+#[tactic(auto, using(crate::proofs::JsonLemmas::pieces))]
 fn escaped(alloc: Global, text: &str) -> Result<String, AllocError>
     ensures { IfOk result (λ json. string_bytes json ≡ compact_text (string text.now)) }
 {
@@ -344,7 +344,7 @@ fn unescaped(alloc: Global, text: &str) -> Result<Option<SmolStr>, AllocError>
 }
 
 /// Appends plain text and escapes of two bytes; returns what comes after them.
-#[tactic(auto, using(crate::proofs::JsonLemmas::unescapes))]
+#[tactic(auto, using(crate::proofs::JsonLemmas::pieces))]
 fn push_unescaped<'a>(builder: &mut SmolStrBuilder, text: &'a str) -> Result<&'a str, AllocError>
     requires { builder.old ≡ empty_draft InBuffer }
     ensures { IfOk result (λ rest. text.now ≡ escape (encode_utf8_all builder.new.text) ++ rest.now) }

@@ -165,6 +165,7 @@ pub fn wire_forms()
 
 /// The JSON that is written for a text is read as that text. A plain text is written in quotes as it
 /// stands, and so it is read, with white space around it or without.
+#[tactic(auto, using(crate::proofs::JsonLemmas::laws))]
 pub fn json_strings()
     ensures back { (t : List ℕ) → IsJsonText (compact_text (json_value t)) t }
     ensures plain { (t : List ℕ) → IsPlain t →
