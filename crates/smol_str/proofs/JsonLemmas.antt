@@ -1,8 +1,7 @@
 -- JSON strings: what is written for a text, what is read as it, and when each fault comes.
-use Rattle.smol_str.proofs.Common.{nil_from_length, ◌≡◌, ◌<◌, ℕ, List, [], ◌∷◌, ◌++◌, true, Some, refl, sym, ap, ◌∙◌, rules, arith, list_all, length, take, drop, append-nil, common_steps, nat_tests, encode, encode_utf8_all, take-append-drop, chars, encodes-chars, encodes_same, encodes-append, append_assoc, IsUtf8-string_bytes, IsResident, place_of, Meaning, IsValueOf, Result, IfOk, String, Global, string_bytes, IfOk-weaker}
-use Rattle.std.proofs.Common.{ap₂, option_and_then}
+use Rattle.smol_str.proofs.Common.{nil_from_length, ◌≡◌, ◌<◌, ℕ, List, [], ◌∷◌, ◌++◌, true, Some, refl, sym, ap, ◌∙◌, rules, arith, list_all, length, take, drop, append-nil, common_steps, nat_tests, encode_utf8_all, take-append-drop, chars, encodes-chars, encodes_same, encodes-append, append_assoc, IsUtf8-string_bytes, IsResident, place_of, Meaning, IsValueOf, Result, IfOk, String, Global, string_bytes, IfOk-weaker}
+use Rattle.std.proofs.Common.{ap₂, option_and_then, IfErr, IsErrAnd}
 use Rattle.std.specs.List.{prefix_len}
-use Rattle.std.specs.Result.{IfErr, IsErrAnd}
 use Rattle.std.proofs.lemmas.Grind.{flat_map-append}
 use Rattle.std.proofs.lemmas.List.Folds.{list_all-append}
 use Rattle.std.proofs.lemmas.Str.{encode_ascii}
@@ -100,30 +99,18 @@ read-plain b t h = ap read h.1.4 ∙ rw (escape-encoded t h.0) at (read-spaced h
 
 pub ruleset laws = (read-compact, escape-encoded, read-plain)
 
--- the value of the text that was read
-module _ (text s : List ℕ) (reads : IsJsonText text s) where
-  pub read-same : (t : List ℕ) → IsJsonText text t → t ≡ s
-  read-same t e = encodes_same t s cc
-
-  pub value-read : (v : Meaning) → IsValueOf s v → IsJsonText text v.text
-  value-read v h = rw h.text reads
+-- bytes are read as one text
+pub read-same : (text s : List ℕ) → IsJsonText text s → (t : List ℕ) → IsJsonText text t → t ≡ s
+read-same text s reads t e = encodes_same t s cc
 
 -- no bytes are no JSON text
-some_bytes : (bs : List ℕ) (d : Data) → read bs ≡ Some d → 0 < length bs
+pub some_bytes : (bs : List ℕ) (d : Data) → read bs ≡ Some d → 0 < length bs
 unfolding serde_json_on_literals
 some_bytes [] d e = cc
 some_bytes (b ∷ bs) d e = omega arith
 
--- what is known of the value that bytes read as
-module _ {T : Type 0} (r : Result T JsonFault) (bs : List ℕ) (d : Data) (reads : read bs ≡ Some d) where
-  pub AfterJsonFault-memory : IsErrAnd r (λ fault. fault ≡ OutOfMemory) → IfErr r (AfterJsonFault bs)
-  AfterJsonFault-memory is = IfErr-is (AfterJsonFault bs) r OutOfMemory is (some_bytes bs d reads)
+pub AfterJsonFault-memory : {T : Type 0} (r : Result T JsonFault) (bs : List ℕ) (d : Data) → read bs ≡ Some d
+    → IsErrAnd r (λ fault. fault ≡ OutOfMemory) → IfErr r (AfterJsonFault bs)
+AfterJsonFault-memory r bs d reads is = IfErr-is (AfterJsonFault bs) r OutOfMemory is (some_bytes bs d reads)
 
-  pub AfterJsonFault-read : IfErr r (AfterValueFault d) → IfErr r (AfterJsonFault bs)
-  AfterJsonFault-read h = search (rules, some_bytes)
-
-pub IsJsonText-read : {E : Type 0} (r : Result Meaning E) (bs : List ℕ) (d : Data) → read bs ≡ Some d
-    → IfOk r (IsJsonOf d) → IfOk r (λ v. IsJsonText bs v.text)
-IsJsonText-read r bs d e h = search rules
-
-pub ruleset values_read = (read-same, value-read, read-plain, AfterJsonFault-memory, AfterJsonFault-read, IsJsonText-read)
+pub ruleset values_read = (read-same, read-plain, AfterJsonFault-memory, some_bytes)

@@ -1,6 +1,6 @@
 -- Plain bytes: how many come first, by lanes, and what JSON writes for them.
-use Rattle.smol_str.proofs.Common.{sym, take-append-drop, nat_eq, ◌≡◌, ap, get_or-drop, length-drop, drop_at, ℕ, zero, suc, ◌+◌, ◌-◌, ◌%◌, ◌^◌, ◌<◌, ◌≤◌, List, [], ◌∷◌, ◌++◌, Bool, true, false, cond, ltb, length, map, replicate, take, drop, refl, arith, subst, rules, get_or, get_or-take, common_steps, nat_tests, mask_l-mod, length-map, zip2, mask_l, top, ne_eqb, min, list_all, IsUtf8, IsCharBoundary}
-use Rattle.std.proofs.Common.{eqb, ◌||◌, bit_or, true≢false}
+use Rattle.smol_str.proofs.Common.{sym, take-append-drop, nat_eq, ◌≡◌, get_or-drop, drop_at, ℕ, zero, suc, ◌+◌, ◌-◌, ◌%◌, ◌^◌, ◌<◌, ◌≤◌, List, [], ◌∷◌, ◌++◌, Bool, true, false, cond, ltb, length, map, replicate, take, drop, refl, arith, rules, get_or, get_or-take, common_steps, nat_tests, mask_l-mod, length-map, zip2, mask_l, top, min, list_all, IsUtf8}
+use Rattle.std.proofs.Common.{eqb, bit_or}
 use Rattle.std.specs.List.{prefix_len}
 use Rattle.std.proofs.lemmas.List.Sums.{prefix_len_passes, prefix_len_stops, prefix_len-le-length, list_all-from_AllPass}
 use Rattle.std.proofs.lemmas.List.Folds.{length-prefix_len, prefix_len-append}
