@@ -55,11 +55,11 @@ escape-encoded t h = escape-plain _ (rw (plain-encoded t) h)
 pub ruleset pieces = (high, nil_from_length, encodes-append, encodes-chars, encode_ascii, flat_map-append, append_assoc, append-nil)
 
 -- what was cut is read
-pub read-cut : (text rest s behind : List ℕ) → drop (prefix_len is_space text) text ≡ 34 ∷ rest → rest ≡ escape s ++ 34 ∷ behind
-    → list_all is_space behind ≡ true → read text ≡ Some (string s)
-read-cut text rest s behind opened inner closed =
-    let whole : text ≡ take (prefix_len is_space text) text ++ 34 ∷ (escape s ++ 34 ∷ behind) = cc (take-append-drop (prefix_len is_space text) text) in
-    ap read whole ∙ read-spaced _ s behind (run-passes is_space text) closed
+pub read-cut : (text rest s h : List ℕ) → drop (prefix_len is_space text) text ≡ 34 ∷ rest → rest ≡ escape s ++ 34 ∷ h
+    → list_all is_space h ≡ true → read text ≡ Some (string s)
+read-cut text rest s h opened inner closed =
+    let whole : text ≡ take (prefix_len is_space text) text ++ 34 ∷ (escape s ++ 34 ∷ h) = cc (take-append-drop (prefix_len is_space text) text) in
+    ap read whole ∙ read-spaced _ s h (run-passes is_space text) closed
 
 pub ruleset cuts = (cut-run, plain-encoded, read-cut, encodes-chars)
 

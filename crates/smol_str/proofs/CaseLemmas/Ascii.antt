@@ -44,11 +44,6 @@ pub ascii-more : (bytes : List ℕ) (at n : ℕ) (lanes : List ℕ) → lanes �
     → IsAscii lanes → IsAscii (take at bytes) → IsAscii (take (at + n) bytes)
 ascii-more bytes at n lanes is low front = grind (arith, common_steps, take-add, IsAscii-append)
 
--- a part of the bytes is not ASCII
-pub high-lanes : (bytes : List ℕ) (at n : ℕ) (lanes : List ℕ) → lanes ≡ take n (drop at bytes)
-    → (true ≡ false) ↔ IsAscii lanes → ¬ (IsAscii (take n (drop at bytes)))
-high-lanes bytes at n lanes is high part = let no : true ≡ false = high.1 (subst IsAscii (sym is) part) in absurd (cc)
-
 pub ruleset ascii_fronts = (IsAscii-more, ascii-more)
 
 -- bytes are ASCII exactly where their characters are

@@ -1,6 +1,5 @@
-use Rattle.smol_str.proofs.CaseLemmas.Ascii.{high-lanes}
+use Rattle.std.proofs.Common.{true≢false}
 use Rattle.smol_str.proofs.bytes.ascii.ascii_chunks.Goals as goal
 
 pub returns-then-has_high-clause-stops : goal.returns-then-has_high-clause-stops
-returns-then-has_high-clause-stops c = λ room.
-    high-lanes c.args.bytes.now c.loop-at.at 16 _ c.load.ensures.lanes c.if-has_high.ensures
+returns-then-has_high-clause-stops c = λ room part. true≢false (c.if-has_high.ensures.1 (rw c.load.ensures.lanes part))

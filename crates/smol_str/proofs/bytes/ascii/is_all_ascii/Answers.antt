@@ -18,9 +18,6 @@ module _ (bytes : List ℕ) (at n : ℕ) (some : n ≤ length bytes) where
       (λ f. absurd (true≢false (sym f)), λ ascii. sym (last.1 (IsAscii-take _ n (IsAscii-drop bytes (length bytes - n) ascii))))
   told false high front back last = search (rules, true≢false)
 
-low : (high : Bool) → not high ≡ true → high ≡ false
-low high e = search rules
-
 pub returns-then-len-lt8 : goal.returns-then-len-lt8
 returns-then-len-lt8 c = (λ yes. rw yes at c.is_ascii.ensures.cases, ascii-told _ _ c.is_ascii.ensures.cases)
 
@@ -29,7 +26,7 @@ returns-then-len-lt-LANES c =
     let first = rw c.load.ensures.lanes at c.has_high.ensures in
     let last = rw c.load-then-len-lt-LANES.ensures.lanes at c.has_high-then-len-lt-LANES.ensures in
     told c.args.bytes.now 8 8 (omega (arith, c.if-len-lt8.false)) (not c.has_high.result) _
-    (λ yes. (first.0 (low _ yes), omega (arith, c.if-len-lt-LANES.true)))
+    (λ yes. (first.0 (search rules), omega (arith, c.if-len-lt-LANES.true)))
     (λ no ascii. true≢false (sym (ap not (first.1 (IsAscii-take c.args.bytes.now 8 ascii))) ∙ no)) last
 
 pub returns : goal.returns
