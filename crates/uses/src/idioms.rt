@@ -2,6 +2,7 @@
 ghost use Rattle.std.specs.Prelude.{◌≡◌, ◌↔◌, ℕ, List, String, IfOk, OnOk, OnErr, IsTrue, codes, reverse, encode_utf8_all};
 ghost use Rattle.std.specs.Iterator.{Drains, IsFinite};
 ghost use Rattle.std.specs.List.{join_by};
+ghost use Rattle.std.specs.Rc.{rc_str_bytes};
 ghost use Rattle.std.specs.Str.{chars};
 ghost use Rattle.std.specs.String.{string_bytes};
 ghost use Rattle.serde.specs.Event.{Logs, text};
@@ -15,8 +16,8 @@ ghost use Rattle.smol_str.specs.Text.{IsResident, place_of};
 use serde::{Deserialize, DeserializeOwned, Deserializer, Format, Serialize, Serializer};
 use smol_str::{SmolStr, SmolStrBuilder};
 use std::alloc::{AllocError, Global};
-use std::collections::HashMap;
 use std::convert::AsStr;
+use std::rc::RcStr;
 
 /// Whether a token is `if`.
 pub fn is_if(token: &SmolStr) -> bool
@@ -31,11 +32,6 @@ pub fn value_of<T: AsStr>(alloc: Global, text: &T) -> Result<SmolStr, AllocError
     ensures refused { OnErr result (¬ (IsResident (chars (T.text text.now)))) }
 {
     SmolStr::new(alloc, text.as_str())
-}
-
-/// The text of a token, or no text.
-pub fn text_or_empty(token: &Option<SmolStr>) -> &str {
-    token.as_deref().unwrap_or("")
 }
 
 /// Tokens on one line, by std's `join` of a slice.
@@ -114,13 +110,11 @@ pub fn push_characters<U: IntoIterator<Item = char>>(
     builder.extend(characters)
 }
 
-/// What was printed so far at each name: a builder for a new one.
-pub fn print_at(
-    pages: &mut HashMap<SmolStr, SmolStrBuilder>,
-    name: SmolStr,
-    text: &str,
-) -> Result<(), AllocError> {
-    pages.entry(name)?.or_default().push_str(text)
+/// A text that is shared already, which takes no memory.
+pub fn of_shared(shared: RcStr) -> SmolStr
+    ensures { IsValueOf (chars (rc_str_bytes shared)) result }
+{
+    SmolStr::from(shared)
 }
 
 /// A value written to any format: one text.
