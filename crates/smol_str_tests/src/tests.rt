@@ -2,11 +2,8 @@
 
 mod builder;
 mod collect;
-mod format;
 mod idioms;
-mod json_string;
 mod kernel;
-mod serde_impls;
 mod str_ext;
 mod value;
 

@@ -1,3 +1,0 @@
-//! Wire forms, over readers and writers that fail too, and with memory refused.
-mod borsh;
-mod stream;
