@@ -246,8 +246,6 @@ fn read_body<R: Read>(alloc: Global, reader: &mut R, size: usize) -> Result<Smol
 
 /// The wire form of the text; every text of at most 4294967295 bytes has one.
 impl BorshSerialize for SmolStr {
-    ghost use Rattle.smol_str.specs.Wire.{HasWire, wire};
-
     ghost form = { λ s. wire s.text };
 
     ghost has_form = { λ s. HasWire s.text };
@@ -285,10 +283,6 @@ impl BorshSerialize for SmolStr {
 /// Tests alone show that `Io` comes only where a `read` failed, how much memory is taken, and how
 /// large the buffers are.
 impl BorshDeserialize for SmolStr {
-    ghost use Rattle.std.specs.Prelude.{◌≡◌};
-    ghost use Rattle.smol_str.specs.Text.{place_of};
-    ghost use Rattle.smol_str.specs.Wire.{HasWire, wire};
-
     ghost form_read = { λ s. wire s.text };
 
     ghost is_read = { λ s. HasWire s.text × (s.place ≡ place_of s.text) };

@@ -19,6 +19,7 @@ ghost use Rattle.smol_str.specs.Draft.{InBuffer, empty_draft};
 ghost use Rattle.smol_str.specs.Plain.{is_plain, is_space, IsPlain, IsPlainJson, in_quotes};
 ghost use Rattle.smol_str.specs.Said.{json_said};
 ghost use Rattle.smol_str.specs.Json.{json_value, IsJsonText, IsJsonOf, AfterValueFault, AfterJsonFault};
+ghost use Rattle.smol_str.specs.declared.json_string.JsonFault.TheVariants.{OutOfMemory};
 
 use crate::builder::SmolStrBuilder;
 use crate::bytes::plain::{
@@ -46,9 +47,6 @@ pub enum JsonFault {
 }
 
 impl From<AllocError> for JsonFault {
-    ghost use Rattle.std.specs.Prelude.{◌≡◌};
-    ghost use Rattle.smol_str.specs.declared.json_string.JsonFault.TheVariants.{OutOfMemory};
-
     ghost from_gives = { λ error fault. fault ≡ OutOfMemory };
 
     fn from(_error: AllocError) -> JsonFault {
@@ -58,9 +56,6 @@ impl From<AllocError> for JsonFault {
 
 /// For `?` after a refused `push`; the item that comes back is dropped.
 impl<T: Drop> From<AllocFailed<T>> for JsonFault {
-    ghost use Rattle.std.specs.Prelude.{◌≡◌};
-    ghost use Rattle.smol_str.specs.declared.json_string.JsonFault.TheVariants.{OutOfMemory};
-
     ghost from_gives = { λ error fault. fault ≡ OutOfMemory };
 
     fn from(_error: AllocFailed<T>) -> JsonFault {

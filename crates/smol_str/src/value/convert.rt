@@ -9,6 +9,7 @@ ghost use Rattle.smol_str.specs.Text.{IsResident};
 ghost use Rattle.smol_str.specs.Meaning.{IsValueOf};
 ghost use Rattle.smol_str.specs.Faults.{AfterFromUtf8Fault, IsUtf8FaultOf};
 ghost use Rattle.smol_str.specs.Said.{utf8_said};
+ghost use Rattle.smol_str.specs.declared.value.convert.FromUtf8Fault.TheVariants.{OutOfMemory};
 
 use super::place::Place;
 use super::{Repr, SmolStr};
@@ -33,8 +34,6 @@ pub enum FromUtf8Fault {
 }
 
 impl From<AllocError> for FromUtf8Fault {
-    ghost use Rattle.smol_str.specs.declared.value.convert.FromUtf8Fault.TheVariants.{OutOfMemory};
-
     ghost from_gives = { λ error fault. fault ≡ OutOfMemory };
 
     fn from(_error: AllocError) -> FromUtf8Fault {
@@ -44,8 +43,6 @@ impl From<AllocError> for FromUtf8Fault {
 
 /// For `?` after a refused `push`; the item that comes back is dropped.
 impl<T: Drop> From<AllocFailed<T>> for FromUtf8Fault {
-    ghost use Rattle.smol_str.specs.declared.value.convert.FromUtf8Fault.TheVariants.{OutOfMemory};
-
     ghost from_gives = { λ error fault. fault ≡ OutOfMemory };
 
     fn from(_error: AllocFailed<T>) -> FromUtf8Fault {
