@@ -1,5 +1,5 @@
 //! The report of mode merge: counts that were written by mode tokens, added up.
-ghost use Rattle.std.specs.Prelude.{◌≡◌, ◌≢◌, ◌<◌, ◌^◌, ℕ, List, [], ◌∷◌, ◌++◌, length, MatchOption, IfSome, IfOk, IfErr, encode_utf8_all};
+ghost use Rattle.std.specs.Prelude.{◌≡◌, ◌≢◌, ◌<◌, ◌^◌, ℕ, List, [], ◌∷◌, ◌++◌, length, MatchOption, IfSome, IfOk, OnOk, IfErr, encode_utf8_all};
 ghost use Rattle.std.specs.Fmt.{decimal};
 ghost use Rattle.std.specs.List.{flat_map};
 ghost use Rattle.std.specs.Str.{chars};
@@ -44,6 +44,21 @@ fn sum_counts<S: BuildHasher + Drop>(
     ensures fault { IfErr result (HasNoReport Merge (chars text.now)) }
 {
     let mut tally = Tally::with_hasher(alloc, state);
+    add_counts(alloc, &mut tally, text)?;
+    Ok(tally)
+}
+
+/// Adds up the counts of count lines, in an empty tally.
+fn add_counts<S: BuildHasher>(
+    alloc: Global,
+    tally: &mut Tally<S>,
+    text: &str,
+) -> Result<(), RunFault>
+    requires { tally.old ≡ [] }
+    ensures ok { OnOk result (IsMerge (chars text.now) (flat_map count_line tally.new)) }
+    ensures some { OnOk result (0 < length tally.new → 0 < length (chars text.now)) }
+    ensures fault { IfErr result (HasNoReport Merge (chars text.now)) }
+{
     let (mut rest, mut lines, mut fits) = (text, 0, true);
     while let Some((count, token, after)) = first_count(rest) {
         // The lines behind a sum that is too large are read too: one may be no count line.
@@ -59,7 +74,7 @@ fn sum_counts<S: BuildHasher + Drop>(
     if !fits {
         return Err(RunFault::Full);
     }
-    Ok(tally)
+    Ok(())
 }
 
 /// The count and the token of the count line that a text begins with, and the text behind that line.

@@ -4,7 +4,7 @@ use denote.Text.{Utf8}
 use denote.Shadow.{shadow}
 use Rattle.std.specs.Str.{chars}
 use Rattle.smol_tokens_core.proofs.SumLemmas.{Summed}
-use Rattle.smol_tokens_core.proofs.merge.sum_counts.Given as goal
+use Rattle.smol_tokens_core.proofs.merge.add_counts.Given as goal
 
 abbrev pub invariant-loop-count : goal.invariant-loop-count
 invariant-loop-count g l =

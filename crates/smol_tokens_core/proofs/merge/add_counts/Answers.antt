@@ -3,8 +3,8 @@ use Rattle.std.specs.Str.{chars}
 use Rattle.std.proofs.lemmas.Bool.{MatchBool-at_true, MatchBool-at_false}
 use Rattle.smol_str.proofs.TextLemmas.Places.{some_char}
 use Rattle.smol_tokens_core.proofs.SumLemmas.{summed-more, summed-on, summed-all}
-use Rattle.smol_tokens_core.proofs.merge.sum_counts.Goals as goal
-use Rattle.smol_tokens_core.proofs.merge.sum_counts.Goals.{then-fits+in_ok-fits, else-fits}
+use Rattle.smol_tokens_core.proofs.merge.add_counts.Goals as goal
+use Rattle.smol_tokens_core.proofs.merge.add_counts.Goals.{then-fits+in_ok-fits, else-fits}
 
 pub loop-count-preserved : goal.loop-count-preserved
 loop-count-preserved g c =
