@@ -3,7 +3,8 @@
 --     same_key x y              the values are equal
 --     value_at t m              what a `HashMap` has at the keys of the text t
 --     ordered_value_at t m      what a `BTreeMap` has there
---     innermost t scopes        what the last of some maps has there that has something, as in nested scopes
+--     innermost t scopes        what the last of some lists of entries has there that has something, as in nested scopes
+--     entry_lists ms            the entries of each of some maps
 --     with_entry es t v         the entries es, in order, where the text t has v: in its place, or last where it is new
 --     entry_texts g es          the entries of a map with values as keys, as texts, where g reads what a key has
 --     has_text t values         whether a list has a value of the text t
@@ -14,6 +15,7 @@ use Rattle.std.specs.List.{list_any}
 use Rattle.std.specs.Ordering.{nat_cmp, is_lt}
 use Rattle.std.specs.Cmp.Lexicographic.{slice_cmp}
 use Rattle.std.specs.HashMap.{HashMap, get_by}
+use Rattle.std.specs.Map.{lookup}
 use Rattle.std.specs.Option.{option_or}
 use Rattle.std.specs.BTreeMap.{BTreeMap, get_by as ordered_get_by}
 use Rattle.smol_str.specs.Meaning.{Meaning}
@@ -29,10 +31,13 @@ value_at t m = get_by (λ key. bytes_eq t key.text) m
 abbrev pub ordered_value_at : {V : Type 0} → List ℕ → BTreeMap Meaning V → Option V
 ordered_value_at t m = ordered_get_by (λ key. slice_cmp nat_cmp t key.text) m
 
--- in maps one inside another, the innermost last
-abbrev pub innermost : {V S : Type 0} → List ℕ → List (HashMap Meaning V S) → Option V
+-- in scopes one inside another, the innermost last
+abbrev pub innermost : {V : Type 0} → List ℕ → List (List (Meaning × V)) → Option V
 innermost t [] = None
-innermost t (m ∷ ms) = option_or (innermost t ms) (value_at t m)
+innermost t (es ∷ scopes) = option_or (innermost t scopes) (lookup (λ key. bytes_eq t key.text) es)
+
+abbrev pub entry_lists : {K V S : Type 0} → List (HashMap K V S) → List (List (K × V))
+entry_lists ms = map (λ m. m.entries) ms
 
 -- what a map in order of insertion has, as texts, after `m.insert(key, v)`
 abbrev pub with_entry : {V : Type 0} → List (List ℕ × V) → List ℕ → V → List (List ℕ × V)

@@ -1,6 +1,6 @@
 //! Names in nested scopes: maps with values as keys, the innermost last.
 ghost use Rattle.std.specs.Prelude.{◌≡◌, ◌≢◌, ℕ, List, IfOk, OnOk, Some, true};
-ghost use Rattle.smol_str.specs.Keys.{innermost};
+ghost use Rattle.smol_str.specs.Keys.{innermost, entry_lists};
 
 use smol_str::SmolStr;
 use std::alloc::AllocError;
@@ -13,9 +13,9 @@ pub fn bind(
     name: SmolStr,
     value: u32,
 ) -> Result<bool, AllocError>
-    ensures this { IfOk result (λ bound. bound ≡ true → innermost name.text scopes.new.items ≡ Some value) }
+    ensures this { IfOk result (λ bound. bound ≡ true → innermost name.text (entry_lists scopes.new.items) ≡ Some value) }
     ensures others { OnOk result ((t : List ℕ) → t ≢ name.text →
-        innermost t scopes.new.items ≡ innermost t scopes.old.items) }
+        innermost t (entry_lists scopes.new.items) ≡ innermost t (entry_lists scopes.old.items)) }
 {
     let Some(scope) = scopes.last_mut() else {
         return Ok(false);
@@ -29,7 +29,7 @@ pub fn bind(
 /// The value in the innermost scope that binds a name.
 #[tactic(auto, using(smol_str::proofs::CallerLemmas::scopes))]
 pub fn find(scopes: &[HashMap<SmolStr, u32>], name: &SmolStr) -> Option<u32>
-    ensures { result ≡ innermost name.now.text scopes.now }
+    ensures { result ≡ innermost name.now.text (entry_lists scopes.now) }
 {
     for scope in scopes.iter().rev() {
         if let Some(value) = scope.get(name) {

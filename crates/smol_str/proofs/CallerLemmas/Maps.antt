@@ -7,7 +7,7 @@ use Rattle.std.specs.Map.{lookup, KeepsOthers}
 use Rattle.std.specs.Option.{option_copied, option_or}
 use Rattle.std.proofs.lemmas.Slice.Eq.{bytes_eq-Decides}
 use Rattle.smol_str.specs.declared.value.place.Place.TheVariants.{Inline}
-use Rattle.smol_str.specs.Keys.{value_at, innermost, same_key, stands_for, with_entry, entry_texts}
+use Rattle.smol_str.specs.Keys.{value_at, innermost, entry_lists, same_key, stands_for, with_entry, entry_texts}
 
 -- ---- maps with values as keys
 
@@ -93,20 +93,22 @@ same-last xs i m e h = grind (arith, common_steps)
 -- one map more, a change of the last, and what this leaves
 module _ {V S : Type 0} (t : List ℕ) where
   pub innermost-push : (ms : List (HashMap Meaning V S)) (m : HashMap Meaning V S)
-      → innermost t (ms ++ m ∷ []) ≡ option_or (value_at t m) (innermost t ms)
+      → innermost t (entry_lists (ms ++ m ∷ [])) ≡ option_or (value_at t m) (innermost t (entry_lists ms))
   innermost-push [] m = search rules
   innermost-push (n ∷ ms) m =
-      ap (λ o. option_or o (value_at t n)) (innermost-push ms m) ∙ option_or-assoc (value_at t m) (innermost t ms) (value_at t n)
+      ap (λ o. option_or o (value_at t n)) (innermost-push ms m)
+      ∙ option_or-assoc (value_at t m) (innermost t (entry_lists ms)) (value_at t n)
 
   pub innermost-set : (ms : List (HashMap Meaning V S)) (i : ℕ) (m : HashMap Meaning V S) → i + 1 ≡ length ms
-      → innermost t (set ms i m) ≡ option_or (value_at t m) (innermost t (take i ms))
-  innermost-set ms i m e = ap (innermost t) (set-last ms i m e) ∙ innermost-push (take i ms) m
+      → innermost t (entry_lists (set ms i m)) ≡ option_or (value_at t m) (innermost t (entry_lists (take i ms)))
+  innermost-set ms i m e = ap (λ ms. innermost t (entry_lists ms)) (set-last ms i m e) ∙ innermost-push (take i ms) m
 
   pub innermost-kept : (ms : List (HashMap Meaning V S)) (i : ℕ) (m n : HashMap Meaning V S) → i + 1 ≡ length ms
-      → m ≡ get_or ms i m → value_at t n ≡ value_at t m → innermost t (set ms i n) ≡ innermost t ms
+      → m ≡ get_or ms i m → value_at t n ≡ value_at t m
+      → innermost t (entry_lists (set ms i n)) ≡ innermost t (entry_lists ms)
   innermost-kept ms i m n e is same =
-      innermost-set ms i n e ∙ ap (λ o. option_or o (innermost t (take i ms))) same
-      ∙ sym (ap (innermost t) (same-last ms i m e is) ∙ innermost-push (take i ms) m)
+      innermost-set ms i n e ∙ ap (λ o. option_or o (innermost t (entry_lists (take i ms)))) same
+      ∙ sym (ap (λ ms. innermost t (entry_lists ms)) (same-last ms i m e is) ∙ innermost-push (take i ms) m)
 
 -- seen as lists, the others stay
 pub take-changed : {M N : Type 0} (f : M → N) (ms : List M) (n i : ℕ) (m : M) → n ≤ i
