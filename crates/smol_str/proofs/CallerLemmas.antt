@@ -3,7 +3,7 @@
 --     size-chars, size-append             the size of the text that bytes spell, and of two texts
 --     boundary-parts, chars-take, chars-drop    a `&str` whose text has two parts: it may be cut into these
 --     builders    a ruleset: appends after appends, in a loop over a list too, and when a builder leaves its buffer, also for a
---                 `&mut` builder whose later append is refused: on_heap-longer
+--                 `&mut` builder whose later append is refused
 --     prints      a ruleset: what was printed, as the text that it is
 --     collecting  a ruleset: collecting and extending from an iterator that gives a list; `iterators` in it: which list
 --     chars_by_std, strings_by_std    rulesets: the same by std's `collect` and `extend`; chars_made, ..
@@ -20,14 +20,14 @@
 --     text-set                            and at any text, where its values are values too
 --     stands_for-text, lookup-stands_for, lookup-lent    and one that is asked by a `&str`; `lookups`, a ruleset: of values
 --     entry_texts-insert, lookup-with_entry       its entries seen as texts, after an insert in order; and at a text
---     scopes      a ruleset: maps one inside another, looked up from the last, and the last of them changed; innermost-..
+--     scopes      a ruleset: maps one inside another, as lists of their entries, looked up from the last, and the last of
+--                                         them changed; innermost-..
 --     IsCut-cut, IsCut-unique, IsCutAt-step, IsCutAt-unmatched     that pieces are the cut of a text
 --     joined_more                         pieces joined, a piece at a time
---     cutting     a ruleset: a loop over `split` that makes a value of each piece, and the values joined again;
---                                         `split_once`, `strip_prefix`, `strip_suffix`, `starts_with`, at texts and characters
---     prefix_known, suffix_known          what an arm knows of a value whose text had a prefix or suffix
---     split_at_literal                    that loop at a literal of one character
---     joined-bytes                        values joined by std's `join`, as the bytes of the joined text
+--     cutting     a ruleset: a value of each piece of a `split`, by a loop or by `map` and `try_collect`, and the values joined
+--                                         again, by std's `join` too; `split_once`, `strip_prefix`, `strip_suffix`,
+--                                         `starts_with`, at texts and characters, and in an arm of a `match` on a value
+--     by_line     a ruleset: a loop over `lines`, and `map` and `try_collect` of them
 --     split_once-char, split_once-text, strip_prefix-text, strip_suffix-text    what these calls say, of texts
 --     sorting     a ruleset: values that were sorted, as texts, and searched by `binary_search`; texts-once: each text once
 --     texts-push, text_at, joined-spelled    lists of values, as texts; joined by a loop that writes the first apart
@@ -39,12 +39,12 @@ pub mod Wire
 pub mod Maps
 pub mod Cuts
 pub mod Lists
-pub use Rattle.smol_str.proofs.CallerLemmas.Texts.{replaced-each_with, printed-value, prints, chars-as_str, length-as_str, IsResident-few, chars-one, texts, size-front, on_heap-longer, on_heap-past, builders, each_replaced-value, each_replaced-refused, size-replaced_each, replacing}
+pub use Rattle.smol_str.proofs.CallerLemmas.Texts.{replaced-each_with, printed-value, prints, chars-as_str, length-as_str, IsResident-few, chars-one, IsUtf8-one, texts, size-front, size-cons, builders, each_replaced-value, each_replaced-refused, size-replaced_each, replacing}
 pub use Rattle.smol_str.proofs.CallerLemmas.Collecting.{chars_collected, chars_refused, chars_extended, chars_extend_refused, chars_extend_stopped, strs_collected, strs_refused, strs_extended, strs_extend_refused, strings_collected, strings_refused, string_refs_collected, string_refs_refused, string_refs_extended, string_refs_extend_refused, texts_collected, texts_refused, mapped_collected, mapped_refused, mapped_extended, mapped_extend_refused, items_collected, items_refused, items_extended, split_collected, split_refused, chars_made, strs_made, strings_made, string_refs_made, CameFrom, chars_came, chars_grown, string_refs_grown, chars_by_std, strings_by_std, array_chars_long, array_strs_long, array_strs_collected, split_long, collecting}
 pub use Rattle.smol_str.proofs.CallerLemmas.Wire.{Holds-parts, form_is_whole, form-utf8, form-text, form-held, form-read, form-known, forms, form-cut-held, form-cut-long, form-cut-utf8, form-cut-text, count-apart, items-apart, forms-apart, begun_first, begun_second, parts, text-at, items, forms-next, forms-more, AreRead, one_read, all_read, next_form}
 pub use Rattle.smol_str.proofs.CallerLemmas.Maps.{key_of, same_key-other, text-kept, updates, text-set, stands_for-text, lookup-stands_for, lookup-lent, lookups, entry_texts-insert, lookup-with_entry, innermost-push, innermost-set, innermost-kept, take-changed, scopes}
-pub use Rattle.smol_str.proofs.CallerLemmas.Cuts.{split_at_char, split_at_text, split_at_literal, joined-values, joined-bytes, in_some, split_char-whole, split_char-first, split_char-none, prefix-rest, prefix-none, suffix-front, suffix-none, starts_with-text, char_prefix-rest, char_prefix-none, starts_with-char, prefix_known, prefix_missing, suffix_known, suffix_missing, cutting, split_once-char, split_once-text, strip_prefix-text, strip_suffix-text}
-pub use Rattle.smol_str.proofs.CallerLemmas.Lists.{texts-push, text_at, IsSorted-texts, sorted-texts, texts-once, value_found, value_missing, sorting, position-stays, position-new, position-texts, joined-spelled}
+pub use Rattle.smol_str.proofs.CallerLemmas.Cuts.{split_at_char, split_at_text, tried_at_char, tried_at_text, joined-values, joined-bytes, in_some, split_char-whole, split_char-first, split_char-none, prefix-rest, prefix-none, suffix-front, suffix-none, starts_with-text, char_prefix-rest, char_prefix-none, starts_with-char, prefix_known, suffix_known, cutting, split_once-char, split_once-text, strip_prefix-text, strip_suffix-text}
+pub use Rattle.smol_str.proofs.CallerLemmas.Lists.{texts-push, text_at, IsSorted-texts, sorted-texts, texts-once, value_found, value_missing, sorting, position-stays, position-new, position-texts, joined-spelled, oks, AreOk, MapsBy, collected_oks, lines_yielded, lines_tried, by_line}
 -- what std's iterators give
 pub use Rattle.smol_str.proofs.IteratorLemmas.{iterators, gives-chars, gives-rev_chars, gives-slice, gives-map_lent}
 pub use Rattle.smol_str.proofs.PieceLemmas.{gives-split, gives-split_at}

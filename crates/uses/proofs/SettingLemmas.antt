@@ -51,3 +51,5 @@ entry_texts-inserted eq es k v same =
     (λ e es k v. ap (λ b. if b then (e.0, v) ∷ es else e ∷ insert_entry eq es k v) (same k e.0)) es k v
 
 pub ruleset inserts = (entry_texts-inserted)
+
+pub ruleset lookups = (lookup-settings, settings-more)

@@ -1,7 +1,8 @@
 //! A builder in a loop, and two appends that fit.
-ghost use Rattle.std.specs.Prelude.{◌≡◌, ◌+◌, ◌≤◌, ◌++◌, ◌∷◌, [], length, IfOk, IsOk, OnErr};
+ghost use Rattle.std.specs.Prelude.{◌≡◌, ◌+◌, ◌≤◌, ◌++◌, ◌∷◌, [], length, IfOk, IsOk, OnErr, OnOk};
 ghost use Rattle.std.specs.List.{flat_map};
 ghost use Rattle.std.specs.Str.{chars};
+ghost use Rattle.smol_str.specs.Draft.{OnHeap, appended};
 ghost use Rattle.smol_str.specs.Text.{IsShort};
 ghost use Rattle.smol_str.specs.Meaning.{IsValueOf};
 
@@ -33,15 +34,13 @@ pub fn both(alloc: Global, first: &str, second: &str) -> Result<SmolStrBuilder, 
     Ok(builder)
 }
 
-/// A key and its value, each with a comma behind it: as a character, and as a text.
+/// A key, a comma and a value at a builder's end. Where an append is refused, the whole would not fit the buffer.
 #[tactic(auto, using(smol_str::proofs::CallerLemmas::builders))]
-pub fn entry(alloc: Global, key: &str, value: &SmolStr) -> Result<SmolStr, AllocError>
-    ensures { IfOk result (λ v. IsValueOf (chars key.now ++ (44 ∷ (value.now.text ++ (44 ∷ [])))) v) }
+pub fn push_entry(out: &mut SmolStrBuilder, key: &str, value: &SmolStr) -> Result<(), AllocError>
+    ensures ok { OnOk result (out.new ≡ appended out.old (chars key.now ++ (44 ∷ value.now.text))) }
+    ensures refused { OnErr result ((appended out.old (chars key.now ++ (44 ∷ value.now.text))).kind ≡ OnHeap) }
 {
-    let mut builder = SmolStrBuilder::new(alloc);
-    builder.push_str(key)?;
-    builder.push(',')?;
-    builder.push_str(value)?;
-    builder.push_str(",")?;
-    builder.into_value()
+    out.push_str(key)?;
+    out.push(',')?;
+    out.push_str(value)
 }

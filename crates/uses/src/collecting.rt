@@ -1,28 +1,18 @@
 //! Texts collected from iterators whose items the caller knows, through adapters of std too.
-ghost use Rattle.std.specs.Prelude.{◌≡◌, ◌<◌, ◌≤◌, ◌==◌, ◌++◌, ◌∷◌, [], ℕ, String, codes, drop, length, not, reverse, take, IfOk, IsOk, OnOk, OnErr};
+ghost use Rattle.std.specs.Prelude.{◌≡◌, ◌<◌, ◌==◌, ◌++◌, ◌∷◌, [], ℕ, String, codes, drop, length, not, reverse, take, IfOk, OnOk, OnErr};
 ghost use Rattle.std.specs.List.{filter, prefix_len, slice_split};
 ghost use Rattle.std.specs.Str.{chars};
 ghost use Rattle.std.specs.Str.Lines.{lines};
-ghost use Rattle.smol_str.specs.Text.{IsShort, IsResident};
+ghost use Rattle.smol_str.specs.Text.{IsShort};
 ghost use Rattle.smol_str.specs.Meaning.{IsValueOf};
 ghost use Rattle.smol_str.specs.Draft.{OnHeap, appended};
 ghost use Rattle.smol_str.specs.Joined.{joined, str_text, string_text};
 ghost use Rattle.smol_str.specs.Case.{upper};
 ghost use Rattle.smol_str.specs.Replace.{replaced_all};
 
-use crate::headline::{of_any_strs, of_characters, with_any_strs};
-use smol_str::{INLINE_CAP, SmolStr, SmolStrBuilder, ValueAlloc};
+use crate::headline::{of_any_strs, with_any_strs};
+use smol_str::{SmolStr, SmolStrBuilder, ValueAlloc};
 use std::alloc::{AllocError, Global};
-
-/// The characters of a short text, which is never refused.
-#[tactic(auto, using(smol_str::proofs::CallerLemmas::texts))]
-pub fn copied_short(alloc: Global, text: &str) -> Result<SmolStr, AllocError>
-    requires { length text.now ≤ INLINE_CAP }
-    ensures ok { IsOk result }
-    ensures value { IfOk result (λ v. IsValueOf (chars text.now) v) }
-{
-    of_characters(alloc, text)
-}
 
 /// The characters of two texts.
 #[tactic(auto, using(smol_str::proofs::CallerLemmas::collecting))]
@@ -141,15 +131,6 @@ pub fn with_dash(alloc: Global, first: &str, second: &str) -> Result<SmolStr, Al
     SmolStr::from_strs(alloc, [first, "-", second].into_iter())
 }
 
-/// Two texts.
-#[tactic(auto, using(smol_str::proofs::CallerLemmas::collecting), unfolding(smol_str::specs::Collect::Collected))]
-pub fn of_pair(alloc: Global, first: &str, second: &str) -> Result<SmolStr, AllocError>
-    ensures value { IfOk result (λ v. IsValueOf (chars first.now ++ chars second.now) v) }
-    ensures refused { OnErr result (¬ (IsShort (chars first.now ++ chars second.now))) }
-{
-    SmolStr::from_strs(alloc, [first, second].into_iter())
-}
-
 /// A text without its line ends.
 #[tactic(auto, using(smol_str::proofs::CallerLemmas::collecting))]
 pub fn in_one_line(alloc: Global, text: &str) -> Result<SmolStr, AllocError>
@@ -234,12 +215,4 @@ pub fn of_two<A: ValueAlloc>(alloc: A, first: &str, second: &str) -> Result<A::V
     builder.push_str(first)?;
     builder.push_str(second)?;
     A::value_of(builder)
-}
-
-/// A builder's value, as collecting ends.
-pub fn of_filled(builder: SmolStrBuilder) -> Result<SmolStr, AllocError>
-    ensures value { IfOk result (λ v. IsValueOf builder.text v) }
-    ensures refused { OnErr result (¬ (IsResident builder.text)) }
-{
-    Global::value_of(builder)
 }

@@ -12,18 +12,30 @@ use smol_str::{INLINE_CAP, SmolStr, SmolStrBuilder, StrExt};
 use std::alloc::{AllocError, Global};
 
 /// The fields of a line, which commas separate.
+#[tactic(auto, using(smol_str::proofs::CallerLemmas::cutting))]
 pub fn fields(alloc: Global, line: &str) -> Result<Vec<SmolStr>, AllocError>
     ensures { IfOk result (λ fields.
         AreValuesOf (cut (chars line.now) (44 ∷ []) (no_limit (chars line.now))) fields.items) }
 {
-    let mut fields = Vec::new(alloc);
-    for field in line.split(',') {
-        fields.push(SmolStr::new(alloc, field)?)?;
-    }
-    Ok(fields)
+    line.split(',')
+        .map(|field| SmolStr::new(alloc, field))
+        .try_collect(alloc)
 }
 
 /// The same at any separator.
+#[tactic(auto, using(smol_str::proofs::CallerLemmas::cutting))]
+pub fn values_at(alloc: Global, line: &str, separator: &str) -> Result<Vec<SmolStr>, AllocError>
+    requires some { 0 < length separator.now }
+    ensures { IfOk result (λ values.
+        AreValuesOf (cut (chars line.now) (chars separator.now) (no_limit (chars line.now))) values.items) }
+{
+    line.split(separator)
+        .map(|value| SmolStr::new(alloc, value))
+        .try_collect(alloc)
+}
+
+/// The same in a loop.
+#[tactic(auto, using(smol_str::proofs::CallerLemmas::cutting))]
 pub fn fields_at(alloc: Global, line: &str, separator: &str) -> Result<Vec<SmolStr>, AllocError>
     requires some { 0 < length separator.now }
     ensures { IfOk result (λ fields.
@@ -91,21 +103,47 @@ pub fn without_suffix<'a>(name: &'a str, suffix: &str) -> Option<&'a str>
     name.strip_suffix(suffix)
 }
 
-/// Whether a name has a prefix.
+/// Whether a line begins with a text, and whether it is a comment.
 #[tactic(auto, using(smol_str::proofs::CallerLemmas::cutting))]
-pub fn has_prefix(name: &str, prefix: &str) -> bool
-    ensures { MatchBool result ((rest : List ℕ) × (chars name.now ≡ chars prefix.now ++ rest))
-        ((rest : List ℕ) → chars name.now ≢ chars prefix.now ++ rest) }
+pub fn begins(line: &str, prefix: &str) -> (bool, bool)
+    ensures prefix { MatchBool result.0 ((rest : List ℕ) × (chars line.now ≡ chars prefix.now ++ rest))
+        ((rest : List ℕ) → chars line.now ≢ chars prefix.now ++ rest) }
+    ensures comment { MatchBool result.1 ((rest : List ℕ) × (chars line.now ≡ 35 ∷ rest))
+        ((rest : List ℕ) → chars line.now ≢ 35 ∷ rest) }
 {
-    name.starts_with(prefix)
+    (line.starts_with(prefix), line.starts_with('#'))
 }
 
-/// What stands before a value's suffix, if it has it.
-#[tactic(auto, using(smol_str::proofs::CallerLemmas::texts))]
-pub fn stem<'a>(name: &'a SmolStr, suffix: &str) -> Option<&'a str>
-    ensures { IfSome result (λ front. name.now.text ≡ chars front.now ++ chars suffix.now) }
+/// What a comment says, if the line is one.
+#[tactic(auto, using(smol_str::proofs::CallerLemmas::cutting))]
+pub fn comment(line: &str) -> Option<&str>
+    ensures said { IfSome result (λ said. chars line.now ≡ 35 ∷ chars said.now) }
+    ensures none { IfNone result ((rest : List ℕ) → chars line.now ≢ 35 ∷ rest) }
 {
-    without_suffix(name, suffix)
+    line.strip_prefix('#')
+}
+
+/// What follows a value's prefix, as a value, if it has it.
+#[tactic(auto, using(smol_str::proofs::CallerLemmas::cutting))]
+pub fn tail(alloc: Global, name: &SmolStr, prefix: &str) -> Result<Option<SmolStr>, AllocError>
+    ensures rest { IfOk result (λ tail. IfSome tail (λ v. name.now.text ≡ chars prefix.now ++ v.text)) }
+    ensures none { IfOk result (λ tail. IfNone tail ((rest : List ℕ) → name.now.text ≢ chars prefix.now ++ rest)) }
+{
+    match name.strip_prefix(prefix) {
+        Some(rest) => Ok(Some(SmolStr::new(alloc, rest)?)),
+        None => Ok(None),
+    }
+}
+
+/// What stands before a value's suffix, as a value, if it has it.
+#[tactic(auto, using(smol_str::proofs::CallerLemmas::cutting))]
+pub fn stem(alloc: Global, name: &SmolStr, suffix: &str) -> Result<Option<SmolStr>, AllocError>
+    ensures { IfOk result (λ stem. IfSome stem (λ v. name.now.text ≡ v.text ++ chars suffix.now)) }
+{
+    match name.strip_suffix(suffix) {
+        Some(front) => Ok(Some(SmolStr::new(alloc, front)?)),
+        None => Ok(None),
+    }
 }
 
 /// A name without the white space around it.

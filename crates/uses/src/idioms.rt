@@ -1,15 +1,15 @@
 //! What users of strings write, with contracts: a value as a `str`, collected, extended, and in any format of serde.
 ghost use Rattle.std.specs.Prelude.{◌≡◌, ◌↔◌, ℕ, List, String, IfOk, OnOk, OnErr, IsTrue, codes, reverse, encode_utf8_all};
 ghost use Rattle.std.specs.Iterator.{Drains, IsFinite};
-ghost use Rattle.std.specs.List.{join_by};
 ghost use Rattle.std.specs.Rc.{rc_str_bytes};
 ghost use Rattle.std.specs.Str.{chars};
 ghost use Rattle.std.specs.String.{string_bytes};
 ghost use Rattle.serde.specs.Event.{Logs, text};
 ghost use Rattle.smol_str.specs.Collect.{Outgrown, StoppedAt};
+ghost use Rattle.smol_str.specs.Cut.{joined_by};
 ghost use Rattle.smol_str.specs.Draft.{appended};
 ghost use Rattle.smol_str.specs.Joined.{joined, string_text};
-ghost use Rattle.smol_str.specs.Meaning.{Meaning, IsValueOf};
+ghost use Rattle.smol_str.specs.Meaning.{IsValueOf, texts};
 ghost use Rattle.smol_str.specs.Serde.{HasReadText};
 ghost use Rattle.smol_str.specs.Text.{IsResident, place_of};
 
@@ -35,9 +35,10 @@ pub fn value_of<T: AsStr>(alloc: Global, text: &T) -> Result<SmolStr, AllocError
 }
 
 /// Tokens on one line, by std's `join` of a slice.
+#[tactic(auto, using(smol_str::proofs::CallerLemmas::cutting))]
 pub fn row(alloc: Global, tokens: &[SmolStr]) -> Result<String, AllocError>
     ensures { IfOk result (λ line. string_bytes line ≡
-        join_by (λ (token : Meaning). encode_utf8_all token.text) (codes " ") tokens.now) }
+        encode_utf8_all (joined_by (chars (codes " ")) (texts tokens.now))) }
 {
     tokens.join(alloc, " ")
 }

@@ -1,5 +1,5 @@
-//! Values sorted, two lists as one in order, and values looked up in lists and maps.
-ghost use Rattle.std.specs.Prelude.{◌≡◌, ◌++◌, OnOk, OnErr, IfOk, Some, false, option_copied, slice_get};
+//! Values sorted, each text kept once, and values looked up in lists and maps.
+ghost use Rattle.std.specs.Prelude.{◌≡◌, OnOk, OnErr, IfOk, Some, false, option_copied, slice_get};
 ghost use Rattle.std.specs.Ordering.{nat_cmp};
 ghost use Rattle.std.specs.Cmp.Lexicographic.{slice_cmp};
 ghost use Rattle.std.specs.List.Sorted.{IsPermutation, IsSorted, IsStrictlySortedBy};
@@ -19,19 +19,6 @@ pub fn sort_names(names: &mut Vec<SmolStr>) -> Result<(), AllocError>
     ensures refused { OnErr result (names.new.items ≡ names.old.items) }
 {
     names.sort()
-}
-
-/// The values of both lists, in the order of their texts.
-pub fn sorted_union(
-    mut left: Vec<SmolStr>,
-    mut right: Vec<SmolStr>,
-) -> Result<Vec<SmolStr>, AllocError>
-    ensures same { IfOk result (λ names. IsPermutation (left.items ++ right.items) names.items) }
-    ensures sorted { IfOk result (λ names. IsSorted (slice_cmp nat_cmp) (texts names.items)) }
-{
-    left.append(&mut right)?;
-    sort_names(&mut left)?;
-    Ok(left)
 }
 
 /// The values in the order of their texts, each text once.

@@ -38,6 +38,7 @@ impl Settings {
     }
 
     /// The settings of a text's lines. A line without an equals sign sets nothing.
+    #[tactic(auto, using(smol_str::proofs::CallerLemmas::by_line, crate::proofs::SettingLemmas::lookups))]
     pub fn read(alloc: Global, text: &str) -> Result<Settings, AllocError>
         ensures exact { IfOk result (λ s. s ≡ settings (lines text.now)) }
         ensures last { IfOk result (λ s.

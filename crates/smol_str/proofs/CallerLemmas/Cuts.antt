@@ -1,5 +1,5 @@
 -- Texts that std cuts: `split` in a loop, `split_once`, `strip_prefix` and `strip_suffix`, at the level of texts.
-use Rattle.smol_str.proofs.Common.{arith, flat_map, IsUtf8-from_ascii, IsAscii-cons, IsAscii-nil, items_from_drains, YieldsList, rules, ◌≡◌, ℕ, ◌-◌, ◌<◌, Bool, true, false, List, [], ◌∷◌, ◌++◌, length, drop, map, str_text, Bor, Option, Some, None, MatchOption, refl, sym, ap, ◌∙◌, subst, IsTrue, all_scalars, IsUtf8, chars, chars-nil, chars-append, encode_utf8, encode_utf8_all, append-nil, encodes-append, encodes-chars, Occurs, IsFirstAfter, joined_by, cut, no_limit, Meaning}
+use Rattle.smol_str.proofs.Common.{arith, flat_map, items_from_drains, YieldsList, rules, ◌≡◌, ℕ, ◌-◌, ◌<◌, Bool, true, false, List, [], ◌∷◌, ◌++◌, length, drop, map, str_text, Bor, Option, Some, None, MatchOption, refl, sym, ap, ◌∙◌, subst, IsTrue, all_scalars, IsUtf8, chars, chars-nil, chars-append, encode_utf8, encode_utf8_all, append-nil, encodes-append, encodes-chars, chars-encodes, chars_from_encodes, Occurs, IsFirstAfter, joined_by, cut, no_limit, Meaning}
 use Rattle.std.proofs.Common.{◌≢◌, IfNone, IfSome, MatchBool}
 use Rattle.std.specs.List.{join_by}
 use Rattle.std.specs.Str.Iter.{split_steps, split_text, split_has_more, split_pattern}
@@ -7,8 +7,13 @@ use Rattle.std.specs.Str.Pattern.{FindsChar, FindsCharPrefix, FindsText, FindsTe
 use Rattle.std.specs.declared.str.Split.{Split}
 use Rattle.std.proofs.lemmas.Str.{IsUtf8-take}
 use Rattle.std.proofs.lemmas.List.{map-set, set_past}
-use Rattle.smol_str.specs.Meaning.{texts, AreValuesOf}
-use Rattle.smol_str.proofs.CallerLemmas.Texts.{chars-as_str}
+use Rattle.std.specs.Iterator.Adapters.{map_source, map_callee}
+use Rattle.std.specs.declared.iter.Map.{Map}
+use Rattle.smol_str.specs.Meaning.{texts, AreValuesOf, IsValueOf}
+use Rattle.smol_str.specs.Text.{place_of}
+use Rattle.smol_str.proofs.Common.{All, Result}
+use Rattle.smol_str.proofs.CallerLemmas.Lists.{AreOk, MapsBy, collected_oks, mapped, oks, texts_made}
+use Rattle.smol_str.proofs.CallerLemmas.Texts.{IsUtf8-one}
 use Rattle.smol_str.proofs.CallerLemmas.Wire.{items}
 use Rattle.smol_str.proofs.CutLemmas.Replace.{replaced-itself}
 use Rattle.smol_str.proofs.PieceLemmas.{Finds, found_parts, found_char, found_text, gives-split, gives-split_at}
@@ -16,39 +21,79 @@ use Rattle.std.specs.Iterator.{Yields}
 
 -- ---- a loop over `split` that makes a value of each piece, where `AreValuesOf (map str_text l.yielded) l.values.items`
 
-module _ (vs : List Meaning) {S : Type 0} (steps : S → Option (Bor (List ℕ)) → S → Type 0) (ts : List (List ℕ)) where
-  all_given : (xs : List (Bor (List ℕ))) (s t u first : S) (r : Option (Bor (List ℕ))) → AreValuesOf (map str_text xs) vs
-      → Yields steps s xs t → steps t r u → r ≡ None → s ≡ first → YieldsList steps str_text first ts → AreValuesOf ts vs
-  all_given xs s t u first r so_far runs ends none same gives =
-      let given = subst (λ s. YieldsList steps str_text s ts) (sym same) gives in
-      subst (λ ts. AreValuesOf ts vs) (items_from_drains xs (t, runs, λ _. (u, subst (λ r. steps t r u) none ends)) given) so_far
+-- at the end the pieces are those of the cut, and joined they are the text
+are_pieces : {S : Type 0} (steps : S → Option (Bor (List ℕ)) → S → Type 0) (xs : List (Bor (List ℕ))) (s t : S) (q p : List ℕ)
+    → Yields steps s xs t → ((u : S) × steps t None u) → YieldsList steps str_text s (cut q p (no_limit q))
+    → (map str_text xs ≡ cut q p (no_limit q)) × (joined_by p (map str_text xs) ≡ q)
+are_pieces steps xs s t q p runs ends gives =
+    let is = items_from_drains xs (t, runs, λ _. ends) gives in
+    (is, ap (joined_by p) is ∙ replaced-itself q p (no_limit q))
 
--- at the end they are those of the cut at a character, and at a text
-module _ (bs : List ℕ) (vs : List Meaning) (u : IsUtf8 bs) (xs : List (Bor (List ℕ))) (r : Option (Bor (List ℕ))) where
-  pub split_at_char : (c : ℕ) (s t z first : Split ℕ) → AreValuesOf (map str_text xs) vs
-      → Yields (split_steps FindsChar (λ a b. b ≡ a)) s xs t → split_steps FindsChar (λ a b. b ≡ a) t r z → r ≡ None → s ≡ first
-      → split_text first ≡ bs → split_has_more first ≡ true → split_pattern first ≡ c
-      → AreValuesOf (cut (chars bs) (c ∷ []) (no_limit (chars bs))) vs
-  split_at_char c s t z first so_far runs ends none same text more pattern =
-      all_given vs _ _ xs s t z first r so_far runs ends none same (gives-split_at c bs (λ s o t h. h) u text more pattern)
+-- at a character
+pub split_at_char : {steps : Split ℕ → Option (Bor (List ℕ)) → Split ℕ → Type 0} (xs : List (Bor (List ℕ))) (s t : Split ℕ)
+    → Yields steps s xs t → ((u : Split ℕ) × steps t None u)
+    → ((s : _) (o : _) (t : _) → steps s o t → split_steps FindsChar (λ a b. b ≡ a) s o t) → split_has_more s ≡ true
+    → (Yields steps s xs t ≡ Yields steps s xs t)
+    × ((bs : List ℕ) (c : ℕ) → split_text s ≡ bs → split_pattern s ≡ c → IsUtf8 bs
+    → map str_text xs ≡ cut (chars bs) (c ∷ []) (no_limit (chars bs)))
+    × ((bs : List ℕ) (c : ℕ) → split_text s ≡ bs → split_pattern s ≡ c → IsUtf8 bs → joined_by (c ∷ []) (map str_text xs) ≡ chars bs)
+split_at_char {steps} xs s t runs ends f more =
+    let both = λ (bs : List ℕ) (c : ℕ) (text : split_text s ≡ bs) (is : split_pattern s ≡ c) (u : IsUtf8 bs).
+    are_pieces steps xs s t (chars bs) (c ∷ []) runs ends (gives-split_at c bs f u text more is) in
+    (refl, λ bs c text is u. (both bs c text is u).0, λ bs c text is u. (both bs c text is u).1)
 
-  pub split_at_text : (nd : List ℕ) (s t z first : Split (Bor (List ℕ))) (by : Bor (List ℕ)) → IsUtf8 nd → 0 < length nd
-      → AreValuesOf (map str_text xs) vs → Yields (split_steps (λ (n : Bor (List ℕ)). FindsText n.now) (λ n m. m.now ≡ n.now)) s xs t
-      → split_steps (λ (n : Bor (List ℕ)). FindsText n.now) (λ n m. m.now ≡ n.now) t r z → r ≡ None → s ≡ first
-      → split_text first ≡ bs → split_has_more first ≡ true → split_pattern first ≡ by → by.now ≡ nd
-      → AreValuesOf (cut (chars bs) (chars nd) (no_limit (chars bs))) vs
-  split_at_text nd s t z first by v some so_far runs ends none same text more pattern is =
-      all_given vs _ _ xs s t z first r so_far runs ends none same (gives-split by bs nd (λ s o t h. h) u v some is text more pattern)
+-- and at a text
+pub split_at_text : {steps : Split (Bor (List ℕ)) → Option (Bor (List ℕ)) → Split (Bor (List ℕ)) → Type 0}
+    (xs : List (Bor (List ℕ))) (s t : Split (Bor (List ℕ))) → Yields steps s xs t → ((u : Split (Bor (List ℕ))) × steps t None u)
+    → ((s : _) (o : _) (t : _) → steps s o t → split_steps (λ (n : Bor (List ℕ)). FindsText n.now) (λ n m. m.now ≡ n.now) s o t)
+    → split_has_more s ≡ true → (Yields steps s xs t ≡ Yields steps s xs t)
+    × ((bs nd : List ℕ) → split_text s ≡ bs → (split_pattern s).now ≡ nd → IsUtf8 bs → IsUtf8 nd → 0 < length nd
+    → map str_text xs ≡ cut (chars bs) (chars nd) (no_limit (chars bs)))
+    × ((bs nd : List ℕ) → split_text s ≡ bs → (split_pattern s).now ≡ nd → IsUtf8 bs → IsUtf8 nd → 0 < length nd
+    → joined_by (chars nd) (map str_text xs) ≡ chars bs)
+split_at_text {steps} xs s t runs ends f more =
+    let both = λ (bs nd : List ℕ) (text : split_text s ≡ bs) (is : (split_pattern s).now ≡ nd) (u : IsUtf8 bs) (v : IsUtf8 nd)
+    (some : 0 < length nd). are_pieces steps xs s t (chars bs) (chars nd) runs ends
+    (gives-split (split_pattern s) bs nd f u v some is text more refl) in
+    (refl, λ bs nd text is u v some. (both bs nd text is u v some).0, λ bs nd text is u v some. (both bs nd text is u v some).1)
 
-  -- and at a literal of one character
-  pub split_at_literal : (c : ℕ) (s t z first : Split (Bor (List ℕ))) (by : Bor (List ℕ)) → c < 128
-      → AreValuesOf (map str_text xs) vs → Yields (split_steps (λ (n : Bor (List ℕ)). FindsText n.now) (λ n m. m.now ≡ n.now)) s xs t
-      → split_steps (λ (n : Bor (List ℕ)). FindsText n.now) (λ n m. m.now ≡ n.now) t r z → r ≡ None → s ≡ first
-      → split_text first ≡ bs → split_has_more first ≡ true → split_pattern first ≡ by → by.now ≡ c ∷ []
-      → AreValuesOf (cut (chars bs) (chars (c ∷ [])) (no_limit (chars bs))) vs
-  split_at_literal c s t z first by low so_far runs ends none same text more pattern is =
-      split_at_text (c ∷ []) s t z first by (IsUtf8-from_ascii (c ∷ []) (IsAscii-cons c [] low IsAscii-nil)) (omega arith)
-      so_far runs ends none same text more pattern is
+-- the same where `map` and `try_collect` make the values, at a character
+pub tried_at_char : {F E : Type 0} (more : Map (Split ℕ) F → Option (Result Meaning E) → Map (Split ℕ) F → Type 0)
+    (rs : List (Result Meaning E)) (s t : Map (Split ℕ) F) → Yields more s rs t → ((u : Map (Split ℕ) F) × more t None u)
+    → MapsBy (split_steps FindsChar (λ a b. b ≡ a)) (λ bs v. IsValueOf (chars bs) v) more (map_callee s)
+    → ((p q : Map (Split ℕ) F) → more p None q → split_steps FindsChar (λ a b. b ≡ a) (map_source p) None (map_source q))
+    → split_has_more (map_source s) ≡ true → AreOk rs → (Yields more s rs t ≡ Yields more s rs t)
+    × ((bs : List ℕ) (c : ℕ) → split_text (map_source s) ≡ bs → split_pattern (map_source s) ≡ c → IsUtf8 bs
+    → texts (oks rs) ≡ cut (chars bs) (c ∷ []) (no_limit (chars bs)))
+    × All (λ v. v.place ≡ place_of v.text) (oks rs)
+tried_at_char more rs s t run ends by last live all =
+    let made = mapped (split_steps FindsChar (λ a b. b ≡ a)) (λ bs v. IsValueOf (chars bs) v) more (map_callee s) rs s t run refl by all in
+    let values = texts_made made.0 (oks rs) made.2 in (
+      refl,
+      λ bs c text is u. values.text
+          ∙ (are_pieces (split_steps FindsChar (λ a b. b ≡ a)) made.0 (map_source s) (map_source t) (chars bs) (c ∷ []) made.1
+          (map_source ends.0, last t ends.0 ends.1) (gives-split_at c bs (λ s o t h. h) u text live is)).0,
+      values.place,
+    )
+
+-- the same where `map` and `try_collect` make the values, at a text
+pub tried_at_text : {F E : Type 0} (more : Map (Split (Bor (List ℕ))) F → Option (Result Meaning E) → Map (Split (Bor (List ℕ))) F → Type 0)
+    (rs : List (Result Meaning E)) (s t : Map (Split (Bor (List ℕ))) F) → Yields more s rs t → ((u : Map (Split (Bor (List ℕ))) F) × more t None u)
+    → MapsBy (split_steps (λ (n : Bor (List ℕ)). FindsText n.now) (λ n m. m.now ≡ n.now)) (λ bs v. IsValueOf (chars bs) v) more (map_callee s)
+    → ((p q : Map (Split (Bor (List ℕ))) F) → more p None q → split_steps (λ (n : Bor (List ℕ)). FindsText n.now) (λ n m. m.now ≡ n.now) (map_source p) None (map_source q))
+    → split_has_more (map_source s) ≡ true → AreOk rs → (Yields more s rs t ≡ Yields more s rs t)
+    × ((bs nd : List ℕ) → split_text (map_source s) ≡ bs → (split_pattern (map_source s)).now ≡ nd → IsUtf8 bs → IsUtf8 nd → 0 < length nd
+    → texts (oks rs) ≡ cut (chars bs) (chars nd) (no_limit (chars bs)))
+    × All (λ v. v.place ≡ place_of v.text) (oks rs)
+tried_at_text more rs s t run ends by last live all =
+    let made = mapped (split_steps (λ (n : Bor (List ℕ)). FindsText n.now) (λ n m. m.now ≡ n.now)) (λ bs v. IsValueOf (chars bs) v) more (map_callee s) rs s t run refl by all in
+    let values = texts_made made.0 (oks rs) made.2 in (
+      refl,
+      λ bs nd text is u v some. values.text
+          ∙ (are_pieces (split_steps (λ (n : Bor (List ℕ)). FindsText n.now) (λ n m. m.now ≡ n.now)) made.0 (map_source s) (map_source t) (chars bs) (chars nd) made.1
+          (map_source ends.0, last t ends.0 ends.1) (gives-split (split_pattern (map_source s)) bs nd (λ s o t h. h) u v some is text live refl)).0,
+      values.place,
+    )
 
 -- joined where they were cut
 pub joined-values : (p : List ℕ) (values : List Meaning) (t : List ℕ) (n : ℕ) → AreValuesOf (cut t p n) values
@@ -194,27 +239,14 @@ module _ (bs : List ℕ) (c : ℕ) (u : IsUtf8 bs) where
   starts_with-char false none = char_lacks none
 
 -- in the arms of a `match` on a value's text t
-module _ (t bs nd : List ℕ) (lent : bs ≡ encode_utf8_all t) (scalars : IsTrue (all_scalars t)) (v : IsUtf8 nd) where
-  lent_utf8 : IsUtf8 bs
-  lent_utf8 = (t, (scalars, sym lent))
+module _ (t nd x : List ℕ) (scalars : IsTrue (all_scalars t)) (u : IsUtf8 nd) where
+  pub prefix_known : encode_utf8_all t ≡ nd ++ x → t ≡ chars nd ++ chars x
+  prefix_known e = sym (chars-encodes t scalars) ∙ ap chars e ∙ chars-append nd x u
 
-  pub prefix_known : (x w : List ℕ) → w ≡ chars x → StripsPrefix (FindsTextPrefix nd) bs x
-      → t ≡ chars nd ++ w
-  prefix_known x w read said =
-      sym (chars-as_str t bs scalars lent) ∙ strip_prefix-text bs nd lent_utf8 v (Some (record { ref_ptr = (0, 0); now = x })) said ∙ ap (λ q. chars nd ++ q) (sym read)
-
-  pub prefix_missing : (r : Option (Bor (List ℕ))) → r ≡ None → MatchOption r (FindsTextPrefix nd bs None) (λ x. StripsPrefix (FindsTextPrefix nd) bs x.now)
-      → (rest : List ℕ) → t ≢ chars nd ++ rest
-  prefix_missing r is said rest e = strip_prefix-text bs nd lent_utf8 v None (rw is at said) rest (chars-as_str t bs scalars lent ∙ e)
-
-  pub suffix_known : (x w : List ℕ) → w ≡ chars x → StripsSuffix (FindsTextSuffix nd) bs x
-      → t ≡ w ++ chars nd
-  suffix_known x w read said =
-      sym (chars-as_str t bs scalars lent) ∙ strip_suffix-text bs nd lent_utf8 v (Some (record { ref_ptr = (0, 0); now = x })) said ∙ ap (λ q. q ++ chars nd) (sym read)
-
-  pub suffix_missing : (r : Option (Bor (List ℕ))) → r ≡ None → MatchOption r (FindsTextSuffix nd bs None) (λ x. StripsSuffix (FindsTextSuffix nd) bs x.now)
-      → (front : List ℕ) → t ≢ front ++ chars nd
-  suffix_missing r is said front e = strip_suffix-text bs nd lent_utf8 v None (rw is at said) front (chars-as_str t bs scalars lent ∙ e)
+  pub suffix_known : StripsSuffix (FindsTextSuffix nd) (encode_utf8_all t) x → t ≡ chars x ++ chars nd
+  suffix_known said =
+      sym (chars-encodes t scalars)
+      ∙ strip_suffix-text (encode_utf8_all t) nd (t, (scalars, refl)) u (Some (record { ref_ptr = (0, 0); now = x })) said
 
 pub ruleset cutting = (
   arith,
@@ -224,7 +256,14 @@ pub ruleset cutting = (
   joined-values,
   split_at_char,
   split_at_text,
-  split_at_literal,
+  IsUtf8-one,
+  tried_at_char,
+  tried_at_text,
+  collected_oks,
+  joined-bytes,
+  chars_from_encodes,
+  encodes-append,
+  encodes-chars,
   in_some,
   split_char-whole,
   split_char-first,
@@ -237,6 +276,6 @@ pub ruleset cutting = (
   char_prefix-rest,
   char_prefix-none,
   starts_with-char,
-  prefix_missing,
-  suffix_missing,
+  prefix_known,
+  suffix_known,
 )

@@ -19,6 +19,19 @@ use Rattle.std.proofs.lemmas.Option.{slice_get-map, slice_get-get_or}
 use Rattle.smol_str.specs.Keys.{has_text}
 use Rattle.smol_str.specs.Meaning.{texts}
 use Rattle.smol_str.proofs.CallerLemmas.Maps.{key_of}
+use Rattle.smol_str.proofs.Common.{append-nil, append_assoc, Option, IsValueOf, place_of, chars, str_text, Bor, items_from_drains, FoldsTo, All-nil, All-cons}
+use Rattle.smol_str.specs.Meaning.{AreValuesOf}
+use Rattle.std.specs.Prelude.{Vec}
+use Rattle.std.specs.Vec.{vec_items}
+use Rattle.std.specs.List.{AllZip}
+use Rattle.std.specs.Iterator.{Yields}
+use Rattle.std.specs.Iterator.Adapters.{map_source, map_callee}
+use Rattle.std.specs.Str.Iter.{lines_rest, lines_steps}
+use Rattle.std.specs.Str.Lines.{lines}
+use Rattle.std.specs.declared.str.Lines.{Lines}
+use Rattle.std.proofs.lemmas.Iterator.Splits.{YieldsList-from_lines}
+use Rattle.smol_str.proofs.IteratorLemmas.{weaker}
+use Rattle.std.specs.declared.iter.Map.{Map}
 
 -- one value more
 pub texts-push : (values : List Meaning) (v : Meaning) → texts (values ++ v ∷ []) ≡ texts values ++ v.text ∷ []
@@ -127,3 +140,88 @@ position-texts p vs =
 pub joined-spelled : {X : Type 0} (f : X → List ℕ) (p : List ℕ) (x : X) (xs : List X)
     → f x ++ flat_map (λ y. p ++ f y) xs ≡ joined_by p (map f (x ∷ xs))
 joined-spelled f p x xs = ap (λ t. f x ++ t) (sym (flat_map-map (λ q. p ++ q) f xs))
+
+-- ---- what `map` and `try_collect` make of what an iterator lends
+
+-- the values of results, where all have one
+abbrev pub oks : {A E : Type 0} → List (Result A E) → List A
+oks [] = []
+oks (Ok y ∷ rs) = y ∷ oks rs
+oks (Err e ∷ rs) = oks rs
+
+abbrev pub AreOk : {A E : Type 0} → List (Result A E) → Type 0
+AreOk [] = Unit {0}
+AreOk (Ok y ∷ rs) = AreOk rs
+AreOk (Err e ∷ rs) = ⊥
+
+-- what was collected are the values that the items held
+module _ {A E Z : Type 0} (adds : Vec A Z → Result A E → Vec A Z → Type 0)
+    (one : (p : Vec A Z) (r : Result A E) (q : Vec A Z) → adds p r q → (y : A) × (Ok y ≡ r) × (vec_items q ≡ vec_items p ++ y ∷ [])) where
+  held : (rs : List (Result A E)) (b w : Vec A Z) → FoldsTo adds b rs w → AreOk rs × (vec_items w ≡ vec_items b ++ oks rs)
+  held [] b w e = (tt, ap vec_items (sym e) ∙ sym (append-nil (vec_items b)))
+  held (Ok y ∷ rs) b w (j, added, rest) =
+      let others = held rs j w rest in
+      let this = one b (Ok y) j added in
+      let same : this.0 ≡ y = cc this.1 in
+      (others.0, others.1 ∙ ap (λ l. l ++ oks rs) (cc (this.2, same)) ∙ append_assoc (vec_items b) (y ∷ []) (oks rs))
+  held (Err e ∷ rs) b w (j, added, rest) = let this = one b (Err e) j added in absurd (cc this.1)
+
+pub collected_oks : {A E Z : Type 0} {adds : Vec A Z → Result A E → Vec A Z → Type 0} (rs : List (Result A E)) (b w : Vec A Z)
+    → FoldsTo adds b rs w
+    → ((p : Vec A Z) (r : Result A E) (q : Vec A Z) → adds p r q → (y : A) × (Ok y ≡ r) × (vec_items q ≡ vec_items p ++ y ∷ []))
+    → (FoldsTo adds b rs w ≡ FoldsTo adds b rs w) × AreOk rs × (vec_items w ≡ vec_items b ++ oks rs)
+collected_oks {adds = adds} rs b w folds one = let h = held adds one rs b w folds in (refl, h.0, h.1)
+
+-- those of a `map`, whose step is one of its source, and gives of what is lent what P says
+module _ {S F A C E : Type 0} (steps : S → Option (Bor A) → S → Type 0) (P : A → C → Type 0) where
+  abbrev pub MapsBy : (Map S F → Option (Result C E) → Map S F → Type 0) → F → Type 0
+  MapsBy more f = (p : Map S F) (r : Result C E) (q : Map S F) → more p (Some r) q → map_callee p ≡ f
+      → (x : Bor A) × steps (map_source p) (Some x) (map_source q) × (map_callee q ≡ f) × IfOk r (λ c. P x.now c)
+
+  pub mapped : (more : Map S F → Option (Result C E) → Map S F → Type 0) (f : F) (rs : List (Result C E)) (s t : Map S F)
+      → Yields more s rs t → map_callee s ≡ f → MapsBy more f → AreOk rs
+      → (xs : List (Bor A)) × Yields steps (map_source s) xs (map_source t) × AllZip P (map (λ x. x.now) xs) (oks rs)
+  mapped more f [] s t same e by all = ([], ap map_source same, tt)
+  mapped more f (Ok c ∷ rs) s t (j, on, run) e by all =
+      let this = by s (Ok c) j on e in
+      let others = mapped more f rs j t run this.2 by all in
+      (this.0 ∷ others.0, (map_source j, this.1, others.1), (this.3, others.2))
+  mapped more f (Err x ∷ rs) s t run e by all = absurd all
+
+pub texts_made : (xs : List (Bor (List ℕ))) (vs : List Meaning) → AllZip (λ bs v. IsValueOf (chars bs) v) (map (λ x. x.now) xs) vs
+    → AreValuesOf (map str_text xs) vs
+texts_made [] [] h = record { text = refl; place = All-nil (λ v. v.place ≡ place_of v.text) }
+texts_made [] (v ∷ vs) h = absurd h
+texts_made (x ∷ xs) [] h = absurd h
+texts_made (x ∷ xs) (v ∷ vs) (this, others) =
+    let rest = texts_made xs vs others in record {
+      text = cc (this.text, rest.text);
+      place = All-cons (λ v. v.place ≡ place_of v.text) v vs (this.place ∙ ap place_of (sym this.text)) rest.place;
+    }
+
+lines_made : {C D : Type 0} (w : C → D) (h : List ℕ → D) (ys : List (List ℕ)) (cs : List C) → AllZip (λ y c. w c ≡ h y) ys cs → map w cs ≡ map h ys
+lines_made w h [] [] same = refl
+lines_made w h [] (c ∷ cs) same = absurd same
+lines_made w h (y ∷ ys) [] same = absurd same
+lines_made w h (y ∷ ys) (c ∷ cs) same = cc (same.0, lines_made w h ys cs same.1)
+
+-- a loop over the lines of a text, and `map` and `try_collect` of them, where what w reads of each thing that is made is h
+-- of its line
+pub lines_yielded : {steps : Lines → Option (Bor (List ℕ)) → Lines → Type 0} (xs : List (Bor (List ℕ))) (s t : Lines)
+    → Yields steps s xs t → ((u : Lines) × steps t None u)
+    → ((s : Lines) (o : Option (Bor (List ℕ))) (t : Lines) → steps s o t → lines_steps s o t)
+    → (Yields steps s xs t ≡ Yields steps s xs t) × (map (λ x. x.now) xs ≡ lines (lines_rest s))
+lines_yielded {steps} xs s t run ends f =
+    (refl, items_from_drains xs (t, run, λ _. ends) (weaker f (YieldsList-from_lines (lines_rest s) refl)))
+
+pub lines_tried : {F C D E : Type 0} (more : Map Lines F → Option (Result C E) → Map Lines F → Type 0) (rs : List (Result C E))
+    (s t : Map Lines F) (w : C → D) (h : List ℕ → D) → Yields more s rs t → ((u : Map Lines F) × more t None u)
+    → ((p q : Map Lines F) → more p None q → lines_steps (map_source p) None (map_source q)) → AreOk rs
+    → MapsBy lines_steps (λ y c. w c ≡ h y) more (map_callee s) → map w (oks rs) ≡ map h (lines (lines_rest (map_source s)))
+lines_tried more rs s t w h run ends last all by =
+    let made = mapped lines_steps (λ y c. w c ≡ h y) more (map_callee s) rs s t run refl by all in
+    let them = items_from_drains made.0 (map_source t, made.1, λ _. (map_source ends.0, last t ends.0 ends.1))
+    (YieldsList-from_lines (lines_rest (map_source s)) refl) in
+    lines_made w h (map (λ x. x.now) made.0) (oks rs) made.2 ∙ ap (map h) them
+
+pub ruleset by_line = (lines_yielded, lines_tried, collected_oks)

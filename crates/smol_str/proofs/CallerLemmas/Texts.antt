@@ -1,5 +1,5 @@
 -- Texts: their bytes and sizes, builders, and one character in place of another.
-use Rattle.smol_str.proofs.Common.{◌≡◌, ◌∷◌, ◌++◌, sym, Draft, OnHeap, appended, kind_with, ℕ, ◌+◌, ◌<◌, ◌≤◌, Result, IfOk, OnErr, subst, List, [], length, take, encode_utf8_all, refl, ap, ◌∙◌, inl, IsTrue, arith, flat_map, chars, all_scalars, IsUtf8, chars-encodes, chars_from_encodes, encodes-chars, encodes_same, chars-IsAscii, INLINE_CAP, size, IsShort, IsResident, place_of, Meaning, IsValueOf, IsAscii, replaced_all, each_with, each_replaced, rules, nat_tests, append-nil, append_assoc, encodes-append, IsAscii-cons, IsAscii-nil}
+use Rattle.smol_str.proofs.Common.{IsUtf8-from_ascii, ◌≡◌, ◌∷◌, ◌++◌, sym, Draft, OnHeap, appended, kind_with, ℕ, ◌+◌, ◌<◌, ◌≤◌, Result, IfOk, OnErr, subst, List, [], length, take, encode_utf8_all, refl, ap, ◌∙◌, inl, IsTrue, arith, flat_map, chars, all_scalars, IsUtf8, chars-encodes, chars_from_encodes, encodes-chars, encodes_same, chars-IsAscii, INLINE_CAP, size, IsShort, IsResident, place_of, Meaning, IsValueOf, IsAscii, replaced_all, each_with, each_replaced, rules, nat_tests, append-nil, append_assoc, encodes-append, IsAscii-cons, IsAscii-nil}
 use Rattle.std.proofs.lemmas.Grind.{take_at_read, flat_map-append}
 use Rattle.std.proofs.lemmas.Str.{encode_ascii}
 use Rattle.smol_str.proofs.CaseLemmas.Ascii.{size-mapped}
@@ -26,6 +26,9 @@ IsResident-few bs u few = inl (IsShort-chars bs u few)
 pub chars-one : (c : ℕ) → c < 128 → chars (c ∷ []) ≡ c ∷ []
 chars-one c ascii = chars-IsAscii (c ∷ []) (IsAscii-cons c [] ascii IsAscii-nil)
 
+pub IsUtf8-one : (c : ℕ) → c < 128 → IsUtf8 (c ∷ [])
+IsUtf8-one c ascii = IsUtf8-from_ascii (c ∷ []) (IsAscii-cons c [] ascii IsAscii-nil)
+
 pub ruleset texts = (
   chars-one,
   chars-encodes,
@@ -45,20 +48,13 @@ pub size-front : {X : Type 0} (f : X → List ℕ) (xs : List X) (i : ℕ)
     → (flat_map f (take i xs) ≡ flat_map f (take i xs)) × (size (flat_map f (take (i + 1) xs)) ≤ size (flat_map f xs))
 size-front f xs i = (refl, rw (flat_map-parts f xs (i + 1)) (omega (arith, size-append)))
 
--- what is on the heap stays there when more is appended, as where a later append is refused
-pub on_heap-longer : (b : Draft) (t u : List ℕ) → (appended b t).kind ≡ OnHeap → (appended b (t ++ u)).kind ≡ OnHeap
-on_heap-longer b t u heap =
-    ap (λ (d : Draft). d.kind) (sym (appended-twice b t u)) ∙ ap (λ k. kind_with k ((b.text ++ t) ++ u)) heap
-
--- the same where a character was refused in the middle
-pub on_heap-past : (b : Draft) (t u : List ℕ) (c : ℕ) → (appended b (t ++ c ∷ [])).kind ≡ OnHeap → (appended b (t ++ (c ∷ u))).kind ≡ OnHeap
-on_heap-past b t u c heap =
-    subst (λ x. (appended b x).kind ≡ OnHeap) (append_assoc t (c ∷ []) u) (on_heap-longer b (t ++ c ∷ []) u heap)
+-- a character more
+pub size-cons : (c : ℕ) (t : List ℕ) → size (c ∷ t) ≡ size (c ∷ []) + size t
+size-cons c t = size-append (c ∷ []) t
 
 pub ruleset builders = (
   texts,
-  on_heap-longer,
-  on_heap-past,
+  size-cons,
   appended-twice,
   appended-nothing,
   OnHeap-long,
