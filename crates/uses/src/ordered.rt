@@ -22,6 +22,7 @@ pub fn sort_names(names: &mut Vec<SmolStr>) -> Result<(), AllocError>
 }
 
 /// The values in the order of their texts, each text once.
+#[tactic(auto, using(smol_str::proofs::CallerLemmas::sorting))]
 pub fn sorted_once(mut names: Vec<SmolStr>) -> Result<Vec<SmolStr>, AllocError>
     ensures { IfOk result (λ once. IsStrictlySortedBy (slice_cmp nat_cmp) (texts once.items)) }
 {

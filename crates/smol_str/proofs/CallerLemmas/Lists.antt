@@ -88,8 +88,6 @@ module _ (r : Result ℕ ℕ) (vs : List Meaning) (t : List ℕ) where
         (λ below. texts_ties (get_or vs k d).text t ∙ ap is_eq (parted.0 k d (omega arith) below))
         (λ from. texts_ties (get_or vs k d).text t ∙ ap is_eq (parted.1 k d from lt)) (cases_lt k i))
 
-pub ruleset sorting = (sorted-texts, IsSorted-texts, value_found, value_missing)
-
 -- and then each text once, by `dedup`
 module _ (E : List ℕ → List ℕ → Bool) where
   texts-dedup_from : (v : Meaning) (vs : List Meaning)
@@ -101,12 +99,15 @@ module _ (E : List ℕ → List ℕ → Bool) where
   texts-dedup [] = refl
   texts-dedup (v ∷ vs) = texts-dedup_from v vs
 
-pub texts-once : (old new : List Meaning) → IsFiltered (DiffersFromLast (λ x y. bytes_eq x.text y.text)) [] old new
-    → IsSorted (slice_cmp nat_cmp) (texts old) → IsStrictlySortedBy (slice_cmp nat_cmp) (texts new)
-texts-once old new kept up =
+pub texts-once : (new : List Meaning)
+    → ((old : List Meaning) × IsFiltered (DiffersFromLast (λ x y. bytes_eq x.text y.text)) [] old new × IsSorted (slice_cmp nat_cmp) (texts old))
+    → IsStrictlySortedBy (slice_cmp nat_cmp) (texts new)
+texts-once new (old, kept, up) =
     let same : texts new ≡ dedup bytes_eq (texts old) =
     ap texts (dedup_is (λ x y. bytes_eq x.text y.text) old new kept) ∙ texts-dedup bytes_eq old in
     rw same (IsStrictlySortedBy-dedup nat_list_cmp_total texts_ties (texts old) up)
+
+pub ruleset sorting = (sorted-texts, IsSorted-texts, texts-once, value_found, value_missing)
 
 -- the first place at which a test passes, with one more element at the end: it stays, or is the new one's
 module _ {X : Type 0} (p : X → Bool) (xs : List X) (x : X) where
