@@ -18,7 +18,7 @@ pub fn joined(alloc: Global, parts: &[SmolStr]) -> Result<SmolStr, AllocError>
     for part in parts {
         builder.push_str(part.as_str())?;
     }
-    Ok(builder.finish()?)
+    builder.into_value()
 }
 
 /// Two texts that fit a builder together: neither append is refused.

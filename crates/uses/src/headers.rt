@@ -49,9 +49,7 @@ impl<S: BuildHasher> Headers<S> {
         ensures unchanged { OnErr result ((other : List ℕ) → header_of other self.new ≡ header_of other self.old) }
     {
         let key = name.to_ascii_lowercase_smolstr(alloc)?;
-        let Ok(_before) = self.fields.insert(key, value) else {
-            return Err(AllocError);
-        };
+        self.fields.insert(key, value)?;
         Ok(())
     }
 

@@ -20,9 +20,7 @@ pub fn bind(
     let Some(scope) = scopes.last_mut() else {
         return Ok(false);
     };
-    let Ok(_before) = scope.insert(name, value) else {
-        return Err(AllocError);
-    };
+    scope.insert(name, value)?;
     Ok(true)
 }
 

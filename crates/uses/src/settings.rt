@@ -68,9 +68,7 @@ impl Settings {
         ensures ok { OnOk result (self.new ≡ with_setting self.old (Some (key.text, value.text))) }
         ensures unchanged { OnErr result (self.new ≡ self.old) }
     {
-        let Ok(_) = self.entries.insert(key, value) else {
-            return Err(AllocError);
-        };
+        self.entries.insert(key, value)?;
         Ok(())
     }
 
