@@ -430,11 +430,7 @@ pub fn off_the_heap(alloc: Global, text: &str) -> Result<SmolStr, AllocError>
 }
 
 /// Full case of short ASCII text, which is never refused; by the laws it is as long as the text.
-pub fn ascii_in_full_case(
-    alloc: Global,
-    text: &str,
-    case: AsciiCase,
-) -> Result<SmolStr, AllocError>
+pub fn ascii_in_full_case(alloc: Global, text: &str, case: AsciiCase) -> Result<SmolStr, AllocError>
     ensures { OnErr result (¬ (IsAsciiText (chars text.now) × IsShort (chars text.now))) }
 {
     laws::full_case();

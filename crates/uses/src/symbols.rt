@@ -1,30 +1,34 @@
-//! A symbol table: each text has one id, and each id its text.
-ghost use Rattle.std.specs.Prelude.{◌≡◌, ◌<◌, [], length, IfOk, OnOk, OnErr, slice_get, Some};
+//! A symbol table of std's types: a list has the name of each id, and a map the id of each name.
+ghost use Rattle.std.specs.Prelude.{◌≡◌, ◌<◌, ◌++◌, ◌∷◌, [], length, IfOk, OnOk, OnErr, slice_get, None, Some};
 ghost use Rattle.std.specs.Str.{chars};
 ghost use Rattle.uses.specs.Names.{id_of, interned};
 
-use crate::by_text::ByText;
-use indexmap::IndexSet;
 use smol_str::SmolStr;
 use std::alloc::{AllocError, Global};
+use std::collections::HashMap;
 use std::hash::BuildHasher;
 use std::marker::Model;
 
-/// Names in the order in which they were first seen. A table means the list of its names' texts.
+/// Names in the order in which they were first seen. A table means the list of its names' texts, and its map agrees with
+/// that list.
 #[derive(Drop)]
 pub struct Symbols<S: BuildHasher> {
     alloc: Global,
-    names: IndexSet<SmolStr, S>,
+    names: Vec<SmolStr>,
+    ids: HashMap<SmolStr, usize, S>,
 }
 
 impl<S: BuildHasher> Model for Symbols<S> {
-    ghost use Rattle.std.specs.Prelude.{ℕ, List};
+    ghost use Rattle.std.specs.Prelude.{◌≡◌, ℕ, List};
+    ghost use Rattle.smol_str.specs.Keys.{value_at};
+    ghost use Rattle.smol_str.specs.Meaning.{texts};
+    ghost use Rattle.uses.specs.Names.{id_of};
 
     ghost Value = { List (List ℕ) };
 
-    ghost use Rattle.smol_str.specs.Meaning.{texts};
+    ghost view = { λ s. texts s.names.items };
 
-    ghost view = { λ s. texts s.names.keys };
+    ghost invariant = { λ s. (t : List ℕ) → value_at t s.ids ≡ id_of t (texts s.names.items) };
 }
 
 impl<S: BuildHasher> Symbols<S> {
@@ -34,7 +38,8 @@ impl<S: BuildHasher> Symbols<S> {
     {
         Symbols {
             alloc,
-            names: IndexSet::with_hasher(alloc, state),
+            names: Vec::new(alloc),
+            ids: HashMap::with_hasher(alloc, state),
         }
     }
 
@@ -44,22 +49,37 @@ impl<S: BuildHasher> Symbols<S> {
         ensures names { OnOk result (self.new ≡ interned (chars text.now) self.old) }
         ensures unchanged { OnErr result (self.new ≡ self.old) }
     {
-        if let Some(id) = self.find(text) {
-            return Ok(id);
+        let name = SmolStr::new(self.alloc, text)?;
+        match self.find(&name) {
+            Some(id) => Ok(id),
+            None => self.add(name),
         }
-        let key = SmolStr::new(self.alloc, text)?;
-        let (id, _is_new) = self.names.insert_full(key)?;
+    }
+
+    /// The id of a name, if it has one.
+    pub fn find(&self, name: &SmolStr) -> Option<usize>
+        ensures { result ≡ id_of name.now.text self.now }
+    {
+        self.ids.get(name).copied()
+    }
+
+    /// A new id for a name that has none.
+    fn add(&mut self, name: SmolStr) -> Result<usize, AllocError>
+        requires { id_of name.text self.old ≡ None }
+        ensures id { IfOk result (λ id. id_of name.text self.new ≡ Some id) }
+        ensures names { OnOk result (self.new ≡ self.old ++ name.text ∷ []) }
+        ensures unchanged { OnErr result (self.new ≡ self.old) }
+    {
+        // Room in the list first: once the map has the name, nothing can be refused.
+        self.names.reserve(1)?;
+        let id = self.names.len();
+        self.ids.insert(name.clone()?, id)?;
+        self.names.push_reserved(name);
         Ok(id)
     }
 
-    /// The id of a text, if it has one. No value is made of it, so no memory is asked for.
-    pub fn find(&self, text: &str) -> Option<usize>
-        ensures { result ≡ id_of (chars text.now) self.now }
-    {
-        self.names.get_index_of(ByText(text))
-    }
-
     /// The text of an id.
+    #[tactic(auto, using(smol_str::proofs::CallerLemmas::listed))]
     pub fn name(&self, id: usize) -> &str
         requires { id < length self.now }
         ensures { slice_get self.now id ≡ Some (chars result.now) }

@@ -16,10 +16,12 @@ use Rattle.std.proofs.lemmas.List.Sorted.{searchable_from_sorted}
 use Rattle.std.proofs.lemmas.Slice.Eq.{bytes_eq-Decides}
 use Rattle.std.proofs.lemmas.List.Sums.{prefix_len-le-length}
 use Rattle.std.proofs.lemmas.Option.{slice_get-map, slice_get-get_or}
-use Rattle.smol_str.specs.Keys.{has_text}
+use Rattle.std.specs.HashMap.{HashMap, get}
+use Rattle.smol_str.specs.Keys.{has_text, same_key, value_at}
 use Rattle.smol_str.specs.Meaning.{texts}
 use Rattle.smol_str.proofs.CallerLemmas.Maps.{key_of}
-use Rattle.smol_str.proofs.Common.{append-nil, append_assoc, Option, IsValueOf, place_of, chars, str_text, Bor, items_from_drains, FoldsTo, All-nil, All-cons}
+use Rattle.smol_str.proofs.CallerLemmas.Texts.{chars-as_str}
+use Rattle.smol_str.proofs.Common.{false≢true, false_from_ne_true, IsTrue, all_scalars, encode_utf8_all, append-nil, append_assoc, Option, IsValueOf, place_of, chars, str_text, Bor, items_from_drains, FoldsTo, All-nil, All-cons}
 use Rattle.smol_str.specs.Meaning.{AreValuesOf}
 use Rattle.std.specs.Prelude.{Vec}
 use Rattle.std.specs.Vec.{vec_items}
@@ -125,6 +127,12 @@ module _ {X : Type 0} (p : X → Bool) (xs : List X) (x : X) where
   pub position-new : p x ≡ true → position p xs ≡ None → position p (xs ++ x ∷ []) ≡ Some (length xs)
   position-new passes none = rw none at (position-more true passes)
 
+  position-kept : p x ≡ false → position p (xs ++ x ∷ []) ≡ position p xs
+  position-kept fails = by (position p xs) (position-more false fails) where
+    by : (o : Option ℕ) → position p (xs ++ x ∷ []) ≡ cond (is_some o) o None → position p (xs ++ x ∷ []) ≡ o
+    by None e = e
+    by (Some i) e = e
+
 -- and of a test of texts, at values
 module _ (p : List ℕ → Bool) where
   prefix_len-texts : (vs : List Meaning) → prefix_len p (texts vs) ≡ prefix_len (λ v. p v.text) vs
@@ -136,6 +144,39 @@ position-texts p vs =
     let place = prefix_len-texts (λ t. not (p t)) vs in
     let long = length-map vs (λ (v : Meaning). v.text) in
     sym (λ i. cond (nat_lt (place i) (long i)) (Some (place i)) None)
+
+-- a text more that had no place: it is last, and the places of others stay
+position-added : (t x : List ℕ) (ts : List (List ℕ)) → position (bytes_eq x) ts ≡ None
+    → position (bytes_eq t) (ts ++ x ∷ []) ≡ cond (bytes_eq x t) (Some (length ts)) (position (bytes_eq t) ts)
+position-added t x ts none = by (bytes_eq x t) refl where
+  by : (b : Bool) → bytes_eq x t ≡ b → position (bytes_eq t) (ts ++ x ∷ []) ≡ cond b (Some (length ts)) (position (bytes_eq t) ts)
+  by true same =
+      let is : t ≡ x = sym ((bytes_eq-Decides x t).0 same) in
+      position-new (bytes_eq t) ts x ((bytes_eq-Decides t x).1 is) (ap (λ u. position (bytes_eq u) ts) is ∙ none)
+  by false other =
+      position-kept (bytes_eq t) ts x (false_from_ne_true (bytes_eq t x)
+      (λ same. false≢true (sym other ∙ (bytes_eq-Decides x t).1 (sym ((bytes_eq-Decides t x).0 same)))))
+
+-- so a map of places agrees with a list of values that has one more
+pub agree-added : {S : Type 0} (vs : List Meaning) (old new : HashMap Meaning ℕ S) (key : Meaning) (n : ℕ) (all : List Meaning)
+    → ((t : List ℕ) → value_at t old ≡ position (bytes_eq t) (texts vs)) → position (bytes_eq key.text) (texts vs) ≡ None
+    → n ≡ length vs → all ≡ vs ++ key ∷ []
+    → ((q : Meaning) → get same_key new q ≡ cond (same_key key q) (Some n) (get same_key old q))
+    → (t : List ℕ) → value_at t new ≡ position (bytes_eq t) (texts all)
+agree-added vs old new key n all agree none last more sets t =
+    let place = last ∙ sym (length-map vs (λ (v : Meaning). v.text)) in
+    sets (key_of t) ∙ (λ i. cond (bytes_eq key.text t) (Some (place i)) (agree t i))
+    ∙ sym (position-added t key.text (texts vs) none) ∙ ap (position (bytes_eq t)) (sym (ap texts more ∙ texts-push vs key))
+
+-- what a value of a list lends, where the list is seen as texts
+pub text_lent : (ts : List (List ℕ)) (vs : List Meaning) (i : ℕ) (v : Meaning) (bs : List ℕ) → texts vs ≡ ts → i < length ts
+    → v ≡ get_or vs i v → bs ≡ encode_utf8_all v.text → IsTrue (all_scalars v.text) → slice_get ts i ≡ Some (chars bs)
+text_lent ts vs i v bs are within at lent scalars =
+    let there : i < length vs = omega (arith, within, ap length are, length-map vs (λ (v : Meaning). v.text)) in
+    ap (λ ts. slice_get ts i) (sym are) ∙ text_at vs i v (slice_get-get_or vs i v there ∙ ap Some (sym at))
+    ∙ ap Some (sym (chars-as_str v.text bs scalars lent))
+
+pub ruleset listed = (text_lent)
 
 -- a loop that writes the first, and then the separator and each other, writes them joined
 pub joined-spelled : {X : Type 0} (f : X → List ℕ) (p : List ℕ) (x : X) (xs : List X)
