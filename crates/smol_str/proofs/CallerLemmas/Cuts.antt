@@ -1,10 +1,11 @@
 -- Texts that std cuts: `split` in a loop, `split_once`, `strip_prefix` and `strip_suffix`, at the level of texts.
-use Rattle.smol_str.proofs.Common.{arith, flat_map, items_from_drains, YieldsList, rules, ◌≡◌, ℕ, ◌-◌, ◌<◌, Bool, true, false, List, [], ◌∷◌, ◌++◌, length, drop, map, str_text, Bor, Option, Some, None, MatchOption, refl, sym, ap, ◌∙◌, subst, IsTrue, all_scalars, IsUtf8, chars, chars-nil, chars-append, encode_utf8, encode_utf8_all, append-nil, encodes-append, encodes-chars, chars-encodes, chars_from_encodes, Occurs, IsFirstAfter, joined_by, cut, no_limit, Meaning}
+use Rattle.smol_str.proofs.Common.{arith, flat_map, items_from_drains, YieldsList, rules, ◌≡◌, ℕ, ◌-◌, ◌<◌, Bool, true, false, List, [], ◌∷◌, ◌++◌, ◌==◌, length, take, drop, map, str_text, Bor, Option, Some, None, MatchOption, refl, sym, ap, ◌∙◌, subst, IsTrue, all_scalars, IsUtf8, chars, chars-nil, chars-append, encode_utf8, encode_utf8_all, append-nil, encodes-append, encodes-chars, chars-encodes, chars_from_encodes, Occurs, IsFirstAfter, joined_by, cut, no_limit, Meaning}
 use Rattle.std.proofs.Common.{◌≢◌, IfNone, IfSome, MatchBool}
 use Rattle.std.specs.List.{join_by}
 use Rattle.std.specs.Str.Iter.{split_steps, split_text, split_has_more, split_pattern}
 use Rattle.std.specs.Str.Pattern.{FindsChar, FindsCharPrefix, FindsText, FindsTextPrefix, FindsTextSuffix, HasCharAt, HasPrefixMatch, SplitsAroundMatch, StripsPrefix, StripsSuffix}
 use Rattle.std.specs.declared.str.Split.{Split}
+use Rattle.std.specs.Str.{NonePass}
 use Rattle.std.proofs.lemmas.Str.{IsUtf8-take}
 use Rattle.std.proofs.lemmas.List.{map-set, set_past}
 use Rattle.std.specs.Iterator.Adapters.{map_source, map_callee}
@@ -164,27 +165,18 @@ module _ {A : Type 0} (N : Type 0) (r : Option A) (P : A → Type 0) (h : MatchO
   none_of : IfNone r N
   none_of = search (rules, h)
 
--- of what is in an option, where that is known
-pub in_some : {A : Type 0} (r : Option A) (P : A → Type 0) → ((x : A) → r ≡ Some x → P x) → IfSome r P
-in_some None P f = tt
-in_some (Some x) P f = f x refl
+-- `split_once` at a character: the parts, and that the match is the first
+pub split_char-whole : (c : ℕ) (bs : List ℕ) (i j : ℕ) → HasCharAt c bs i j → IsUtf8 bs
+    → chars bs ≡ chars (take i bs) ++ (c ∷ chars (drop j bs))
+split_char-whole c bs i j at u = (found_parts bs u (c ∷ []) i j (omega arith) (cc (at.split, append-nil (encode_utf8 c)))).3
+
+pub split_char-first : (passes : ℕ → Bool) (c : ℕ) (bs cs : List ℕ) (i j : ℕ) (a r : List ℕ) → HasCharAt c bs i j → IsUtf8 bs
+    → encode_utf8_all cs ≡ take i bs → NonePass passes cs → ((d : ℕ) → passes d ≡ (d == c)) → chars (take i bs) ++ [] ≢ a ++ (c ∷ r)
+split_char-first passes c bs cs i j a r at u is none same e =
+    let none = subst (λ test. NonePass test cs) (λ i d. same d i) none in
+    (found_char bs u c (Some (i, j)) ((cs, is, none), at)).4 (a, r, e)
 
 module _ (r : Option (Bor (List ℕ) × Bor (List ℕ))) (c : ℕ) (bs : List ℕ) where
-  parts_of : (x : Bor (List ℕ) × Bor (List ℕ)) → r ≡ Some x → IsUtf8 bs
-      → MatchOption r (FindsChar c bs None) (λ x. SplitsAroundMatch (FindsChar c) bs x.0.now x.1.now)
-      → (chars bs ≡ chars x.0.now ++ (c ∷ chars x.1.now)) × IsFirstAfter (c ∷ []) (chars x.0.now)
-  parts_of x is u said = split_once-char bs u (Some x) c (rw is at said)
-
-  pub split_char-whole : (x : Bor (List ℕ) × Bor (List ℕ)) → r ≡ Some x → IsUtf8 bs
-      → MatchOption r (FindsChar c bs None) (λ x. SplitsAroundMatch (FindsChar c) bs x.0.now x.1.now)
-      → chars bs ≡ chars x.0.now ++ (c ∷ chars x.1.now)
-  split_char-whole x is u said = (parts_of x is u said).0
-
-  pub split_char-first : (x : Bor (List ℕ) × Bor (List ℕ)) → r ≡ Some x → IsUtf8 bs
-      → MatchOption r (FindsChar c bs None) (λ x. SplitsAroundMatch (FindsChar c) bs x.0.now x.1.now)
-      → ¬ Occurs (c ∷ []) (chars x.0.now ++ [])
-  split_char-first x is u said = (parts_of x is u said).1
-
   pub split_char-none : IsUtf8 bs → MatchOption r (FindsChar c bs None) (λ x. SplitsAroundMatch (FindsChar c) bs x.0.now x.1.now)
       → IfNone r (¬ Occurs (c ∷ []) (chars bs))
   split_char-none u said = none_of _ r _ (split_once-char bs u r c said)
@@ -264,7 +256,6 @@ pub ruleset cutting = (
   chars_from_encodes,
   encodes-append,
   encodes-chars,
-  in_some,
   split_char-whole,
   split_char-first,
   split_char-none,
