@@ -41,7 +41,7 @@ pub mod Maps
 pub mod Cuts
 pub mod Lists
 pub use Rattle.smol_str.proofs.CallerLemmas.Texts.{replaced-each_with, printed-value, prints, chars-as_str, length-as_str, IsResident-few, chars-one, IsUtf8-one, texts, size-front, size-cons, builders, each_replaced-value, each_replaced-refused, size-replaced_each, replacing}
-pub use Rattle.smol_str.proofs.CallerLemmas.Collecting.{chars_collected, chars_refused, chars_extended, chars_extend_refused, chars_extend_stopped, strs_collected, strs_refused, strs_extended, strs_extend_refused, strings_collected, strings_refused, string_refs_collected, string_refs_refused, string_refs_extended, string_refs_extend_refused, texts_collected, texts_refused, mapped_collected, mapped_refused, mapped_extended, mapped_extend_refused, items_collected, items_refused, items_extended, split_collected, split_refused, chars_made, strs_made, strings_made, string_refs_made, CameFrom, chars_came, chars_grown, string_refs_grown, chars_by_std, strings_by_std, array_chars_long, array_strs_long, array_strs_collected, split_long, collecting}
+pub use Rattle.smol_str.proofs.CallerLemmas.Collecting.{chars_collected, chars_refused, chars_extended, chars_extend_refused, chars_extend_stopped, strs_collected, strs_refused, strs_extended, strs_extend_refused, strings_collected, strings_refused, string_refs_collected, string_refs_refused, string_refs_extended, string_refs_extend_refused, texts_collected, texts_refused, mapped_collected, mapped_refused, mapped_extended, mapped_extend_refused, items_collected, items_refused, split_collected, split_refused, chars_made, strs_made, strings_made, string_refs_made, CameFrom, chars_came, chars_grown, string_refs_grown, chars_by_std, strings_by_std, array_chars_long, array_strs_long, array_strs_collected, split_long, collecting}
 pub use Rattle.smol_str.proofs.CallerLemmas.Wire.{Holds-parts, form_is_whole, form-utf8, form-text, form-held, form-read, form-known, forms, form-cut-held, form-cut-long, form-cut-utf8, form-cut-text, count-apart, items-apart, forms-apart, begun_first, begun_second, parts, text-at, items, forms-next, forms-more, AreRead, one_read, all_read, next_form}
 pub use Rattle.smol_str.proofs.CallerLemmas.Maps.{key_of, same_key-other, text-kept, updates, text-set, stands_for-text, lookup-stands_for, lookup-lent, lookups, entry_texts-insert, lookup-with_entry, innermost-push, innermost-set, innermost-kept, take-changed, scopes}
 pub use Rattle.smol_str.proofs.CallerLemmas.Cuts.{split_at_text, tried_at_char, tried_at_text, joined-values, joined-bytes, split_char-whole, split_char-first, split_char-none, prefix-rest, prefix-none, suffix-front, suffix-none, starts_with-text, char_prefix-rest, char_prefix-none, starts_with-char, prefix_known, suffix_known, cutting, split_once-char, split_once-text, strip_prefix-text, strip_suffix-text}

@@ -3,14 +3,14 @@ ghost use Rattle.std.specs.Prelude.{◌≡◌, ◌<◌, ◌==◌, ◌++◌, ◌�
 ghost use Rattle.std.specs.List.{filter, prefix_len, slice_split};
 ghost use Rattle.std.specs.Str.{chars};
 ghost use Rattle.std.specs.Str.Lines.{lines};
-ghost use Rattle.smol_str.specs.Text.{IsShort};
+ghost use Rattle.smol_str.specs.Text.{IsShort, IsResident};
 ghost use Rattle.smol_str.specs.Meaning.{IsValueOf};
 ghost use Rattle.smol_str.specs.Draft.{OnHeap, appended};
 ghost use Rattle.smol_str.specs.Joined.{joined, str_text, string_text};
 ghost use Rattle.smol_str.specs.Case.{upper};
 ghost use Rattle.smol_str.specs.Replace.{replaced_all};
 
-use crate::headline::{of_any_strs, with_any_strs};
+use crate::headline::of_any_strs;
 use smol_str::{SmolStr, SmolStrBuilder, ValueAlloc};
 use std::alloc::{AllocError, Global};
 
@@ -199,14 +199,6 @@ pub fn push_without_commas(builder: &mut SmolStrBuilder, text: &str) -> Result<(
     builder.extend_strs(text.split(','))
 }
 
-/// The same behind what a builder has.
-#[tactic(auto, using(smol_str::proofs::CallerLemmas::collecting))]
-pub fn push_list(builder: &mut SmolStrBuilder, parts: &[&str]) -> Result<(), AllocError>
-    ensures ok { OnOk result (builder.new ≡ appended builder.old (joined str_text parts.now)) }
-{
-    with_any_strs(builder, parts.iter().copied())
-}
-
 /// Two texts, by a builder: a generic caller.
 pub fn of_two<A: ValueAlloc>(alloc: A, first: &str, second: &str) -> Result<A::Value, AllocError>
     ensures value { IfOk result (λ v. IsValueOf (chars first.now ++ chars second.now) (A.meaning v)) }
@@ -215,4 +207,12 @@ pub fn of_two<A: ValueAlloc>(alloc: A, first: &str, second: &str) -> Result<A::V
     builder.push_str(first)?;
     builder.push_str(second)?;
     A::value_of(builder)
+}
+
+/// A builder's value, as collecting ends.
+pub fn of_filled(builder: SmolStrBuilder) -> Result<SmolStr, AllocError>
+    ensures value { IfOk result (λ v. IsValueOf builder.text v) }
+    ensures refused { OnErr result (¬ (IsResident builder.text)) }
+{
+    Global::value_of(builder)
 }
