@@ -22,7 +22,6 @@ pub fn joined(alloc: Global, parts: &[SmolStr]) -> Result<SmolStr, AllocError>
 }
 
 /// Two texts that fit a builder together: neither append is refused.
-#[tactic(auto, using(smol_str::proofs::CallerLemmas::builders))]
 pub fn both(alloc: Global, first: &str, second: &str) -> Result<SmolStrBuilder, AllocError>
     requires { length first.now + length second.now ≤ INLINE_CAP }
     ensures ok { IsOk result }

@@ -41,8 +41,7 @@ pub fn of_plain(alloc: Global, json: &str, text: &str) -> Result<SmolStr, AllocE
     match from_json(alloc, json) {
         Ok(value) => Ok(value),
         Err(JsonFault::OutOfMemory) => Err(AllocError),
-        Err(JsonFault::NotString) => unreachable!(),
-        Err(JsonFault::Json(_)) => unreachable!(),
+        Err(JsonFault::NotString | JsonFault::Json(_)) => unreachable!(),
     }
 }
 
@@ -76,8 +75,7 @@ pub fn of_string(alloc: Global, json: &Value, text: &str) -> Result<SmolStr, All
     match from_value(alloc, json) {
         Ok(value) => Ok(value),
         Err(JsonFault::OutOfMemory) => Err(AllocError),
-        Err(JsonFault::NotString) => unreachable!(),
-        Err(JsonFault::Json(_)) => unreachable!(),
+        Err(JsonFault::NotString | JsonFault::Json(_)) => unreachable!(),
     }
 }
 
@@ -97,9 +95,7 @@ pub fn told_as_other(alloc: Global, json: &Value) -> JsonFault
 {
     match from_value(alloc, json) {
         Err(JsonFault::NotString) => JsonFault::NotString,
-        Err(JsonFault::OutOfMemory) => unreachable!(),
-        Err(JsonFault::Json(_)) => unreachable!(),
-        Ok(_) => unreachable!(),
+        Err(JsonFault::OutOfMemory | JsonFault::Json(_)) | Ok(_) => unreachable!(),
     }
 }
 

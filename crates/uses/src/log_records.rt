@@ -30,8 +30,7 @@ pub fn write_record<W: Write>(writer: &mut W, entry: &Record) -> Result<(), Enco
     ensures fault { OnErr result (AppendsBeginning (W.contents writer.old) (W.contents writer.new) (form entry.now)) }
 {
     entry.level.serialize(writer)?;
-    entry.message.serialize(writer)?;
-    Ok(())
+    entry.message.serialize(writer)
 }
 
 /// Reads a record whose message has at most `limit` bytes.

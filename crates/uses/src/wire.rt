@@ -36,8 +36,7 @@ pub fn told_as_too_long<W: Write>(writer: &mut W, value: &SmolStr) -> EncodeFaul
 {
     match value.serialize(writer) {
         Err(EncodeFault::TooLong) => EncodeFault::TooLong,
-        Err(EncodeFault::Io(_)) => unreachable!(),
-        Ok(()) => unreachable!(),
+        Err(EncodeFault::Io(_)) | Ok(()) => unreachable!(),
     }
 }
 
@@ -59,9 +58,7 @@ pub fn read_from_bytes(
     match from_wire(alloc, bytes) {
         Ok(read) => Ok(read),
         Err(DecodeFault::OutOfMemory) => Err(AllocError),
-        Err(DecodeFault::Ended) => unreachable!(),
-        Err(DecodeFault::NotUtf8(_)) => unreachable!(),
-        Err(DecodeFault::Io(_)) => unreachable!(),
+        Err(DecodeFault::Ended | DecodeFault::NotUtf8(_) | DecodeFault::Io(_)) => unreachable!(),
     }
 }
 
@@ -82,8 +79,7 @@ pub fn read_from_reader<'a>(
     match SmolStr::deserialize_reader(alloc, &mut reader) {
         Ok(value) => Some((value, reader)),
         Err(DecodeFault::OutOfMemory | DecodeFault::Io(_)) => None,
-        Err(DecodeFault::Ended) => unreachable!(),
-        Err(DecodeFault::NotUtf8(_)) => unreachable!(),
+        Err(DecodeFault::Ended | DecodeFault::NotUtf8(_)) => unreachable!(),
     }
 }
 
