@@ -2,18 +2,15 @@
 use anyhow::{Context, Result};
 use serde::{Deserialize, Serialize};
 use smol_str::{SmolStr, SmolStrBuilder, StrExt};
-use std::alloc::Global;
+use std::alloc::{AllocError, Global};
 use std::collections::BTreeMap;
 
 /// A word, and how often it came.
 #[derive(Drop, Serialize, Deserialize)]
-pub struct Count {
-    pub word: SmolStr,
-    pub times: u32,
-}
+pub struct Count(pub SmolStr, pub u32);
 
 /// The words of a text, each once, in their order.
-pub fn counts(alloc: Global, text: &str) -> Result<Vec<Count>> {
+pub fn counts(alloc: Global, text: &str) -> Result<Vec<Count>, AllocError> {
     let mut table: BTreeMap<SmolStr, u32> = BTreeMap::new(alloc);
     for word in text.split_whitespace() {
         let times = table.entry(SmolStr::new(alloc, word)?)?.or_default();
@@ -21,19 +18,15 @@ pub fn counts(alloc: Global, text: &str) -> Result<Vec<Count>> {
     }
     let mut counts = Vec::new(alloc);
     for (word, times) in table {
-        counts.push(Count { word, times })?;
+        counts.push(Count(word, times))?;
     }
     Ok(counts)
 }
 
-/// A line for each word but `let`.
+/// A line for each word.
 pub fn listed(alloc: Global, counts: &[Count]) -> Result<SmolStr> {
     let mut lines = SmolStrBuilder::new(alloc);
-    for count in counts {
-        let (word, times) = (&count.word, count.times);
-        if &**word == "let" {
-            continue;
-        }
+    for Count(word, times) in counts {
         writeln!(lines, "{word}: {times}")?;
     }
     Ok(lines.into_value()?)
