@@ -131,6 +131,15 @@ pub fn with_dash(alloc: Global, first: &str, second: &str) -> Result<SmolStr, Al
     SmolStr::from_strs(alloc, [first, "-", second].into_iter())
 }
 
+/// Two texts.
+#[tactic(auto, using(smol_str::proofs::CallerLemmas::collecting), unfolding(smol_str::specs::Collect::Collected))]
+pub fn of_pair(alloc: Global, first: &str, second: &str) -> Result<SmolStr, AllocError>
+    ensures value { IfOk result (λ v. IsValueOf (chars first.now ++ chars second.now) v) }
+    ensures refused { OnErr result (¬ (IsShort (chars first.now ++ chars second.now))) }
+{
+    SmolStr::from_strs(alloc, [first, second].into_iter())
+}
+
 /// A text without its line ends.
 #[tactic(auto, using(smol_str::proofs::CallerLemmas::collecting))]
 pub fn in_one_line(alloc: Global, text: &str) -> Result<SmolStr, AllocError>
