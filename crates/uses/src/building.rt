@@ -1,5 +1,5 @@
 //! A builder in a loop, and two appends that fit.
-ghost use Rattle.std.specs.Prelude.{◌≡◌, ◌+◌, ◌≤◌, ◌++◌, ◌∷◌, [], length, IfOk, IsOk, OnErr, OnOk};
+ghost use Rattle.std.specs.Prelude.{◌≡◌, ◌+◌, ◌≤◌, ◌++◌, ◌∷◌, [], codes, length, IfOk, IsOk, OnErr, OnOk};
 ghost use Rattle.std.specs.List.{flat_map};
 ghost use Rattle.std.specs.Str.{chars};
 ghost use Rattle.smol_str.specs.Draft.{OnHeap, appended};
@@ -36,7 +36,7 @@ pub fn both(alloc: Global, first: &str, second: &str) -> Result<SmolStrBuilder, 
 /// A key, a comma and a value at a builder's end. Where an append is refused, the whole would not fit the buffer.
 #[tactic(auto, using(smol_str::proofs::CallerLemmas::builders))]
 pub fn push_entry(out: &mut SmolStrBuilder, key: &str, value: &SmolStr) -> Result<(), AllocError>
-    ensures ok { OnOk result (out.new ≡ appended out.old (chars key.now ++ (44 ∷ value.now.text))) }
+    ensures ok { OnOk result (out.new ≡ appended out.old (chars key.now ++ (chars (codes ",") ++ value.now.text))) }
     ensures refused { OnErr result ((appended out.old (chars key.now ++ (44 ∷ value.now.text))).kind ≡ OnHeap) }
 {
     out.push_str(key)?;
