@@ -1,18 +1,11 @@
 -- For the symbol table: one name more, and ids that stay.
-use Rattle.std.proofs.Common.{◌≡◌, ℕ, ◌≤◌, List, [], ◌∷◌, ◌++◌, length, get_or, Bool, true, false, not, cond, if◌then◌else◌, is_some, Some, None, refl, sym, ap, ◌∙◌, arith}
-use Rattle.std.specs.Str.{bytes_eq, chars, IsUtf8}
-use Rattle.std.specs.List.{position, position_or_len, list_any, slice_get}
-use Rattle.std.proofs.lemmas.Bool.Decides.{nat_tests}
-use Rattle.std.proofs.lemmas.List.{length-map, map-append}
+use Rattle.std.proofs.Common.{◌≡◌, ℕ, List, [], ◌∷◌, ◌++◌, get_or, Bool, true, false, cond, is_some, Some, sym, ap, ◌∙◌}
+use Rattle.std.specs.Str.{bytes_eq}
+use Rattle.std.specs.List.{slice_get}
 use Rattle.std.proofs.lemmas.List.Quantifiers.{position-Some}
-use Rattle.std.proofs.lemmas.List.Sums.{prefix_len-le-length}
 use Rattle.std.proofs.lemmas.Option.{slice_get-get_or}
 use Rattle.std.proofs.lemmas.Slice.Eq.{bytes_eq-Decides}
-use Rattle.smol_str.specs.Meaning.{Meaning}
-use Rattle.indexmap.specs.IndexSet.{insert_key}
-use Rattle.smol_str.specs.Keys.{same_key, stands_for}
-use Rattle.smol_str.proofs.CallerLemmas.{position-stays, position-new, position-texts, stands_for-text}
-use Rattle.smol_str.specs.Meaning.{texts}
+use Rattle.smol_str.proofs.CallerLemmas.{position-stays}
 use Rattle.uses.specs.Names.{id_of, interned}
 
 -- a text keeps its id

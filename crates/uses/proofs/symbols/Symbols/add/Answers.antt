@@ -1,4 +1,4 @@
-use Rattle.std.proofs.Common.{◌≡◌, ◌++◌, ◌∷◌, [], ◌∙◌, sym, ap, rules}
+use Rattle.std.proofs.Common.{◌++◌, ◌∷◌, [], ◌∙◌, sym, ap, rules}
 use Rattle.smol_str.proofs.CallerLemmas.{agree-added}
 use Rattle.uses.specs.Names.{id_of}
 use Rattle.uses.proofs.symbols.Symbols.add.Goals as goal
