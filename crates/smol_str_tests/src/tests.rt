@@ -1,11 +1,15 @@
-//! Tests of what no clause says, by rows from outside.
+//! Values and builders, by rows from outside. `calls`, `dropped`, `faulty_calls` and `without_memory` are about memory.
 
 mod builder;
+mod calls;
 mod collect;
+mod dropped;
+mod faulty_calls;
 mod idioms;
 mod kernel;
 mod str_ext;
 mod value;
+mod without_memory;
 
 use smol_str::{BLANK_NEWLINES, BLANK_SPACES, INLINE_CAP};
 use test_support::*;

@@ -1,5 +1,5 @@
 //! Builders: what is appended by calls and by lists of steps, large capacities, and empty builders as std makes them.
-use Piece::{Char, Text, Times};
+use Piece::{Char, Text};
 use Place::{Heap, Inline, Static};
 use smol_str::{INLINE_CAP, Place, SmolStr, SmolStrBuilder, Step, build};
 use std::collections::HashMap;
@@ -10,9 +10,8 @@ use test_support::*;
 #[derive(Clone, Copy)]
 enum Piece {
     Char(char),
-    Text(&'static str),
     /// A text so many times.
-    Times(&'static str, usize),
+    Text(&'static str, usize),
 }
 
 /// Pieces; the text that they make, a text so many times and then an end; and its place.
@@ -20,64 +19,74 @@ type Row = (&'static [Piece], (&'static str, usize, &'static str), Place);
 
 static ROWS: &[Row] = &table! {
     (&[], ("", 0, ""), Inline);
-    (&[Char('a'), Text("bc")], ("", 0, "abc"), Inline);
-    (&[Text("ab")], ("", 0, "ab"), Inline);
-    (&[Text("a"), Text("b")], ("", 0, "ab"), Inline);
+    (&[Char('a'), Text("bc", 1)], ("", 0, "abc"), Inline);
+    (&[Text("ab", 1)], ("", 0, "ab"), Inline);
+    (&[Text("a", 1), Text("b", 1)], ("", 0, "ab"), Inline);
     (&[Char('a'), Char('b')], ("", 0, "ab"), Inline);
-    (&[Text(""), Char('a'), Text(""), Text("b")], ("", 0, "ab"), Inline);
+    (&[Text("", 1), Char('a'), Text("", 1), Text("b", 1)], ("", 0, "ab"), Inline);
     (&[Char('é'), Char('€'), Char('🦀')], ("", 0, "é€🦀"), Inline);
-    (&[Times("a", INLINE_CAP)], ("a", INLINE_CAP, ""), Inline);
-    (&[Times("a", INLINE_CAP + 1)], ("a", INLINE_CAP + 1, ""), Heap);
-    (&[Times("a", INLINE_CAP - 2), Char('é')], ("a", INLINE_CAP - 2, "é"), Inline);
-    (&[Times("a", INLINE_CAP - 1), Char('é')], ("a", INLINE_CAP - 1, "é"), Heap);
-    (&[Times("a", 23), Times("a", 23)], ("a", 46, ""), Heap);
-    (&[Times("a", 23)], ("a", 23, ""), Inline);
-    (&[Times("a", 24)], ("a", 24, ""), Inline);
-    (&[Text("ohnonononononononono!"), Char('🤯')], ("", 0, "ohnonononononononono!🤯"), Inline);
-    (&[Times("a", INLINE_CAP + 1), Char('b'), Text("€")], ("a", INLINE_CAP + 1, "b€"), Heap);
-    (&[Times(" ", INLINE_CAP + 1)], (" ", INLINE_CAP + 1, ""), Static);
-    (&[Times(" ", 24)], (" ", 24, ""), Inline);
-    (&[Times("a", 1000)], ("a", 1000, ""), Heap);
+    (&[Text("a", INLINE_CAP)], ("a", INLINE_CAP, ""), Inline);
+    (&[Text("a", INLINE_CAP + 1)], ("a", INLINE_CAP + 1, ""), Heap);
+    (&[Text("a", INLINE_CAP - 2), Char('é')], ("a", INLINE_CAP - 2, "é"), Inline);
+    (&[Text("a", INLINE_CAP - 1), Char('é')], ("a", INLINE_CAP - 1, "é"), Heap);
+    (&[Text("a", 23), Text("a", 23)], ("a", 46, ""), Heap);
+    (&[Text("a", 23)], ("a", 23, ""), Inline);
+    (&[Text("a", 24)], ("a", 24, ""), Inline);
+    (&[Text("ohnonononononononono!", 1), Char('🤯')], ("", 0, "ohnonononononononono!🤯"), Inline);
+    (&[Text("a", INLINE_CAP + 1), Char('b'), Text("€", 1)], ("a", INLINE_CAP + 1, "b€"), Heap);
+    (&[Text(" ", INLINE_CAP + 1)], (" ", INLINE_CAP + 1, ""), Static);
+    (&[Text(" ", 24)], (" ", 24, ""), Inline);
+    (&[Text("a", 1000)], ("a", 1000, ""), Heap);
 };
 
 #[test]
 fn test_builder_push_str(rt: HostRuntime) -> Result<(), Fail> {
     let test = Test::begin(rt);
-    for row in ROWS {
-        assert_pieces(&test, SmolStrBuilder::new(test.alloc), row);
-    }
+    assert_pieces(&test, ROWS);
     test.end()
 }
 
 #[test]
 fn test_builder_push(rt: HostRuntime) -> Result<(), Fail> {
     let test = Test::begin(rt);
-    for row in ROWS {
-        let text = text_of(&test, row);
-        let builder = of_characters(&test, text.as_str());
-        assert_finishes(&test, builder, text.as_str(), row.2);
-    }
+    assert_characters(&test, ROWS);
     test.end()
 }
 
 #[test]
 fn steps(rt: HostRuntime) -> Result<(), Fail> {
     let test = Test::begin(rt);
-    for row in ROWS {
-        let large = ok(&test, SmolStrBuilder::with_capacity(test.alloc, 100));
-        assert_pieces(&test, large, row);
-        assert_steps_at(&test, 0, row);
-        assert_steps_at(&test, 100, row);
-    }
+    assert_steps(&test, ROWS);
     test.end()
 }
 
-fn assert_pieces(test: &Test, mut builder: SmolStrBuilder, row: &Row) {
+fn assert_pieces(test: &Test, rows: &[Row]) {
+    for row in rows {
+        assert_appended(test, SmolStrBuilder::new(test.alloc), row);
+        assert_appended(test, test.builder(100, ""), row);
+    }
+}
+
+fn assert_appended(test: &Test, mut builder: SmolStrBuilder, row: &Row) {
     for piece in row.0 {
         append(test, &mut builder, *piece);
     }
-    let text = text_of(test, row);
-    assert_finishes(test, builder, text.as_str(), row.2)
+    assert_finishes(test, builder, text_of(test, row).as_str(), row.2)
+}
+
+fn assert_characters(test: &Test, rows: &[Row]) {
+    for row in rows {
+        let text = text_of(test, row);
+        let builder = of_characters(test, text.as_str());
+        assert_finishes(test, builder, text.as_str(), row.2);
+    }
+}
+
+fn assert_steps(test: &Test, rows: &[Row]) {
+    for row in rows {
+        assert_steps_at(test, 0, row);
+        assert_steps_at(test, 100, row);
+    }
 }
 
 fn assert_steps_at(test: &Test, capacity: usize, row: &Row) {
@@ -139,8 +148,7 @@ fn text_of(test: &Test, row: &Row) -> String {
 fn append(test: &Test, builder: &mut SmolStrBuilder, piece: Piece) {
     let appended = match piece {
         Char(character) => builder.push(character),
-        Text(text) => builder.push_str(text),
-        Times(text, times) => builder.push_str(test.repeated(text, times).as_str()),
+        Text(text, times) => builder.push_str(test.repeated(text, times).as_str()),
     };
     ok(test, appended)
 }
@@ -165,8 +173,7 @@ fn steps_of(test: &Test, pieces: &[Piece]) -> Vec<Step> {
 fn step_of(test: &Test, piece: Piece) -> Step {
     match piece {
         Char(character) => Step::Push(character),
-        Text(text) => Step::PushStr(test.string(text)),
-        Times(text, times) => Step::PushStr(test.repeated(text, times)),
+        Text(text, times) => Step::PushStr(test.repeated(text, times)),
     }
 }
 

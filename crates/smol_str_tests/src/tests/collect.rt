@@ -68,12 +68,8 @@ fn test_from_char_iterator(rt: HostRuntime) -> Result<(), Fail> {
 
 /// A text so many times, and then an end.
 fn assert_many(test: &Test, (unit, times, end): (&str, usize, &str), len: usize, place: Place) {
-    assert_collected(
-        test,
-        test.repeated_and(unit, times, end).as_str(),
-        len,
-        place,
-    )
+    let text = test.repeated_and(unit, times, end);
+    assert_collected(test, text.as_str(), len, place)
 }
 
 fn assert_collected(test: &Test, text: &str, len: usize, place: Place) {
@@ -94,13 +90,10 @@ fn pieces(rt: HostRuntime) -> Result<(), Fail> {
 
 fn assert_blank(test: &Test, newlines: usize, place: Place) {
     let first = test.repeated("\n", newlines);
-    let blank = ok_value(test, of_two(test.alloc, first.as_str(), " "));
+    let pieces = [first.as_str(), " "].into_iter();
+    let blank = ok_value(test, SmolStr::from_strs(test.alloc, pieces));
     same(test, &blank.len(), &newlines.saturating_add(1), &newlines);
     same_place(test, &blank, place, &newlines);
-}
-
-fn of_two(alloc: Global, first: &str, second: &str) -> Result<SmolStr, AllocError> {
-    SmolStr::from_strs(alloc, [first, second].into_iter())
 }
 
 #[test]
@@ -235,7 +228,7 @@ fn assert_made(test: &Test, made: Result<SmolStr, AllocError>, text: &str) {
     same_flag(test, value.is_heap_allocated(), is_long, text);
 }
 
-fn chars_of(test: &Test, text: &str) -> Vec<char> {
+pub fn chars_of(test: &Test, text: &str) -> Vec<char> {
     ok(test, text.chars().collect(test.alloc))
 }
 
@@ -284,19 +277,17 @@ fn extend_by_four(builder: &mut SmolStrBuilder) -> Result<(), AllocError> {
 #[test]
 fn collected(rt: HostRuntime) -> Result<(), Fail> {
     let test = Test::begin(rt);
-    let alloc = test.alloc;
-    let strings = [test.string("fn"), test.string(" é")];
-    let value = ok_value(&test, "fn é".chars().collect(alloc));
-    same_str(&test, &value, "fn é", "characters");
-    let value = ok_value(&test, "f,n, é".split(',').collect(alloc));
-    same_str(&test, &value, "fn é", "texts");
-    let value = ok_value(&test, strings.iter().collect(alloc));
-    same_str(&test, &value, "fn é", "strings that are lent");
-    let value = ok_value(&test, strings.into_iter().collect(alloc));
-    same_str(&test, &value, "fn é", "strings");
-    let value = ok_value(&test, long_blank().chars().collect(alloc));
+    assert_made(&test, "fn é".chars().collect(test.alloc), "fn é");
+    assert_made(&test, "f,n, é".split(',').collect(test.alloc), "fn é");
+    assert_strings_collected(&test, [test.string("fn"), test.string(" é")]);
+    let value = ok_value(&test, long_blank().chars().collect(test.alloc));
     has_text(&test, &value, long_blank(), Static, "a blank run");
     test.end()
+}
+
+fn assert_strings_collected(test: &Test, strings: [String; 2]) {
+    assert_made(test, strings.iter().collect(test.alloc), "fn é");
+    assert_made(test, strings.into_iter().collect(test.alloc), "fn é");
 }
 
 // What was there stays in front, in a buffer and on the heap.
@@ -309,12 +300,16 @@ fn extended(rt: HostRuntime) -> Result<(), Fail> {
 }
 
 fn check_extended(test: &Test, mut builder: SmolStrBuilder) {
-    ok(test, builder.extend("x, y".split(", ")));
-    ok(test, builder.extend(['=', '1']));
-    ok(test, builder.extend([test.string(";")].iter()));
-    ok(test, builder.extend([test.string("//")]));
+    extend_by_items(test, &mut builder);
     ok(test, builder.extend_chars(" a".chars()));
     ok(test, builder.extend_strs(["b", "c"].into_iter()));
     ok(test, builder.extend_strings([test.string("d")].iter()));
     same_str(test, builder.as_str(), "let xy=1;// abcd", "extended");
+}
+
+fn extend_by_items(test: &Test, builder: &mut SmolStrBuilder) {
+    ok(test, builder.extend("x, y".split(", ")));
+    ok(test, builder.extend(['=', '1']));
+    ok(test, builder.extend([test.string(";")].iter()));
+    ok(test, builder.extend([test.string("//")]));
 }

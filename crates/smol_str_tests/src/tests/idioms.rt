@@ -35,13 +35,17 @@ fn kind_of(token: &SmolStr) -> &'static str {
 
 fn path_of(alloc: Global, segments: &[SmolStr]) -> Result<SmolStr, AllocError> {
     let mut path = SmolStrBuilder::new(alloc);
-    for (i, segment) in segments.iter().enumerate() {
-        if i > 0 {
-            path.push_str("::")?;
-        }
-        path.push_str(segment)?;
+    for segment in segments {
+        push_segment(&mut path, segment)?;
     }
     Ok(path.finish()?)
+}
+
+fn push_segment(path: &mut SmolStrBuilder, segment: &str) -> Result<(), AllocError> {
+    if !path.is_empty() {
+        path.push_str("::")?;
+    }
+    path.push_str(segment)
 }
 
 fn margin_of(alloc: Global, line: &str) -> Result<SmolStr, AllocError> {
@@ -54,7 +58,11 @@ fn margin_of(alloc: Global, line: &str) -> Result<SmolStr, AllocError> {
 fn unresolved(alloc: Global, path: &SmolStr, name: &SmolStr) -> Result<SmolStr, FormatError> {
     let mut message = SmolStrBuilder::new(alloc);
     message.push_str(&format_smolstr!(alloc; "no `{name}` in ")?)?;
-    write!(message, "`{path}`")?;
-    message.push('.')?;
+    end_sentence(&mut message, path)?;
     Ok(message.into_value()?)
+}
+
+fn end_sentence(sentence: &mut SmolStrBuilder, path: &SmolStr) -> Result<(), FormatError> {
+    write!(sentence, "`{path}`")?;
+    Ok(sentence.push('.')?)
 }

@@ -90,9 +90,12 @@ fn full_case_as_std(rt: HostRuntime) -> Result<(), Fail> {
 
 fn check_as_std(test: &Test, text: &str) {
     let lower = ok_string(test, text.to_lowercase(test.alloc));
-    let value = ok_value(test, text.to_lowercase_smolstr(test.alloc));
-    same_text(test, value.as_str(), lower.as_str(), &text);
     let upper = ok_string(test, text.to_uppercase(test.alloc));
-    let value = ok_value(test, text.to_uppercase_smolstr(test.alloc));
-    same_text(test, value.as_str(), upper.as_str(), &text)
+    assert_text(test, Lower, text, lower.as_str());
+    assert_text(test, Upper, text, upper.as_str())
+}
+
+fn assert_text(test: &Test, call: Call, text: &str, wanted: &str) {
+    let value = ok_value(test, answer(test.alloc, call, text));
+    same_text(test, value.as_str(), wanted, &text)
 }

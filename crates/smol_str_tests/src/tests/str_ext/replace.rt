@@ -52,16 +52,23 @@ pub fn assert_rows(test: &Test, rows: &[Row]) {
 
 /// By the call that has a limit, and by the other one where there is none.
 fn assert_row(test: &Test, &([text, from, to], count, wanted): &Row) {
-    let value = ok_value(test, text.replacen_smolstr(test.alloc, from, to, count));
-    assert_made(test, &value, wanted, [from, to, text], count);
+    let made = text.replacen_smolstr(test.alloc, from, to, count);
+    assert_made(test, made, (wanted, Inline), [from, to, text], count);
     if count == ALL {
-        let value = ok_value(test, text.replace_smolstr(test.alloc, from, to));
-        assert_made(test, &value, wanted, [from, to, text], count);
+        let made = text.replace_smolstr(test.alloc, from, to);
+        assert_made(test, made, (wanted, Inline), [from, to, text], count);
     }
 }
 
-fn assert_made(test: &Test, value: &SmolStr, wanted: &str, texts: [&str; 3], count: usize) {
-    same_value(test, value, wanted, Inline, &(texts, count));
+fn assert_made(
+    test: &Test,
+    made: Result<SmolStr, AllocError>,
+    (wanted, place): (&str, Place),
+    texts: [&str; 3],
+    count: usize,
+) {
+    let value = ok_value(test, made);
+    same_value(test, &value, wanted, place, &(texts, count));
 }
 
 /// A text so many times, a pattern, what stands in its place, at most how often; and the result, a text so many times and
@@ -101,7 +108,13 @@ fn assert_long(
     (unit, times, end): (&str, usize, &str),
     place: Place,
 ) {
-    let value = ok_value(test, text.replacen_smolstr(test.alloc, from, to, count));
+    let made = text.replacen_smolstr(test.alloc, from, to, count);
     let wanted = test.repeated_and(unit, times, end);
-    same_value(test, &value, wanted.as_str(), place, &([from, to], count));
+    assert_made(
+        test,
+        made,
+        (wanted.as_str(), place),
+        [from, to, text],
+        count,
+    );
 }

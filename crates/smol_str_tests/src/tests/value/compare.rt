@@ -70,13 +70,17 @@ fn pinned_and_new(rt: HostRuntime) -> Result<(), Fail> {
 }
 
 fn assert_pinned_and_new(test: &Test, text: &'static str, place: Place) {
-    let (value, pinned) = (test.value(text), SmolStr::new_static(text));
-    in_place(test, &value, place, text);
-    is_so(test, value == pinned && pinned.eq_str(text), text);
-    assert_hash(test, &value, text);
-    assert_hash(test, &pinned, text);
+    let pinned = SmolStr::new_static(text);
+    assert_equal(test, &test.value(text), &pinned, text);
+    in_place(test, &test.value(text), place, text);
     in_place(test, &ok_value(test, pinned.clone()), Static, text);
     in_place(test, &pinned, Static, text)
+}
+
+fn assert_equal(test: &Test, value: &SmolStr, pinned: &SmolStr, text: &str) {
+    is_so(test, value == pinned && pinned.eq_str(text), text);
+    assert_hash(test, value, text);
+    assert_hash(test, pinned, text)
 }
 
 /// The hash is that of the text.

@@ -3,6 +3,7 @@ use super::Wants::{AsStd, Exactly};
 use super::by_std::Asks::{Nothing, Owned};
 use super::things::{Thing, nothing_of, things_of};
 use super::{Row, SHARED, Wants, check_calls};
+use Call::*;
 use serde_json::Value;
 use smol_str::SmolStr;
 use smol_str::json_string::{from_json, from_value, to_json, to_value};
@@ -29,37 +30,20 @@ const TO_JSON: Wants = Exactly(
 
 const FROM_JSON: Wants = Exactly([0, 0, 2, 2, 2, 2, 2], [0, 0, 399, 80, 5_040, 5_040, 70_040]);
 
-const FROM_JSON_SPACED: Wants = Exactly(
-    [0, 0, 2, 2, 2, 2, 2],
-    [0, 0, 399, 80, 5_040, 5_040, 70_040],
-);
-
 const FROM_JSON_ESCAPED: Wants = Exactly(
     [2, 4, 4, 4, 4, 4, 4],
     [9, 163, 1070, 166, 15_046, 15_046, 210_046],
 );
 
-static CALLS: [Row<Call>; 7] = [
-    (
-        Call::ToValue,
-        "json_string::to_value",
-        AsStd(Nothing, Owned, Owned, Owned),
-    ),
-    (Call::FromValue, "json_string::from_value", SHARED),
-    (Call::ToJson, "json_string::to_json", TO_JSON),
-    (Call::ToJsonPinned, "json_string::to_json", TO_JSON),
-    (Call::FromJson, "json_string::from_json", FROM_JSON),
-    (
-        Call::FromJsonSpaced,
-        "json_string::from_json",
-        FROM_JSON_SPACED,
-    ),
-    (
-        Call::FromJsonEscaped,
-        "json_string::from_json",
-        FROM_JSON_ESCAPED,
-    ),
-];
+static CALLS: [Row<Call>; 7] = table! {
+    (ToValue, "json_string::to_value", AsStd(Nothing, Owned, Owned, Owned));
+    (FromValue, "json_string::from_value", SHARED);
+    (ToJson, "json_string::to_json", TO_JSON);
+    (ToJsonPinned, "json_string::to_json", TO_JSON);
+    (FromJson, "json_string::from_json", FROM_JSON);
+    (FromJsonSpaced, "json_string::from_json", FROM_JSON);
+    (FromJsonEscaped, "json_string::from_json", FROM_JSON_ESCAPED);
+};
 
 #[test]
 fn each_request(rt: HostRuntime) -> Result<(), Fail> {
@@ -74,11 +58,6 @@ struct Input {
     json: String,
 }
 
-/// A text and another one behind it.
-fn followed(test: &Test, front: &str, back: &str) -> String {
-    test.joined(front, back)
-}
-
 impl super::Call for Call {
     type Input = Input;
 
@@ -87,14 +66,12 @@ impl super::Call for Call {
         let json = ok_string(test, tree.to_string(test.alloc));
         Input {
             value: match self {
-                Call::ToJsonPinned => SmolStr::new_static(text),
+                ToJsonPinned => SmolStr::new_static(text),
                 _ => test.value(text),
             },
             json: match self {
-                Call::FromJsonSpaced => followed(test, " ", json.as_str()),
-                Call::FromJsonEscaped => {
-                    followed(test, "\"\\/", json.as_str().get(1..).unwrap_or(""))
-                }
+                FromJsonSpaced => test.joined(" ", json.as_str()),
+                FromJsonEscaped => { test.joined("\"\\/", json.as_str().get(1..).unwrap_or("")) }
                 _ => json,
             },
             tree,
@@ -103,10 +80,10 @@ impl super::Call for Call {
 
     fn run(self, alloc: Global, _text: &str, input: Input) -> Result<Thing, Thing> {
         match self {
-            Call::ToValue => nothing_of(to_value(alloc, &input.value)),
-            Call::FromValue => things_of(from_value(alloc, &input.tree)),
-            Call::ToJson | Call::ToJsonPinned => things_of(to_json(alloc, &input.value)),
-            Call::FromJson | Call::FromJsonSpaced | Call::FromJsonEscaped => {
+            ToValue => nothing_of(to_value(alloc, &input.value)),
+            FromValue => things_of(from_value(alloc, &input.tree)),
+            ToJson | ToJsonPinned => things_of(to_json(alloc, &input.value)),
+            FromJson | FromJsonSpaced | FromJsonEscaped => {
                 things_of(from_json(alloc, input.json.as_str()))
             }
         }

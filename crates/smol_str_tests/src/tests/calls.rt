@@ -127,11 +127,14 @@ fn check_length<C: Call>(test: &Test, rows: &[Row<C>], text: &'static str, len: 
 
 /// The call does not give up, leaves nothing, and asks for what calls of std do where its text is not resident.
 fn check_once<C: Call>(test: &Test, on: &On<C>, wants: Wants) {
-    let (asked, text) = (run_once(test, on.name, on), on.shape.text);
-    if let (Wants::AsStd(.., long), Some(asked)) = (wants, asked)
-        && text.len() > INLINE_CAP
-    {
-        check_as_std(test, long, text, on.name, asked);
+    let Some(asked) = run_once(test, on.name, on) else {
+        return;
+    };
+    match wants {
+        Wants::AsStd(.., long) if on.shape.text.len() > INLINE_CAP => {
+            check_as_std(test, long, on.shape.text, on.name, asked)
+        }
+        _ => {}
     }
 }
 
