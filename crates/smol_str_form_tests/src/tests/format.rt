@@ -195,11 +195,8 @@ fn faults_print(rt: HostRuntime) -> Result<(), Fail> {
     prints(&test, &FormatError, "formatting failed or memory ran out");
     prints(&test, &FromUtf8Fault::OutOfMemory, memory);
     prints(&test, &JsonFault::OutOfMemory, memory);
-    prints(
-        &test,
-        &JsonFault::NotString,
-        "the JSON value is not a string",
-    );
+    let not_string = "the JSON value is not a string";
+    prints(&test, &JsonFault::NotString, not_string);
     prints(&test, &ReadFault::OutOfMemory, memory);
     prints(&test, &DecodeFault::OutOfMemory, memory);
     let ended = "the bytes end before the text does";

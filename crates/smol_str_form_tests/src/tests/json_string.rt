@@ -98,13 +98,17 @@ fn escapes(rt: HostRuntime) -> Result<(), Fail> {
         for &count in &BORDERS {
             let letters = test.repeated("a", count);
             let text = between(&test, ESCAPED[index], letters.as_str());
-            let escaped = between(&test, ESCAPES[index], letters.as_str());
-            let json = between(&test, "\"", escaped.as_str());
-            check_read(&test, json.as_str(), text.as_str());
-            check_written(&test, &test.value(text.as_str()), json.as_str());
+            check_escaped(&test, ESCAPES[index], letters.as_str(), text.as_str());
         }
     }
     test.end()
+}
+
+fn check_escaped(test: &Test, escape: &str, letters: &str, text: &str) {
+    let escaped = between(test, escape, letters);
+    let json = between(test, "\"", escaped.as_str());
+    check_read(test, json.as_str(), text);
+    check_written(test, &test.value(text), json.as_str());
 }
 
 fn between(test: &Test, end: &str, text: &str) -> String {

@@ -1,6 +1,7 @@
 //! Each call that reads or writes, over readers and writers of every step, which end after each byte and fail at each call.
 use super::borsh::fault::{kind_of, kind_of_limited};
 use super::borsh::{LETTERS, ROWS, form_of, of_units, ok_found};
+use Call::*;
 use smol_str::borsh::{
     BorshDeserialize, BorshSerialize, EncodeFault, deserialize_limited, from_wire,
 };
@@ -18,13 +19,7 @@ enum Call {
     LimitedForm,
 }
 
-static CALLS: [Call; 5] = [
-    Call::Fill,
-    Call::ReadUpTo,
-    Call::ReadAll,
-    Call::WireForm,
-    Call::LimitedForm,
-];
+static CALLS: [Call; 5] = [Fill, ReadUpTo, ReadAll, WireForm, LimitedForm];
 
 /// A call that is asked for so many bytes.
 #[derive(Drop)]
@@ -36,35 +31,35 @@ struct Reads {
 impl Reading for Reads {
     fn name(&self) -> &str {
         match self.call {
-            Call::Fill => "stream::fill",
-            Call::ReadUpTo => "stream::read_up_to",
-            Call::ReadAll => "stream::read_all",
-            Call::WireForm => "BorshDeserialize::deserialize_reader",
-            Call::LimitedForm => "borsh::deserialize_limited",
+            Fill => "stream::fill",
+            ReadUpTo => "stream::read_up_to",
+            ReadAll => "stream::read_all",
+            WireForm => "BorshDeserialize::deserialize_reader",
+            LimitedForm => "borsh::deserialize_limited",
         }
     }
 
     /// The buffer of `fill` is the caller's own.
     fn largest_buffer(&self) -> usize {
         match self.call {
-            Call::Fill => self.size,
+            Fill => self.size,
             _ => CHUNK,
         }
     }
 
     fn reads_the_end(&self) -> bool {
-        matches!(self.call, Call::ReadAll)
+        matches!(self.call, ReadAll)
     }
 
     /// Of a value, its wire form.
     fn read(&self, test: &Test, reader: &mut Trickle<'_>) -> Result<Vec<u8>, Kind> {
         let alloc = test.alloc;
         match self.call {
-            Call::Fill => filled(alloc, reader, self.size),
-            Call::ReadUpTo => all_read(read_up_to(alloc, reader, self.size)),
-            Call::ReadAll => all_read(read_all(alloc, reader)),
-            Call::WireForm => written_again(alloc, reader),
-            Call::LimitedForm => limited_again(alloc, reader, self.size),
+            Fill => filled(alloc, reader, self.size),
+            ReadUpTo => all_read(read_up_to(alloc, reader, self.size)),
+            ReadAll => all_read(read_all(alloc, reader)),
+            WireForm => written_again(alloc, reader),
+            LimitedForm => limited_again(alloc, reader, self.size),
         }
     }
 }
@@ -153,7 +148,7 @@ fn end_after_each_byte(rt: HostRuntime) -> Result<(), Fail> {
 fn check_end(test: &Test, reads: &Reads, front: &[u8]) {
     let row = (reads.name(), front.len());
     let mut reader = trickle_of(test, front, 1, 0);
-    let is_of_a_value = matches!(reads.call, Call::WireForm | Call::LimitedForm);
+    let is_of_a_value = matches!(reads.call, WireForm | LimitedForm);
     let is_right = match reads.read(test, &mut reader) {
         Ok(all) => all.as_slice() == front && !is_of_a_value,
         Err(kind) => kind == Kind::Ended && is_of_a_value,
@@ -165,8 +160,8 @@ fn check_end(test: &Test, reads: &Reads, front: &[u8]) {
 #[test]
 fn no_read_into_nothing(rt: HostRuntime) -> Result<(), Fail> {
     let test = Test::begin(rt);
-    check_no_read(&test, Call::Fill);
-    check_no_read(&test, Call::ReadUpTo);
+    check_no_read(&test, Fill);
+    check_no_read(&test, ReadUpTo);
     test.end()
 }
 

@@ -77,34 +77,20 @@ pub fn all_rows(test: &Test) -> Vec<Row> {
 }
 
 fn push_letters(test: &Test, all: &mut Vec<Row>, words: Words, front: &str, letter: &str) {
-    let (input, line) = (
-        test.repeated_and("a", 9000, "\n"),
-        test.repeated_and(letter, 9000, "\n"),
-    );
-    push_row(
-        test,
-        all,
-        words,
-        input.as_str(),
-        test.joined(front, line.as_str()),
-    )
+    let input = test.repeated_and("a", 9000, "\n");
+    let line = test.repeated_and(letter, 9000, "\n");
+    let report = test.joined(front, line.as_str());
+    push_row(test, all, words, input.as_str(), report)
 }
 
 /// A line that fills a buffer, and lines that are a byte too long.
 fn push_full(test: &Test, all: &mut Vec<Row>) {
-    let (line, spaces) = (
-        test.repeated("x", INLINE_CAP + 1),
-        test.repeated(" ", INLINE_CAP),
-    );
+    let line = test.repeated("x", INLINE_CAP + 1);
+    let spaces = test.repeated(" ", INLINE_CAP);
     push_line(test, all, &["show"], full_text(), ("inline", full_text()));
     push_line(test, all, &["show"], long_text(), ("heap", long_text()));
-    push_line(
-        test,
-        all,
-        &["upper"],
-        long_text(),
-        ("heap", long_capitals()),
-    );
+    let capitals = ("heap", long_capitals());
+    push_line(test, all, &["upper"], long_text(), capitals);
     let answer = ("static", long_blank());
     push_line(test, all, &["replace", "x", " "], line.as_str(), answer);
     let lines = test.joined(" \n", spaces.as_str());

@@ -3,7 +3,7 @@
 mod refused;
 
 use super::mode::mode_by;
-use super::report::{LETTERS, all_rows};
+use super::report::{LETTERS, Row, all_rows};
 use smol_str::stream::CHUNK;
 use smol_tokens_core::fault::RunFault;
 use smol_tokens_core::run::run;
@@ -91,8 +91,8 @@ impl Writing for Runs<'_> {
 fn fails_at_each_read_of_an_input(rt: HostRuntime) -> Result<(), Fail> {
     let test = Test::begin(rt);
     for row in &all_rows(&test) {
-        let (words, input) = (row.words, row.input.as_bytes());
-        fails_at_each_read(&test, &Runs { words, input }, input, row.report.as_bytes());
+        let input = row.input.as_bytes();
+        fails_at_each_read(&test, &runs_on(row), input, row.report.as_bytes());
     }
     test.end()
 }
@@ -101,27 +101,34 @@ fn fails_at_each_read_of_an_input(rt: HostRuntime) -> Result<(), Fail> {
 fn fails_at_each_write_of_a_report(rt: HostRuntime) -> Result<(), Fail> {
     let test = Test::begin(rt);
     for row in &all_rows(&test) {
-        let (words, input) = (row.words, row.input.as_bytes());
-        fails_at_each_write(&test, &Runs { words, input }, row.report.as_bytes());
+        fails_at_each_write(&test, &runs_on(row), row.report.as_bytes());
     }
     test.end()
 }
 
-/// Characters of one to four bytes, in two lines.
-const CHARACTERS: &str = "aßΔ\nC€🦀";
+fn runs_on(row: &Row) -> Runs<'_> {
+    Runs {
+        words: row.words,
+        input: row.input.as_bytes(),
+    }
+}
 
-// An input that ends is whole, and not UTF-8 where it ends within a character.
+// An input that ends is whole, and not UTF-8 where it ends within a character, here of one to four bytes and in two lines.
 #[test]
 fn end_after_each_byte(rt: HostRuntime) -> Result<(), Fail> {
     let test = Test::begin(rt);
     for &(words, ..) in LETTERS {
-        for end in 0..=CHARACTERS.len() {
-            let is_whole = CHARACTERS.is_char_boundary(end);
-            let wanted = if is_whole { None } else { Some(Kind::NotUtf8) };
-            check_ended(&test, words, &CHARACTERS.as_bytes()[..end], 1, wanted);
-        }
+        check_ends(&test, words, "aßΔ\nC€🦀");
     }
     test.end()
+}
+
+fn check_ends(test: &Test, words: Words, text: &str) {
+    for end in 0..=text.len() {
+        let is_whole = text.is_char_boundary(end);
+        let wanted = if is_whole { None } else { Some(Kind::NotUtf8) };
+        check_ended(test, words, &text.as_bytes()[..end], 1, wanted);
+    }
 }
 
 /// What is returned after the whole input came.
@@ -191,10 +198,14 @@ static FAULTS: &[(&[u8], Kind)] = &[
 fn faults_of_merges(rt: HostRuntime) -> Result<(), Fail> {
     let test = Test::begin(rt);
     for &(input, kind) in FAULTS {
-        let (mut reader, mut out) = (input, Vec::new(test.alloc));
-        let ended = run_by(&test, &["merge"], &mut reader, &mut out);
-        same(&test, &ended, &Some(kind), &(input, kind));
-        holds(&test, out.is_empty(), &(input, kind));
+        check_merge(&test, input, kind);
     }
     test.end()
+}
+
+fn check_merge(test: &Test, input: &[u8], kind: Kind) {
+    let (mut reader, mut out) = (input, Vec::new(test.alloc));
+    let ended = run_by(test, &["merge"], &mut reader, &mut out);
+    same(test, &ended, &Some(kind), &(input, kind));
+    holds(test, out.is_empty(), &(input, kind));
 }

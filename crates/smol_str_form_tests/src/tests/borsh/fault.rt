@@ -1,5 +1,5 @@
 //! Bytes that hold no wire form or state a size above a limit, and memory refused and counted.
-use super::letters;
+use super::{letters, of_units};
 use smol_str::borsh::{
     BorshDeserialize, DecodeFault, LimitedFault, deserialize_limited, from_wire, split_wire,
 };
@@ -173,9 +173,8 @@ fn assert_at_the_limit(test: &Test) {
 
 fn assert_too_long(test: &Test, size: u32, limit: usize) {
     let alloc = test.alloc;
-    let [a, b, c, d] = size.to_le_bytes();
-    let bytes = [a, b, c, d, b'a', b'b', b'c', b'd', b'e', b'f'];
-    let mut reader = trickle_of(test, &bytes, usize::MAX, 0);
+    let bytes = of_units(test, &size.to_le_bytes(), b"abcdef", 1);
+    let mut reader = trickle_of(test, bytes.as_slice(), usize::MAX, 0);
     refuse_all(alloc);
     let read = deserialize_limited(alloc, &mut reader, limit);
     let is_too_long = matches!(read, Err(LimitedFault::TooLong));

@@ -22,19 +22,24 @@ static MODES: &[(Words, [u32; 6])] = &[
 fn each_request_in_turn(rt: HostRuntime) -> Result<(), Fail> {
     let test = Test::begin(rt);
     let long = test.repeated("a", 5000);
-    for &(words, [empty, lines, short, blank, heap, large]) in MODES {
-        check_run(&test, words, "", empty);
-        check_run(&test, words, "if\n\nx\n", lines);
-        check_run(&test, words, "aaaaaaaaaaaaaaaaaaaaaaaa", short);
-        check_run(&test, words, long_blank(), blank);
-        check_run(&test, words, long_text(), heap);
-        check_run(&test, words, long.as_str(), large);
-        for len in 0..400 {
-            let input = long.as_str().get(..len).unwrap_or("");
-            let _ = run_once(&test, "run::run", &run_on(&test, words, input));
-        }
+    for &(words, requests) in MODES {
+        check_inputs(&test, words, requests, long.as_str());
     }
     test.end()
+}
+
+fn check_inputs(test: &Test, words: Words, requests: [u32; 6], long: &str) {
+    let [empty, lines, short, blank, heap, large] = requests;
+    check_run(test, words, "", empty);
+    check_run(test, words, "if\n\nx\n", lines);
+    check_run(test, words, "aaaaaaaaaaaaaaaaaaaaaaaa", short);
+    check_run(test, words, long_blank(), blank);
+    check_run(test, words, long_text(), heap);
+    check_run(test, words, long, large);
+    for len in 0..400 {
+        let input = long.get(..len).unwrap_or("");
+        let _ = run_once(test, "run::run", &run_on(test, words, input));
+    }
 }
 
 /// A token that is there already asks for nothing.
