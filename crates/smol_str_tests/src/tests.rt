@@ -20,14 +20,10 @@ fn limits(rt: HostRuntime) -> Result<(), Fail> {
     same_count(&test, INLINE_CAP, 39, "INLINE_CAP");
     same_count(&test, BLANK_NEWLINES, 64, "BLANK_NEWLINES");
     same_count(&test, BLANK_SPACES, 256, "BLANK_SPACES");
-    assert_sizes(&test);
+    same_count(&test, full_text().len(), 39, "full_text");
+    same_count(&test, full_capitals().len(), 39, "full_capitals");
+    same_count(&test, long_text().len(), 40, "long_text");
+    same_count(&test, long_capitals().len(), 40, "long_capitals");
+    same_count(&test, long_blank().len(), 40, "long_blank");
     test.end()
-}
-
-fn assert_sizes(test: &Test) {
-    same_count(test, full_text().len(), 39, "full_text");
-    same_count(test, full_capitals().len(), 39, "full_capitals");
-    same_count(test, long_text().len(), 40, "long_text");
-    same_count(test, long_capitals().len(), 40, "long_capitals");
-    same_count(test, long_blank().len(), 40, "long_blank");
 }

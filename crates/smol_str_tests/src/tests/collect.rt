@@ -145,11 +145,8 @@ fn assert_joined(test: &Test, value: &SmolStr, count: usize) {
     let letters = (count / 5).saturating_mul(10);
     let letters = letters.saturating_add([0, 1, 3, 6, 10][count % 5]);
     let text = test.repeated("é", letters);
-    let place = if text.len() > INLINE_CAP {
-        Heap
-    } else {
-        Inline
-    };
+    let is_long = text.len() > INLINE_CAP;
+    let place = if is_long { Heap } else { Inline };
     same_value(test, value, text.as_str(), place, &count);
 }
 
@@ -301,6 +298,7 @@ fn extended(rt: HostRuntime) -> Result<(), Fail> {
 
 fn check_extended(test: &Test, mut builder: SmolStrBuilder) {
     extend_by_items(test, &mut builder);
+    extend_by_strings(test, &mut builder);
     ok(test, builder.extend_chars(" a".chars()));
     ok(test, builder.extend_strs(["b", "c"].into_iter()));
     ok(test, builder.extend_strings([test.string("d")].iter()));
@@ -310,6 +308,9 @@ fn check_extended(test: &Test, mut builder: SmolStrBuilder) {
 fn extend_by_items(test: &Test, builder: &mut SmolStrBuilder) {
     ok(test, builder.extend("x, y".split(", ")));
     ok(test, builder.extend(['=', '1']));
+}
+
+fn extend_by_strings(test: &Test, builder: &mut SmolStrBuilder) {
     ok(test, builder.extend([test.string(";")].iter()));
     ok(test, builder.extend([test.string("//")]));
 }

@@ -23,10 +23,7 @@ enum Call {
     FromJsonEscaped,
 }
 
-const TO_JSON: Wants = Exactly(
-    [1, 1, 2, 1, 1, 1, 1],
-    [2, 41, 984, 42, 5_002, 5_002, 70_002],
-);
+const TO_JSON: Wants = Exactly([1, 1, 2, 1, 1, 1, 1], [2, 41, 984, 42, 5002, 5002, 70_002]);
 
 const FROM_JSON: Wants = Exactly([0, 0, 2, 2, 2, 2, 2], [0, 0, 399, 80, 5_040, 5_040, 70_040]);
 
