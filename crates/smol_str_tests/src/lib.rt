@@ -1,5 +1,5 @@
-//! Tests of the library through its public items, for what no clause says: values and builders, by files with the name of
-//! the module that they test, and the memory that calls ask for. `smol_str_form_tests` has those of prints, JSON and the wire.
+//! Tests of the library through its public items, for what no clause says. Most files have the name of the module that
+//! they test. `smol_str_memory_tests` has those of the memory that calls ask for.
 #![tactic(auto)]
 
 #[cfg(test)]

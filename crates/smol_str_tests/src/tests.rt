@@ -1,15 +1,16 @@
-//! Values and builders, by rows from outside. `calls`, `dropped`, `faulty_calls` and `without_memory` are about memory.
+//! Tests of what no clause says, by rows from outside.
 
+mod borsh;
 mod builder;
-mod calls;
 mod collect;
-mod dropped;
-mod faulty_calls;
+mod format;
 mod idioms;
+mod json_string;
 mod kernel;
+mod serde_impls;
 mod str_ext;
+mod stream;
 mod value;
-mod without_memory;
 
 use smol_str::{BLANK_NEWLINES, BLANK_SPACES, INLINE_CAP};
 use test_support::*;

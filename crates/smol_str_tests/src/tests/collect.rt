@@ -225,7 +225,7 @@ fn assert_made(test: &Test, made: Result<SmolStr, AllocError>, text: &str) {
     same_flag(test, value.is_heap_allocated(), is_long, text);
 }
 
-pub fn chars_of(test: &Test, text: &str) -> Vec<char> {
+fn chars_of(test: &Test, text: &str) -> Vec<char> {
     ok(test, text.chars().collect(test.alloc))
 }
 

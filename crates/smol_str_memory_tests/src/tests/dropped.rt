@@ -1,5 +1,4 @@
 //! What comes back where memory is refused, or is left then, is dropped.
-use super::collect::chars_of;
 use smol_str::borsh::{DecodeFault, LimitedFault};
 use smol_str::json_string::JsonFault;
 use smol_str::stream::ReadFault;
@@ -39,7 +38,10 @@ fn push_to_new<F: From<AllocFailed<SmolStr>>>(test: &Test, value: SmolStr) -> Re
 fn what_an_iterator_owns(rt: HostRuntime) -> Result<(), Fail> {
     let test = Test::begin(rt);
     start_counts(test.alloc);
-    let list = chars_of(&test, long_text());
+    let mut list = Vec::new(test.alloc);
+    for character in long_text().chars() {
+        test.push(&mut list, character);
+    }
     refuse_all(test.alloc);
     let is_refused = SmolStr::from_chars(test.alloc, list.into_iter()).is_err();
     is_so(&test, is_refused == end_refusals(test.alloc), "from_chars");
