@@ -1,5 +1,5 @@
--- For builders. Draft: one append and several, which are one of the texts joined. Push: the loops of `str_ext`. Collect: the
--- items of an iterator. Join: texts behind a separator. Format: the pieces of a print.
+-- For builders. Draft: appends, which are associative. Push: the loops of `str_ext`. Collect: the items of an iterator. Join:
+-- texts behind a separator. Format: the pieces of a print.
 pub mod Draft
 pub mod Push
 pub mod Collect

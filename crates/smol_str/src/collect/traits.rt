@@ -13,7 +13,7 @@ use std::iter::{Extend, FromIterator};
 
 /// A value of the items' texts, one after another: of a `char`, `&str`, `String` or `&String`.
 ///
-/// `collect` cannot say when memory is refused: while the joined text is short it is not, as
+/// std's `collect` cannot say when memory is refused: while the joined text is short it is not, as
 /// [`SmolStr::from_chars`] has it. After a refusal nothing is made, and the iterator is dropped.
 impl<P: Piece> FromIterator<P> for SmolStr {
     type Alloc = Global;

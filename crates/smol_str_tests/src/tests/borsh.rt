@@ -1,4 +1,4 @@
-//! Wire forms, written and read again.
+//! Wire forms, written and read again; in `fault`, bytes that are refused.
 pub mod fault;
 
 use smol_str::borsh::{BorshDeserialize, BorshSerialize, DecodeFault, from_wire, length_prefix};

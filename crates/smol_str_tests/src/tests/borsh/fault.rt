@@ -1,4 +1,4 @@
-//! Bytes that hold no wire form or state a size above a limit, and memory refused and counted.
+//! Bytes that hold no wire form, or state a size above the limit of `deserialize_limited`; memory refused and counted.
 use super::{letters, of_units};
 use smol_str::borsh::{
     BorshDeserialize, DecodeFault, LimitedFault, deserialize_limited, from_wire, split_wire,
