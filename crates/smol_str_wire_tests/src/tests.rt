@@ -1,0 +1,3 @@
+//! Tests of what no clause says: wire forms, and each read and write.
+mod borsh;
+mod stream;
