@@ -84,7 +84,7 @@ pub fn of_bytes(alloc: Global, bytes: &[u8]) -> Result<SmolStr, AllocError>
     ensures value { IfOk result (λ v. IsValueOf (chars bytes.now) v) }
     ensures refused { OnErr result (¬ (IsResident (chars bytes.now))) }
 {
-    SmolStr::from_utf8(alloc, bytes).ok().ok_or(AllocError)
+    SmolStr::from_utf8(alloc, bytes).map_err(|_| AllocError)
 }
 
 /// The same where the bytes are known to be UTF-8.
@@ -125,7 +125,7 @@ pub fn of_boxed_str(alloc: Global, text: BoxedStr) -> Result<SmolStr, AllocError
     ensures value { IfOk result (λ v. IsValueOf (chars (boxed_str_bytes text)) v) }
     ensures refused { OnErr result (¬ (IsResident (chars (boxed_str_bytes text)))) }
 {
-    SmolStr::from_boxed_str(alloc, text).ok().ok_or(AllocError)
+    SmolStr::from_boxed_str(alloc, text).map_err(|_| AllocError)
 }
 
 /// A text that is borrowed or owned.
