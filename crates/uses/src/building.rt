@@ -10,6 +10,7 @@ use smol_str::{INLINE_CAP, SmolStr, SmolStrBuilder};
 use std::alloc::{AllocError, Global};
 
 /// The texts of values, one after another.
+#[tactic(auto, using(smol_str::proofs::CallerLemmas::builders))]
 pub fn joined(alloc: Global, parts: &[SmolStr]) -> Result<SmolStr, AllocError>
     ensures value { IfOk result (λ v. IsValueOf (flat_map (λ part. part.text) parts.now) v) }
     ensures refused { OnErr result (¬ (IsShort (flat_map (λ part. part.text) parts.now))) }
@@ -22,6 +23,7 @@ pub fn joined(alloc: Global, parts: &[SmolStr]) -> Result<SmolStr, AllocError>
 }
 
 /// Two texts that fit a builder together: neither append is refused.
+#[tactic(auto, using(smol_str::proofs::CallerLemmas::builders))]
 pub fn both(alloc: Global, first: &str, second: &str) -> Result<SmolStrBuilder, AllocError>
     requires { length first.now + length second.now ≤ INLINE_CAP }
     ensures ok { IsOk result }

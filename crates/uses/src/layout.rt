@@ -25,6 +25,7 @@ pub fn without_tabs(alloc: Global, token: &SmolStr) -> Result<SmolStr, AllocErro
 }
 
 /// The tokens with a space between each two.
+#[tactic(auto, using(smol_str::proofs::CallerLemmas::builders))]
 pub fn in_a_row(alloc: Global, tokens: &[SmolStr]) -> Result<SmolStr, AllocError>
     ensures { IfOk result (λ v. IsValueOf (spaced tokens.now) v) }
 {

@@ -18,7 +18,8 @@ pub fn sort_names(names: &mut Vec<SmolStr>) -> Result<(), AllocError>
     ensures sorted { OnOk result (IsSorted (slice_cmp nat_cmp) (texts names.new.items)) }
     ensures refused { OnErr result (names.new.items ≡ names.old.items) }
 {
-    names.sort()
+    names.sort()?;
+    Ok(())
 }
 
 /// The values in the order of their texts, each text once.
