@@ -90,6 +90,7 @@ impl<S: BuildHasher> Symbols<S> {
 
 /// A text is interned, then another, and then the first again: it has the id that it had, and the
 /// id gives the text back.
+#[tactic(auto, using(crate::proofs::NameLemmas::ids))]
 pub fn same_id<S: BuildHasher>(
     symbols: &mut Symbols<S>,
     text: &str,
