@@ -18,8 +18,8 @@ pub use refuse::{
 pub use std::alloc::{AllocError, Global};
 pub use std::test::Fail;
 pub use test::{
-    Missing, Test, has_text, holds, in_place, is_so, ok, ok_bytes, ok_string, ok_value, same,
-    same_count, same_flag, same_place, same_str, same_text, same_value,
+    Test, has_text, holds, in_place, is_so, ok, ok_bytes, ok_string, ok_value, same, same_count,
+    same_flag, same_place, same_str, same_text, same_value,
 };
 pub use texts::{
     ABOVE_BUFFERS, full_capitals, full_text, long_blank, long_capitals, long_text, page_text,

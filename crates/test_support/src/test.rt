@@ -8,6 +8,7 @@ use crate::refuse::tell_compared;
 use smol_str::{Place, SmolStr, SmolStrBuilder};
 use std::alloc::{AllocError, Global};
 use std::cell::Cell;
+use std::default::MadeWith;
 use std::fmt::{Debug, InlineText};
 use std::test::Fail;
 
@@ -187,47 +188,13 @@ pub fn has_text(test: &Test, value: &SmolStr, text: &str, place: Place, row: &st
     same_value(test, value, text, place, &row);
 }
 
-/// What stands for a result that is missing, in a test that has failed by it. It needs no memory.
-pub trait Missing {
-    /// The value.
-    fn missing(alloc: Global) -> Self;
-}
-
-impl Missing for () {
-    fn missing(_alloc: Global) {}
-}
-
-impl Missing for SmolStr {
-    fn missing(_alloc: Global) -> SmolStr {
-        SmolStr::default()
-    }
-}
-
-impl Missing for SmolStrBuilder {
-    fn missing(alloc: Global) -> SmolStrBuilder {
-        SmolStrBuilder::new(alloc)
-    }
-}
-
-impl Missing for String {
-    fn missing(alloc: Global) -> String {
-        String::new(alloc)
-    }
-}
-
-impl<T> Missing for Vec<T> {
-    fn missing(alloc: Global) -> Vec<T> {
-        Vec::new(alloc)
-    }
-}
-
-/// What a call returns; a fault fails the test.
-pub fn ok<T: Missing, E: Debug + Drop>(test: &Test, outcome: Result<T, E>) -> T {
+/// What a call returns; a fault fails the test, and an empty value stands in its place.
+pub fn ok<T: MadeWith<Global>, E: Debug + Drop>(test: &Test, outcome: Result<T, E>) -> T {
     match outcome {
         Ok(value) => value,
         Err(fault) => {
             test.fail(&fault);
-            T::missing(test.alloc)
+            T::made_with(test.alloc)
         }
     }
 }
