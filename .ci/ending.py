@@ -33,7 +33,7 @@ def end_group(started, *gently):
 
 def run(words, **how):
     """As `subprocess.run`, but where the script ends meanwhile, so does all that the command started."""
-    with subprocess.Popen(words, stdin=subprocess.DEVNULL, start_new_session=True, **how) as started:
+    with subprocess.Popen(words, stdin=subprocess.DEVNULL, preexec_fn=os.setpgrp, **how) as started:
         try:
             said = started.communicate()
         except BaseException:
