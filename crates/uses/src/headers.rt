@@ -13,8 +13,7 @@ use std::io;
 use std::marker::Model;
 use std::random::RandomSource;
 
-/// The values of some names; each name is kept in lower case. A store means the list of
-/// names and their values.
+/// The values of some names; each name is kept in lower case. A store means the list of names and their values.
 #[derive(Drop)]
 pub struct Headers<S: BuildHasher> {
     fields: HashMap<SmolStr, SmolStr, S>,
@@ -30,8 +29,7 @@ impl<S: BuildHasher> Model for Headers<S> {
 }
 
 impl<S: BuildHasher> Headers<S> {
-    /// A store in which no name has a value, and that hashes names by `state`. What it holds does not depend on the
-    /// state.
+    /// A store in which no name has a value. It hashes names by `state`, and what it holds does not depend on that.
     pub fn with_hasher(alloc: Global, state: S) -> Headers<S>
         ensures { (name : List ℕ) → header_of name result ≡ None }
     {

@@ -9,8 +9,7 @@ use std::collections::HashMap;
 use std::hash::BuildHasher;
 use std::marker::Model;
 
-/// Names in the order in which they were first seen. A table means the list of its names' texts, and its map agrees with
-/// that list.
+/// Names in the order in which they were first seen. A table means the list of their texts; its map agrees with that.
 #[derive(Drop)]
 pub struct Symbols<S: BuildHasher> {
     alloc: Global,
@@ -88,8 +87,7 @@ impl<S: BuildHasher> Symbols<S> {
     }
 }
 
-/// A text is interned, then another, and then the first again: it has the id that it had, and the
-/// id gives the text back.
+/// A text is interned, then another, and then the first again: it has the id that it had, which gives the text back.
 #[tactic(auto, using(crate::proofs::NameLemmas::ids))]
 pub fn same_id<S: BuildHasher>(
     symbols: &mut Symbols<S>,

@@ -40,8 +40,7 @@ pub fn told_as_too_long<W: Write>(writer: &mut W, value: &SmolStr) -> EncodeFaul
     }
 }
 
-/// The value of bytes that are the wire form of `text`, with `rest` after it: it can only run
-/// out of memory.
+/// The value of bytes that are the wire form of `text`, with `rest` after it: it can only run out of memory.
 #[tactic(auto, using(smol_str::proofs::CallerLemmas::forms))]
 pub fn read_from_bytes(
     alloc: Global,
