@@ -32,7 +32,7 @@
 --     sorting     a ruleset: values that were sorted, as texts, and searched by `binary_search`; texts-once: each text once
 --     texts-push, text_at, joined-spelled    lists of values, as texts; joined by a loop that writes the first apart
 --     position-stays, position-new, position-texts    the first place at which a test passes, with one more at the end
---     agree-added; listed, a ruleset      a list of values and a map of their places, with one more; what a value of it lends
+--     interning, listed                   rulesets: a list of names and a map of their ids; what a value of a list lends
 --     chars-one                           the text of a byte of ASCII, as that of a literal
 pub mod Texts
 pub mod Collecting
@@ -45,7 +45,7 @@ pub use Rattle.smol_str.proofs.CallerLemmas.Collecting.{chars_collected, chars_r
 pub use Rattle.smol_str.proofs.CallerLemmas.Wire.{Holds-parts, form_is_whole, form-utf8, form-text, form-held, form-read, form-known, forms, form-cut-held, form-cut-long, form-cut-utf8, form-cut-text, count-apart, items-apart, forms-apart, begun_first, begun_second, parts, text-at, items, forms-next, forms-more, AreRead, one_read, all_read, next_form}
 pub use Rattle.smol_str.proofs.CallerLemmas.Maps.{key_of, same_key-other, text-kept, updates, text-set, stands_for-text, lookup-stands_for, lookup-lent, lookups, entry_texts-insert, lookup-with_entry, innermost-push, innermost-set, innermost-kept, take-changed, scopes}
 pub use Rattle.smol_str.proofs.CallerLemmas.Cuts.{split_at_text, tried_at_char, tried_at_text, joined-values, joined-bytes, split_char-whole, split_char-first, split_char-none, prefix-rest, prefix-none, suffix-front, suffix-none, starts_with-text, char_prefix-rest, char_prefix-none, starts_with-char, prefix_known, suffix_known, cutting, split_once-char, split_once-text, strip_prefix-text, strip_suffix-text}
-pub use Rattle.smol_str.proofs.CallerLemmas.Lists.{texts-push, text_at, IsSorted-texts, sorted-texts, texts-once, value_found, value_missing, sorting, position-stays, position-new, position-texts, agree-added, text_lent, listed, joined-spelled, oks, AreOk, MapsBy, collected_oks, lines_yielded, by_line}
+pub use Rattle.smol_str.proofs.CallerLemmas.Lists.{texts-push, text_at, IsSorted-texts, sorted-texts, texts-once, value_found, value_missing, sorting, position-stays, position-new, position-texts, id_of-stays, id_of-new, id_of-back, ids_in-none, ids_in-found, ids_in-added, interning, text_lent, listed, joined-spelled, oks, AreOk, MapsBy, collected_oks, lines_yielded, by_line}
 -- what std's iterators give
 pub use Rattle.smol_str.proofs.IteratorLemmas.{iterators, gives-chars, gives-rev_chars, gives-slice, gives-map_lent}
 pub use Rattle.smol_str.proofs.PieceLemmas.{gives-split, gives-split_at}

@@ -10,7 +10,11 @@
 --     has_text t values         whether a list has a value of the text t
 --     is_before s t             whether a value of the text s comes before one of t
 --     stands_for bytes key      whether a `&str` of these bytes has the text of the value
-use Rattle.std.specs.Prelude.{ℕ, List, [], ◌∷◌, Option, None, Bool, bytes_eq, encode_utf8_all, map, if◌then◌else◌}
+--     id_of t names             at which place the text t stands first among names, if it does, as in an interner
+--     interned t names          the names once the text is among them
+--     ids_of names              the id of each text among names
+--     ids_in es                 what a map of these entries has at each text
+use Rattle.std.specs.Prelude.{ℕ, List, [], ◌∷◌, ◌++◌, Option, None, Bool, bytes_eq, encode_utf8_all, map, is_some, position, if◌then◌else◌}
 use Rattle.std.specs.List.{list_any}
 use Rattle.std.specs.Ordering.{nat_cmp, is_lt}
 use Rattle.std.specs.Cmp.Lexicographic.{slice_cmp}
@@ -58,3 +62,16 @@ is_before s t = is_lt (slice_cmp nat_cmp s t)
 -- in a look-up by a `&str`, for which no value is made
 abbrev pub stands_for : List ℕ → Meaning → Bool
 stands_for bytes key = bytes_eq bytes (encode_utf8_all key.text)
+
+-- these are opaque in goals, where lemmas find them by their names
+unfoldable pub id_of : List ℕ → List (List ℕ) → Option ℕ
+id_of t names = position (bytes_eq t) names
+
+abbrev pub interned : List ℕ → List (List ℕ) → List (List ℕ)
+interned t names = if is_some (id_of t names) then names else names ++ t ∷ []
+
+unfoldable pub ids_of : List (List ℕ) → List ℕ → Option ℕ
+ids_of names t = id_of t names
+
+unfoldable pub ids_in : List (Meaning × ℕ) → List ℕ → Option ℕ
+ids_in es t = lookup (λ key. bytes_eq t key.text) es

@@ -1,7 +1,8 @@
 //! A symbol table of std's types: a list has the name of each id, and a map the id of each name.
+#![tactic(auto, using(smol_str::proofs::CallerLemmas::interning))]
 ghost use Rattle.std.specs.Prelude.{◌≡◌, ◌<◌, ◌++◌, ◌∷◌, [], length, IfOk, OnOk, OnErr, slice_get, None, Some};
 ghost use Rattle.std.specs.Str.{chars};
-ghost use Rattle.uses.specs.Names.{id_of, interned};
+ghost use Rattle.smol_str.specs.Keys.{id_of, interned};
 
 use smol_str::SmolStr;
 use std::alloc::{AllocError, Global};
@@ -19,15 +20,14 @@ pub struct Symbols<S: BuildHasher> {
 
 impl<S: BuildHasher> Model for Symbols<S> {
     ghost use Rattle.std.specs.Prelude.{◌≡◌, ℕ, List};
-    ghost use Rattle.smol_str.specs.Keys.{value_at};
+    ghost use Rattle.smol_str.specs.Keys.{ids_in, ids_of};
     ghost use Rattle.smol_str.specs.Meaning.{texts};
-    ghost use Rattle.uses.specs.Names.{id_of};
 
     ghost Value = { List (List ℕ) };
 
     ghost view = { λ s. texts s.names.items };
 
-    ghost invariant = { λ s. (t : List ℕ) → value_at t s.ids ≡ id_of t (texts s.names.items) };
+    ghost invariant = { λ s. ids_in s.ids.entries ≡ ids_of (texts s.names.items) };
 }
 
 impl<S: BuildHasher> Symbols<S> {
@@ -88,7 +88,6 @@ impl<S: BuildHasher> Symbols<S> {
 }
 
 /// A text is interned, then another, and then the first again: it has the id that it had, which gives the text back.
-#[tactic(auto, using(crate::proofs::NameLemmas::ids))]
 pub fn same_id<S: BuildHasher>(
     symbols: &mut Symbols<S>,
     text: &str,

@@ -16,8 +16,9 @@ use Rattle.std.proofs.lemmas.List.Sorted.{searchable_from_sorted}
 use Rattle.std.proofs.lemmas.Slice.Eq.{bytes_eq-Decides}
 use Rattle.std.proofs.lemmas.List.Sums.{prefix_len-le-length}
 use Rattle.std.proofs.lemmas.Option.{slice_get-map, slice_get-get_or}
-use Rattle.std.specs.HashMap.{HashMap, get}
-use Rattle.smol_str.specs.Keys.{has_text, same_key, value_at}
+use Rattle.std.specs.Map.{lookup, KeepsOthers}
+use Rattle.std.proofs.lemmas.List.Quantifiers.{position-Some}
+use Rattle.smol_str.specs.Keys.{has_text, same_key, id_of, interned, ids_of, ids_in}
 use Rattle.smol_str.specs.Meaning.{texts}
 use Rattle.smol_str.proofs.CallerLemmas.Maps.{key_of}
 use Rattle.smol_str.proofs.CallerLemmas.Texts.{chars-as_str}
@@ -157,16 +158,59 @@ position-added t x ts none = by (bytes_eq x t) refl where
       position-kept (bytes_eq t) ts x (false_from_ne_true (bytes_eq t x)
       (λ same. false≢true (sym other ∙ (bytes_eq-Decides x t).1 (sym ((bytes_eq-Decides t x).0 same)))))
 
--- so a map of places agrees with a list of values that has one more
-pub agree-added : {S : Type 0} (vs : List Meaning) (old new : HashMap Meaning ℕ S) (key : Meaning) (n : ℕ) (all : List Meaning)
-    → ((t : List ℕ) → value_at t old ≡ position (bytes_eq t) (texts vs)) → position (bytes_eq key.text) (texts vs) ≡ None
-    → n ≡ length vs → all ≡ vs ++ key ∷ []
-    → ((q : Meaning) → get same_key new q ≡ cond (same_key key q) (Some n) (get same_key old q))
-    → (t : List ℕ) → value_at t new ≡ position (bytes_eq t) (texts all)
-agree-added vs old new key n all agree none last more sets t =
-    let place = last ∙ sym (length-map vs (λ (v : Meaning). v.text)) in
-    sets (key_of t) ∙ (λ i. cond (bytes_eq key.text t) (Some (place i)) (agree t i))
-    ∙ sym (position-added t key.text (texts vs) none) ∙ ap (position (bytes_eq t)) (sym (ap texts more ∙ texts-push vs key))
+-- ---- an interner: a list of names, and a map that has the id of each
+
+-- a text keeps its id
+pub id_of-stays : (t other : List ℕ) (names : List (List ℕ)) (id : ℕ) → id_of t names ≡ Some id → id_of t (interned other names) ≡ Some id
+unfolding id_of
+id_of-stays t other names id there = by (is_some (id_of other names)) where
+  by : (b : Bool) → id_of t (cond b names (names ++ other ∷ [])) ≡ Some id
+  by true = there
+  by false = position-stays (bytes_eq t) names other id there
+
+-- a new name has the next one
+pub id_of-new : (t : List ℕ) (names : List (List ℕ)) → id_of t names ≡ None → id_of t (names ++ t ∷ []) ≡ Some (length names)
+unfolding id_of
+id_of-new t names none = position-new (bytes_eq t) names t ((bytes_eq-Decides t t).1 refl) none
+
+-- the id gives the text back
+pub id_of-back : (t : List ℕ) (names : List (List ℕ))
+    → (id_of t names ≡ id_of t names) × ((id : ℕ) → id_of t names ≡ Some id → slice_get names id ≡ Some t)
+unfolding id_of
+id_of-back t names = (refl, λ id there.
+    let at = position-Some (bytes_eq t) names id [] there in
+    slice_get-get_or names id [] at.0 ∙ ap Some (sym ((bytes_eq-Decides t (get_or names id [])).0 at.1)))
+
+-- the map finds it
+pub ids_in-none : ids_in [] ≡ ids_of []
+unfolding id_of ids_of ids_in
+ids_in-none = λ i t. None
+
+pub ids_in-found : (key : Meaning) (names : List (List ℕ)) → (id_of key.text names ≡ id_of key.text names)
+    × ((es : List (Meaning × ℕ)) → ids_in es ≡ ids_of names → lookup (same_key key) es ≡ id_of key.text names)
+unfolding ids_of ids_in
+ids_in-found key names = (refl, λ es agree. ap (λ f. f key.text) agree)
+
+-- and once it has the next id at a new name, it has the ids of the list with that name
+pub ids_in-added : (eq : Meaning → Meaning → Bool) (check : Meaning → Bool) (old new : List (Meaning × ℕ))
+    → KeepsOthers eq check old new
+    → ((q : Meaning) → check q ≡ false → lookup (same_key q) new ≡ lookup (same_key q) old)
+    → (KeepsOthers eq check old new ≡ KeepsOthers eq check old new)
+    × ((key : Meaning) (names : List (List ℕ)) → ids_in old ≡ ids_of names → id_of key.text names ≡ None → check ≡ same_key key
+      → lookup check new ≡ Some (length names) → ids_in new ≡ ids_of (names ++ key.text ∷ []))
+unfolding id_of ids_of ids_in
+ids_in-added eq check old new keeps others = (refl, λ key names agree none is there. λ i t. at key names agree none is there t (same_key key (key_of t)) refl i)
+  where
+  at : (key : Meaning) (names : List (List ℕ)) → ids_in old ≡ ids_of names → id_of key.text names ≡ None → check ≡ same_key key
+      → lookup check new ≡ Some (length names) → (t : List ℕ) (b : Bool) → bytes_eq key.text t ≡ b
+      → lookup (λ k. bytes_eq t k.text) new ≡ position (bytes_eq t) (names ++ key.text ∷ [])
+  at key names agree none is there t true same =
+      ap (λ u. lookup (λ (k : Meaning). bytes_eq u k.text) new) (sym ((bytes_eq-Decides key.text t).0 same))
+      ∙ sym (ap (λ f. lookup f new) is) ∙ there ∙ sym (rw same at (position-added t key.text names none))
+  at key names agree none is there t false other =
+      others (key_of t) (ap (λ f. f (key_of t)) is ∙ other) ∙ ap (λ f. f t) agree ∙ sym (rw other at (position-added t key.text names none))
+
+pub ruleset interning = (id_of-stays, id_of-new, id_of-back, ids_in-none, ids_in-found, ids_in-added, texts-push, length-map)
 
 -- what a value of a list lends, where the list is seen as texts
 pub text_lent : (ts : List (List ℕ)) (vs : List Meaning) (i : ℕ) (v : Meaning) (bs : List ℕ) → texts vs ≡ ts → i < length ts
