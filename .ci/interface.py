@@ -30,15 +30,15 @@ def library(crate):
     return folder
 
 
-def lend_libraries(top, name):
+def lend_libraries(top, name, above=None):
     """Puts the libraries below a crate into a copy of the repository, with the stamps that `rt check` goes by: the gate writes
-    none, and without them each would be proved once more. They are whole once the gate has begun with the crate itself,
-    which is waited for, a quarter of an hour at most; a crate of the copy alone is not."""
+    none, and without them each would be proved once more. They are whole once the gate has begun with a crate above them,
+    which is waited for, a quarter of an hour at most."""
     sys.path.insert(0, str(pathlib.Path(shutil.which("rt")).resolve().parent))
     import rtlib  # rt's own module
     below = next(it for it in rtlib.crates_below(str(top)) if it.name == name).below()
-    for _ in range(900 if below and (CRATES / name).is_dir() else 0):
-        if (CRATES / name / "out" / "rlib").is_dir():
+    for _ in range(900 if below and above else 0):
+        if (CRATES / above / "out" / "rlib").is_dir():
             break
         time.sleep(1)
     for it in below:

@@ -12,6 +12,7 @@ mod value;
 
 use smol_str::{BLANK_NEWLINES, BLANK_SPACES, INLINE_CAP};
 use test_support::*;
+use test_values::*;
 
 #[test]
 fn limits(rt: HostRuntime) -> Result<(), Fail> {

@@ -4,14 +4,16 @@ ghost use Rattle.std.specs.Prelude.{Some, ◌≡◌, []};
 
 use crate::refuse::{count_blocks, start_counts};
 use crate::test::{Test, holds, same};
-use smol_str::stream::CHUNK;
 use std::alloc::Global;
 use std::fmt::Debug;
 use std::io;
 use std::io::{ErrorKind, Read, Write};
 
-/// How many bytes a call the readers and writers give and take at most.
-pub const STEPS: [usize; 7] = [1, 2, 3, CHUNK - 1, CHUNK, CHUNK + 1, usize::MAX];
+/// How many bytes a call the readers and writers give and take at most, where the calls under test take a chunk at a time.
+pub fn steps_about(chunk: usize) -> [usize; 7] {
+    let (below, above) = (chunk.saturating_sub(1), chunk.saturating_add(1));
+    [1, 2, 3, below, chunk, above, usize::MAX]
+}
 
 /// What a stream does where it fails, another thing at each place: it returns an error of its own, or EINTR, EIO, EAGAIN,
 /// ENOSPC, EPIPE or ETIMEDOUT of the system; or it takes no byte. Upstream's calls go on after EINTR, ours do not.
@@ -30,10 +32,10 @@ pub fn cause_of(error: &io::Error) -> Cause {
     (error.kind(), error.raw_os_error())
 }
 
-/// Whether a place in so many bytes is tried: each in a few, and in many those about the ends of pieces.
-fn is_tried(place: usize, size: usize) -> bool {
+/// Whether a place in so many bytes is tried: each in a few, and in many those about the ends of chunks.
+fn is_tried(place: usize, size: usize, chunk: usize) -> bool {
     let after = place.saturating_add(3);
-    size < 200 || after % CHUNK < 7 || after > size
+    size < 200 || after % chunk.max(1) < 7 || after > size
 }
 
 /// A reader that gives its bytes, at most `step` a call, and returns the error `failure` at the call
@@ -188,11 +190,17 @@ pub trait Reading {
 
 /// The call makes `wanted` of the bytes by readers of every step, and gives up with the reader's own error at each call at
 /// which that fails.
-pub fn fails_at_each_read<C: Reading>(test: &Test, call: &C, bytes: &[u8], wanted: &[u8]) {
-    for step in STEPS {
+pub fn fails_at_each_read<C: Reading>(
+    test: &Test,
+    chunk: usize,
+    call: &C,
+    bytes: &[u8],
+    wanted: &[u8],
+) {
+    for step in steps_about(chunk) {
         let calls = count_reads(test, call, trickle_of(test, bytes, step, 0), wanted);
         for fails_at in 1..calls.saturating_add(1) {
-            if is_tried(fails_at.saturating_mul(step), bytes.len()) {
+            if is_tried(fails_at.saturating_mul(step), bytes.len(), chunk) {
                 fails_at_read(test, call, bytes, (step, fails_at));
             }
         }
@@ -256,11 +264,11 @@ pub trait Writing {
 
 /// The call writes the bytes to writers of every step, and gives up with the writer's own error at each call at which that
 /// fails; what was taken is then a beginning.
-pub fn fails_at_each_write<C: Writing>(test: &Test, call: &C, bytes: &[u8]) {
-    for step in STEPS {
+pub fn fails_at_each_write<C: Writing>(test: &Test, chunk: usize, call: &C, bytes: &[u8]) {
+    for step in steps_about(chunk) {
         let calls = count_writes(test, call, bytes, (step, 0));
         for fails_at in 1..calls.saturating_add(1) {
-            if is_tried(fails_at.saturating_mul(step), bytes.len()) {
+            if is_tried(fails_at.saturating_mul(step), bytes.len(), chunk) {
                 fails_at_write(test, call, bytes, (step, fails_at));
             }
         }

@@ -5,7 +5,6 @@
 //! assertion or a `?` does. A helper of one type costs its caller less than one of any type. A test that compares nothing
 //! fails, and `.ci/refused` pins how many comparisons the tests of a crate make.
 use crate::refuse::tell_compared;
-use smol_str::{Place, SmolStr, SmolStrBuilder};
 use std::alloc::{AllocError, Global};
 use std::cell::Cell;
 use std::default::MadeWith;
@@ -44,18 +43,6 @@ impl Test {
             self.wrong
                 .set(Some(InlineText::of(format_args!("{row:?}"))));
         }
-    }
-
-    /// The value of the text.
-    pub fn value(&self, text: &str) -> SmolStr {
-        ok_value(self, SmolStr::new(self.alloc, text))
-    }
-
-    /// A builder of this capacity that has the text.
-    pub fn builder(&self, capacity: usize, text: &str) -> SmolStrBuilder {
-        let mut builder = ok(self, SmolStrBuilder::with_capacity(self.alloc, capacity));
-        ok(self, builder.push_str(text));
-        builder
     }
 
     /// A string of the text.
@@ -159,36 +146,7 @@ pub fn same_str(test: &Test, found: &str, wanted: &str, row: &str) {
     same_text(test, found, wanted, &row);
 }
 
-/// The value is in the place, in a row of any type.
-pub fn same_place(test: &Test, value: &SmolStr, place: Place, row: &impl Debug) {
-    same(test, &value.place(), &place, row);
-    same(
-        test,
-        &value.is_heap_allocated(),
-        &(place == Place::Heap),
-        row,
-    );
-}
-
-/// The value is in the place.
-pub fn in_place(test: &Test, value: &SmolStr, place: Place, row: &str) {
-    same_place(test, value, place, &row);
-}
-
-/// The value has the text, in the place, in a row of any type.
-pub fn same_value(test: &Test, value: &SmolStr, text: &str, place: Place, row: &impl Debug) {
-    same_text(test, value.as_str(), text, row);
-    same(test, &value.len(), &text.len(), row);
-    same(test, &value.is_empty(), &text.is_empty(), row);
-    same_place(test, value, place, row);
-}
-
-/// The value has the text, in the place.
-pub fn has_text(test: &Test, value: &SmolStr, text: &str, place: Place, row: &str) {
-    same_value(test, value, text, place, &row);
-}
-
-/// What a call returns; a fault fails the test, and an empty value stands in its place.
+/// What a call returns; a fault fails the test, and an empty thing stands in its place.
 pub fn ok<T: MadeWith<Global>, E: Debug + Drop>(test: &Test, outcome: Result<T, E>) -> T {
     match outcome {
         Ok(value) => value,
@@ -197,11 +155,6 @@ pub fn ok<T: MadeWith<Global>, E: Debug + Drop>(test: &Test, outcome: Result<T, 
             T::made_with(test.alloc)
         }
     }
-}
-
-/// The value that a call makes.
-pub fn ok_value(test: &Test, outcome: Result<SmolStr, AllocError>) -> SmolStr {
-    ok(test, outcome)
 }
 
 /// The string that a call makes.

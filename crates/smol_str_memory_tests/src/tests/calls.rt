@@ -14,6 +14,7 @@ mod values;
 use by_std::{Asks, asked_by, is_asked};
 use smol_str::{BLANK_NEWLINES, BLANK_SPACES, INLINE_CAP, SmolStr};
 use test_support::*;
+use test_values::*;
 use things::Thing;
 
 /// What a call asks for.

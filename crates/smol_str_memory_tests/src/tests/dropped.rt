@@ -5,6 +5,7 @@ use smol_str::stream::ReadFault;
 use smol_str::{FormatError, FromUtf8Fault, SmolStr};
 use std::alloc::{AllocError, AllocFailed};
 use test_support::*;
+use test_values::*;
 
 #[test]
 fn what_came_back(rt: HostRuntime) -> Result<(), Fail> {

@@ -10,6 +10,7 @@ use std::fmt::Write;
 use std::hash::{DefaultHasher, Hash};
 use std::rc::RcStr;
 use test_support::*;
+use test_values::*;
 
 /// Each call, by its name, does what it is to do.
 macro_rules! rows {

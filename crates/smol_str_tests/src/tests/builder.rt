@@ -5,6 +5,7 @@ use smol_str::{INLINE_CAP, Place, SmolStr, SmolStrBuilder, Step, build};
 use std::collections::HashMap;
 use std::mem;
 use test_support::*;
+use test_values::*;
 
 /// What a row appends.
 #[derive(Clone, Copy)]

@@ -7,6 +7,7 @@ use Place::{Heap, Inline, Static};
 use smol_str::{BLANK_NEWLINES, INLINE_CAP, Place, SmolStr, SmolStrBuilder};
 use std::vec::IntoIter;
 use test_support::*;
+use test_values::*;
 
 /// An iterator whose lower hint may promise more items than come.
 #[derive(Drop)]

@@ -11,6 +11,7 @@ use std::error::Error;
 use std::fmt::{self, Display, Formatter, Write};
 use std::io;
 use test_support::*;
+use test_values::*;
 
 /// Writes `ab` and gives up.
 #[derive(Drop)]

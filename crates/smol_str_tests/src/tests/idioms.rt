@@ -1,6 +1,7 @@
 //! What a language tool writes.
 use smol_str::{FormatError, SmolStr, SmolStrBuilder, StrExt, format_smolstr};
 use test_support::*;
+use test_values::*;
 
 // What a language tool writes with upstream's type, but for the allocator and `?`.
 #[test]

@@ -3,6 +3,7 @@ use serde_json::{Error, Value};
 use smol_str::SmolStr;
 use smol_str::json_string::{JsonFault, from_json, to_json};
 use test_support::*;
+use test_values::*;
 
 /// The error is serde_json's own, with its line and column.
 fn check_error(test: &Test, error: &Error, json: &str) {

@@ -3,6 +3,7 @@ use AsciiCase::{Lower, Upper};
 use smol_str::kernel::{AsciiCase, convert_while_ascii, next_match};
 use smol_str::{INLINE_CAP, InlineBuffer};
 use test_support::*;
+use test_values::*;
 
 /// Short texts, a case, the ASCII front in that case, and how many zeros are behind it.
 static FRONTS: &[(&str, AsciiCase, &str, usize)] = &table! {

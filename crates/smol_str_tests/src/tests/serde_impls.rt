@@ -3,6 +3,7 @@ use serde::{Deserialize, Serialize};
 use serde_json::Error;
 use smol_str::{Place, SmolStr};
 use test_support::*;
+use test_values::*;
 
 #[test]
 fn values(rt: HostRuntime) -> Result<(), Fail> {

@@ -6,6 +6,7 @@ use Place::{Heap, Inline, Static};
 use replace::{assert_rows, upstream_rows};
 use smol_str::{Place, SmolStr, StrExt};
 use test_support::*;
+use test_values::*;
 
 /// A case call.
 #[derive(Clone, Copy)]

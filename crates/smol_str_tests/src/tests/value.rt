@@ -6,6 +6,7 @@ mod deref;
 use Place::{Heap, Inline, Static};
 use smol_str::{BLANK_NEWLINES, BLANK_SPACES, INLINE_CAP, InlineBuffer, Place, SmolStr};
 use test_support::*;
+use test_values::*;
 
 /// A text so many times and then an end, and the place of the value.
 static PLACES: [(&str, usize, &str, Place); 10] = [

@@ -4,6 +4,7 @@ pub mod fault;
 use smol_str::borsh::{BorshDeserialize, BorshSerialize, DecodeFault, from_wire, length_prefix};
 use smol_str::{INLINE_CAP, Place, SmolStr, StrExt};
 use test_support::*;
+use test_values::*;
 
 /// A text and its wire form: a unit and how many times the text has it; the size's lowest byte, which
 /// three zeros follow, and the bytes of the unit; and the place where the text is read.

@@ -8,6 +8,7 @@ use smol_str::borsh::{
 use smol_str::stream::{CHUNK, ReadFault, fill, read_all, read_up_to, write_steps};
 use smol_str::{INLINE_CAP, SmolStr};
 use test_support::*;
+use test_values::*;
 
 /// A call that reads.
 #[derive(Clone, Copy)]
@@ -125,7 +126,7 @@ fn fails_at_each_read_call(rt: HostRuntime) -> Result<(), Fail> {
         let form = form.as_slice();
         for &call in &CALLS {
             let size = form.len();
-            fails_at_each_read(&test, &Reads { call, size }, form, form);
+            fails_at_each_read(&test, CHUNK, &Reads { call, size }, form, form);
         }
     }
     test.end()
@@ -216,8 +217,8 @@ fn fails_at_each_write_call(rt: HostRuntime) -> Result<(), Fail> {
     for form in &forms(&test) {
         let form = form.as_slice();
         let (value, _) = ok_found(&test, from_wire(test.alloc, form));
-        fails_at_each_write(&test, &Writes::Serialize(value), form);
-        fails_at_each_write(&test, &Writes::WriteSteps(form), form);
+        fails_at_each_write(&test, CHUNK, &Writes::Serialize(value), form);
+        fails_at_each_write(&test, CHUNK, &Writes::WriteSteps(form), form);
     }
     test.end()
 }

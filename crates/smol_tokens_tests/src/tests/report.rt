@@ -2,6 +2,7 @@
 use super::run::{Words, run_by};
 use smol_str::INLINE_CAP;
 use test_support::*;
+use test_values::*;
 
 /// The words of a mode, an input, and the report on it.
 static REPORTS: &[(Words, &str, &str)] = &table! {

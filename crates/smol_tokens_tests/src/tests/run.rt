@@ -92,7 +92,7 @@ fn fails_at_each_read_of_an_input(rt: HostRuntime) -> Result<(), Fail> {
     let test = Test::begin(rt);
     for row in &all_rows(&test) {
         let input = row.input.as_bytes();
-        fails_at_each_read(&test, &runs_on(row), input, row.report.as_bytes());
+        fails_at_each_read(&test, CHUNK, &runs_on(row), input, row.report.as_bytes());
     }
     test.end()
 }
@@ -101,7 +101,7 @@ fn fails_at_each_read_of_an_input(rt: HostRuntime) -> Result<(), Fail> {
 fn fails_at_each_write_of_a_report(rt: HostRuntime) -> Result<(), Fail> {
     let test = Test::begin(rt);
     for row in &all_rows(&test) {
-        fails_at_each_write(&test, &runs_on(row), row.report.as_bytes());
+        fails_at_each_write(&test, CHUNK, &runs_on(row), row.report.as_bytes());
     }
     test.end()
 }
@@ -148,7 +148,7 @@ fn not_utf8(rt: HostRuntime) -> Result<(), Fail> {
     for &(words, ..) in LETTERS {
         for count in [0, CHUNK - 1, 9000] {
             let input = ending_badly(&test, count);
-            for step in STEPS {
+            for step in steps_about(CHUNK) {
                 check_ended(&test, words, input.as_slice(), step, Some(Kind::NotUtf8));
             }
         }

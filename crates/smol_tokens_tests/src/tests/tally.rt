@@ -3,6 +3,7 @@ use smol_str::{Place, SmolStr};
 use smol_tokens_core::fault::RunFault;
 use smol_tokens_core::tally::{AddFault, Tally};
 use test_support::*;
+use test_values::*;
 
 /// Adds a token of this text so many times, and the count is as wanted then.
 fn check_add(test: &Test, tally: &mut Tally, token: SmolStr, times: u64, wanted: u64) {

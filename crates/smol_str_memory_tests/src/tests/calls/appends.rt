@@ -7,6 +7,7 @@ use Call::*;
 use smol_str::{Piece, SmolStrBuilder};
 use std::fmt::Write;
 use test_support::*;
+use test_values::*;
 
 #[derive(Clone, Copy)]
 enum Call {

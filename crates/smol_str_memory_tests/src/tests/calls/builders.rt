@@ -7,6 +7,7 @@ use Call::*;
 use smol_str::{SmolStr, SmolStrBuilder, ValueAlloc};
 use std::default::Emptied;
 use test_support::*;
+use test_values::*;
 
 #[derive(Clone, Copy)]
 enum Call {

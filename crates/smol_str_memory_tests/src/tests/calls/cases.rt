@@ -5,6 +5,7 @@ use super::{On, Row, Wants, check_calls, leaked, shape_of};
 use Call::*;
 use smol_str::{SmolStr, StrExt};
 use test_support::*;
+use test_values::*;
 
 #[derive(Clone, Copy)]
 enum Call {

@@ -8,6 +8,7 @@ use serde_json::Value;
 use smol_str::SmolStr;
 use smol_str::json_string::{from_json, from_value, to_json, to_value};
 use test_support::*;
+use test_values::*;
 
 #[derive(Clone, Copy)]
 enum Call {

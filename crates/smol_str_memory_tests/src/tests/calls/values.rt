@@ -7,6 +7,7 @@ use Call::*;
 use smol_str::borsh::BorshSerialize;
 use smol_str::{INLINE_CAP, SmolStr};
 use test_support::*;
+use test_values::*;
 
 #[derive(Clone, Copy)]
 enum Call {

@@ -2,6 +2,7 @@
 use Place::{Heap, Inline, Static};
 use smol_str::{INLINE_CAP, Place, SmolStr, StrExt};
 use test_support::*;
+use test_values::*;
 
 /// However often the pattern stands.
 const ALL: usize = usize::MAX;

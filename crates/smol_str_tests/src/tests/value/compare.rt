@@ -5,6 +5,7 @@ use std::cmp::Ordering;
 use std::collections::HashMap;
 use std::hash::{DefaultHasher, Hash, Hasher};
 use test_support::*;
+use test_values::*;
 
 /// Two texts, and the order of the first to the second.
 static ORDERS: [(&str, &str, Ordering); 8] = [

@@ -3,6 +3,7 @@ use Place::{Heap, Inline, Static};
 use smol_str::{FromUtf8Fault, Place, SmolStr};
 use std::rc::RcStr;
 use test_support::*;
+use test_values::*;
 
 #[test]
 fn test_from_char(rt: HostRuntime) -> Result<(), Fail> {

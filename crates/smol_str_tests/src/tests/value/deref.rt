@@ -2,6 +2,7 @@
 use smol_str::SmolStr;
 use std::convert::AsStr;
 use test_support::*;
+use test_values::*;
 
 #[test]
 fn lent(rt: HostRuntime) -> Result<(), Fail> {

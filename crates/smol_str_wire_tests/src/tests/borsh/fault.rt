@@ -3,8 +3,10 @@ use super::{letters, of_units};
 use smol_str::borsh::{
     BorshDeserialize, DecodeFault, LimitedFault, deserialize_limited, from_wire, split_wire,
 };
+use smol_str::stream::CHUNK;
 use smol_str::{INLINE_CAP, SmolStr};
 use test_support::*;
+use test_values::*;
 
 pub fn kind_of(fault: &DecodeFault) -> Kind {
     match fault {
@@ -92,7 +94,7 @@ fn long_bodies(rt: HostRuntime) -> Result<(), Fail> {
 
 /// Each call returns this fault, whatever the reader's steps.
 fn assert_refused(test: &Test, bytes: &[u8], kind: Kind, left: usize) {
-    for step in STEPS {
+    for step in steps_about(CHUNK) {
         assert_refused_by(test, bytes, step, (kind, left));
     }
 }

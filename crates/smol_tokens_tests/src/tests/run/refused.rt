@@ -6,6 +6,7 @@ use smol_str::stream::CHUNK;
 use smol_tokens_core::mode::Mode;
 use smol_tokens_core::run::run;
 use test_support::*;
+use test_values::*;
 
 /// The words of a mode, and how many requests a run makes on each of the inputs.
 static MODES: &[(Words, [u32; 6])] = &[
