@@ -177,9 +177,12 @@ id_of-new t names none = position-new (bytes_eq t) names t ((bytes_eq-Decides t 
 pub id_of-back : (t : List ℕ) (names : List (List ℕ))
     → (id_of t names ≡ id_of t names) × ((id : ℕ) → id_of t names ≡ Some id → slice_get names id ≡ Some t)
 unfolding id_of
-id_of-back t names = (refl, λ id there.
-    let at = position-Some (bytes_eq t) names id [] there in
-    slice_get-get_or names id [] at.0 ∙ ap Some (sym ((bytes_eq-Decides t (get_or names id [])).0 at.1)))
+id_of-back t names = (
+  refl,
+  λ id there.
+      let at = position-Some (bytes_eq t) names id [] there in
+      slice_get-get_or names id [] at.0 ∙ ap Some (sym ((bytes_eq-Decides t (get_or names id [])).0 at.1)),
+)
 
 -- the map finds it
 pub ids_in-none : ids_in [] ≡ ids_of []
@@ -197,18 +200,18 @@ pub ids_in-added : (eq : Meaning → Meaning → Bool) (check : Meaning → Bool
     → ((q : Meaning) → check q ≡ false → lookup (same_key q) new ≡ lookup (same_key q) old)
     → (KeepsOthers eq check old new ≡ KeepsOthers eq check old new)
     × ((key : Meaning) (names : List (List ℕ)) → ids_in old ≡ ids_of names → id_of key.text names ≡ None → check ≡ same_key key
-      → lookup check new ≡ Some (length names) → ids_in new ≡ ids_of (names ++ key.text ∷ []))
+    → lookup check new ≡ Some (length names) → ids_in new ≡ ids_of (names ++ key.text ∷ []))
 unfolding id_of ids_of ids_in
 ids_in-added eq check old new keeps others = (refl, λ key names agree none is there. λ i t. at key names agree none is there t (same_key key (key_of t)) refl i)
   where
-  at : (key : Meaning) (names : List (List ℕ)) → ids_in old ≡ ids_of names → id_of key.text names ≡ None → check ≡ same_key key
-      → lookup check new ≡ Some (length names) → (t : List ℕ) (b : Bool) → bytes_eq key.text t ≡ b
-      → lookup (λ k. bytes_eq t k.text) new ≡ position (bytes_eq t) (names ++ key.text ∷ [])
-  at key names agree none is there t true same =
-      ap (λ u. lookup (λ (k : Meaning). bytes_eq u k.text) new) (sym ((bytes_eq-Decides key.text t).0 same))
-      ∙ sym (ap (λ f. lookup f new) is) ∙ there ∙ sym (rw same at (position-added t key.text names none))
-  at key names agree none is there t false other =
-      others (key_of t) (ap (λ f. f (key_of t)) is ∙ other) ∙ ap (λ f. f t) agree ∙ sym (rw other at (position-added t key.text names none))
+    at : (key : Meaning) (names : List (List ℕ)) → ids_in old ≡ ids_of names → id_of key.text names ≡ None → check ≡ same_key key
+        → lookup check new ≡ Some (length names) → (t : List ℕ) (b : Bool) → bytes_eq key.text t ≡ b
+        → lookup (λ k. bytes_eq t k.text) new ≡ position (bytes_eq t) (names ++ key.text ∷ [])
+    at key names agree none is there t true same =
+        ap (λ u. lookup (λ (k : Meaning). bytes_eq u k.text) new) (sym ((bytes_eq-Decides key.text t).0 same))
+        ∙ sym (ap (λ f. lookup f new) is) ∙ there ∙ sym (rw same at (position-added t key.text names none))
+    at key names agree none is there t false other =
+        others (key_of t) (ap (λ f. f (key_of t)) is ∙ other) ∙ ap (λ f. f t) agree ∙ sym (rw other at (position-added t key.text names none))
 
 pub ruleset interning = (id_of-stays, id_of-new, id_of-back, ids_in-none, ids_in-found, ids_in-added, texts-push, length-map)
 
