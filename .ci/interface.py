@@ -31,9 +31,8 @@ def library(crate):
 
 
 def lend_libraries(top, name, above=None):
-    """Puts the libraries below a crate into a copy of the repository, with the stamps that `rt check` goes by: the gate writes
-    none, and without them each would be proved once more. They are whole once the gate has begun with a crate above them,
-    which is waited for, a quarter of an hour at most."""
+    """Puts the libraries below a crate into a copy of the repository, with stamps, without which `rt check` proves them again.
+    They are whole once the gate has begun with a crate above them: it is waited for, a quarter of an hour at most."""
     sys.path.insert(0, str(pathlib.Path(shutil.which("rt")).resolve().parent))
     import rtlib  # rt's own module
     below = next(it for it in rtlib.crates_below(str(top)) if it.name == name).below()
