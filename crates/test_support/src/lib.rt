@@ -1,6 +1,6 @@
 //! What the tests of all crates share: a running test and what its rows compare, memory refused and counted, and streams
-//! that fail. A test takes all of it, by `use test_support::*`. What speaks of values is in `test_values`: this crate knows
-//! no library, so it is proved while that is.
+//! that fail. A test takes all of it, by `use test_support::*`. This crate does not use the library, so the gate proves both
+//! at once; helpers for values are in `test_values`.
 #![tactic(auto)]
 
 mod failing;
