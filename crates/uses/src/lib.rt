@@ -5,7 +5,6 @@ pub mod building;
 pub mod by_text;
 pub mod collecting;
 pub mod cutting;
-pub mod first;
 pub mod formatting;
 pub mod headers;
 pub mod headline;
