@@ -10,7 +10,6 @@ use smol_str::{INLINE_CAP, SmolStr, SmolStrBuilder};
 use std::alloc::{AllocError, Global};
 
 /// The texts of values, one after another.
-#[tactic(auto, using(smol_str::proofs::CallerLemmas::builders))]
 pub fn joined(alloc: Global, parts: &[SmolStr]) -> Result<SmolStr, AllocError>
     ensures value { IfOk result (λ v. IsValueOf (flat_map (λ part. part.text) parts.now) v) }
     ensures refused { OnErr result (¬ (IsShort (flat_map (λ part. part.text) parts.now))) }

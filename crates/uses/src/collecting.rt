@@ -1,5 +1,5 @@
 //! Texts collected from iterators whose items the caller knows, through adapters of std too.
-ghost use Rattle.std.specs.Prelude.{◌≡◌, ◌<◌, ◌==◌, ◌++◌, ◌∷◌, [], ℕ, String, codes, drop, length, not, reverse, take, IfOk, OnOk, OnErr};
+ghost use Rattle.std.specs.Prelude.{◌≡◌, ◌<◌, ◌==◌, ◌++◌, ◌∷◌, [], ℕ, String, drop, length, not, reverse, take, IfOk, OnOk, OnErr};
 ghost use Rattle.std.specs.List.{filter, prefix_len, slice_split};
 ghost use Rattle.std.specs.Str.{chars};
 ghost use Rattle.std.specs.Str.Lines.{lines};
@@ -120,15 +120,6 @@ pub fn of_parts_reversed(alloc: Global, parts: &[&str]) -> Result<SmolStr, Alloc
     ensures refused { OnErr result (¬ (IsShort (joined str_text (reverse parts.now)))) }
 {
     SmolStr::from_strs(alloc, parts.iter().copied().rev())
-}
-
-/// Two texts with a dash between them.
-#[tactic(auto, using(smol_str::proofs::CallerLemmas::collecting), unfolding(smol_str::specs::Collect::Collected))]
-pub fn with_dash(alloc: Global, first: &str, second: &str) -> Result<SmolStr, AllocError>
-    ensures value { IfOk result (λ v. IsValueOf (joined chars (first.now ∷ codes "-" ∷ second.now ∷ [])) v) }
-    ensures refused { OnErr result (¬ (IsShort (joined chars (first.now ∷ codes "-" ∷ second.now ∷ [])))) }
-{
-    SmolStr::from_strs(alloc, [first, "-", second].into_iter())
 }
 
 /// Two texts.

@@ -15,7 +15,6 @@ pub mod lexer;
 pub mod lists;
 pub mod log_records;
 pub mod ordered;
-pub mod plain;
 pub mod scopes;
 pub mod settings;
 pub mod symbols;

@@ -4,7 +4,8 @@ ghost use Rattle.std.specs.Str.{IsUtf8};
 ghost use Rattle.std.specs.Int.{w32, to_le_bytes};
 ghost use Rattle.uses.specs.Lists.{CanBeListed, list_form, AfterListFault, AfterUnlisted};
 ghost use Rattle.smol_str.specs.Meaning.{texts};
-ghost use Rattle.smol_str.specs.Wire.{HasEndedEarly, HasWire, body, prefix_size};
+ghost use Rattle.smol_str.specs.Text.{place_of};
+ghost use Rattle.smol_str.specs.Wire.{HasEndedEarly, HasWire, body, prefix_size, wire};
 
 use smol_str::SmolStr;
 use smol_str::borsh::{
@@ -174,6 +175,8 @@ pub fn next_limited(
 
 /// The first message, and the others: whatever the memory, one that is cut short or no text is told as that.
 pub fn split_message(alloc: Global, messages: &[u8]) -> Result<(SmolStr, &[u8]), DecodeFault>
+    ensures form { IfOk result (λ first. messages.now ≡ wire first.0.text ++ first.1.now) }
+    ensures place { IfOk result (λ first. first.0.place ≡ place_of first.0.text) }
     ensures tested { IfErr result (λ fault. fault ≡ DecodeFault.OutOfMemory →
         (¬ HasEndedEarly messages.now) × IsUtf8 (body messages.now)) }
 {

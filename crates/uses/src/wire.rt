@@ -1,6 +1,6 @@
 //! A value there and back: its wire form written, and read again by both calls. Readers that are read to their end, and
 //! bytes that are no text.
-ghost use Rattle.std.specs.Prelude.{◌≡◌, ◌<◌, ◌+◌, ◌≤◌, ◌++◌, ℕ, List, [], drop, length, take, Some, IfOk, IfErr, IfSome, OnOk, OnErr};
+ghost use Rattle.std.specs.Prelude.{◌≡◌, ◌<◌, ◌+◌, ◌≤◌, ◌++◌, [], drop, length, take, Some, IfOk, IfErr, IfSome, OnOk, OnErr};
 ghost use Rattle.std.specs.Io.KnownBytes.{Keeps};
 ghost use Rattle.smol_str.specs.Stream.{Gave};
 ghost use Rattle.std.specs.Str.{IsUtf8, chars};
@@ -11,21 +11,22 @@ ghost use Rattle.smol_str.specs.Wire.{HasWire, body, prefix_size, wire};
 
 use smol_str::borsh::{
     BorshDeserialize, BorshSerialize, DecodeFault, EncodeFault, LimitedFault, deserialize_limited,
-    from_wire, split_wire,
+    from_wire,
 };
 use smol_str::stream::{ReadFault, read_all};
 use smol_str::{FromUtf8Fault, INLINE_CAP, SmolStr};
 use std::alloc::{AllocError, Global};
 use std::io::{Read, Write};
 
-/// The wire form of a value.
-pub fn written(alloc: Global, value: &SmolStr) -> Result<Vec<u8>, EncodeFault>
-    ensures sized { IfOk result (λ form. HasWire value.now.text) }
-    ensures form { IfOk result (λ form. form.items ≡ wire value.now.text) }
+/// The wire form of a value, with `rest` after it.
+pub fn written(alloc: Global, value: &SmolStr, rest: &[u8]) -> Result<Vec<u8>, EncodeFault>
+    ensures sized { IfOk result (λ bytes. HasWire value.now.text) }
+    ensures form { IfOk result (λ bytes. bytes.items ≡ wire value.now.text ++ rest.now) }
 {
-    let mut form = Vec::new(alloc);
-    value.serialize(&mut form)?;
-    Ok(form)
+    let mut bytes = Vec::new(alloc);
+    value.serialize(&mut bytes)?;
+    bytes.write_all(rest)?;
+    Ok(bytes)
 }
 
 /// A value whose text is too long for a wire form: that is told, whatever the writer does, and nothing is written.
@@ -82,16 +83,23 @@ pub fn read_from_reader<'a>(
     }
 }
 
+/// The wire form of a text, written by a value of it, with `rest` after it.
+fn text_written(alloc: Global, text: &str, rest: &[u8]) -> Option<Vec<u8>>
+    ensures sized { IfSome result (λ bytes. HasWire (chars text.now)) }
+    ensures form { IfSome result (λ bytes. bytes.items ≡ wire (chars text.now) ++ rest.now) }
+{
+    let value = SmolStr::new(alloc, text).ok()?;
+    written(alloc, &value, rest).ok()
+}
+
 /// A value of `text`, written into a `Vec` with `rest` after it, and read back by both calls.
 pub fn there_and_back(alloc: Global, text: &str, rest: &[u8]) -> Option<(SmolStr, SmolStr)>
     ensures bytes { IfSome result (λ values. IsValueOf (chars text.now) values.0) }
     ensures reader { IfSome result (λ values. IsValueOf (chars text.now) values.1) }
 {
-    let value = SmolStr::new(alloc, text).ok()?;
-    let mut bytes = written(alloc, &value).ok()?;
-    bytes.extend_from_slice(rest).ok()?;
-    let (one, _) = read_from_bytes(alloc, bytes.as_slice(), text, rest).ok()?;
-    let (other, _) = read_from_reader(alloc, bytes.as_slice(), text, rest)?;
+    let bytes = text_written(alloc, text, rest)?;
+    let (one, _) = read_from_bytes(alloc, &bytes, text, rest).ok()?;
+    let (other, _) = read_from_reader(alloc, &bytes, text, rest)?;
     Some((one, other))
 }
 
@@ -112,18 +120,6 @@ pub fn read_short<R: Read>(
         Err(DecodeFault::OutOfMemory) => unreachable!(),
         read => read,
     }
-}
-
-/// The values that bytes begin with, one after another, and what follows them.
-pub fn read_two(alloc: Global, bytes: &[u8]) -> Result<(SmolStr, SmolStr), DecodeFault>
-    ensures form { IfOk result (λ two. (rest : List ℕ) ×
-        (bytes.now ≡ wire two.0.text ++ (wire two.1.text ++ rest))) }
-    ensures place { IfOk result (λ two.
-        (two.0.place ≡ place_of two.0.text) × (two.1.place ≡ place_of two.1.text)) }
-{
-    let (first, rest) = split_wire(alloc, bytes)?;
-    let (second, _) = split_wire(alloc, rest)?;
-    Ok((first, second))
 }
 
 /// A value from a peer that may state any size: nothing is asked for where it states more than `limit`, nor where it
