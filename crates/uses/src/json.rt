@@ -1,4 +1,4 @@
-//! A value there and back through JSON, and a type with a value in it.
+//! A value there and back through JSON, and JSON of a derived type.
 ghost use Rattle.std.specs.Prelude.{◌≡◌, [], IfOk, IfErr, OnErr, encode_utf8_all};
 ghost use Rattle.std.specs.Str.{chars};
 ghost use Rattle.std.specs.String.{string_bytes};
