@@ -129,12 +129,9 @@ pub fn reported(alloc: Global, mode: Mode, mut bytes: &[u8]) -> anyhow::Result<V
     Ok(out)
 }
 
-/// How often each word of the bytes stands, in such a function.
-pub fn counted(alloc: Global, bytes: &[u8]) -> anyhow::Result<Tally> {
-    let mut words = Tally::new(alloc);
-    for word in str::from_utf8(bytes)?.split_whitespace() {
-        words.add(SmolStr::new(alloc, word)?, 1)?;
-    }
+/// A word counted once more, in such a function.
+pub fn counted(mut words: Tally, word: SmolStr) -> anyhow::Result<Tally> {
+    words.add(word, 1)?;
     Ok(words)
 }
 
