@@ -129,7 +129,7 @@ pub fn reported(alloc: Global, mode: Mode, mut bytes: &[u8]) -> anyhow::Result<V
     Ok(out)
 }
 
-/// A word counted once more, in such a function.
+/// A tally with a word more, in such a function.
 pub fn counted(mut words: Tally, word: SmolStr) -> anyhow::Result<Tally> {
     words.add(word, 1)?;
     Ok(words)

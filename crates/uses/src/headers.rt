@@ -8,18 +8,18 @@ ghost use Rattle.uses.specs.Headers.{header_of};
 use smol_str::{SmolStr, StrExt};
 use std::alloc::{AllocError, Global};
 use std::collections::HashMap;
-use std::hash::RandomState;
+use std::hash::{BuildHasher, RandomState};
 use std::io;
 use std::marker::Model;
 use std::random::RandomSource;
 
 /// The values of some names; each name is kept in lower case. A store means the list of names and their values.
 #[derive(Drop)]
-pub struct Headers {
-    fields: HashMap<SmolStr, SmolStr, RandomState>,
+pub struct Headers<S: BuildHasher> {
+    fields: HashMap<SmolStr, SmolStr, S>,
 }
 
-impl Model for Headers {
+impl<S: BuildHasher> Model for Headers<S> {
     ghost use Rattle.std.specs.Prelude.{List};
     ghost use Rattle.smol_str.specs.Meaning.{Meaning};
 
@@ -28,15 +28,14 @@ impl Model for Headers {
     ghost view = { λ s. s.fields.entries };
 }
 
-impl Headers {
-    /// A store in which no name has a value. A peer chooses the names, so the keys of its hashes are the system's: the peer
-    /// cannot choose names that all have one hash. The error is that of the system, where it gives no random bytes.
-    pub fn new(alloc: Global, rt: &impl RandomSource) -> io::Result<Headers>
-        ensures { IfOk result (λ headers. (name : List ℕ) → header_of name headers ≡ None) }
+impl<S: BuildHasher> Headers<S> {
+    /// A store in which no name has a value. It hashes names by `state`, and what it holds does not depend on that.
+    pub fn with_hasher(alloc: Global, state: S) -> Headers<S>
+        ensures { (name : List ℕ) → header_of name result ≡ None }
     {
-        Ok(Headers {
-            fields: HashMap::with_hasher(alloc, RandomState::new(rt)?),
-        })
+        Headers {
+            fields: HashMap::with_hasher(alloc, state),
+        }
     }
 
     /// Sets the value of a name, and leaves those of all others. A refusal leaves every one.
@@ -60,4 +59,12 @@ impl Headers {
         let key = name.to_ascii_lowercase_smolstr(alloc)?;
         Ok(self.fields.get(&key))
     }
+}
+
+/// A store for names that a peer chooses: its keys are the system's, so the peer cannot choose names that all have one
+/// hash. The error is that of the system, where it gives no random bytes.
+pub fn headers_of_peer(alloc: Global, rt: &impl RandomSource) -> io::Result<Headers<RandomState>>
+    ensures { IfOk result (λ headers. (name : List ℕ) → header_of name headers ≡ None) }
+{
+    Ok(Headers::with_hasher(alloc, RandomState::new(rt)?))
 }

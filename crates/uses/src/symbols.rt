@@ -8,18 +8,18 @@ ghost use Rattle.smol_str.specs.Keys.{id_of, interned};
 use smol_str::SmolStr;
 use std::alloc::{AllocError, Global};
 use std::collections::HashMap;
+use std::hash::BuildHasher;
 use std::marker::Model;
 
-/// Names in the order in which they were first seen. A table means the list of their texts; its map agrees with that. Where a
-/// peer chooses the names, give the map the hasher that `headers` has.
+/// Names in the order in which they were first seen. A table means the list of their texts; its map agrees with that.
 #[derive(Drop)]
-pub struct Symbols {
+pub struct Symbols<S: BuildHasher> {
     alloc: Global,
     names: Vec<SmolStr>,
-    ids: HashMap<SmolStr, usize>,
+    ids: HashMap<SmolStr, usize, S>,
 }
 
-impl Model for Symbols {
+impl<S: BuildHasher> Model for Symbols<S> {
     ghost use Rattle.std.specs.Prelude.{◌≡◌, ℕ, List};
     ghost use Rattle.smol_str.specs.Keys.{ids_in, ids_of};
     ghost use Rattle.smol_str.specs.Meaning.{texts};
@@ -31,15 +31,15 @@ impl Model for Symbols {
     ghost invariant = { λ s. ids_in s.ids.entries ≡ ids_of (texts s.names.items) };
 }
 
-impl Symbols {
-    /// A table of no names.
-    pub fn new(alloc: Global) -> Symbols
+impl<S: BuildHasher> Symbols<S> {
+    /// A table of no names, that hashes names by `state`. No id depends on the state.
+    pub fn with_hasher(alloc: Global, state: S) -> Symbols<S>
         ensures { result ≡ [] }
     {
         Symbols {
             alloc,
             names: Vec::new(alloc),
-            ids: HashMap::new(alloc),
+            ids: HashMap::with_hasher(alloc, state),
         }
     }
 
@@ -89,7 +89,11 @@ impl Symbols {
 }
 
 /// A text is interned, then another, and then the first again: it has the id that it had, which gives the text back.
-pub fn same_id(symbols: &mut Symbols, text: &str, other: &str) -> Result<(usize, usize), AllocError>
+pub fn same_id<S: BuildHasher>(
+    symbols: &mut Symbols<S>,
+    text: &str,
+    other: &str,
+) -> Result<(usize, usize), AllocError>
     ensures same { IfOk result (λ ids. ids.0 ≡ ids.1) }
     ensures back { IfOk result (λ ids. slice_get symbols.new ids.0 ≡ Some (chars text.now)) }
 {

@@ -83,21 +83,13 @@ pub fn read_from_reader<'a>(
     }
 }
 
-/// The wire form of a text, written by a value of it, with `rest` after it.
-fn text_written(alloc: Global, text: &str, rest: &[u8]) -> Option<Vec<u8>>
-    ensures sized { IfSome result (λ bytes. HasWire (chars text.now)) }
-    ensures form { IfSome result (λ bytes. bytes.items ≡ wire (chars text.now) ++ rest.now) }
-{
-    let value = SmolStr::new(alloc, text).ok()?;
-    written(alloc, &value, rest).ok()
-}
-
 /// A value of `text`, written into a `Vec` with `rest` after it, and read back by both calls.
 pub fn there_and_back(alloc: Global, text: &str, rest: &[u8]) -> Option<(SmolStr, SmolStr)>
     ensures bytes { IfSome result (λ values. IsValueOf (chars text.now) values.0) }
     ensures reader { IfSome result (λ values. IsValueOf (chars text.now) values.1) }
 {
-    let bytes = text_written(alloc, text, rest)?;
+    let value = SmolStr::new(alloc, text).ok()?;
+    let bytes = written(alloc, &value, rest).ok()?;
     let (one, _) = read_from_bytes(alloc, &bytes, text, rest).ok()?;
     let (other, _) = read_from_reader(alloc, &bytes, text, rest)?;
     Some((one, other))
