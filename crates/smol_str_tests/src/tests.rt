@@ -1,15 +1,11 @@
 //! Tests of what no clause says, by rows from outside.
 
-mod borsh;
 mod builder;
 mod collect;
 mod format;
 mod idioms;
-mod json_string;
 mod kernel;
-mod serde_impls;
 mod str_ext;
-mod stream;
 mod value;
 
 use smol_str::{BLANK_NEWLINES, BLANK_SPACES, INLINE_CAP};

@@ -76,16 +76,15 @@ fn check_not_read(test: &Test, json: &str) {
     }
 }
 
-/// What a settings file has.
+/// A row of a table, in which some cells are empty.
 #[derive(Drop, Serialize, Deserialize)]
 struct Entry {
     name: SmolStr,
-    aliases: Vec<SmolStr>,
-    note: Option<SmolStr>,
+    cells: Vec<Option<SmolStr>>,
 }
 
 const JSON: &str =
-    r#"{"name":"é\n","aliases":["a","a name of more bytes than any buffer has"],"note":null}"#;
+    r#"{"name":"é\n","cells":["a",null,"a cell of more bytes than any buffer has"]}"#;
 
 #[test]
 fn derived(rt: HostRuntime) -> Result<(), Fail> {
@@ -107,9 +106,9 @@ fn read_tree(alloc: Global) -> Result<Entry, Error> {
 
 fn check_entry(test: &Test, entry: &Entry) {
     has_text(test, &entry.name, "é\n", Place::Inline, "name");
-    let alias = entry.aliases.last().map(|alias| alias.place());
-    is_so(test, alias == Some(Place::Heap), "aliases");
-    is_so(test, entry.note.is_none(), "note");
+    let last = entry.cells.last().and_then(|cell| cell.as_ref());
+    let place = last.map(|cell| cell.place());
+    is_so(test, place == Some(Place::Heap), "cells");
     let json = ok(test, serde_json::to_string(test.alloc, entry));
     same_str(test, json.as_str(), JSON, "written");
 }
@@ -126,10 +125,10 @@ fn derived_not_read(rt: HostRuntime) -> Result<(), Fail> {
 }
 
 static FIELDS_NOT_READ: [&str; 4] = [
-    r#"{"name":1,"aliases":[],"note":null}"#,
-    r#"{"name":"a","aliases":[{}],"note":null}"#,
-    r#"{"name":"a","aliases":[],"note":"\ud800"}"#,
-    r#"{"aliases":[],"note":null}"#,
+    r#"{"name":1,"cells":[]}"#,
+    r#"{"name":"a","cells":[{}]}"#,
+    r#"{"name":"a","cells":["\ud800"]}"#,
+    r#"{"cells":[]}"#,
 ];
 
 #[test]
