@@ -44,7 +44,7 @@ module _ (w : List ℕ) (u : IsUtf8 w) where
       (h.0, h.1, h.2, h.3, rw (chars_from_encodes cs _ h.1 e, ← append-nil (chars (take q.0 w))) at (lacks_char c cs none))
 
   -- characters that stand have bytes that stand
-  there : (nd a r : List ℕ) → IsUtf8 nd → chars w ≡ a ++ (chars nd ++ r) → drop (size a) w ≡ nd ++ encode_utf8_all r
+  pub there : (nd a r : List ℕ) → IsUtf8 nd → chars w ≡ a ++ (chars nd ++ r) → drop (size a) w ≡ nd ++ encode_utf8_all r
   there nd a r v e = cc (drop-parts w a (chars nd ++ r) (size a) u e refl, encodes-append (chars nd) r, encodes-chars nd v)
 
   pub found_text : (nd : List ℕ) (o : Option (ℕ × ℕ)) → IsUtf8 nd → 0 < length nd → FindsText nd w o → Finds (chars nd) w o

@@ -1,5 +1,5 @@
 //! Lines cut at a separator, and joined again; what a caller does with an index or a buffer that a call returns.
-ghost use Rattle.std.specs.Prelude.{◌≡◌, ◌≢◌, ◌<◌, ◌≤◌, ◌↔◌, ◌++◌, ◌∷◌, [], ℕ, List, drop, length, map, set, IfNone, IfOk, IfSome, IsTrue, MatchBool, OnErr, encode_utf8_all};
+ghost use Rattle.std.specs.Prelude.{◌≡◌, ◌≢◌, ◌<◌, ◌≤◌, ◌↔◌, ◌++◌, ◌∷◌, ◌-◌, [], ℕ, List, codes, drop, length, map, set, take, IfNone, IfOk, IfSome, IsTrue, MatchBool, OnErr, encode_utf8_all};
 ghost use Rattle.std.specs.Str.{IsCharBoundary, chars, trim};
 ghost use Rattle.smol_str.specs.Cut.{IsFirstAfter, Occurs, joined_by};
 ghost use Rattle.smol_str.specs.Joined.{str_text};
@@ -65,6 +65,21 @@ pub fn line_of_strs(alloc: Global, fields: &[&str]) -> Result<SmolStr, AllocErro
     SmolStr::join(alloc, fields, ",")
 }
 
+/// The line of all fields but the last.
+#[tactic(auto, using(smol_str::proofs::CallerLemmas::cutting))]
+pub fn without_last(
+    alloc: Global,
+    fields: &[SmolStr],
+    separator: &str,
+) -> Result<SmolStr, AllocError>
+    requires some { 0 < length fields.now }
+    ensures { IfOk result (λ v.
+        IsValueOf (joined_by (chars separator.now) (take (length fields.now - 1) (texts fields.now))) v) }
+{
+    let last = fields.len() - 1;
+    line_of(alloc, &fields[..last], separator)
+}
+
 /// A line cut into fields and joined again: the line.
 #[tactic(auto, using(smol_str::proofs::CallerLemmas::cutting))]
 pub fn again(alloc: Global, line: &str, separator: &str) -> Result<SmolStr, AllocError>
@@ -121,6 +136,23 @@ pub fn comment(line: &str) -> Option<&str>
     ensures none { IfNone result ((rest : List ℕ) → chars line.now ≢ 35 ∷ rest) }
 {
     line.strip_prefix('#')
+}
+
+/// What stands before the semicolon that ends a statement.
+#[tactic(auto, using(smol_str::proofs::CallerLemmas::cutting))]
+pub fn statement(line: &str) -> Option<&str>
+    ensures front { IfSome result (λ front. chars line.now ≡ chars front.now ++ (59 ∷ [])) }
+    ensures none { IfNone result ((front : List ℕ) → chars line.now ≢ front ++ (59 ∷ [])) }
+{
+    line.strip_suffix(';')
+}
+
+/// The two sides of a rule, at a pattern of two characters.
+#[tactic(auto, using(smol_str::proofs::CallerLemmas::cutting))]
+pub fn sides(rule: &str) -> Option<(&str, &str)>
+    ensures { IfSome result (λ it. chars rule.now ≡ chars it.0.now ++ (chars (codes "->") ++ chars it.1.now)) }
+{
+    rule.split_once("->")
 }
 
 /// What follows a value's prefix, as a value, if it has it.

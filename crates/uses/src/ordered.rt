@@ -1,5 +1,5 @@
-//! Values sorted, each text kept once, and values looked up in lists and maps.
-ghost use Rattle.std.specs.Prelude.{◌≡◌, OnOk, OnErr, IfOk, Some, false, option_copied, slice_get};
+//! Values sorted, each text kept once, and looked up in lists and maps; lists compared.
+ghost use Rattle.std.specs.Prelude.{◌≡◌, ◌↔◌, OnOk, OnErr, IfOk, IsTrue, Some, false, option_copied, slice_get};
 ghost use Rattle.std.specs.Ordering.{nat_cmp};
 ghost use Rattle.std.specs.Cmp.Lexicographic.{slice_cmp};
 ghost use Rattle.std.specs.List.Sorted.{IsPermutation, IsSorted, IsStrictlySortedBy};
@@ -64,6 +64,14 @@ pub fn is_keyword(keywords: &[SmolStr], name: &SmolStr) -> bool
     ensures { result ≡ has_text name.now.text keywords.now }
 {
     keywords.contains(name)
+}
+
+/// Whether two lists have the same texts, in the same order.
+#[tactic(auto, using(smol_str::proofs::CallerLemmas::sorting))]
+pub fn same_names(left: &[SmolStr], right: &[SmolStr]) -> bool
+    ensures { IsTrue result ↔ (texts left.now ≡ texts right.now) }
+{
+    left == right
 }
 
 /// Whether a name comes before another.

@@ -1,23 +1,27 @@
 -- Texts that std cuts: `split` in a loop, `split_once`, `strip_prefix` and `strip_suffix`, at the level of texts.
-use Rattle.smol_str.proofs.Common.{arith, flat_map, items_from_drains, YieldsList, rules, ◌≡◌, ℕ, ◌-◌, ◌<◌, Bool, true, false, List, [], ◌∷◌, ◌++◌, ◌==◌, length, take, drop, map, str_text, Bor, Option, Some, None, MatchOption, refl, sym, ap, ◌∙◌, subst, IsTrue, all_scalars, IsUtf8, chars, chars-nil, chars-append, encode_utf8, encode_utf8_all, append-nil, encodes-append, encodes-chars, chars-encodes, chars_from_encodes, Occurs, IsFirstAfter, joined_by, cut, no_limit, Meaning}
+use Rattle.smol_str.proofs.Common.{arith, flat_map, items_from_drains, YieldsList, rules, ◌≡◌, ℕ, ◌-◌, ◌+◌, ◌<◌, ◌≤◌, Bool, true, false, List, [], ◌∷◌, ◌++◌, ◌==◌, length, take, drop, map, str_text, Bor, Option, Some, None, MatchOption, refl, sym, ap, ◌∙◌, subst, IsTrue, all_scalars, IsUtf8, chars, chars-nil, chars-append, encode_utf8, encode_utf8_all, append-nil, encodes-append, encodes-chars, chars-encodes, chars_from_encodes, Occurs, IsFirstAfter, joined_by, cut, no_limit, Meaning}
 use Rattle.std.proofs.Common.{◌≢◌, IfNone, IfSome, MatchBool}
 use Rattle.std.specs.List.{join_by}
 use Rattle.std.specs.Str.Iter.{split_steps, split_text, split_has_more, split_pattern}
-use Rattle.std.specs.Str.Pattern.{FindsChar, FindsCharPrefix, FindsText, FindsTextPrefix, FindsTextSuffix, HasCharAt, HasPrefixMatch, SplitsAroundMatch, StripsPrefix, StripsSuffix}
+use Rattle.std.specs.Str.Pattern.{FindsChar, FindsCharPrefix, FindsCharSuffix, FindsText, FindsTextPrefix, FindsTextSuffix, HasCharAt, HasPrefixMatch, HasTextAt, LacksTextAt, SplitsAroundMatch, StripsPrefix, StripsSuffix}
 use Rattle.std.specs.declared.str.Split.{Split}
 use Rattle.std.specs.Str.{NonePass}
 use Rattle.std.proofs.lemmas.Str.{IsUtf8-take}
-use Rattle.std.proofs.lemmas.List.{map-set, set_past}
+use Rattle.std.proofs.lemmas.List.{drop-map, length-map, map-set, set_past, take-map}
 use Rattle.std.specs.Iterator.Adapters.{map_source, map_callee}
 use Rattle.std.specs.declared.iter.Map.{Map}
-use Rattle.smol_str.specs.Meaning.{texts, AreValuesOf, IsValueOf}
-use Rattle.smol_str.specs.Text.{place_of}
+use Rattle.smol_str.specs.Meaning.{texts, IsValueOf}
+use Rattle.smol_str.specs.Text.{place_of, size}
 use Rattle.smol_str.proofs.Common.{All, Result}
 use Rattle.smol_str.proofs.CallerLemmas.Lists.{AreOk, MapsBy, collected_oks, mapped, oks, texts_made}
-use Rattle.smol_str.proofs.CallerLemmas.Texts.{IsUtf8-one}
+use Rattle.smol_str.proofs.CallerLemmas.Texts.{IsUtf8-one, chars-cons}
+use Rattle.std.proofs.lemmas.Str.{IsUtf8-from_ascii}
+use Rattle.std.proofs.lemmas.Str.Ascii.{IsAscii-from_all}
 use Rattle.smol_str.proofs.CallerLemmas.Wire.{items}
 use Rattle.smol_str.proofs.CutLemmas.Replace.{replaced-itself}
-use Rattle.smol_str.proofs.PieceLemmas.{Finds, found_parts, found_char, found_text, gives-split, gives-split_at}
+use Rattle.smol_str.proofs.TextLemmas.Places.{size-append, size-chars, some_char}
+use Rattle.std.proofs.Math.Seq.{drop-length}
+use Rattle.smol_str.proofs.PieceLemmas.{Finds, found_parts, found_char, found_text, gives-split, gives-split_at, there}
 use Rattle.std.specs.Iterator.{Yields}
 
 -- ---- a loop over `split` that makes a value of each piece, where `AreValuesOf (map str_text l.yielded) l.values.items`
@@ -97,9 +101,8 @@ tried_at_text more rs s t run ends by last live all =
     )
 
 -- joined where they were cut
-pub joined-values : (p : List ℕ) (values : List Meaning) (t : List ℕ) (n : ℕ) → AreValuesOf (cut t p n) values
-    → joined_by p (texts values) ≡ t
-joined-values p values t n these = ap (joined_by p) these.text ∙ replaced-itself t p n
+pub joined-cut : (p t : List ℕ) (n : ℕ) → joined_by p (cut t p n) ≡ t
+joined-cut p t n = replaced-itself t p n
 
 -- values joined by std's `join`, whose contract speaks of bytes: those of the joined text
 module _ (p : List ℕ) (u : IsUtf8 p) where
@@ -181,6 +184,22 @@ module _ (r : Option (Bor (List ℕ) × Bor (List ℕ))) (c : ℕ) (bs : List �
       → IfNone r (¬ Occurs (c ∷ []) (chars bs))
   split_char-none u said = none_of _ r _ (split_once-char bs u r c said)
 
+-- and at a text
+pub split_text-whole : (nd bs : List ℕ) (i j : ℕ) → HasTextAt nd bs i j → IsUtf8 bs → IsUtf8 nd → 0 < length nd
+    → chars bs ≡ chars (take i bs) ++ (chars nd ++ chars (drop j bs))
+split_text-whole nd bs i j at u v some =
+    (found_parts bs u (chars nd) i j (some_char nd v some) (cc (at.split, encodes-chars nd v))).3
+
+pub split_text-first : (nd bs : List ℕ) (i j : ℕ) → HasTextAt nd bs i j → ((k : ℕ) → k < i → LacksTextAt nd bs k) → IsUtf8 bs
+    → IsUtf8 nd → 0 < length nd → IsFirstAfter (chars nd) (chars (take i bs))
+split_text-first nd bs i j at before u v some = (found_text bs u nd (Some (i, j)) v some (before, at)).4
+
+pub split_text-none : (nd bs a r : List ℕ) → chars bs ≡ a ++ (chars nd ++ r) → IsUtf8 bs → IsUtf8 nd
+    → (size a ≤ length bs) × (drop (size a) bs ≡ nd ++ encode_utf8_all r)
+split_text-none nd bs a r e u v =
+    let long : length bs ≡ size a + size (chars nd ++ r) = sym (size-chars bs u) ∙ ap size e ∙ size-append a (chars nd ++ r) in
+    (omega (arith, long), there bs u nd a r v e)
+
 module _ (r : Option (Bor (List ℕ))) (bs nd : List ℕ) (u : IsUtf8 bs) (v : IsUtf8 nd) where
   module _ (said : MatchOption r (FindsTextPrefix nd bs None) (λ x. StripsPrefix (FindsTextPrefix nd) bs x.now)) where
     pub prefix-rest : IfSome r (λ x. chars bs ≡ chars nd ++ chars x.now)
@@ -225,6 +244,22 @@ module _ (bs : List ℕ) (c : ℕ) (u : IsUtf8 bs) where
       → IfNone r ((rest : List ℕ) → chars bs ≢ c ∷ rest)
   char_prefix-none r said = none_of _ r _ (strip_prefix-char r said)
 
+  strip_suffix-char : (r : Option (Bor (List ℕ))) → MatchOption r (FindsCharSuffix c bs None) (λ x. StripsSuffix (FindsCharSuffix c) bs x.now)
+      → MatchOption r ((front : List ℕ) → chars bs ≢ front ++ (c ∷ [])) (λ x. chars bs ≡ chars x.now ++ (c ∷ []))
+  strip_suffix-char None none = λ front e.
+      none (encode_utf8_all front) (cc (encodes-chars bs u, ap encode_utf8_all e, encodes-append front (c ∷ []), append-nil (encode_utf8 c)))
+  strip_suffix-char (Some x) (n, (is-len, at, boundary), is, fits) =
+      let h = found_parts bs u (c ∷ []) (length bs - n) (length bs) (omega arith) (cc (at.split, append-nil (encode_utf8 c))) in
+      cc (h.3, is, drop-length bs, chars-nil, append-nil (c ∷ []))
+
+  pub char_suffix-front : (r : Option (Bor (List ℕ))) → MatchOption r (FindsCharSuffix c bs None) (λ x. StripsSuffix (FindsCharSuffix c) bs x.now)
+      → IfSome r (λ x. chars bs ≡ chars x.now ++ (c ∷ []))
+  char_suffix-front r said = some_of _ r _ (strip_suffix-char r said)
+
+  pub char_suffix-none : (r : Option (Bor (List ℕ))) → MatchOption r (FindsCharSuffix c bs None) (λ x. StripsSuffix (FindsCharSuffix c) bs x.now)
+      → IfNone r ((front : List ℕ) → chars bs ≢ front ++ (c ∷ []))
+  char_suffix-none r said = none_of _ r _ (strip_suffix-char r said)
+
   pub starts_with-char : (b : Bool) → MatchBool b (HasPrefixMatch (FindsCharPrefix c) bs) (FindsCharPrefix c bs None)
       → MatchBool b ((rest : List ℕ) × (chars bs ≡ c ∷ rest)) ((rest : List ℕ) → chars bs ≢ c ∷ rest)
   starts_with-char true (n, at, cut) = (chars (drop n bs), char_rest n at)
@@ -240,12 +275,49 @@ module _ (t nd x : List ℕ) (scalars : IsTrue (all_scalars t)) (u : IsUtf8 nd) 
       sym (chars-encodes t scalars)
       ∙ strip_suffix-text (encode_utf8_all t) nd (t, (scalars, refl)) u (Some (record { ref_ptr = (0, 0); now = x })) said
 
+-- the same at patterns that are literals of ASCII, which are UTF-8 by their bytes
+module _ (nd bs : List ℕ) (u : IsUtf8 bs) (low : All (λ b. b < 128) nd) where
+  at-literal : IsUtf8 nd
+  at-literal = IsUtf8-from_ascii nd (IsAscii-from_all nd low)
+
+  module _ (r : Option (Bor (List ℕ))) (said : MatchOption r (FindsTextPrefix nd bs None) (λ x. StripsPrefix (FindsTextPrefix nd) bs x.now)) where
+    pub prefix_rest-literal : IfSome r (λ x. chars bs ≡ chars nd ++ chars x.now)
+    prefix_rest-literal = prefix-rest r bs nd u at-literal said
+
+    pub prefix_none-literal : IfNone r ((rest : List ℕ) → chars bs ≢ chars nd ++ rest)
+    prefix_none-literal = prefix-none r bs nd u at-literal said
+
+  module _ (r : Option (Bor (List ℕ))) (said : MatchOption r (FindsTextSuffix nd bs None) (λ x. StripsSuffix (FindsTextSuffix nd) bs x.now)) where
+    pub suffix_front-literal : IfSome r (λ x. chars bs ≡ chars x.now ++ chars nd)
+    suffix_front-literal = suffix-front r bs nd u at-literal said
+
+    pub suffix_none-literal : IfNone r ((front : List ℕ) → chars bs ≢ front ++ chars nd)
+    suffix_none-literal = suffix-none r bs nd u at-literal said
+
+  pub starts_with-literal : (b : Bool) → MatchBool b (HasPrefixMatch (FindsTextPrefix nd) bs) (FindsTextPrefix nd bs None)
+      → MatchBool b ((rest : List ℕ) × (chars bs ≡ chars nd ++ rest)) ((rest : List ℕ) → chars bs ≢ chars nd ++ rest)
+  starts_with-literal b said = starts_with-text b bs nd u at-literal said
+
+  pub split-literal : (i j : ℕ) → HasTextAt nd bs i j → 0 < length nd
+      → chars bs ≡ chars (take i bs) ++ (chars nd ++ chars (drop j bs))
+  split-literal i j at some = split_text-whole nd bs i j at u at-literal some
+
+  pub split_none-literal : (a r : List ℕ) → chars bs ≡ a ++ (chars nd ++ r)
+      → (size a ≤ length bs) × (drop (size a) bs ≡ nd ++ encode_utf8_all r)
+  split_none-literal a r e = split_text-none nd bs a r e u at-literal
+
+pub ruleset literals = (chars-cons, chars-nil, prefix_rest-literal, prefix_none-literal, suffix_front-literal, suffix_none-literal, starts_with-literal, split-literal, split_none-literal)
+
 pub ruleset cutting = (
   arith,
   items,
+  literals,
   map-set,
+  take-map,
+  drop-map,
+  length-map,
   set_past,
-  joined-values,
+  joined-cut,
   split_at_char,
   split_at_text,
   IsUtf8-one,
@@ -259,6 +331,9 @@ pub ruleset cutting = (
   split_char-whole,
   split_char-first,
   split_char-none,
+  split_text-whole,
+  split_text-first,
+  split_text-none,
   prefix-rest,
   prefix-none,
   suffix-front,
@@ -266,6 +341,8 @@ pub ruleset cutting = (
   starts_with-text,
   char_prefix-rest,
   char_prefix-none,
+  char_suffix-front,
+  char_suffix-none,
   starts_with-char,
   prefix_known,
   suffix_known,

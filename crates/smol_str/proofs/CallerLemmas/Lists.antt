@@ -1,19 +1,20 @@
 -- Lists of values, and what they are as texts.
 use Rattle.smol_str.proofs.Common.{true, false, ⊎_elim, cases_lt, get_or, Ok, Err, IfOk, OnErr, flat_map, joined_by, refl, sym, map, ◌≡◌, ℕ, ◌+◌, ◌<◌, List, [], ◌∷◌, ◌++◌, length, Bool, not, cond, Some, None, ap, ◌∙◌, arith, nat_tests, length-append, length-map, map-append, nat_cmp, slice_cmp, slice_get, option_map, Meaning, Result, OnOk, on_ok_weaker, rules}
-use Rattle.std.proofs.Common.{is_some, nat_lt}
+use Rattle.std.proofs.Common.{◌↔◌, is_some, nat_eq, nat_lt}
 use Rattle.std.specs.List.{position, prefix_len, dedup, dedup_from, HoldsAt}
 use Rattle.std.specs.List.Retain.{IsFiltered, DiffersFromLast}
 use Rattle.std.specs.List.Sorted.{IsSorted, IsSortedByKey, IsStrictlySortedBy, IsBinarySearchResult, IsNonDecreasingBy, IsSearchInRange}
 use Rattle.std.specs.Ordering.{is_eq, ordering_index}
 use Rattle.std.specs.declared.cmp.Ordering.TheVariants.{Equal}
-use Rattle.std.specs.Cmp.Lexicographic.{nat_list_cmp_total, texts_ties}
+use Rattle.std.specs.Cmp.Derive.Mapped.{pointwise-map}
+use Rattle.std.specs.Cmp.Lexicographic.{nat_list_cmp_total, pointwise, texts_ties}
 use Rattle.std.specs.Str.{bytes_eq}
 use Rattle.std.proofs.lemmas.List.Filters.{dedup_is}
 use Rattle.std.proofs.lemmas.List.Kept.{IsStrictlySortedBy-dedup}
 use Rattle.std.proofs.lemmas.List.{get_or-map}
 use Rattle.std.proofs.lemmas.List.Folds.{prefix_len-append, flat_map-map, list_any_none}
 use Rattle.std.proofs.lemmas.List.Sorted.{searchable_from_sorted}
-use Rattle.std.proofs.lemmas.Slice.Eq.{bytes_eq-Decides}
+use Rattle.std.proofs.lemmas.Slice.Eq.{bytes_eq-Decides, slice_eq-Decides}
 use Rattle.std.proofs.lemmas.List.Sums.{prefix_len-le-length}
 use Rattle.std.proofs.lemmas.Option.{slice_get-map, slice_get-get_or}
 use Rattle.std.specs.Map.{lookup, KeepsOthers}
@@ -110,7 +111,15 @@ texts-once new (old, kept, up) =
     ap texts (dedup_is (λ x y. bytes_eq x.text y.text) old new kept) ∙ texts-dedup bytes_eq old in
     rw same (IsStrictlySortedBy-dedup nat_list_cmp_total texts_ties (texts old) up)
 
-pub ruleset sorting = (sorted-texts, IsSorted-texts, texts-once, value_found, value_missing)
+-- what `==` says of two lists
+pub lists_same : (vs ws : List Meaning) (b : Bool) → b ≡ pointwise (λ (v w : Meaning). pointwise nat_eq v.text w.text) vs ws
+    → IsTrue b ↔ (texts vs ≡ texts ws)
+lists_same vs ws b is =
+    let by_texts = pointwise-map (λ (v : Meaning). v.text) (pointwise nat_eq) vs ws in
+    let h = slice_eq-Decides bytes_eq-Decides (texts vs) (texts ws) b (is ∙ sym by_texts) in
+    search (rules, h)
+
+pub ruleset sorting = (sorted-texts, IsSorted-texts, texts-once, value_found, value_missing, lists_same)
 
 -- the first place at which a test passes, with one more element at the end: it stays, or is the new one's
 module _ {X : Type 0} (p : X → Bool) (xs : List X) (x : X) where

@@ -1,7 +1,7 @@
 -- Texts: their bytes and sizes, builders, and one character in place of another.
 use Rattle.smol_str.proofs.Common.{IsUtf8-from_ascii, ◌≡◌, ◌∷◌, ◌++◌, sym, Draft, OnHeap, appended, kind_with, ℕ, ◌+◌, ◌<◌, ◌≤◌, Result, IfOk, OnErr, subst, List, [], length, take, encode_utf8_all, refl, ap, ◌∙◌, inl, IsTrue, arith, flat_map, chars, all_scalars, IsUtf8, chars-encodes, chars_from_encodes, encodes-chars, encodes_same, chars-IsAscii, INLINE_CAP, size, IsShort, IsResident, place_of, Meaning, IsValueOf, IsAscii, replaced_all, each_with, each_replaced, rules, nat_tests, append-nil, append_assoc, encodes-append, IsAscii-cons, IsAscii-nil}
 use Rattle.std.proofs.lemmas.Grind.{take_at_read, flat_map-append}
-use Rattle.std.proofs.lemmas.Str.{encode_ascii}
+use Rattle.std.proofs.lemmas.Str.{chars-append, chars-nil, encode_ascii}
 use Rattle.smol_str.proofs.CaseLemmas.Ascii.{size-mapped}
 use Rattle.smol_str.proofs.CutLemmas.Bytes.{each-moves, replaced_all-each, replaced_all-character}
 use Rattle.smol_str.proofs.TextLemmas.Lists.{flat_map-parts}
@@ -22,15 +22,19 @@ length-as_str t bs e = ap length e
 pub IsResident-few : (bs : List ℕ) → IsUtf8 bs → length bs ≤ INLINE_CAP → IsResident (chars bs)
 IsResident-few bs u few = inl (IsShort-chars bs u few)
 
--- a character of ASCII is the text of its byte, and so of a literal that has it alone
-pub chars-one : (c : ℕ) → c < 128 → chars (c ∷ []) ≡ c ∷ []
+-- a literal of ASCII: its bytes are its characters, and are UTF-8
+chars-one : (c : ℕ) → c < 128 → chars (c ∷ []) ≡ c ∷ []
 chars-one c ascii = chars-IsAscii (c ∷ []) (IsAscii-cons c [] ascii IsAscii-nil)
 
 pub IsUtf8-one : (c : ℕ) → c < 128 → IsUtf8 (c ∷ [])
 IsUtf8-one c ascii = IsUtf8-from_ascii (c ∷ []) (IsAscii-cons c [] ascii IsAscii-nil)
 
+pub chars-cons : (c : ℕ) (bs : List ℕ) → c < 128 → chars (c ∷ bs) ≡ c ∷ chars bs
+chars-cons c bs ascii = chars-append (c ∷ []) bs (IsUtf8-one c ascii) ∙ ap (λ t. t ++ chars bs) (chars-one c ascii)
+
 pub ruleset texts = (
-  chars-one,
+  chars-cons,
+  chars-nil,
   chars-encodes,
   chars_from_encodes,
   encodes-chars,
