@@ -44,12 +44,12 @@ module _ (w : List ℕ) (u : IsUtf8 w) where
       (h.0, h.1, h.2, h.3, rw (chars_from_encodes cs _ h.1 e, ← append-nil (chars (take q.0 w))) at (lacks_char c cs none))
 
   -- characters that stand have bytes that stand
-  pub there : (nd a r : List ℕ) → IsUtf8 nd → chars w ≡ a ++ (chars nd ++ r) → drop (size a) w ≡ nd ++ encode_utf8_all r
-  there nd a r v e = cc (drop-parts w a (chars nd ++ r) (size a) u e refl, encodes-append (chars nd) r, encodes-chars nd v)
+  pub bytes_there : (nd a r : List ℕ) → IsUtf8 nd → chars w ≡ a ++ (chars nd ++ r) → drop (size a) w ≡ nd ++ encode_utf8_all r
+  bytes_there nd a r v e = cc (drop-parts w a (chars nd ++ r) (size a) u e refl, encodes-append (chars nd) r, encodes-chars nd v)
 
   pub found_text : (nd : List ℕ) (o : Option (ℕ × ℕ)) → IsUtf8 nd → 0 < length nd → FindsText nd w o → Finds (chars nd) w o
   found_text nd None v some none = λ (a, r, e).
-      let at = there nd a r v e in
+      let at = bytes_there nd a r v e in
       none (size a) (omega (arith, ap length at, length-append {A = ℕ}, length-drop {A = ℕ})) (encode_utf8_all r) at
   found_text nd (Some q) v some (none, at) =
       let long = some_char nd v some in
@@ -61,7 +61,7 @@ module _ (w : List ℕ) (u : IsUtf8 w) where
         h.3,
         λ o.
             let x = earlier (chars w) (chars nd) (chars (take q.0 w)) (chars (drop q.1 w)) h.3 long o in
-            none (size x.0.0) (omega (arith, x.1, length-take {A = ℕ})) (encode_utf8_all x.0.1) (there nd x.0.0 x.0.1 v x.0.2),
+            none (size x.0.0) (omega (arith, x.1, length-take {A = ℕ})) (encode_utf8_all x.0.1) (bytes_there nd x.0.0 x.0.1 v x.0.2),
       )
 
 -- ---- the pieces

@@ -118,15 +118,21 @@ pub fn without_suffix<'a>(name: &'a str, suffix: &str) -> Option<&'a str>
     name.strip_suffix(suffix)
 }
 
-/// Whether a line begins with a text, and whether it is a comment.
+/// Whether a line begins with a text, and whether it is a comment, by one character or by two.
 #[tactic(auto, using(smol_str::proofs::CallerLemmas::cutting))]
-pub fn begins(line: &str, prefix: &str) -> (bool, bool)
+pub fn begins(line: &str, prefix: &str) -> (bool, bool, bool)
     ensures prefix { MatchBool result.0 ((rest : List ℕ) × (chars line.now ≡ chars prefix.now ++ rest))
         ((rest : List ℕ) → chars line.now ≢ chars prefix.now ++ rest) }
     ensures comment { MatchBool result.1 ((rest : List ℕ) × (chars line.now ≡ 35 ∷ rest))
         ((rest : List ℕ) → chars line.now ≢ 35 ∷ rest) }
+    ensures slashes { MatchBool result.2 ((rest : List ℕ) × (chars line.now ≡ chars (codes "//") ++ rest))
+        ((rest : List ℕ) → chars line.now ≢ chars (codes "//") ++ rest) }
 {
-    (line.starts_with(prefix), line.starts_with('#'))
+    (
+        line.starts_with(prefix),
+        line.starts_with('#'),
+        line.starts_with("//"),
+    )
 }
 
 /// What a comment says, if the line is one.
@@ -145,6 +151,35 @@ pub fn statement(line: &str) -> Option<&str>
     ensures none { IfNone result ((front : List ℕ) → chars line.now ≢ front ++ (59 ∷ [])) }
 {
     line.strip_suffix(';')
+}
+
+/// What a raw name is called, if it is one.
+#[tactic(auto, using(smol_str::proofs::CallerLemmas::cutting))]
+pub fn raw_name(token: &str) -> Option<&str>
+    ensures rest { IfSome result (λ rest. chars token.now ≡ chars (codes "r#") ++ chars rest.now) }
+    ensures none { IfNone result ((rest : List ℕ) → chars token.now ≢ chars (codes "r#") ++ rest) }
+{
+    token.strip_prefix("r#")
+}
+
+/// What a source file is called, if it is one.
+#[tactic(auto, using(smol_str::proofs::CallerLemmas::cutting))]
+pub fn source_name(file: &str) -> Option<&str>
+    ensures front { IfSome result (λ front. chars file.now ≡ chars front.now ++ chars (codes ".rs")) }
+    ensures none { IfNone result ((front : List ℕ) → chars file.now ≢ front ++ chars (codes ".rs")) }
+{
+    file.strip_suffix(".rs")
+}
+
+/// What stands before the first match of a pattern, and behind it.
+#[tactic(auto, using(smol_str::proofs::CallerLemmas::cutting))]
+pub fn around<'a>(text: &'a str, pattern: &str) -> Option<(&'a str, &'a str)>
+    requires some { 0 < length pattern.now }
+    ensures whole { IfSome result (λ it. chars text.now ≡ chars it.0.now ++ (chars pattern.now ++ chars it.1.now)) }
+    ensures first { IfSome result (λ it. IsFirstAfter (chars pattern.now) (chars it.0.now)) }
+    ensures none { IfNone result (¬ Occurs (chars pattern.now) (chars text.now)) }
+{
+    text.split_once(pattern)
 }
 
 /// The two sides of a rule, at a pattern of two characters.

@@ -21,7 +21,7 @@ use Rattle.smol_str.proofs.CallerLemmas.Wire.{items}
 use Rattle.smol_str.proofs.CutLemmas.Replace.{replaced-itself}
 use Rattle.smol_str.proofs.TextLemmas.Places.{size-append, size-chars, some_char}
 use Rattle.std.proofs.Math.Seq.{drop-length}
-use Rattle.smol_str.proofs.PieceLemmas.{Finds, found_parts, found_char, found_text, gives-split, gives-split_at, there}
+use Rattle.smol_str.proofs.PieceLemmas.{Finds, found_parts, found_char, found_text, gives-split, gives-split_at, bytes_there}
 use Rattle.std.specs.Iterator.{Yields}
 
 -- ---- a loop over `split` that makes a value of each piece, where `AreValuesOf (map str_text l.yielded) l.values.items`
@@ -194,11 +194,11 @@ pub split_text-first : (nd bs : List ℕ) (i j : ℕ) → HasTextAt nd bs i j �
     → IsUtf8 nd → 0 < length nd → IsFirstAfter (chars nd) (chars (take i bs))
 split_text-first nd bs i j at before u v some = (found_text bs u nd (Some (i, j)) v some (before, at)).4
 
-pub split_text-none : (nd bs a r : List ℕ) → chars bs ≡ a ++ (chars nd ++ r) → IsUtf8 bs → IsUtf8 nd
+pub occurrence-bytes : (nd bs a r : List ℕ) → chars bs ≡ a ++ (chars nd ++ r) → IsUtf8 bs → IsUtf8 nd
     → (size a ≤ length bs) × (drop (size a) bs ≡ nd ++ encode_utf8_all r)
-split_text-none nd bs a r e u v =
+occurrence-bytes nd bs a r e u v =
     let long : length bs ≡ size a + size (chars nd ++ r) = sym (size-chars bs u) ∙ ap size e ∙ size-append a (chars nd ++ r) in
-    (omega (arith, long), there bs u nd a r v e)
+    (omega (arith, long), bytes_there bs u nd a r v e)
 
 module _ (r : Option (Bor (List ℕ))) (bs nd : List ℕ) (u : IsUtf8 bs) (v : IsUtf8 nd) where
   module _ (said : MatchOption r (FindsTextPrefix nd bs None) (λ x. StripsPrefix (FindsTextPrefix nd) bs x.now)) where
@@ -302,11 +302,7 @@ module _ (nd bs : List ℕ) (u : IsUtf8 bs) (low : All (λ b. b < 128) nd) where
       → chars bs ≡ chars (take i bs) ++ (chars nd ++ chars (drop j bs))
   split-literal i j at some = split_text-whole nd bs i j at u at-literal some
 
-  pub split_none-literal : (a r : List ℕ) → chars bs ≡ a ++ (chars nd ++ r)
-      → (size a ≤ length bs) × (drop (size a) bs ≡ nd ++ encode_utf8_all r)
-  split_none-literal a r e = split_text-none nd bs a r e u at-literal
-
-pub ruleset literals = (chars-cons, chars-nil, prefix_rest-literal, prefix_none-literal, suffix_front-literal, suffix_none-literal, starts_with-literal, split-literal, split_none-literal)
+pub ruleset literals = (chars-cons, chars-nil, prefix_rest-literal, prefix_none-literal, suffix_front-literal, suffix_none-literal, starts_with-literal, split-literal)
 
 pub ruleset cutting = (
   arith,
@@ -333,7 +329,7 @@ pub ruleset cutting = (
   split_char-none,
   split_text-whole,
   split_text-first,
-  split_text-none,
+  occurrence-bytes,
   prefix-rest,
   prefix-none,
   suffix-front,

@@ -78,7 +78,7 @@ fn check_not_read(test: &Test, json: &str) {
 
 /// A row of a table, in which some cells are empty.
 #[derive(Drop, Serialize, Deserialize)]
-struct Entry {
+struct Row {
     name: SmolStr,
     cells: Vec<Option<SmolStr>>,
 }
@@ -89,27 +89,27 @@ const JSON: &str =
 #[test]
 fn derived(rt: HostRuntime) -> Result<(), Fail> {
     let test = Test::begin(rt);
-    match read_entry(test.alloc, JSON) {
-        Ok(entry) => check_entry(&test, &entry),
+    match read_row(test.alloc, JSON) {
+        Ok(row) => check_row(&test, &row),
         Err(error) => test.fail(&error),
     }
     test.end()
 }
 
-fn read_entry(alloc: Global, json: &str) -> Result<Entry, Error> {
+fn read_row(alloc: Global, json: &str) -> Result<Row, Error> {
     serde_json::from_str(alloc, json)
 }
 
-fn read_tree(alloc: Global) -> Result<Entry, Error> {
+fn read_tree(alloc: Global) -> Result<Row, Error> {
     serde_json::from_value(alloc, serde_json::from_str(alloc, JSON)?)
 }
 
-fn check_entry(test: &Test, entry: &Entry) {
-    has_text(test, &entry.name, "é\n", Place::Inline, "name");
-    let last = entry.cells.last().and_then(|cell| cell.as_ref());
+fn check_row(test: &Test, row: &Row) {
+    has_text(test, &row.name, "é\n", Place::Inline, "name");
+    let last = row.cells.last().and_then(|cell| cell.as_ref());
     let place = last.map(|cell| cell.place());
     is_so(test, place == Some(Place::Heap), "cells");
-    let json = ok(test, serde_json::to_string(test.alloc, entry));
+    let json = ok(test, serde_json::to_string(test.alloc, row));
     same_str(test, json.as_str(), JSON, "written");
 }
 
@@ -118,7 +118,7 @@ fn check_entry(test: &Test, entry: &Entry) {
 fn derived_not_read(rt: HostRuntime) -> Result<(), Fail> {
     let test = Test::begin(rt);
     for json in FIELDS_NOT_READ {
-        let is_refused = read_entry(test.alloc, json).is_err_and(|error| !error.is_memory());
+        let is_refused = read_row(test.alloc, json).is_err_and(|error| !error.is_memory());
         is_so(&test, is_refused, json);
     }
     test.end()
@@ -135,13 +135,13 @@ static FIELDS_NOT_READ: [&str; 4] = [
 fn each_request_in_turn(rt: HostRuntime) -> Result<(), Fail> {
     let test = Test::begin(rt);
     let asked = each_refused(&test, "SmolStr::deserialize", &Rewritten::OfText);
-    made_requests(&test, asked, &"an entry");
+    made_requests(&test, asked, &"a row");
     let asked = each_refused(&test, "SmolStr::deserialize_owned", &Rewritten::OfTree);
-    made_requests(&test, asked, &"an entry of a tree");
+    made_requests(&test, asked, &"a row of a tree");
     test.end()
 }
 
-/// The entry, read by the calls of its values, and written again.
+/// The row, read by the calls of its values, and written again.
 #[derive(Drop)]
 enum Rewritten {
     OfText,
@@ -158,11 +158,11 @@ impl Refusable for Rewritten {
     fn input(&self, _test: &Test) {}
 
     fn call(&self, alloc: Global, _input: ()) -> Result<String, Error> {
-        let entry = match self {
-            Rewritten::OfText => read_entry(alloc, JSON)?,
+        let row = match self {
+            Rewritten::OfText => read_row(alloc, JSON)?,
             Rewritten::OfTree => read_tree(alloc)?,
         };
-        serde_json::to_string(alloc, &entry)
+        serde_json::to_string(alloc, &row)
     }
 
     fn check(&self, test: &Test, made: Result<String, Error>) {
