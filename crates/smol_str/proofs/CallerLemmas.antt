@@ -25,12 +25,12 @@
 --     IsCut-cut, IsCut-unique, IsCutAt-step, IsCutAt-unmatched     that pieces are the cut of a text
 --     joined_more                         pieces joined, a piece at a time
 --     cutting     a ruleset: a value of each piece of a `split`, by a loop or by `map` and `try_collect`, and the values joined
---                                         again, by std's `join` too; `split_once`, `strip_prefix`, `strip_suffix`,
---                                         `starts_with`, at texts and characters, and in an arm of a `match` on a value
---     literals    a ruleset, and part of `cutting`: the same at literals of ASCII, but for a `split_once` that finds none;
---                                         chars-cons: the text of such a literal
+--                                         again, by std's `join` too
+--     cut_once    a ruleset: `split_once`, `strip_prefix`, `strip_suffix`, `starts_with` and `ends_with`, at characters, at
+--                                         texts and at literals of ASCII; one after another; and in an arm of a `match`
+--                                         on a value
 --     by_line     a ruleset: a loop over `lines`, and `map` and `try_collect` of them
---     split_once-char, split_once-text, strip_prefix-text, strip_suffix-text    what these calls say, of texts
+--     by_item     a ruleset: `map` and `try_collect` of the items of a slice
 --     sorting     a ruleset: values that were sorted, as texts, and searched by `binary_search`; texts-once: each text once;
 --                                         lists_same: two lists compared
 --     texts-push, text_at, joined-spelled    lists of values, as texts; joined by a loop that writes the first apart
@@ -41,13 +41,15 @@ pub mod Collecting
 pub mod Wire
 pub mod Maps
 pub mod Cuts
+pub mod CutOnce
 pub mod Lists
-pub use Rattle.smol_str.proofs.CallerLemmas.Texts.{replaced-each_with, printed-value, prints, chars-as_str, length-as_str, IsResident-few, chars-cons, IsUtf8-one, texts, size-front, size-cons, builders, each_replaced-value, each_replaced-refused, size-replaced_each, replacing}
+pub use Rattle.smol_str.proofs.CallerLemmas.Texts.{replaced-each_with, printed-value, prints, chars-as_str, length-as_str, IsResident-few, chars-cons, IsUtf8-one, encodes-literal, texts, size-front, size-cons, builders, each_replaced-value, each_replaced-refused, size-replaced_each, replacing}
 pub use Rattle.smol_str.proofs.CallerLemmas.Collecting.{chars_collected, chars_refused, chars_extended, chars_extend_refused, chars_extend_stopped, strs_collected, strs_refused, strs_extended, strs_extend_refused, strings_collected, strings_refused, string_refs_collected, string_refs_refused, string_refs_extended, string_refs_extend_refused, texts_collected, texts_refused, mapped_collected, mapped_refused, mapped_extended, mapped_extend_refused, items_collected, items_refused, split_collected, split_refused, chars_made, strs_made, strings_made, string_refs_made, CameFrom, chars_came, chars_grown, string_refs_grown, chars_by_std, strings_by_std, array_chars_long, array_strs_long, array_strs_collected, split_long, collecting}
 pub use Rattle.smol_str.proofs.CallerLemmas.Wire.{Holds-parts, form_is_whole, form-utf8, form-text, form-held, form-read, form-known, forms, form-cut-held, form-cut-long, form-cut-utf8, form-cut-text, count-apart, items-apart, forms-apart, begun_first, begun_second, parts, text-at, items, forms-next, forms-more, AreRead, one_read, all_read, next_form}
 pub use Rattle.smol_str.proofs.CallerLemmas.Maps.{key_of, same_key-other, text-kept, updates, text-set, stands_for-text, lookup-stands_for, lookup-lent, lookups, entry_texts-insert, lookup-with_entry, innermost-push, innermost-set, innermost-kept, take-changed, scopes}
-pub use Rattle.smol_str.proofs.CallerLemmas.Cuts.{split_at_text, tried_at_char, tried_at_text, joined-cut, joined-bytes, split_char-whole, split_char-first, split_char-none, split_text-whole, split_text-first, occurrence-bytes, prefix-rest, prefix-none, suffix-front, suffix-none, starts_with-text, char_prefix-rest, char_prefix-none, char_suffix-front, char_suffix-none, starts_with-char, prefix_known, suffix_known, prefix_rest-literal, prefix_none-literal, suffix_front-literal, suffix_none-literal, starts_with-literal, split-literal, literals, cutting, split_once-char, split_once-text, strip_prefix-text, strip_suffix-text}
-pub use Rattle.smol_str.proofs.CallerLemmas.Lists.{texts-push, text_at, IsSorted-texts, sorted-texts, texts-once, value_found, value_missing, lists_same, sorting, position-stays, position-new, position-texts, id_of-stays, id_of-new, id_of-back, ids_in-none, ids_in-found, ids_in-added, interning, text_lent, listed, joined-spelled, oks, AreOk, MapsBy, collected_oks, lines_yielded, by_line}
+pub use Rattle.smol_str.proofs.CallerLemmas.Cuts.{split_at_text, split_at_literal, tried_at_char, tried_at_text, tried_at_literal, joined-cut, joined-bytes, cutting}
+pub use Rattle.smol_str.proofs.CallerLemmas.CutOnce.{char_between, char_first, char_nowhere, char_in_front, char_at_end, text_between, literal_between, text_first, text_nowhere, literal_nowhere, text_in_front, literal_in_front, text_at_end, starts_with-text, starts_with-literal, ends_with-text, ends_with-literal, cut_once}
+pub use Rattle.smol_str.proofs.CallerLemmas.Lists.{texts-push, text_at, IsSorted-texts, sorted-texts, texts-once, value_found, value_missing, lists_same, sorting, position-stays, position-new, position-texts, id_of-stays, id_of-new, id_of-back, ids_in-none, ids_in-found, ids_in-added, interning, text_lent, listed, joined-spelled, oks, AreOk, MapsBy, collected_oks, lines_yielded, by_line, items_tried, all_tried, by_item}
 -- what std's iterators give
 pub use Rattle.smol_str.proofs.IteratorLemmas.{iterators, gives-chars, gives-rev_chars, gives-slice, gives-map_lent}
 pub use Rattle.smol_str.proofs.PieceLemmas.{gives-split, gives-split_at}

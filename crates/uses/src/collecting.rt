@@ -1,10 +1,10 @@
 //! Texts collected from iterators whose items the caller knows, through adapters of std too.
-ghost use Rattle.std.specs.Prelude.{◌≡◌, ◌<◌, ◌==◌, ◌++◌, ◌∷◌, [], ℕ, String, drop, length, not, reverse, take, IfOk, OnOk, OnErr};
+ghost use Rattle.std.specs.Prelude.{◌≡◌, ◌<◌, ◌==◌, ◌++◌, ◌∷◌, [], ℕ, String, drop, length, map, not, reverse, take, IfOk, OnOk, OnErr};
 ghost use Rattle.std.specs.List.{filter, prefix_len, slice_split};
 ghost use Rattle.std.specs.Str.{chars};
 ghost use Rattle.std.specs.Str.Lines.{lines};
 ghost use Rattle.smol_str.specs.Text.{IsShort, IsResident};
-ghost use Rattle.smol_str.specs.Meaning.{IsValueOf};
+ghost use Rattle.smol_str.specs.Meaning.{AreValuesOf, IsValueOf};
 ghost use Rattle.smol_str.specs.Draft.{OnHeap, appended};
 ghost use Rattle.smol_str.specs.Joined.{joined, str_text, string_text};
 ghost use Rattle.smol_str.specs.Case.{upper};
@@ -102,6 +102,17 @@ pub fn of_values(alloc: Global, values: &[SmolStr]) -> Result<SmolStr, AllocErro
     ensures refused { OnErr result (¬ (IsShort (joined (λ value. value.text) values.now))) }
 {
     SmolStr::from_strs(alloc, values.iter().map(|value| value.as_str()))
+}
+
+/// A value of each word.
+#[tactic(auto, using(smol_str::proofs::CallerLemmas::by_item))]
+pub fn of_words(alloc: Global, words: &[&str]) -> Result<Vec<SmolStr>, AllocError>
+    ensures { IfOk result (λ values. AreValuesOf (map str_text words.now) values.items) }
+{
+    words
+        .iter()
+        .map(|word| SmolStr::new(alloc, word))
+        .try_collect(alloc)
 }
 
 /// The texts of a list as one, by a function that is generic in an iterator and speaks of its run.

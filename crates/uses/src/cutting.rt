@@ -34,18 +34,17 @@ pub fn values_at(alloc: Global, line: &str, separator: &str) -> Result<Vec<SmolS
         .try_collect(alloc)
 }
 
-/// The same in a loop.
+/// The segments of a path, in a loop.
 #[tactic(auto, using(smol_str::proofs::CallerLemmas::cutting))]
-pub fn fields_at(alloc: Global, line: &str, separator: &str) -> Result<Vec<SmolStr>, AllocError>
-    requires some { 0 < length separator.now }
-    ensures { IfOk result (λ fields.
-        AreValuesOf (cut (chars line.now) (chars separator.now) (no_limit (chars line.now))) fields.items) }
+pub fn segments(alloc: Global, path: &str) -> Result<Vec<SmolStr>, AllocError>
+    ensures { IfOk result (λ segments.
+        AreValuesOf (cut (chars path.now) (chars (codes "::")) (no_limit (chars path.now))) segments.items) }
 {
-    let mut fields = Vec::new(alloc);
-    for field in line.split(separator) {
-        fields.push(SmolStr::new(alloc, field)?)?;
+    let mut segments = Vec::new(alloc);
+    for segment in path.split("::") {
+        segments.push(SmolStr::new(alloc, segment)?)?;
     }
-    Ok(fields)
+    Ok(segments)
 }
 
 /// The line of some fields.
@@ -80,18 +79,18 @@ pub fn without_last(
     line_of(alloc, &fields[..last], separator)
 }
 
-/// A line cut into fields and joined again: the line.
+/// A line cut into values and joined again: the line.
 #[tactic(auto, using(smol_str::proofs::CallerLemmas::cutting))]
 pub fn again(alloc: Global, line: &str, separator: &str) -> Result<SmolStr, AllocError>
     requires some { 0 < length separator.now }
     ensures { IfOk result (λ v. IsValueOf (chars line.now) v) }
 {
-    let fields = fields_at(alloc, line, separator)?;
-    line_of(alloc, &fields, separator)
+    let values = values_at(alloc, line, separator)?;
+    line_of(alloc, &values, separator)
 }
 
 /// What stands before the first equals sign of a line, and behind it.
-#[tactic(auto, using(smol_str::proofs::CallerLemmas::cutting))]
+#[tactic(auto, using(smol_str::proofs::CallerLemmas::cut_once))]
 pub fn key_and_value(line: &str) -> Option<(&str, &str)>
     ensures whole { IfSome result (λ it. chars line.now ≡ chars it.0.now ++ (61 ∷ chars it.1.now)) }
     ensures first { IfSome result (λ it. IsFirstAfter (61 ∷ []) (chars it.0.now)) }
@@ -100,17 +99,8 @@ pub fn key_and_value(line: &str) -> Option<(&str, &str)>
     line.split_once('=')
 }
 
-/// What follows a prefix, if the name has it.
-#[tactic(auto, using(smol_str::proofs::CallerLemmas::cutting))]
-pub fn without_prefix<'a>(name: &'a str, prefix: &str) -> Option<&'a str>
-    ensures rest { IfSome result (λ rest. chars name.now ≡ chars prefix.now ++ chars rest.now) }
-    ensures none { IfNone result ((rest : List ℕ) → chars name.now ≢ chars prefix.now ++ rest) }
-{
-    name.strip_prefix(prefix)
-}
-
 /// What stands before a suffix, if the name has it.
-#[tactic(auto, using(smol_str::proofs::CallerLemmas::cutting))]
+#[tactic(auto, using(smol_str::proofs::CallerLemmas::cut_once))]
 pub fn without_suffix<'a>(name: &'a str, suffix: &str) -> Option<&'a str>
     ensures front { IfSome result (λ front. chars name.now ≡ chars front.now ++ chars suffix.now) }
     ensures none { IfNone result ((front : List ℕ) → chars name.now ≢ front ++ chars suffix.now) }
@@ -119,7 +109,7 @@ pub fn without_suffix<'a>(name: &'a str, suffix: &str) -> Option<&'a str>
 }
 
 /// Whether a line begins with a text, and whether it is a comment, by one character or by two.
-#[tactic(auto, using(smol_str::proofs::CallerLemmas::cutting))]
+#[tactic(auto, using(smol_str::proofs::CallerLemmas::cut_once))]
 pub fn begins(line: &str, prefix: &str) -> (bool, bool, bool)
     ensures prefix { MatchBool result.0 ((rest : List ℕ) × (chars line.now ≡ chars prefix.now ++ rest))
         ((rest : List ℕ) → chars line.now ≢ chars prefix.now ++ rest) }
@@ -135,8 +125,25 @@ pub fn begins(line: &str, prefix: &str) -> (bool, bool, bool)
     )
 }
 
+/// Whether a line ends with a text, whether with a semicolon, and whether it names a source file.
+#[tactic(auto, using(smol_str::proofs::CallerLemmas::cut_once))]
+pub fn ends(line: &str, suffix: &str) -> (bool, bool, bool)
+    ensures suffix { MatchBool result.0 ((front : List ℕ) × (chars line.now ≡ front ++ chars suffix.now))
+        ((front : List ℕ) → chars line.now ≢ front ++ chars suffix.now) }
+    ensures semicolon { MatchBool result.1 ((front : List ℕ) × (chars line.now ≡ front ++ (59 ∷ [])))
+        ((front : List ℕ) → chars line.now ≢ front ++ (59 ∷ [])) }
+    ensures source { MatchBool result.2 ((front : List ℕ) × (chars line.now ≡ front ++ chars (codes ".rs")))
+        ((front : List ℕ) → chars line.now ≢ front ++ chars (codes ".rs")) }
+{
+    (
+        line.ends_with(suffix),
+        line.ends_with(';'),
+        line.ends_with(".rs"),
+    )
+}
+
 /// What a comment says, if the line is one.
-#[tactic(auto, using(smol_str::proofs::CallerLemmas::cutting))]
+#[tactic(auto, using(smol_str::proofs::CallerLemmas::cut_once))]
 pub fn comment(line: &str) -> Option<&str>
     ensures said { IfSome result (λ said. chars line.now ≡ 35 ∷ chars said.now) }
     ensures none { IfNone result ((rest : List ℕ) → chars line.now ≢ 35 ∷ rest) }
@@ -145,7 +152,7 @@ pub fn comment(line: &str) -> Option<&str>
 }
 
 /// What stands before the semicolon that ends a statement.
-#[tactic(auto, using(smol_str::proofs::CallerLemmas::cutting))]
+#[tactic(auto, using(smol_str::proofs::CallerLemmas::cut_once))]
 pub fn statement(line: &str) -> Option<&str>
     ensures front { IfSome result (λ front. chars line.now ≡ chars front.now ++ (59 ∷ [])) }
     ensures none { IfNone result ((front : List ℕ) → chars line.now ≢ front ++ (59 ∷ [])) }
@@ -154,7 +161,7 @@ pub fn statement(line: &str) -> Option<&str>
 }
 
 /// What a raw name is called, if it is one.
-#[tactic(auto, using(smol_str::proofs::CallerLemmas::cutting))]
+#[tactic(auto, using(smol_str::proofs::CallerLemmas::cut_once))]
 pub fn raw_name(token: &str) -> Option<&str>
     ensures rest { IfSome result (λ rest. chars token.now ≡ chars (codes "r#") ++ chars rest.now) }
     ensures none { IfNone result ((rest : List ℕ) → chars token.now ≢ chars (codes "r#") ++ rest) }
@@ -162,17 +169,8 @@ pub fn raw_name(token: &str) -> Option<&str>
     token.strip_prefix("r#")
 }
 
-/// What a source file is called, if it is one.
-#[tactic(auto, using(smol_str::proofs::CallerLemmas::cutting))]
-pub fn source_name(file: &str) -> Option<&str>
-    ensures front { IfSome result (λ front. chars file.now ≡ chars front.now ++ chars (codes ".rs")) }
-    ensures none { IfNone result ((front : List ℕ) → chars file.now ≢ front ++ chars (codes ".rs")) }
-{
-    file.strip_suffix(".rs")
-}
-
 /// What stands before the first match of a pattern, and behind it.
-#[tactic(auto, using(smol_str::proofs::CallerLemmas::cutting))]
+#[tactic(auto, using(smol_str::proofs::CallerLemmas::cut_once))]
 pub fn around<'a>(text: &'a str, pattern: &str) -> Option<(&'a str, &'a str)>
     requires some { 0 < length pattern.now }
     ensures whole { IfSome result (λ it. chars text.now ≡ chars it.0.now ++ (chars pattern.now ++ chars it.1.now)) }
@@ -183,15 +181,43 @@ pub fn around<'a>(text: &'a str, pattern: &str) -> Option<(&'a str, &'a str)>
 }
 
 /// The two sides of a rule, at a pattern of two characters.
-#[tactic(auto, using(smol_str::proofs::CallerLemmas::cutting))]
+#[tactic(auto, using(smol_str::proofs::CallerLemmas::cut_once))]
 pub fn sides(rule: &str) -> Option<(&str, &str)>
-    ensures { IfSome result (λ it. chars rule.now ≡ chars it.0.now ++ (chars (codes "->") ++ chars it.1.now)) }
+    ensures whole { IfSome result (λ it. chars rule.now ≡ chars it.0.now ++ (chars (codes "->") ++ chars it.1.now)) }
+    ensures none { IfNone result (¬ Occurs (chars (codes "->")) (chars rule.now)) }
 {
     rule.split_once("->")
 }
 
+/// The name of a field, its type and its value.
+#[tactic(auto, using(smol_str::proofs::CallerLemmas::cut_once))]
+pub fn field(line: &str) -> Option<(&str, &str, &str)>
+    ensures { IfSome result (λ it.
+        chars line.now ≡ chars it.0.now ++ (58 ∷ (chars it.1.now ++ (61 ∷ chars it.2.now)))) }
+{
+    let (name, rest) = line.split_once(':')?;
+    let (kind, value) = rest.split_once('=')?;
+    Some((name, kind, value))
+}
+
+/// What stands between quotes.
+#[tactic(auto, using(smol_str::proofs::CallerLemmas::cut_once))]
+pub fn unquoted(token: &str) -> Option<&str>
+    ensures { IfSome result (λ it. chars token.now ≡ 34 ∷ (chars it.now ++ (34 ∷ []))) }
+{
+    token.strip_prefix('"')?.strip_suffix('"')
+}
+
+/// What a block comment says.
+#[tactic(auto, using(smol_str::proofs::CallerLemmas::cut_once))]
+pub fn block_comment(token: &str) -> Option<&str>
+    ensures { IfSome result (λ it. chars token.now ≡ chars (codes "/*") ++ (chars it.now ++ chars (codes "*/"))) }
+{
+    token.strip_prefix("/*")?.strip_suffix("*/")
+}
+
 /// What follows a value's prefix, as a value, if it has it.
-#[tactic(auto, using(smol_str::proofs::CallerLemmas::cutting))]
+#[tactic(auto, using(smol_str::proofs::CallerLemmas::cut_once))]
 pub fn tail(alloc: Global, name: &SmolStr, prefix: &str) -> Result<Option<SmolStr>, AllocError>
     ensures rest { IfOk result (λ tail. IfSome tail (λ v. name.now.text ≡ chars prefix.now ++ v.text)) }
     ensures none { IfOk result (λ tail. IfNone tail ((rest : List ℕ) → name.now.text ≢ chars prefix.now ++ rest)) }
@@ -203,11 +229,12 @@ pub fn tail(alloc: Global, name: &SmolStr, prefix: &str) -> Result<Option<SmolSt
 }
 
 /// What stands before a value's suffix, as a value, if it has it.
-#[tactic(auto, using(smol_str::proofs::CallerLemmas::cutting))]
-pub fn stem(alloc: Global, name: &SmolStr, suffix: &str) -> Result<Option<SmolStr>, AllocError>
-    ensures { IfOk result (λ stem. IfSome stem (λ v. name.now.text ≡ v.text ++ chars suffix.now)) }
+#[tactic(auto, using(smol_str::proofs::CallerLemmas::cut_once))]
+pub fn stem(alloc: Global, name: &SmolStr) -> Result<Option<SmolStr>, AllocError>
+    ensures front { IfOk result (λ stem. IfSome stem (λ v. name.now.text ≡ v.text ++ chars (codes ".rs"))) }
+    ensures none { IfOk result (λ stem. IfNone stem ((front : List ℕ) → name.now.text ≢ front ++ chars (codes ".rs"))) }
 {
-    match name.strip_suffix(suffix) {
+    match name.strip_suffix(".rs") {
         Some(front) => Ok(Some(SmolStr::new(alloc, front)?)),
         None => Ok(None),
     }

@@ -1,8 +1,7 @@
 //! Values of what is printed, by callers that know what their arguments print.
-ghost use Rattle.std.specs.Prelude.{◌≡◌, ◌++◌, codes, replicate, IfOk, encode_utf8_all};
+ghost use Rattle.std.specs.Prelude.{◌≡◌, ◌++◌, codes, IfOk, encode_utf8_all};
 ghost use Rattle.std.specs.Str.{chars};
 ghost use Rattle.std.specs.Fmt.{decimal};
-ghost use Rattle.smol_str.specs.declared.value.place.Place.TheVariants.{Static};
 ghost use Rattle.uses.specs.Widths.{right_aligned};
 ghost use Rattle.smol_str.specs.Meaning.{IsValueOf};
 ghost use Rattle.smol_str.specs.Text.{place_of};
@@ -50,11 +49,19 @@ pub fn wide_number(alloc: Global, number: u64) -> Result<SmolStr, FormatError>
     format_smolstr!(alloc; "{number:>6}")
 }
 
-/// Spaces by a width alone: a blank run, so that the value is a slice of the blank constant.
-#[tactic(auto, using(crate::proofs::WidthLemmas::spaces))]
-pub fn indentation(alloc: Global) -> Result<SmolStr, FormatError>
-    ensures text { IfOk result (λ v. encode_utf8_all v.text ≡ replicate 40 32) }
-    ensures place { IfOk result (λ v. v.place ≡ Static) }
+/// A key and its value, as a text.
+#[tactic(auto, using(smol_str::proofs::CallerLemmas::prints))]
+pub fn entry(alloc: Global, key: &str, value: &SmolStr) -> Result<SmolStr, FormatError>
+    ensures { IfOk result (λ v. IsValueOf (chars key.now ++ (chars (codes " = ") ++ value.now.text)) v) }
 {
-    format_smolstr!(alloc; "{:>40}", "")
+    print_entry(alloc, key, value)
+}
+
+/// The same, as bytes: by a function of its own, whose goals are shorter.
+fn print_entry(alloc: Global, key: &str, value: &SmolStr) -> Result<SmolStr, FormatError>
+    ensures text { IfOk result (λ v.
+        encode_utf8_all v.text ≡ key.now ++ (codes " = " ++ encode_utf8_all value.now.text)) }
+    ensures place { IfOk result (λ v. v.place ≡ place_of v.text) }
+{
+    format_smolstr!(alloc; "{key} = {value}")
 }

@@ -1,4 +1,4 @@
-//! A value there and back through JSON, and JSON of a derived type.
+//! A value there and back through JSON.
 ghost use Rattle.std.specs.Prelude.{◌≡◌, [], IfOk, IfErr, OnErr, encode_utf8_all};
 ghost use Rattle.std.specs.Str.{chars};
 ghost use Rattle.std.specs.String.{string_bytes};
@@ -8,7 +8,6 @@ ghost use Rattle.smol_str.specs.Meaning.{IsValueOf};
 ghost use Rattle.smol_str.specs.Plain.{IsPlain, IsPlainJson, in_quotes};
 ghost use Rattle.smol_str.specs.Text.{IsShort, IsResident};
 
-use serde::{Deserialize, Serialize};
 use serde_json::Value;
 use smol_str::json_string::{JsonFault, from_json, from_value, to_json, to_value};
 use smol_str::{SmolStr, laws};
@@ -106,14 +105,4 @@ pub fn read_empty(alloc: Global, json: &str) -> Result<SmolStr, JsonFault>
     ensures { IfErr result (λ fault. ¬ (fault ≡ JsonFault.OutOfMemory)) }
 {
     from_json(alloc, json)
-}
-
-/// A name, as a type of its own. What is derived has no contract, so `stored` has none either.
-#[derive(Drop, Serialize, Deserialize)]
-pub struct Name(pub SmolStr);
-
-/// Names written as JSON, and read back.
-pub fn stored(alloc: Global, names: &Vec<Name>) -> serde_json::Result<Vec<Name>> {
-    let json = serde_json::to_string(alloc, names)?;
-    serde_json::from_str(alloc, &json)
 }

@@ -31,6 +31,9 @@ use Rattle.std.specs.List.{AllZip}
 use Rattle.std.specs.Iterator.{Yields}
 use Rattle.std.specs.Iterator.Adapters.{map_source, map_callee}
 use Rattle.std.specs.Str.Iter.{lines_rest, lines_steps}
+use Rattle.std.specs.Slice.Iter.{iter_rest, iter_steps}
+use Rattle.std.specs.declared.slice.Iter.{Iter}
+use Rattle.smol_str.proofs.Common.{All, YieldsList, YieldsList-from_slice}
 use Rattle.std.specs.Str.Lines.{lines}
 use Rattle.std.specs.declared.str.Lines.{Lines}
 use Rattle.std.proofs.lemmas.Iterator.Splits.{YieldsList-from_lines}
@@ -270,6 +273,12 @@ pub collected_oks : {A E Z : Type 0} {adds : Vec A Z → Result A E → Vec A Z 
     → (FoldsTo adds b rs w ≡ FoldsTo adds b rs w) × AreOk rs × (vec_items w ≡ vec_items b ++ oks rs)
 collected_oks {adds = adds} rs b w folds one = let h = held adds one rs b w folds in (refl, h.0, h.1)
 
+made_all : {A C : Type 0} (R : C → Type 0) (xs : List A) (cs : List C) → AllZip (λ x c. R c) xs cs → All R cs
+made_all R [] [] h = All-nil R
+made_all R [] (c ∷ cs) h = absurd h
+made_all R (x ∷ xs) [] h = absurd h
+made_all R (x ∷ xs) (c ∷ cs) h = All-cons R c cs h.0 (made_all R xs cs h.1)
+
 -- those of a `map`, whose step is one of its source, and gives of what is lent what P says
 module _ {S F A C E : Type 0} (steps : S → Option (Bor A) → S → Type 0) (P : A → C → Type 0) where
   abbrev pub MapsBy : (Map S F → Option (Result C E) → Map S F → Type 0) → F → Type 0
@@ -286,6 +295,12 @@ module _ {S F A C E : Type 0} (steps : S → Option (Bor A) → S → Type 0) (P
       (this.0 ∷ others.0, (map_source j, this.1, others.1), (this.3, others.2))
   mapped more f (Err x ∷ rs) s t run e by all = absurd all
 
+-- each of them is as R says
+pub all_tried : {S F A C E : Type 0} (steps : S → Option (Bor A) → S → Type 0) (R : C → Type 0)
+    (more : Map S F → Option (Result C E) → Map S F → Type 0) (rs : List (Result C E)) (s t : Map S F) → Yields more s rs t
+    → AreOk rs → MapsBy steps (λ x c. R c) more (map_callee s) → All R (oks rs)
+all_tried steps R more rs s t run all by = made_all R _ (oks rs) (mapped steps (λ x c. R c) more (map_callee s) rs s t run refl by all).2
+
 pub texts_made : (xs : List (Bor (List ℕ))) (vs : List Meaning) → AllZip (λ bs v. IsValueOf (chars bs) v) (map (λ x. x.now) xs) vs
     → AreValuesOf (map str_text xs) vs
 texts_made [] [] h = record { text = refl; place = All-nil (λ v. v.place ≡ place_of v.text) }
@@ -297,14 +312,24 @@ texts_made (x ∷ xs) (v ∷ vs) (this, others) =
       place = All-cons (λ v. v.place ≡ place_of v.text) v vs (this.place ∙ ap place_of (sym this.text)) rest.place;
     }
 
-lines_made : {C D : Type 0} (w : C → D) (h : List ℕ → D) (ys : List (List ℕ)) (cs : List C) → AllZip (λ y c. w c ≡ h y) ys cs → map w cs ≡ map h ys
-lines_made w h [] [] same = refl
-lines_made w h [] (c ∷ cs) same = absurd same
-lines_made w h (y ∷ ys) [] same = absurd same
-lines_made w h (y ∷ ys) (c ∷ cs) same = cc (same.0, lines_made w h ys cs same.1)
+made_same : {A C D : Type 0} (w : C → D) (h : A → D) (ys : List A) (cs : List C) → AllZip (λ y c. w c ≡ h y) ys cs → map w cs ≡ map h ys
+made_same w h [] [] same = refl
+made_same w h [] (c ∷ cs) same = absurd same
+made_same w h (y ∷ ys) [] same = absurd same
+made_same w h (y ∷ ys) (c ∷ cs) same = cc (same.0, made_same w h ys cs same.1)
 
--- a loop over the lines of a text, and `map` and `try_collect` of them, where what w reads of each thing that is made is h
--- of its line
+-- of a source that gives ys, where what w reads of each thing that is made is h of its item
+tried : {S F A C D E : Type 0} (steps : S → Option (Bor A) → S → Type 0) (ys : List A)
+    (more : Map S F → Option (Result C E) → Map S F → Type 0) (rs : List (Result C E)) (s t : Map S F) (w : C → D) (h : A → D)
+    → YieldsList steps (λ x. x.now) (map_source s) ys → Yields more s rs t → ((u : Map S F) × more t None u)
+    → ((p q : Map S F) → more p None q → steps (map_source p) None (map_source q)) → AreOk rs
+    → MapsBy steps (λ y c. w c ≡ h y) more (map_callee s) → map w (oks rs) ≡ map h ys
+tried steps ys more rs s t w h gives run ends last all by =
+    let made = mapped steps (λ y c. w c ≡ h y) more (map_callee s) rs s t run refl by all in
+    let them = items_from_drains made.0 (map_source t, made.1, λ _. (map_source ends.0, last t ends.0 ends.1)) gives in
+    made_same w h (map (λ x. x.now) made.0) (oks rs) made.2 ∙ ap (map h) them
+
+-- a loop over the lines of a text, and `map` and `try_collect` of them
 pub lines_yielded : {steps : Lines → Option (Bor (List ℕ)) → Lines → Type 0} (xs : List (Bor (List ℕ))) (s t : Lines)
     → Yields steps s xs t → ((u : Lines) × steps t None u)
     → ((s : Lines) (o : Option (Bor (List ℕ))) (t : Lines) → steps s o t → lines_steps s o t)
@@ -316,10 +341,17 @@ pub lines_tried : {F C D E : Type 0} (more : Map Lines F → Option (Result C E)
     (s t : Map Lines F) (w : C → D) (h : List ℕ → D) → Yields more s rs t → ((u : Map Lines F) × more t None u)
     → ((p q : Map Lines F) → more p None q → lines_steps (map_source p) None (map_source q)) → AreOk rs
     → MapsBy lines_steps (λ y c. w c ≡ h y) more (map_callee s) → map w (oks rs) ≡ map h (lines (lines_rest (map_source s)))
-lines_tried more rs s t w h run ends last all by =
-    let made = mapped lines_steps (λ y c. w c ≡ h y) more (map_callee s) rs s t run refl by all in
-    let them = items_from_drains made.0 (map_source t, made.1, λ _. (map_source ends.0, last t ends.0 ends.1))
-    (YieldsList-from_lines (lines_rest (map_source s)) refl) in
-    lines_made w h (map (λ x. x.now) made.0) (oks rs) made.2 ∙ ap (map h) them
+lines_tried more rs s t w h =
+    let rest = lines_rest (map_source s) in tried lines_steps (lines rest) more rs s t w h (YieldsList-from_lines rest refl)
 
 pub ruleset by_line = (lines_yielded, lines_tried, collected_oks)
+
+-- and of the items of a slice
+pub items_tried : {A F C D E : Type 0} (more : Map (Iter A) F → Option (Result C E) → Map (Iter A) F → Type 0) (rs : List (Result C E))
+    (s t : Map (Iter A) F) (w : C → D) (h : A → D) → Yields more s rs t → ((u : Map (Iter A) F) × more t None u)
+    → ((p q : Map (Iter A) F) → more p None q → iter_steps (map_source p) None (map_source q)) → AreOk rs
+    → MapsBy iter_steps (λ y c. w c ≡ h y) more (map_callee s) → map w (oks rs) ≡ map h (iter_rest (map_source s))
+items_tried more rs s t w h =
+    let rest = iter_rest (map_source s) in tried iter_steps rest more rs s t w h (YieldsList-from_slice rest refl)
+
+pub ruleset by_item = (items_tried, all_tried, collected_oks)

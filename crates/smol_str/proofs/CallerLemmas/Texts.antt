@@ -1,5 +1,5 @@
 -- Texts: their bytes and sizes, builders, and one character in place of another.
-use Rattle.smol_str.proofs.Common.{IsUtf8-from_ascii, ◌≡◌, ◌∷◌, ◌++◌, sym, Draft, OnHeap, appended, kind_with, ℕ, ◌+◌, ◌<◌, ◌≤◌, Result, IfOk, OnErr, subst, List, [], length, take, encode_utf8_all, refl, ap, ◌∙◌, inl, IsTrue, arith, flat_map, chars, all_scalars, IsUtf8, chars-encodes, chars_from_encodes, encodes-chars, encodes_same, chars-IsAscii, INLINE_CAP, size, IsShort, IsResident, place_of, Meaning, IsValueOf, IsAscii, replaced_all, each_with, each_replaced, rules, nat_tests, append-nil, append_assoc, encodes-append, IsAscii-cons, IsAscii-nil}
+use Rattle.smol_str.proofs.Common.{All, IsAscii-from_all, IsUtf8-from_ascii, ◌≡◌, ◌∷◌, ◌++◌, sym, Draft, OnHeap, appended, kind_with, ℕ, ◌+◌, ◌<◌, ◌≤◌, Result, IfOk, OnErr, subst, List, [], length, take, encode_utf8_all, refl, ap, ◌∙◌, inl, IsTrue, arith, flat_map, chars, all_scalars, IsUtf8, chars-encodes, chars_from_encodes, encodes-chars, encodes_same, chars-IsAscii, INLINE_CAP, size, IsShort, IsResident, place_of, Meaning, IsValueOf, IsAscii, replaced_all, each_with, each_replaced, rules, nat_tests, append-nil, append_assoc, encodes-append, IsAscii-cons, IsAscii-nil}
 use Rattle.std.proofs.lemmas.Grind.{take_at_read, flat_map-append}
 use Rattle.std.proofs.lemmas.Str.{chars-append, chars-nil, encode_ascii}
 use Rattle.smol_str.proofs.CaseLemmas.Ascii.{size-mapped}
@@ -31,6 +31,12 @@ IsUtf8-one c ascii = IsUtf8-from_ascii (c ∷ []) (IsAscii-cons c [] ascii IsAsc
 
 pub chars-cons : (c : ℕ) (bs : List ℕ) → c < 128 → chars (c ∷ bs) ≡ c ∷ chars bs
 chars-cons c bs ascii = chars-append (c ∷ []) bs (IsUtf8-one c ascii) ∙ ap (λ t. t ++ chars bs) (chars-one c ascii)
+
+pub literal-utf8 : (bs : List ℕ) → All (λ b. b < 128) bs → IsUtf8 bs
+literal-utf8 bs low = IsUtf8-from_ascii bs (IsAscii-from_all bs low)
+
+pub encodes-literal : (bs : List ℕ) → All (λ b. b < 128) bs → encode_utf8_all (chars bs) ≡ bs
+encodes-literal bs low = encodes-chars bs (literal-utf8 bs low)
 
 pub ruleset texts = (
   chars-cons,
@@ -106,4 +112,4 @@ pub printed-value : {E : Type 0} (r : Result Meaning E) (t : List ℕ) → IfOk 
     → IfOk r (λ v. v.place ≡ place_of v.text) → IfOk r (λ v. IsValueOf t v)
 printed-value r t same place = search (rules, encodes_same)
 
-pub ruleset prints = (printed-value, encodes-append, encode_ascii)
+pub ruleset prints = (printed-value, encodes-append, encodes-chars, encodes-literal, encode_ascii)
