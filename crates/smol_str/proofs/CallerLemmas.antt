@@ -26,9 +26,8 @@
 --     joined_more                         pieces joined, a piece at a time
 --     cutting     a ruleset: a value of each piece of a `split`, by a loop or by `map` and `try_collect`, and the values joined
 --                                         again, by std's `join` too
---     cut_once    a ruleset: `split_once`, `strip_prefix`, `strip_suffix`, `starts_with` and `ends_with`, at characters, at
---                                         texts and at literals of ASCII; one after another; and in an arm of a `match`
---                                         on a value
+--     cut_once    a ruleset: `split_once`, `strip_prefix`, `strip_suffix`, `starts_with`, `ends_with` and `contains`, at
+--                                         characters, texts and literals of ASCII, and one after another
 --     by_line     a ruleset: a loop over `lines`, and `map` and `try_collect` of them
 --     by_item     a ruleset: `map` and `try_collect` of the items of a slice
 --     sorting     a ruleset: values that were sorted, as texts, and searched by `binary_search`; texts-once: each text once;
@@ -48,7 +47,7 @@ pub use Rattle.smol_str.proofs.CallerLemmas.Collecting.{chars_collected, chars_r
 pub use Rattle.smol_str.proofs.CallerLemmas.Wire.{Holds-parts, form_is_whole, form-utf8, form-text, form-held, form-read, form-known, forms, form-cut-held, form-cut-long, form-cut-utf8, form-cut-text, count-apart, items-apart, forms-apart, begun_first, begun_second, parts, text-at, items, forms-next, forms-more, AreRead, one_read, all_read, next_form}
 pub use Rattle.smol_str.proofs.CallerLemmas.Maps.{key_of, same_key-other, text-kept, updates, text-set, stands_for-text, lookup-stands_for, lookup-lent, lookups, entry_texts-insert, lookup-with_entry, innermost-push, innermost-set, innermost-kept, take-changed, scopes}
 pub use Rattle.smol_str.proofs.CallerLemmas.Cuts.{split_at_text, split_at_literal, tried_at_char, tried_at_text, tried_at_literal, joined-cut, joined-bytes, cutting}
-pub use Rattle.smol_str.proofs.CallerLemmas.CutOnce.{char_between, char_first, char_nowhere, char_in_front, char_at_end, text_between, literal_between, text_first, text_nowhere, literal_nowhere, text_in_front, literal_in_front, text_at_end, starts_with-text, starts_with-literal, ends_with-text, ends_with-literal, cut_once}
+pub use Rattle.smol_str.proofs.CallerLemmas.CutOnce.{char_between, char_first, char_nowhere, char_in_front, char_at_end, text_between, literal_between, text_first, text_nowhere, literal_nowhere, text_in_front, literal_in_front, text_at_end, starts_with-text, starts_with-literal, ends_with-text, ends_with-literal, contains-char, contains-text, contains-literal, cut_once}
 pub use Rattle.smol_str.proofs.CallerLemmas.Lists.{texts-push, text_at, IsSorted-texts, sorted-texts, texts-once, value_found, value_missing, lists_same, sorting, position-stays, position-new, position-texts, id_of-stays, id_of-new, id_of-back, ids_in-none, ids_in-found, ids_in-added, interning, text_lent, listed, joined-spelled, oks, AreOk, MapsBy, collected_oks, lines_yielded, by_line, items_tried, all_tried, by_item}
 -- what std's iterators give
 pub use Rattle.smol_str.proofs.IteratorLemmas.{iterators, gives-chars, gives-rev_chars, gives-slice, gives-map_lent}

@@ -99,15 +99,6 @@ pub fn key_and_value(line: &str) -> Option<(&str, &str)>
     line.split_once('=')
 }
 
-/// What stands before a suffix, if the name has it.
-#[tactic(auto, using(smol_str::proofs::CallerLemmas::cut_once))]
-pub fn without_suffix<'a>(name: &'a str, suffix: &str) -> Option<&'a str>
-    ensures front { IfSome result (λ front. chars name.now ≡ chars front.now ++ chars suffix.now) }
-    ensures none { IfNone result ((front : List ℕ) → chars name.now ≢ front ++ chars suffix.now) }
-{
-    name.strip_suffix(suffix)
-}
-
 /// Whether a line begins with a text, and whether it is a comment, by one character or by two.
 #[tactic(auto, using(smol_str::proofs::CallerLemmas::cut_once))]
 pub fn begins(line: &str, prefix: &str) -> (bool, bool, bool)
@@ -142,6 +133,24 @@ pub fn ends(line: &str, suffix: &str) -> (bool, bool, bool)
     )
 }
 
+/// Whether a text has another within it.
+#[tactic(auto, using(smol_str::proofs::CallerLemmas::cut_once))]
+pub fn has(text: &str, part: &str) -> bool
+    requires some { 0 < length part.now }
+    ensures { MatchBool result (Occurs (chars part.now) (chars text.now)) (¬ Occurs (chars part.now) (chars text.now)) }
+{
+    text.contains(part)
+}
+
+/// Whether a rule has a colon, and whether an arrow.
+#[tactic(auto, using(smol_str::proofs::CallerLemmas::cut_once))]
+pub fn has_marks(rule: &str) -> (bool, bool)
+    ensures colon { MatchBool result.0 (Occurs (58 ∷ []) (chars rule.now)) (¬ Occurs (58 ∷ []) (chars rule.now)) }
+    ensures arrow { IsTrue result.1 ↔ Occurs (chars (codes "->")) (chars rule.now) }
+{
+    (rule.contains(':'), rule.contains("->"))
+}
+
 /// What a comment says, if the line is one.
 #[tactic(auto, using(smol_str::proofs::CallerLemmas::cut_once))]
 pub fn comment(line: &str) -> Option<&str>
@@ -158,15 +167,6 @@ pub fn statement(line: &str) -> Option<&str>
     ensures none { IfNone result ((front : List ℕ) → chars line.now ≢ front ++ (59 ∷ [])) }
 {
     line.strip_suffix(';')
-}
-
-/// What a raw name is called, if it is one.
-#[tactic(auto, using(smol_str::proofs::CallerLemmas::cut_once))]
-pub fn raw_name(token: &str) -> Option<&str>
-    ensures rest { IfSome result (λ rest. chars token.now ≡ chars (codes "r#") ++ chars rest.now) }
-    ensures none { IfNone result ((rest : List ℕ) → chars token.now ≢ chars (codes "r#") ++ rest) }
-{
-    token.strip_prefix("r#")
 }
 
 /// What stands before the first match of a pattern, and behind it.

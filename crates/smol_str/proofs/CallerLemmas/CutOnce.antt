@@ -1,8 +1,8 @@
--- Texts that std cuts once: `split_once`, `strip_prefix`, `strip_suffix`, `starts_with` and `ends_with`, at the level of texts.
+-- Texts that std searches and cuts once: `split_once`, `strip_prefix`, `strip_suffix`, `starts_with`, `ends_with` and `contains`.
 use Rattle.smol_str.proofs.Common.{arith, ◌≡◌, ℕ, ◌+◌, ◌-◌, ◌<◌, ◌≤◌, Bool, true, false, List, [], ◌∷◌, ◌++◌, ◌==◌, length, take, drop, All, Bor, Option, Some, None, MatchOption, refl, sym, ap, ◌∙◌, subst, IsTrue, all_scalars, IsUtf8, chars, chars-nil, chars-append, chars-encodes, chars_from_encodes, encode_utf8, encode_utf8_all, encodes-append, encodes-chars, append-nil, size, Occurs, IsFirstAfter}
 use Rattle.std.proofs.Common.{◌≢◌, MatchBool}
 use Rattle.std.specs.Str.{IsCharBoundary, NonePass}
-use Rattle.std.specs.Str.Pattern.{FindsTextPrefix, FindsTextSuffix, HasCharAt, HasPrefixMatch, HasSuffixMatch, HasTextAt, LacksTextAt}
+use Rattle.std.specs.Str.Pattern.{FindsChar, FindsText, FindsTextPrefix, FindsTextSuffix, HasCharAt, HasMatch, HasPrefixMatch, HasSuffixMatch, HasTextAt, LacksTextAt}
 use Rattle.std.proofs.Math.Seq.{drop-length}
 use Rattle.std.proofs.lemmas.Str.{IsUtf8-drop, IsUtf8-from_ascii, IsUtf8-take}
 use Rattle.smol_str.proofs.CallerLemmas.Texts.{encodes-literal, literal-utf8}
@@ -35,6 +35,11 @@ module _ (c : ℕ) (bs : List ℕ) (u : IsUtf8 bs) where
 
     pub char_first : (i j : ℕ) → HasCharAt c bs i j → encode_utf8_all cs ≡ take i bs → chars (take i bs) ++ [] ≢ a ++ (c ∷ r)
     char_first i j at is e = (found_char bs u c (Some (i, j)) ((cs, is, lacks), at)).4 (a, r, e)
+
+  pub contains-char : (b : Bool) → MatchBool b (HasMatch (FindsChar c) bs) (FindsChar c bs None)
+      → MatchBool b (Occurs (c ∷ []) (chars bs)) (¬ Occurs (c ∷ []) (chars bs))
+  contains-char true (i, j, found, order, within) = (chars (take i bs), chars (drop j bs), (char_between i j found.1).0)
+  contains-char false none = found_char bs u c None none
 
 -- ---- and a text, which may be a literal of ASCII
 module _ (nd bs : List ℕ) (u : IsUtf8 bs) where
@@ -98,6 +103,15 @@ module _ (nd bs : List ℕ) (u : IsUtf8 bs) where
       → MatchBool b ((front : List ℕ) × (chars bs ≡ front ++ chars nd)) ((front : List ℕ) → chars bs ≢ front ++ chars nd)
   ends_with-literal b low said = ends_with-text b (literal-utf8 nd low) said
 
+  pub contains-text : (b : Bool) → 0 < length nd → IsUtf8 nd → MatchBool b (HasMatch (FindsText nd) bs) (FindsText nd bs None)
+      → MatchBool b (Occurs (chars nd) (chars bs)) (¬ Occurs (chars nd) (chars bs))
+  contains-text true some v (i, j, found, order, within) = (chars (take i bs), chars (drop j bs), (text_between i j found.1 some v).0)
+  contains-text false some v none = found_text bs u nd None v some none
+
+  pub contains-literal : (b : Bool) → 0 < length nd → All (λ b. b < 128) nd → MatchBool b (HasMatch (FindsText nd) bs) (FindsText nd bs None)
+      → MatchBool b (Occurs (chars nd) (chars bs)) (¬ Occurs (chars nd) (chars bs))
+  contains-literal b some low said = contains-text b some (literal-utf8 nd low) said
+
 pub ruleset cut_once = (
   arith,
   append-nil,
@@ -122,4 +136,7 @@ pub ruleset cut_once = (
   starts_with-literal,
   ends_with-text,
   ends_with-literal,
+  contains-char,
+  contains-text,
+  contains-literal,
 )
