@@ -1,4 +1,5 @@
--- For crates that call this one: what their proofs cite of it. They need no other file of these proofs.
+-- For crates that call this one: what their proofs cite of it. They need no other file of these proofs. A ruleset is small,
+-- since `grind` stops at a number of instances: a lemma that fits everywhere takes them from all others.
 --     texts       a ruleset: from the bytes of `as_str` back to the text, and from bytes to sizes
 --     size-chars, size-append             the size of the text that bytes spell, and of two texts
 --     boundary-parts, chars-take, chars-drop    a `&str` whose text has two parts: it may be cut into these
