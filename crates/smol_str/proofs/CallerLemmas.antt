@@ -47,7 +47,7 @@ pub use Rattle.smol_str.proofs.CallerLemmas.Texts.{replaced-each_with, printed-v
 pub use Rattle.smol_str.proofs.CallerLemmas.Collecting.{chars_collected, chars_refused, chars_extended, chars_extend_refused, chars_extend_stopped, strs_collected, strs_refused, strs_extended, strs_extend_refused, strings_collected, strings_refused, string_refs_collected, string_refs_refused, string_refs_extended, string_refs_extend_refused, texts_collected, texts_refused, mapped_collected, mapped_refused, mapped_extended, mapped_extend_refused, items_collected, items_refused, split_collected, split_refused, chars_made, strs_made, strings_made, string_refs_made, CameFrom, chars_came, chars_grown, string_refs_grown, chars_by_std, strings_by_std, array_chars_long, array_strs_long, array_strs_collected, split_long, collecting}
 pub use Rattle.smol_str.proofs.CallerLemmas.Wire.{Holds-parts, form_is_whole, form-utf8, form-text, form-held, form-read, form-known, forms, form-cut-held, form-cut-long, form-cut-utf8, form-cut-text, count-apart, items-apart, forms-apart, begun_first, begun_second, parts, text-at, items, forms-next, forms-more, AreRead, one_read, all_read, next_form}
 pub use Rattle.smol_str.proofs.CallerLemmas.Maps.{key_of, same_key-other, text-kept, updates, text-set, stands_for-text, lookup-stands_for, lookup-lent, lookups, entry_texts-insert, lookup-with_entry, innermost-push, innermost-set, innermost-kept, take-changed, scopes}
-pub use Rattle.smol_str.proofs.CallerLemmas.Cuts.{split_at_text, split_at_literal, tried_at_char, tried_at_text, tried_at_literal, joined-cut, joined-bytes, cutting}
+pub use Rattle.smol_str.proofs.CallerLemmas.Cuts.{split_at_text, split_at_literal, tried_at_char, tried_at_text, joined-cut, joined-bytes, cutting}
 pub use Rattle.smol_str.proofs.CallerLemmas.CutOnce.{char_between, char_first, char_nowhere, char_in_front, char_at_end, text_between, literal_between, text_first, text_nowhere, literal_nowhere, text_in_front, literal_in_front, text_at_end, starts_with-text, starts_with-literal, ends_with-text, ends_with-literal, contains-char, contains-text, contains-literal, cut_once}
 pub use Rattle.smol_str.proofs.CallerLemmas.Lists.{texts-push, text_at, IsSorted-texts, sorted-texts, texts-once, value_found, value_missing, lists_same, sorting, position-stays, position-new, position-texts, id_of-stays, id_of-new, id_of-back, ids_in-none, ids_in-found, ids_in-added, interning, text_lent, listed, joined-spelled, oks, AreOk, MapsBy, collected_oks, lines_yielded, by_line, items_tried, all_tried, by_item}
 -- what std's iterators give

@@ -104,16 +104,6 @@ tried_at_text more rs s t run ends by last live all =
       values.place,
     )
 
-pub tried_at_literal : {F E : Type 0} (more : Map (Split (Bor (List ℕ))) F → Option (Result Meaning E) → Map (Split (Bor (List ℕ))) F → Type 0)
-    (rs : List (Result Meaning E)) (s t : Map (Split (Bor (List ℕ))) F) (bs nd : List ℕ) → Yields more s rs t
-    → ((u : Map (Split (Bor (List ℕ))) F) × more t None u)
-    → MapsBy (split_steps (λ (n : Bor (List ℕ)). FindsText n.now) (λ n m. m.now ≡ n.now)) (λ bs v. IsValueOf (chars bs) v) more (map_callee s)
-    → ((p q : Map (Split (Bor (List ℕ))) F) → more p None q → split_steps (λ (n : Bor (List ℕ)). FindsText n.now) (λ n m. m.now ≡ n.now) (map_source p) None (map_source q))
-    → split_has_more (map_source s) ≡ true → AreOk rs → split_text (map_source s) ≡ bs → (split_pattern (map_source s)).now ≡ nd
-    → IsUtf8 bs → All (λ b. b < 128) nd → 0 < length nd → texts (oks rs) ≡ cut (chars bs) (chars nd) (no_limit (chars bs))
-tried_at_literal more rs s t bs nd run ends by last live all text is u low some =
-    (tried_at_text more rs s t run ends by last live all).1 bs nd text is u (literal-utf8 nd low) some
-
 -- joined where they were cut
 pub joined-cut : (p t : List ℕ) (n : ℕ) → joined_by p (cut t p n) ≡ t
 joined-cut p t n = replaced-itself t p n
@@ -150,7 +140,6 @@ pub ruleset cutting = (
   IsUtf8-one,
   tried_at_char,
   tried_at_text,
-  tried_at_literal,
   collected_oks,
   joined-bytes,
   chars_from_encodes,
