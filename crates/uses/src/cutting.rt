@@ -154,10 +154,10 @@ pub fn has_marks(rule: &str) -> (bool, bool)
 /// What a comment says, if the line is one.
 #[tactic(auto, using(smol_str::proofs::CallerLemmas::cut_once))]
 pub fn comment(line: &str) -> Option<&str>
-    ensures said { IfSome result (λ said. chars line.now ≡ 35 ∷ chars said.now) }
-    ensures none { IfNone result ((rest : List ℕ) → chars line.now ≢ 35 ∷ rest) }
+    ensures said { IfSome result (λ said. chars line.now ≡ chars (codes "//") ++ chars said.now) }
+    ensures none { IfNone result ((rest : List ℕ) → chars line.now ≢ chars (codes "//") ++ rest) }
 {
-    line.strip_prefix('#')
+    line.strip_prefix("//")
 }
 
 /// What stands before the semicolon that ends a statement.
@@ -208,12 +208,12 @@ pub fn unquoted(token: &str) -> Option<&str>
     token.strip_prefix('"')?.strip_suffix('"')
 }
 
-/// What a block comment says.
+/// What stands between two marks.
 #[tactic(auto, using(smol_str::proofs::CallerLemmas::cut_once))]
-pub fn block_comment(token: &str) -> Option<&str>
-    ensures { IfSome result (λ it. chars token.now ≡ chars (codes "/*") ++ (chars it.now ++ chars (codes "*/"))) }
+pub fn between<'a>(token: &'a str, open: &str, close: &str) -> Option<&'a str>
+    ensures { IfSome result (λ it. chars token.now ≡ chars open.now ++ (chars it.now ++ chars close.now)) }
 {
-    token.strip_prefix("/*")?.strip_suffix("*/")
+    token.strip_prefix(open)?.strip_suffix(close)
 }
 
 /// What follows a value's prefix, as a value, if it has it.
