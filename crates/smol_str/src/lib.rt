@@ -4,17 +4,17 @@
 //! itself and needs no memory. Nor does a blank run, which is a slice of one constant: at most
 //! [`BLANK_NEWLINES`] newlines and then at most [`BLANK_SPACES`] spaces. A [`SmolStrBuilder`] makes a text piece by piece.
 //!
-//! The modules lie in layers, and each uses those below it:
+//! Each module uses those below it alone:
 //!
 //! ```text
-//!     laws               what holds of the definitions, by functions that do nothing
-//!     json_string  serde_impls  borsh  str_ext  format  collect    by public items and `bytes`; `.ci/api` looks
-//!     builder            a text that grows
-//!     value              a text and its place; what makes, lends, compares and prints it
-//!     kernel             building blocks for loops of your own
-//!     buffer  stream     a short text in its own bytes; reading and writing by single calls
-//!     shared             the shared text of a value on the heap: the one line to change for several threads
-//!     bytes              slices, zeroed arrays, words, searches, ASCII and plain JSON
+//!     laws                                                       laws of the definitions: functions that do nothing
+//!     json_string, serde_impls, borsh, str_ext, format, collect  ways into and out of a value
+//!     builder                                                    a text that grows
+//!     value                                                      a text and its place
+//!     kernel                                                     building blocks for loops of your own
+//!     buffer, stream                                             a short text in its bytes; single reads and writes
+//!     shared                                                     the text that values on the heap share
+//!     bytes                                                      slices, words, searches, ASCII and plain JSON
 //! ```
 #![tactic(auto)]
 
