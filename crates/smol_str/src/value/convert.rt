@@ -166,8 +166,8 @@ impl SmolStr {
         SmolStr::new(alloc, cow.as_str()).or(Err(cow))
     }
 
-    /// A value of a shared text, which takes no memory: the argument itself is kept where the text
-    /// is not resident, and let go where it is. That no copy is made is only tested.
+    /// A value of a shared text (`RcStr`, or `ArcStr` in a copy for several threads), which takes no memory: the
+    /// argument itself is kept where the text is not resident, and let go where it is. That no copy is made is only tested.
     ///
     /// ```
     /// let shared = RcStr::from_str(alloc, "a text that is longer than any buffer")?;
