@@ -10,6 +10,7 @@ use Rattle.smol_str.proofs.TextLemmas.Places.{IfErr-is}
 use Rattle.smol_str.proofs.PlainLemmas.{high, escape-plain, run-passes, cut-run}
 use Rattle.smol_str.specs.Plain.{is_plain, is_space, IsPlain, IsPlainJson, in_quotes}
 use Rattle.smol_str.specs.Json.{json_value, IsJsonText, IsJsonOf, AfterValueFault, AfterJsonFault}
+use Rattle.smol_str.specs.Unescaped.{Unescapes}
 use Rattle.smol_str.specs.declared.json_string.JsonFault.{JsonFault}
 use Rattle.smol_str.specs.declared.json_string.JsonFault.TheVariants.{OutOfMemory}
 use Rattle.serde_json.specs.Data.{Data, string}
@@ -19,24 +20,37 @@ use Rattle.serde_json.specs.Written.{compact_text}
 use Rattle.serde_json.specs.declared.value.Value as value
 use Rattle.serde_json.proofs.OnLiterals.{serde_json_on_literals}
 use Rattle.json.specs.Json as json
+use Rattle.json.specs.Text.{content}
 use Rattle.json.specs.Lex.{token, string_token, lex, between, punctuate, fresh}
 use Rattle.json.specs.Print.{escape}
 use Rattle.json.proofs.Printed.Strings.{content-escape, lex-escape}
+use Rattle.smol_str.proofs.JsonLemmas.Unescaped.{Unescapes-plain}
+pub mod Unescaped
 
--- ---- a string that was written is read, with white space around it
+-- ---- a string is read, with white space around it
 
 lex-spaces : (g r : List ℕ) → list_all is_space g ≡ true → lex between (g ++ r) ≡ lex between r
 unfolding lex
 lex-spaces [] r h = refl
 lex-spaces (x ∷ g) r h = grind (arith, common_steps, nat_tests, lex-spaces g r)
 
+read-string : (before inner s behind : List ℕ) → list_all is_space before ≡ true → Unescapes inner s (34 ∷ behind) → list_all is_space behind ≡ true
+    → read (before ++ 34 ∷ inner) ≡ Some (string s)
+unfolding serde_json_on_literals punctuate lex content
+read-string before inner s behind opened unescapes closed =
+    ap (λ ls. option_and_then of_json (option_and_then (λ p. json.if_last p.0 p.1) (json.value 127 (punctuate fresh ls))))
+    (lex-spaces before _ opened
+    ∙ ap₂ (λ o l. token (string_token o) ∷ l) (unescapes.0 ∙ ap Some (append-nil s))
+    (unescapes.1 ∙ ap (lex between) (sym (append-nil behind)) ∙ lex-spaces behind [] closed))
+
+-- what was written is read
+Unescapes-escape : (s behind : List ℕ) → Unescapes (escape s ++ 34 ∷ behind) s (34 ∷ behind)
+unfolding lex content
+Unescapes-escape s behind = (content-escape s behind ∙ ap Some (sym (append-nil s)), lex-escape s behind)
+
 read-spaced : (g s h : List ℕ) → list_all is_space g ≡ true → list_all is_space h ≡ true
     → read (g ++ 34 ∷ (escape s ++ 34 ∷ h)) ≡ Some (string s)
-unfolding serde_json_on_literals punctuate lex
-read-spaced g s h before behind =
-    ap (λ ls. option_and_then of_json (option_and_then (λ p. json.if_last p.0 p.1) (json.value 127 (punctuate fresh ls))))
-    (lex-spaces g _ before
-    ∙ ap₂ (λ o l. token (string_token o) ∷ l) (content-escape s h) (lex-escape s h ∙ ap (lex between) (sym (append-nil h)) ∙ lex-spaces h [] behind))
+read-spaced g s h before behind = read-string g _ s h before (Unescapes-escape s h) behind
 
 pub read-compact : (s : List ℕ) → read (compact_text (string s)) ≡ Some (string s)
 read-compact s = read-spaced [] s [] refl refl
@@ -50,18 +64,23 @@ plain-encoded (c ∷ t) = grind (arith, common_steps, high, form c, list_all-app
 pub escape-encoded : (t : List ℕ) → IsPlain t → escape (encode_utf8_all t) ≡ encode_utf8_all t
 escape-encoded t h = escape-plain _ (rw (plain-encoded t) h)
 
--- ---- what is read in place, and what is written
+-- ---- what is written, and what is read in place
 
 pub ruleset pieces = (high, nil_from_length, encodes-append, encodes-chars, encode_ascii, flat_map-append, append_assoc, append-nil)
 
--- what was cut is read
-pub read-cut : (text rest s h : List ℕ) → drop (prefix_len is_space text) text ≡ 34 ∷ rest → rest ≡ escape s ++ 34 ∷ h
-    → list_all is_space h ≡ true → read text ≡ Some (string s)
-read-cut text rest s h opened inner closed =
-    let whole : text ≡ take (prefix_len is_space text) text ++ 34 ∷ (escape s ++ 34 ∷ h) = cc (take-append-drop (prefix_len is_space text) text) in
-    ap read whole ∙ read-spaced _ s h (run-passes is_space text) closed
+-- the string behind white space and a quote
+pub read-cut : (text inner s behind : List ℕ) → drop (prefix_len is_space text) text ≡ 34 ∷ inner → Unescapes inner s (34 ∷ behind)
+    → list_all is_space behind ≡ true → read text ≡ Some (string s)
+read-cut text inner s behind opened unescapes closed =
+    let whole : text ≡ take (prefix_len is_space text) text ++ 34 ∷ inner = cc (take-append-drop (prefix_len is_space text) text) in
+    ap read whole ∙ read-string _ inner s behind (run-passes is_space text) unescapes closed
 
-pub ruleset cuts = (cut-run, plain-encoded, read-cut, encodes-chars)
+pub read-plain-cut : (text inner s rest behind : List ℕ) → drop (prefix_len is_space text) text ≡ 34 ∷ inner → inner ≡ s ++ rest
+    → list_all is_plain s ≡ true → rest ≡ 34 ∷ behind → list_all is_space behind ≡ true → read text ≡ Some (string s)
+read-plain-cut text inner s rest behind opened whole is closing closed =
+    read-cut text inner s behind opened (rw (whole, closing) (Unescapes-plain s (34 ∷ behind) is)) closed
+
+pub ruleset cuts = (cut-run, plain-encoded, read-plain-cut, read-cut, encodes-chars)
 
 -- what is written for a text
 module _ {E : Type 0} (r : Result (String Global) E) (t : List ℕ) (h : IfOk r (λ json. string_bytes json ≡ compact_text (json_value t))) where

@@ -22,6 +22,7 @@ pub mod Replacing
 pub mod Wire
 pub mod Plain
 pub mod Json
+pub mod Unescaped
 pub mod Serde
 pub mod CutExamples
 pub mod CaseExamples

@@ -3,12 +3,13 @@
 //! serde's traits write and read a value too, in any format; the contracts of these calls speak of the
 //! JSON value and of the bytes. What a JSON value is, and which text reads as which value, is
 //! `serde_json`'s own.
-ghost use Rattle.std.specs.Prelude.{◌≡◌, ◌<◌, ◌/◌, ◌%◌, ℕ, List, [], ◌∷◌, ◌++◌, false, MatchOption, drop, length, true, IfOk, IfErr, OnOk, OnErr, IsOkAnd, IfSome, None, Some, encode_utf8_all};
-ghost use Rattle.std.specs.Char.{digit_char};
+ghost use Rattle.std.specs.Prelude.{◌≡◌, ◌↔◌, ◌<◌, ◌≤◌, ◌/◌, ◌%◌, ℕ, List, [], ◌∷◌, ◌++◌, false, MatchOption, drop, length, true, IsTrue, IfOk, IfErr, OnOk, OnErr, IsOkAnd, IfSome, None, Some, encode_utf8, encode_utf8_all};
+ghost use Rattle.std.specs.Char.{digit_char, digit_value};
 ghost use Rattle.std.specs.List.{list_all, prefix_len};
 ghost use Rattle.std.specs.Str.{chars};
 ghost use Rattle.std.specs.String.{string_bytes};
 ghost use Rattle.json.specs.Print.{escape, escape_byte};
+ghost use Rattle.json.specs.Text.{short_escape};
 ghost use Rattle.serde_json.specs.Data.{string};
 ghost use Rattle.serde_json.specs.Read.{read};
 ghost use Rattle.serde_json.specs.View.{view};
@@ -17,13 +18,15 @@ ghost use Rattle.smol_str.specs.Text.{IsResident};
 ghost use Rattle.smol_str.specs.Meaning.{IsValueOf};
 ghost use Rattle.smol_str.specs.Draft.{InBuffer, empty_draft};
 ghost use Rattle.smol_str.specs.Plain.{is_plain, is_space, IsPlain, IsPlainJson, in_quotes};
+ghost use Rattle.smol_str.specs.Unescaped.{Unescapes, UnescapesAfterU, BeginsWithUnit, IsSurrogatePair};
 ghost use Rattle.smol_str.specs.Said.{json_said};
 ghost use Rattle.smol_str.specs.Json.{json_value, IsJsonText, IsJsonOf, AfterValueFault, AfterJsonFault};
 ghost use Rattle.smol_str.specs.declared.json_string.JsonFault.TheVariants.{OutOfMemory};
 
 use crate::builder::SmolStrBuilder;
 use crate::bytes::plain::{
-    is_all_plain, is_all_spaces, plain_len, split_ascii, split_plain, without_spaces,
+    is_all_plain, is_all_spaces, plain_len, split_ascii, split_at_escape, split_plain, strip_ascii,
+    without_spaces,
 };
 use crate::value::SmolStr;
 use serde_json::Value;
@@ -169,8 +172,10 @@ fn escaped(alloc: Global, text: &str) -> Result<String, AllocError>
     json.push('"')?;
     let mut rest = text;
     loop {
-        let (plain, behind) = split_plain(rest);
-        json.push_str(plain)?;
+        let (plain, behind) = split_at_escape(rest);
+        if !plain.is_empty() {
+            json.push_str(plain)?;
+        }
         let Some((byte, after)) = split_ascii(behind) else {
             break;
         };
@@ -237,10 +242,10 @@ fn push_control(json: &mut String, byte: u8) -> Result<(), AllocError>
 ///
 /// The whole text is read first: one that is no JSON is [`JsonFault::Json`], one that is another
 /// JSON value [`JsonFault::NotString`]. Lists and objects may nest 127 deep, as `serde_json` reads
-/// them. A string whose escapes all have two bytes is read in place, and needs memory only where its
-/// text is not short, which is only tested. Other reading needs memory for a copy of the text, so the
-/// call may be refused with [`JsonFault::OutOfMemory`]. It never is where the text is resident and
-/// *plain*: no control character, quote or backslash stands between the quotes.
+/// them. A string is read in place, and needs memory only where its text is not short, which is only
+/// tested. Any other text needs memory for a copy, so the call may be refused with
+/// [`JsonFault::OutOfMemory`]. It never is where the text is resident and *plain*: no control character,
+/// quote or backslash stands between the quotes.
 ///
 /// ```
 /// let name = json_string::from_json(alloc, "\"if\"")?;
@@ -278,17 +283,7 @@ fn behind_quote(text: &str) -> Option<&str>
         ((rest : List ℕ) → ¬ (drop (prefix_len is_space text.now) text.now ≡ 34 ∷ rest))
         (λ rest. drop (prefix_len is_space text.now) text.now ≡ 34 ∷ rest.now) }
 {
-    after_quote(without_spaces(text))
-}
-
-/// What comes after a quote.
-#[inline(always)]
-#[tactic(auto, using(std::proofs::lemmas::Str::Pattern::strip_prefix_char))]
-fn after_quote(text: &str) -> Option<&str>
-    ensures { MatchOption result ((rest : List ℕ) → ¬ (text.now ≡ 34 ∷ rest))
-        (λ rest. text.now ≡ 34 ∷ rest.now) }
-{
-    text.strip_prefix('"')
+    strip_ascii(without_spaces(text), b'"')
 }
 
 /// Whether a quote and white space are all.
@@ -299,13 +294,13 @@ fn is_closed(rest: &str) -> bool
     ensures open { result ≡ false → (behind : List ℕ) → list_all is_space behind ≡ true →
         ¬ (rest.now ≡ 34 ∷ behind) }
 {
-    match after_quote(rest) {
+    match strip_ascii(rest, b'"') {
         Some(behind) => is_all_spaces(behind),
         None => false,
     }
 }
 
-/// The value of any JSON text. A string whose escapes all have two bytes is read in place.
+/// The value of any JSON text. A string is read in place.
 #[inline(never)]
 #[tactic(auto, using(crate::proofs::JsonLemmas::values_read))]
 fn read_value(alloc: Global, text: &str) -> Result<SmolStr, JsonFault>
@@ -319,7 +314,7 @@ fn read_value(alloc: Global, text: &str) -> Result<SmolStr, JsonFault>
     }
 }
 
-/// The value of a JSON text that is one string whose escapes all have two bytes.
+/// The value of a JSON text that is one string.
 #[tactic(auto, using(crate::proofs::JsonLemmas::cuts))]
 fn unescaped(alloc: Global, text: &str) -> Result<Option<SmolStr>, AllocError>
     ensures text { IfOk result (λ read. IfSome read (λ v. IsJsonText text.now v.text)) }
@@ -338,17 +333,17 @@ fn unescaped(alloc: Global, text: &str) -> Result<Option<SmolStr>, AllocError>
     }
 }
 
-/// Appends plain text and escapes of two bytes; returns what comes after them.
-#[tactic(auto, using(crate::proofs::JsonLemmas::pieces))]
+/// Appends what the content of a JSON string stands for; returns what comes after it.
+#[tactic(auto, using(crate::proofs::JsonLemmas::Unescaped::pieces_read))]
 fn push_unescaped<'a>(builder: &mut SmolStrBuilder, text: &'a str) -> Result<&'a str, AllocError>
     requires { builder.old ≡ empty_draft InBuffer }
-    ensures { IfOk result (λ rest. text.now ≡ escape (encode_utf8_all builder.new.text) ++ rest.now) }
+    ensures { IfOk result (λ rest. Unescapes text.now (encode_utf8_all builder.new.text) rest.now) }
 {
     let mut rest = text;
     loop {
-        let (plain, behind) = split_plain(rest);
-        builder.push_with_spare(plain, behind.len())?;
-        let Some((character, after)) = short_escape(behind) else {
+        let (plain, behind) = split_at_escape(rest);
+        push_plain(builder, plain, behind.len())?;
+        let Some((character, after)) = split_escape(behind) else {
             return Ok(behind);
         };
         builder.push(character)?;
@@ -356,30 +351,44 @@ fn push_unescaped<'a>(builder: &mut SmolStrBuilder, text: &'a str) -> Result<&'a
     }
 }
 
-/// The character of an escape of two bytes, and what comes after it.
+/// Appends a text behind which some `spare` bytes are to come; between two escapes there is none.
 #[inline(always)]
-fn short_escape(text: &str) -> Option<(char, &str)>
-    ensures ascii { IfSome result (λ found. found.0 < 128) }
-    ensures escape { IfSome result (λ found. text.now ≡ escape_byte found.0 ++ found.1.now) }
-    ensures shorter { IfSome result (λ found. length found.1.now < length text.now) }
+#[tactic(auto, using(crate::proofs::JsonLemmas::Unescaped::pieces_read))]
+fn push_plain(builder: &mut SmolStrBuilder, text: &str, spare: usize) -> Result<(), AllocError>
+    ensures { OnOk result (builder.new.text ≡ builder.old.text ++ chars text.now) }
 {
-    let (b'\\', escape) = split_ascii(text)? else {
-        return None;
-    };
-    let (letter, rest) = split_ascii(escape)?;
+    if text.is_empty() {
+        return Ok(());
+    }
+    builder.push_with_spare(text, spare)
+}
+
+/// The character that an escape stands for, and what comes after it.
+#[inline(always)]
+#[tactic(auto, using(crate::proofs::JsonLemmas::Unescaped::escapes))]
+fn split_escape(text: &str) -> Option<(char, &str)>
+    ensures unescapes { IfSome result (λ cut. Unescapes text.now (encode_utf8 cut.0) cut.1.now) }
+    ensures shorter { IfSome result (λ cut. length cut.1.now < length text.now) }
+{
+    let (letter, rest) = split_ascii(strip_ascii(text, b'\\')?)?;
+    if letter == b'u' {
+        let (character, rest) = split_code(rest)?;
+        return Some((character, rest));
+    }
     Some((escaped_by(letter)?, rest))
 }
 
 /// The character that is written as a backslash and a letter.
 #[inline(always)]
-#[tactic(auto, unfolding(json::specs::Print::escape_byte))]
+#[tactic(auto, unfolding(json::specs::Text::short_escape))]
 fn escaped_by(letter: u8) -> Option<char>
     ensures ascii { IfSome result (λ character. character < 128) }
-    ensures letter { IfSome result (λ character. escape_byte character ≡ 92 ∷ letter ∷ []) }
+    ensures letter { IfSome result (λ character. short_escape letter ≡ Some character) }
 {
     match letter {
         b'"' => Some('"'),
         b'\\' => Some('\\'),
+        b'/' => Some('/'),
         b'b' => Some('\u{8}'),
         b't' => Some('\t'),
         b'n' => Some('\n'),
@@ -387,6 +396,68 @@ fn escaped_by(letter: u8) -> Option<char>
         b'r' => Some('\r'),
         _ => None,
     }
+}
+
+/// The character whose number stands behind `\u`, and what comes after it. A character above U+FFFF has two numbers, the
+/// surrogates of its UTF-16, each in an escape of its own.
+#[inline(never)]
+#[tactic(auto, using(crate::proofs::JsonLemmas::Unescaped::units))]
+fn split_code(text: &str) -> Option<(char, &str)>
+    ensures unescapes { IfSome result (λ cut. UnescapesAfterU text.now (encode_utf8 cut.0) cut.1.now) }
+    ensures shorter { IfSome result (λ cut. length cut.1.now < length text.now) }
+{
+    let (unit, rest) = split_unit(text)?;
+    if !is_surrogate(unit) {
+        return Some((char::from_u32(unit)?, rest));
+    }
+    let second = strip_ascii(strip_ascii(rest, b'\\')?, b'u')?;
+    let (low, rest) = split_unit(second)?;
+    Some((surrogate_pair(unit, low)?, rest))
+}
+
+/// Whether a UTF-16 code unit is half of a pair.
+#[inline(always)]
+fn is_surrogate(unit: u32) -> bool
+    ensures { IsTrue result ↔ (0xd800 ≤ unit) × (unit < 0xe000) }
+{
+    unit >= 0xd800 && unit < 0xe000
+}
+
+/// The character of a pair of surrogates; `None` where the first is not a high one or the second not a low one.
+#[inline(always)]
+fn surrogate_pair(high: u32, low: u32) -> Option<char>
+    ensures { IfSome result (IsSurrogatePair high low) }
+{
+    if high < 0xd800 || high >= 0xdc00 || low < 0xdc00 || low >= 0xe000 {
+        return None;
+    }
+    char::from_u32(0x1_0000 + (high - 0xd800) * 0x400 + (low - 0xdc00))
+}
+
+/// The UTF-16 code unit that four hex digits spell, and what comes after them.
+#[inline(always)]
+#[tactic(auto, unfolding(json::specs::Text::code_unit))]
+fn split_unit(text: &str) -> Option<(u32, &str)>
+    ensures unit { IfSome result (λ cut. BeginsWithUnit text.now cut.0 cut.1.now) }
+    ensures fits { IfSome result (λ cut. cut.0 < 0x1_0000) }
+    ensures shorter { IfSome result (λ cut. length cut.1.now < length text.now) }
+{
+    let (a, rest) = split_digit(text)?;
+    let (b, rest) = split_digit(rest)?;
+    let (c, rest) = split_digit(rest)?;
+    let (d, rest) = split_digit(rest)?;
+    Some((a * 0x1000 + b * 0x100 + c * 0x10 + d, rest))
+}
+
+/// The value of a hex digit, and what comes after it.
+#[inline(always)]
+fn split_digit(text: &str) -> Option<(u32, &str)>
+    ensures digit { IfSome result (λ cut.
+        (x : ℕ) × (text.now ≡ x ∷ cut.1.now) × (digit_value x ≡ cut.0)) }
+    ensures hex { IfSome result (λ cut. cut.0 < 16) }
+{
+    let (byte, rest) = split_ascii(text)?;
+    Some(((byte as char).to_digit(16)?, rest))
 }
 
 /// The same, as `serde_json` reads it.

@@ -1,5 +1,5 @@
 //! The front of bytes that JSON writes as they stand, and that of its white space.
-ghost use Rattle.std.specs.Prelude.{◌≡◌, ◌<◌, ◌≤◌, ◌+◌, ◌∷◌, ◌++◌, None, false, IfSome, length, take, drop, slice_index};
+ghost use Rattle.std.specs.Prelude.{◌≡◌, ◌<◌, ◌≤◌, ◌+◌, ◌∷◌, ◌++◌, ℕ, List, None, true, false, IfSome, MatchOption, length, take, drop, slice_index};
 ghost use Rattle.std.specs.List.{list_all, prefix_len};
 ghost use Rattle.json.specs.Print.{escape};
 ghost use Rattle.smol_str.specs.Plain.{is_plain, is_space};
@@ -12,11 +12,27 @@ use std::simd::prelude::*;
 #[tactic(auto, using(crate::proofs::PlainLemmas::fronts))]
 pub(crate) fn split_plain(text: &str) -> (&str, &str)
     ensures whole { text.now ≡ result.0.now ++ result.1.now }
+    ensures plain { list_all is_plain result.0.now ≡ true }
     ensures escape { escape result.0.now ≡ result.0.now }
     ensures stops { 0 < length result.1.now → is_plain (slice_index result.1.now 0) ≡ false }
     ensures rest { result.1.now ≡ drop (prefix_len is_plain text.now) text.now }
 {
     text.split_at(plain_len(text.as_bytes()))
+}
+
+/// The same as [`split_plain`], where escapes may follow each other: text that begins with one is not searched.
+#[inline(always)]
+#[tactic(auto, using(crate::proofs::PlainLemmas::fronts))]
+pub(crate) fn split_at_escape(text: &str) -> (&str, &str)
+    ensures whole { text.now ≡ result.0.now ++ result.1.now }
+    ensures plain { list_all is_plain result.0.now ≡ true }
+    ensures escape { escape result.0.now ≡ result.0.now }
+    ensures stops { 0 < length result.1.now → is_plain (slice_index result.1.now 0) ≡ false }
+{
+    match text.as_bytes().first() {
+        Some(b'"' | b'\\' | 0..b' ') => ("", text),
+        _ => split_plain(text),
+    }
 }
 
 /// Whether the text is plain as a whole.
@@ -38,6 +54,19 @@ pub(crate) fn split_ascii(text: &str) -> Option<(u8, &str)>
 {
     match text.as_bytes().first() {
         Some(&byte) if byte < 128 => Some((byte, &text[1..])),
+        _ => None,
+    }
+}
+
+/// The text behind an ASCII character with which it begins.
+#[inline(always)]
+pub(crate) fn strip_ascii(text: &str, byte: u8) -> Option<&str>
+    requires { byte < 128 }
+    ensures { MatchOption result ((rest : List ℕ) → ¬ (text.now ≡ byte ∷ rest))
+        (λ rest. text.now ≡ byte ∷ rest.now) }
+{
+    match split_ascii(text) {
+        Some((first, rest)) if first == byte => Some(rest),
         _ => None,
     }
 }
