@@ -160,6 +160,19 @@ impl SmolStrBuilder {
         self.push_str(text)
     }
 
+    /// Like [`SmolStrBuilder::push`], but looks for the heap first: for loops over the characters of a long text.
+    #[inline(always)]
+    fn push_next(&mut self, character: char) -> Result<(), AllocError>
+        ensures ok { OnOk result (self.new ≡ appended self.old (character ∷ [])) }
+        ensures unchanged { OnErr result (self.new ≡ self.old) }
+        ensures refused { OnErr result ((appended self.old (character ∷ [])).kind ≡ OnHeap) }
+    {
+        if let BuilderRepr::Heap(heap) = &mut self.repr {
+            return heap.push(character);
+        }
+        self.push(character)
+    }
+
     /// Appends a text.
     ///
     /// It is refused with [`AllocError`] where the heap has no room, and the builder is as before.
@@ -213,7 +226,11 @@ impl SmolStrBuilder {
         ensures unchanged { OnErr result (self.new ≡ self.old) }
         ensures refused { OnErr result ((appended self.old (byte ∷ [])).kind ≡ OnHeap) }
     {
-        self.push_on_heap(ascii_text(&[byte]), INLINE_CAP)
+        match &mut self.repr {
+            // One store: `push_str` would call `memcpy`.
+            BuilderRepr::Heap(heap) => heap.push(byte as char),
+            BuilderRepr::Inline(_) => self.push_on_heap(ascii_text(&[byte]), INLINE_CAP),
+        }
     }
 
     /// Slow path of the appends, kept out of line so that the fast path inlines. A builder that moves to the heap asks for

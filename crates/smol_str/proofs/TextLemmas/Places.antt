@@ -1,5 +1,5 @@
 -- For makers, conversions and comparisons: texts, their bytes and their places.
-use Rattle.smol_str.proofs.Common.{nil_from_length, ◌≡◌, ◌↔◌, ℕ, ◌+◌, ◌<◌, ◌≤◌, List, [], ◌∷◌, ◌++◌, length, encode_utf8, encode_utf8_all, length-append, length-le-encodes, true, false, nat_le, nat_eq, Result, OnOk, OnErr, is_ok, sym, ap, arith, chars, IsUtf8, pointwise, bytes_decides, encodes-chars, chars-IsAscii, encodes-IsAscii, encodes_same, encodes-append, chars_from_encodes, length-encode, len_utf8_bounds, IsUtf8-string_bytes, append-nil, nat_tests, Decides-and, Decides-like, same_from_decides, INLINE_CAP, size, is_short, IsShort, IsBlankRun, IsResident, ◌⊎◌, common_steps, rules, cases_lt, chars-nil, err_from_is_err_and, ⊎_elim, ◌∙◌}
+use Rattle.smol_str.proofs.Common.{nil_from_length, ◌≡◌, ◌↔◌, ℕ, ◌+◌, ◌<◌, ◌≤◌, List, [], ◌∷◌, ◌++◌, length, encode_utf8, encode_utf8_all, length-append, length-le-encodes, true, false, nat_le, nat_eq, Result, OnOk, OnErr, is_ok, sym, ap, arith, chars, IsUtf8, pointwise, bytes_decides, encodes-chars, chars-IsAscii, encodes-IsAscii, encodes_same, encodes-append, chars_from_encodes, length-encode, len_utf8_bounds, IsUtf8-string_bytes, append-nil, nat_tests, Decides-and, Decides-like, same_from_decides, String, Global, string_bytes, INLINE_CAP, size, is_short, IsShort, IsBlankRun, IsResident, ◌⊎◌, common_steps, rules, cases_lt, chars-nil, err_from_is_err_and, ⊎_elim, ◌∙◌}
 use Rattle.std.specs.Result.{IsErrAnd, IfErr}
 use Rattle.std.specs.Bool.{Decides}
 use Rattle.smol_str.specs.Shared.{SharedText, shared_bytes}
@@ -122,3 +122,10 @@ IsShort-one c = rw (append-nil (encode_utf8 c)) (short_encode c)
 -- each front of a short text is short
 pub IsShort-front : (s t : List ℕ) → IsShort (s ++ t) → IsShort s
 IsShort-front s t short = omega (arith, short, size-append s t)
+
+-- a character behind a text
+pub chars-pushed : (old new : String Global) (c : ℕ) → string_bytes new ≡ string_bytes old ++ encode_utf8 c
+    → chars (string_bytes new) ≡ chars (string_bytes old) ++ c ∷ []
+chars-pushed old new c e =
+    chars-of (chars (string_bytes old) ++ c ∷ []) (string_bytes new) (IsUtf8-string_bytes new)
+    (grind (arith, common_steps, e, encodes-append, encodes-chars, append-nil, IsUtf8-string_bytes old))

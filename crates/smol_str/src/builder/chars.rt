@@ -64,7 +64,7 @@ impl SmolStrBuilder {
     {
         self.push(first)?;
         for character in iter {
-            self.push(character)?;
+            self.push_next(character)?;
         }
         Ok(())
     }
