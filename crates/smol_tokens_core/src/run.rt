@@ -5,6 +5,7 @@ ghost use Rattle.smol_tokens_core.specs.Faults.{streams, WroteReport, AfterFault
 use crate::fault::RunFault;
 use crate::mode::Mode;
 use crate::report::make_report;
+use simdutf8::compat::from_utf8;
 use smol_str::stream::{read_all, write_steps};
 use std::alloc::Global;
 use std::hash::BuildHasher;
@@ -30,7 +31,7 @@ pub fn run<S: BuildHasher + Drop, R: Read, W: Write>(
         (AfterFault mode (streams R.remaining reader.old reader.new W.contents writer.old writer.new)) }
 {
     let input = read_all(alloc, reader)?;
-    let Ok(text) = str::from_utf8(input.as_slice()) else {
+    let Ok(text) = from_utf8(input.as_slice()) else {
         return Err(RunFault::NotUtf8);
     };
     let report = make_report(alloc, state, &mode, text)?;

@@ -16,6 +16,7 @@ use super::{Repr, SmolStr};
 use crate::buffer::{INLINE_CAP, InlineText};
 use crate::bytes::ascii::is_all_ascii;
 use crate::shared::SharedText;
+use simdutf8::is_utf8;
 use std::alloc::{AllocError, AllocFailed, Global};
 use std::borrow::CowStr;
 use std::boxed::BoxedStr;
@@ -241,13 +242,19 @@ impl Default for SmolStr {
     }
 }
 
-/// `str::from_utf8` with an inlined fast path for short ASCII.
+/// From this length on UTF-8 is tested by blocks. std tests characters past ASCII one by one.
+const BLOCK: usize = 64;
+
+/// `str::from_utf8` with a fast path for short ASCII, which is inlined, and one for long text.
 #[inline(always)]
 fn utf8_text(bytes: &[u8]) -> Result<&str, Utf8Error>
     ensures ok { IfOk result (λ text. IsUtf8 bytes.now × (text.now ≡ bytes.now)) }
     ensures fault { IfErr result (λ fault. (¬ (IsUtf8 bytes.now)) × IsUtf8FaultOf bytes.now fault) }
 {
     if bytes.len() <= INLINE_CAP && is_all_ascii(bytes) {
+        return Ok(unsafe { str::from_utf8_unchecked(bytes) });
+    }
+    if bytes.len() >= BLOCK && is_utf8(bytes) {
         return Ok(unsafe { str::from_utf8_unchecked(bytes) });
     }
     str::from_utf8(bytes)
