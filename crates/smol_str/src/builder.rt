@@ -162,7 +162,7 @@ impl SmolStrBuilder {
 
     /// Like [`SmolStrBuilder::push`], but looks for the heap first: for loops over the characters of a long text.
     #[inline(always)]
-    fn push_next(&mut self, character: char) -> Result<(), AllocError>
+    pub(crate) fn push_next(&mut self, character: char) -> Result<(), AllocError>
         ensures ok { OnOk result (self.new ≡ appended self.old (character ∷ [])) }
         ensures unchanged { OnErr result (self.new ≡ self.old) }
         ensures refused { OnErr result ((appended self.old (character ∷ [])).kind ≡ OnHeap) }

@@ -192,34 +192,30 @@ fn push_escape(json: &mut String, byte: u8) -> Result<(), AllocError>
     requires { is_plain byte ≡ false }
     ensures { OnOk result (string_bytes json.new ≡ string_bytes json.old ++ escape_byte byte) }
 {
-    match letter_for(byte) {
-        Some(letter) => {
-            json.push('\\')?;
-            json.push(letter)
-        }
+    match letter_escape(byte) {
+        Some(escape) => json.push_str(escape),
         None => push_control(json, byte),
     }
 }
 
-/// The letter that stands behind a backslash for a byte that is not plain, where there is one.
+/// The escape of two bytes for a byte that is not plain, where there is one.
 #[inline(always)]
 #[tactic(auto, unfolding(json::specs::Print::escape_byte))]
-fn letter_for(byte: u8) -> Option<char>
+fn letter_escape(byte: u8) -> Option<&'static str>
     requires { is_plain byte ≡ false }
-    ensures ascii { IfSome result (λ letter. letter < 128) }
-    ensures escape { IfSome result (λ letter. escape_byte byte ≡ 92 ∷ letter ∷ []) }
+    ensures escape { IfSome result (λ escape. escape.now ≡ escape_byte byte) }
     ensures control { result ≡ None → byte < 32 }
     ensures number { result ≡ None → escape_byte byte ≡
         92 ∷ 117 ∷ 48 ∷ 48 ∷ digit_char (byte / 16) ∷ digit_char (byte % 16) ∷ [] }
 {
     match byte {
-        b'"' => Some('"'),
-        b'\\' => Some('\\'),
-        8 => Some('b'),
-        b'\t' => Some('t'),
-        b'\n' => Some('n'),
-        12 => Some('f'),
-        b'\r' => Some('r'),
+        b'"' => Some("\\\""),
+        b'\\' => Some("\\\\"),
+        8 => Some("\\b"),
+        b'\t' => Some("\\t"),
+        b'\n' => Some("\\n"),
+        12 => Some("\\f"),
+        b'\r' => Some("\\r"),
         _ => None,
     }
 }
@@ -346,7 +342,7 @@ fn push_unescaped<'a>(builder: &mut SmolStrBuilder, text: &'a str) -> Result<&'a
         let Some((character, after)) = split_escape(behind) else {
             return Ok(behind);
         };
-        builder.push(character)?;
+        builder.push_next(character)?;
         rest = after;
     }
 }
