@@ -1,8 +1,8 @@
 //! The builder of a text.
-ghost use Rattle.std.specs.Prelude.{◌≡◌, ◌↔◌, ◌<◌, [], ◌∷◌, IsSome, IfSome, IfOk, IfErr, OnOk, OnErr, IsTrue, false, encode_utf8_all};
+ghost use Rattle.std.specs.Prelude.{◌≡◌, ◌↔◌, ◌<◌, ◌≤◌, [], ◌∷◌, IsSome, IfSome, IfOk, IfErr, OnOk, OnErr, IsTrue, false, encode_utf8_all};
 ghost use Rattle.std.specs.Str.{IsAscii, chars, all_scalars};
 ghost use Rattle.std.specs.String.{string_bytes};
-ghost use Rattle.smol_str.specs.Text.{size, IsShort, IsResident};
+ghost use Rattle.smol_str.specs.Text.{size, IsShort, IsResident, blank_run};
 ghost use Rattle.smol_str.specs.Buffer.{padded};
 ghost use Rattle.smol_str.specs.Meaning.{IsValueOf};
 ghost use Rattle.smol_str.specs.Draft.{InBuffer, OnHeap, empty_draft, appended, kind_for};
@@ -13,6 +13,7 @@ mod deref;
 
 use crate::buffer::{INLINE_CAP, InlineBuffer, InlineText};
 use crate::value::SmolStr;
+use crate::value::blank::{BLANK_NEWLINES, BLANK_SPACES, blank_text};
 use std::alloc::{AllocError, Global};
 use std::marker::Model;
 
@@ -199,6 +200,25 @@ impl SmolStrBuilder {
             return Ok(());
         }
         self.push_on_heap(text, spare)
+    }
+
+    /// Appends `newlines` newlines and then `spaces` spaces.
+    ///
+    /// It is refused with [`AllocError`] where the heap has no room, and the builder is as before.
+    ///
+    /// ```
+    /// let mut builder = SmolStrBuilder::new(alloc);
+    /// builder.push_blank(1, 4)?;
+    /// assert_eq!(rt; builder.as_str(), "\n    ");
+    /// ```
+    pub fn push_blank(&mut self, newlines: usize, spaces: usize) -> Result<(), AllocError>
+        requires few_newlines { newlines ≤ BLANK_NEWLINES }
+        requires few_spaces { spaces ≤ BLANK_SPACES }
+        ensures ok { OnOk result (self.new ≡ appended self.old (blank_run newlines spaces)) }
+        ensures unchanged { OnErr result (self.new ≡ self.old) }
+        ensures refused { OnErr result ((appended self.old (blank_run newlines spaces)).kind ≡ OnHeap) }
+    {
+        self.push_str(blank_text(newlines, spaces))
     }
 
     /// Appends a text with which the builder stays in its buffer; `false` where it would not.

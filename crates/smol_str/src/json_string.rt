@@ -29,7 +29,7 @@ use crate::bytes::plain::{
     without_spaces,
 };
 use crate::value::SmolStr;
-use serde_json::Value;
+use serde_json::{ToValue, Value};
 use std::alloc::{AllocError, AllocFailed, Global};
 use std::error::Error;
 use std::fmt;
@@ -93,6 +93,15 @@ pub fn to_value(alloc: Global, value: &SmolStr) -> Result<Value, AllocError>
     ensures { IfOk result (λ json. view json ≡ json_value value.now.text) }
 {
     Ok(Value::String(String::from_str(alloc, value.as_str())?))
+}
+
+/// The JSON string of a value's text, as `json!` takes it.
+impl ToValue for &SmolStr {
+    ghost gives = { λ value json. view json ≡ json_value value.now.text };
+
+    fn to_value(self, alloc: Global) -> Result<Value, AllocError> {
+        to_value(alloc, self)
+    }
 }
 
 /// The value of a JSON string's text, copied.

@@ -2,7 +2,7 @@
 ghost use Rattle.std.specs.Prelude.{◌≡◌, ◌≤◌, ◌↔◌, ◌⊎◌, [], length, MatchOption, IfOk, OnErr, IsSome, IfSome, IsTrue, encode_utf8_all};
 ghost use Rattle.std.specs.Str.{chars, all_scalars};
 ghost use Rattle.smol_str.specs.Shared.{shared_bytes};
-ghost use Rattle.smol_str.specs.Text.{size, IsShort, IsResident, place_of};
+ghost use Rattle.smol_str.specs.Text.{size, IsShort, IsResident, blank_run, place_of};
 ghost use Rattle.smol_str.specs.Buffer.{padded};
 ghost use Rattle.smol_str.specs.Case.{IsAsciiText, converted};
 ghost use Rattle.smol_str.specs.Meaning.{IsValueOf};
@@ -17,7 +17,7 @@ mod print;
 use crate::buffer::{INLINE_CAP, InlineBuffer, InlineText};
 use crate::kernel::AsciiCase;
 use crate::shared::SharedText;
-use blank::blank_slice;
+use blank::{BLANK_NEWLINES, BLANK_SPACES, blank_slice, blank_text};
 use place::Place;
 use std::alloc::{AllocError, Global};
 use std::marker::Model;
@@ -115,6 +115,27 @@ impl SmolStr {
         ensures { IsValueOf (converted case (chars text.now)) result }
     {
         SmolStr::from_inline(InlineText::from_short(text).in_case(case))
+    }
+
+    /// A value of `newlines` newlines and then `spaces` spaces, which needs no memory.
+    ///
+    /// ```
+    /// let indent = SmolStr::blank(1, 8);
+    /// assert_eq!(rt; indent.as_str(), "\n        ");
+    /// ```
+    #[inline(always)]
+    pub fn blank(newlines: usize, spaces: usize) -> SmolStr
+        requires few_newlines { newlines ≤ BLANK_NEWLINES }
+        requires few_spaces { spaces ≤ BLANK_SPACES }
+        ensures { IsValueOf (blank_run newlines spaces) result }
+    {
+        let run = blank_text(newlines, spaces);
+        if run.len() <= INLINE_CAP {
+            return SmolStr::new_inline(run);
+        }
+        SmolStr {
+            repr: Repr::Static(run),
+        }
     }
 
     /// A value that refers to `text` where it stands, in place Static whatever its length.

@@ -2,12 +2,10 @@
 ghost use Rattle.std.specs.Prelude.{◌≡◌, ◌<◌, ◌≤◌, ◌+◌, ◌^◌, [], ◌∷◌, ◌++◌, Some, None, IfOk, IfErr, OnOk, OnErr, MatchBool, length, slice_get, option_map};
 ghost use Rattle.std.specs.Map.{lookup};
 ghost use Rattle.std.specs.Str.{chars};
-ghost use Rattle.smol_str.specs.KeyLaws.{stands_for-hash, stands_for-same};
-ghost use Rattle.smol_str.specs.Keys.{stands_for};
 ghost use Rattle.smol_tokens_core.specs.Tally.{is_same, times_of, tally, HasEachOnce};
 ghost use Rattle.smol_tokens_core.specs.TallyFaults.{AfterAddFault, AfterAgain, given_back, add_said};
 
-use indexmap::{Equivalent, IndexMap};
+use indexmap::IndexMap;
 use smol_str::SmolStr;
 use std::alloc::{AllocError, Global};
 use std::error::Error;
@@ -129,7 +127,7 @@ impl<S: BuildHasher> Tally<S> {
     pub(crate) fn add_again(&mut self, text: &str, times: u64) -> Again
         ensures { AfterAgain self.old self.new (chars text.now) times result }
     {
-        let Some(count) = self.counts.get_mut(ByText(text)) else {
+        let Some(count) = self.counts.get_mut(text) else {
             return Again::New;
         };
         let Some(more) = count.checked_add(times) else {
@@ -200,21 +198,5 @@ impl<S: BuildHasher> Tally<S> {
     {
         let (token, count) = self.counts.get_index(index)?;
         Some((token, *count))
-    }
-}
-
-/// A text that stands for the tokens that have it. It is hashed as its text, and so as each of them.
-#[derive(Clone, Copy, PartialEq, Eq, Hash)]
-struct ByText<'a>(&'a str);
-
-impl Equivalent<SmolStr> for ByText<'_> {
-    ghost equivalent = { λ query key. stands_for query.0.now key };
-
-    ghost respects_hash = { λ query key. stands_for-hash query.0.now key };
-
-    ghost respects_eq = { λ query x y. stands_for-same query.0.now x y };
-
-    fn equivalent(&self, key: &SmolStr) -> bool {
-        key.eq_str(self.0)
     }
 }

@@ -1,9 +1,9 @@
 //! A builder in a loop, and two appends that fit.
-ghost use Rattle.std.specs.Prelude.{◌≡◌, ◌+◌, ◌≤◌, ◌++◌, ◌∷◌, [], codes, length, IfOk, IsOk, OnErr, OnOk};
+ghost use Rattle.std.specs.Prelude.{◌≡◌, ◌+◌, ◌*◌, ◌≤◌, ◌++◌, ◌∷◌, [], codes, length, IfOk, IsOk, OnErr, OnOk};
 ghost use Rattle.std.specs.List.{flat_map};
 ghost use Rattle.std.specs.Str.{chars};
 ghost use Rattle.smol_str.specs.Draft.{OnHeap, appended};
-ghost use Rattle.smol_str.specs.Text.{IsShort};
+ghost use Rattle.smol_str.specs.Text.{IsShort, blank_run};
 ghost use Rattle.smol_str.specs.Meaning.{IsValueOf};
 
 use smol_str::{INLINE_CAP, SmolStr, SmolStrBuilder};
@@ -43,4 +43,13 @@ pub fn push_entry(out: &mut SmolStrBuilder, key: &str, value: &SmolStr) -> Resul
     out.push_str(key)?;
     out.push(',')?;
     out.push_str(value)
+}
+
+/// A line's end and the next line's indentation at a builder's end.
+pub fn push_line_end(out: &mut SmolStrBuilder, level: u8) -> Result<(), AllocError>
+    requires { level ≤ 8 }
+    ensures ok { OnOk result (out.new ≡ appended out.old (blank_run 1 (4 * level))) }
+    ensures unchanged { OnErr result (out.new ≡ out.old) }
+{
+    out.push_blank(1, 4 * usize::from(level))
 }

@@ -13,7 +13,7 @@ ghost use Rattle.std.specs.Box.{boxed_str_bytes};
 ghost use Rattle.std.specs.Cow.{cow_str_bytes};
 ghost use Rattle.std.specs.Iterator.{IsFinite};
 ghost use Rattle.std.specs.Rc.{rc_str_bytes};
-ghost use Rattle.smol_str.specs.Text.{IsShort, IsResident, place_of};
+ghost use Rattle.smol_str.specs.Text.{IsShort, IsResident, blank_run, place_of};
 ghost use Rattle.smol_str.specs.Meaning.{IsValueOf};
 ghost use Rattle.smol_str.specs.Joined.{joined, joined_strs, joined_strings, joined_string_refs, string_text};
 ghost use Rattle.smol_str.specs.Collect.{Collected, Outgrown, AppendedAll, StoppedAt};
@@ -23,7 +23,10 @@ ghost use Rattle.smol_str.specs.declared.value.place.Place.TheVariants.{Heap};
 ghost use Rattle.smol_str.specs.Replace.{replaced, replaced_all};
 
 use smol_str::kernel::AsciiCase;
-use smol_str::{INLINE_CAP, Place, SmolStr, SmolStrBuilder, Step, StrExt, ValueAlloc, build, laws};
+use smol_str::{
+    BLANK_NEWLINES, BLANK_SPACES, INLINE_CAP, Place, SmolStr, SmolStrBuilder, Step, StrExt,
+    ValueAlloc, build, laws,
+};
 use std::alloc::{AllocError, Global};
 use std::borrow::CowStr;
 use std::boxed::BoxedStr;
@@ -68,6 +71,15 @@ pub fn of_nothing() -> SmolStr
     ensures value { IsValueOf [] result }
 {
     SmolStr::default()
+}
+
+/// Newlines and then spaces, within the limits, which are never refused.
+pub fn of_blank(newlines: usize, spaces: usize) -> SmolStr
+    requires few_newlines { newlines ≤ BLANK_NEWLINES }
+    requires few_spaces { spaces ≤ BLANK_SPACES }
+    ensures value { IsValueOf (blank_run newlines spaces) result }
+{
+    SmolStr::blank(newlines, spaces)
 }
 
 /// A text that lives as long as the program, pinned to place Static; it is never refused.

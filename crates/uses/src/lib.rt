@@ -2,7 +2,6 @@
 #![tactic(auto)]
 
 pub mod building;
-pub mod by_text;
 pub mod collecting;
 pub mod cutting;
 pub mod formatting;

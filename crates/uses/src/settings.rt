@@ -5,7 +5,6 @@ ghost use Rattle.std.specs.Str.Lines.{lines};
 ghost use Rattle.std.specs.Map.{lookup};
 ghost use Rattle.uses.specs.Settings.{with_setting, setting, settings, last_value};
 
-use crate::by_text::ByText;
 use indexmap::IndexMap;
 use smol_str::{SmolStr, StrExt};
 use std::alloc::{AllocError, Global};
@@ -77,6 +76,6 @@ impl Settings {
     pub fn get(&self, key: &str) -> Option<&SmolStr>
         ensures { option_map (λ v. v.now.text) result ≡ lookup (bytes_eq (chars key.now)) self.now }
     {
-        self.entries.get(ByText(key))
+        self.entries.get(key)
     }
 }

@@ -6,7 +6,7 @@ ghost use Rattle.smol_str.specs.Draft.{InBuffer, empty_draft};
 
 use super::SmolStrBuilder;
 use std::alloc::{AllocError, Global};
-use std::convert::AsStr;
+use std::convert::{AsSlice, AsStr};
 use std::default::{Emptied, MadeWith};
 
 /// For what takes anything that lends a text; the same as [`SmolStrBuilder::as_str`].
@@ -20,6 +20,16 @@ impl AsStr for SmolStrBuilder {
         ensures short { self.now.kind ≡ InBuffer → IsShort self.now.text }
     {
         self.as_str()
+    }
+}
+
+/// For what takes anything that lends bytes; stands for upstream's `AsRef<[u8]>` of a value.
+impl AsSlice<u8> for SmolStrBuilder {
+    ghost items = { λ b. encode_utf8_all b.text };
+
+    #[inline(always)]
+    fn as_slice(&self) -> &[u8] {
+        self.as_str().as_bytes()
     }
 }
 

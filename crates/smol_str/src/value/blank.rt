@@ -2,6 +2,7 @@
 //!
 //! A run that fits is a slice of one constant, so it needs no memory.
 ghost use Rattle.std.specs.Prelude.{◌≡◌, ◌≤◌, length, IfSome, MatchOption};
+ghost use Rattle.std.specs.Str.{chars};
 ghost use Rattle.smol_str.specs.Text.{IsBlankRun, blank_run, leading_newlines};
 
 /// The most newlines of a blank run that needs no memory.
@@ -40,12 +41,23 @@ fn find_blank(text: &str) -> Option<&'static str>
     if newlines > BLANK_NEWLINES || spaces > BLANK_SPACES {
         return None;
     }
-    let run = &blank_constant()[BLANK_NEWLINES - newlines..BLANK_NEWLINES + spaces];
+    let run = blank_text(newlines, spaces);
     // std compares many bytes at a time.
     if text != run {
         return None;
     }
     Some(run)
+}
+
+/// The slice of the constant that is `newlines` newlines and then `spaces` spaces.
+#[inline(always)]
+pub(crate) fn blank_text(newlines: usize, spaces: usize) -> &'static str
+    requires few_newlines { newlines ≤ BLANK_NEWLINES }
+    requires few_spaces { spaces ≤ BLANK_SPACES }
+    ensures bytes { result.now ≡ blank_run newlines spaces }
+    ensures text { chars result.now ≡ blank_run newlines spaces }
+{
+    &blank_constant()[BLANK_NEWLINES - newlines..BLANK_NEWLINES + spaces]
 }
 
 /// The whole constant, behind a call so that no goal shows its bytes.

@@ -9,11 +9,14 @@ ghost use Rattle.std.specs.Cmp.Lexicographic.{pointwise, nat_list_eq_equiv, nat_
 ghost use Rattle.std.specs.Cmp.Rules.{hashing};
 ghost use Rattle.std.specs.Hash as fed;
 ghost use Rattle.smol_str.specs.Buffer.{HaveOneBuffer};
+ghost use Rattle.smol_str.specs.KeyLaws.{stands_for-hash, stands_for-same};
+ghost use Rattle.smol_str.specs.Keys.{stands_for};
 
 use super::place::Place;
 use super::{Repr, SmolStr};
 use crate::buffer::{INLINE_CAP, InlineText};
 use crate::bytes::words::same_text;
+use indexmap::Equivalent;
 use std::cmp::Ordering;
 use std::hash::{Hash, Hasher};
 
@@ -140,5 +143,18 @@ impl Hash for SmolStr {
 
     fn hash<H: Hasher>(&self, state: &mut H) {
         self.as_str().hash(state);
+    }
+}
+
+/// A `&str` looks up the values of its text in the maps and sets of `indexmap`, and no value is made of it.
+impl Equivalent<SmolStr> for &str {
+    ghost equivalent = { λ query key. stands_for query.now key };
+
+    ghost respects_hash = { λ query key. stands_for-hash query.now key };
+
+    ghost respects_eq = { λ query x y. stands_for-same query.now x y };
+
+    fn equivalent(&self, key: &SmolStr) -> bool {
+        key.eq_str(self)
     }
 }

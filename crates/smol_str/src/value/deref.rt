@@ -3,7 +3,7 @@ ghost use Rattle.std.specs.Prelude.{◌≡◌, ℕ, List, IsTrue, encode_utf8_al
 ghost use Rattle.std.specs.Str.{all_scalars};
 
 use super::SmolStr;
-use std::convert::AsStr;
+use std::convert::{AsSlice, AsStr};
 use std::ops::{AsDeref, DerefStr};
 
 /// Lends the text, so that a value has every method of `str`; the same as [`SmolStr::as_str`].
@@ -34,6 +34,16 @@ impl AsStr for SmolStr {
         ensures scalars { IsTrue (all_scalars self.now.text) }
     {
         self.as_str()
+    }
+}
+
+/// For what takes anything that lends bytes, such as a field of a CSV row or a digest; stands for upstream's `AsRef<[u8]>`.
+impl AsSlice<u8> for SmolStr {
+    ghost items = { λ v. encode_utf8_all v.text };
+
+    #[inline(always)]
+    fn as_slice(&self) -> &[u8] {
+        self.as_str().as_bytes()
     }
 }
 
