@@ -29,6 +29,5 @@ pub mod CaseExamples
 pub mod JsonExamples
 pub mod WireExamples
 pub mod Said
-pub mod SaidExamples
 pub mod Stream
 pub mod WireFaults

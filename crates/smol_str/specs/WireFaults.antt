@@ -37,9 +37,10 @@ use Rattle.smol_str.specs.Faults.{IsUtf8FaultOf}
 use Rattle.smol_str.specs.Stream.{AppendsBeginning, GaveAll, GaveAllBelow, GaveBelow, GaveUpTo}
 use Rattle.smol_str.specs.Wire.{prefix_size, HasEndedEarly, body}
 
--- too long: the value has no form, and nothing was written; else it has, and a beginning of it was written, but not all
 abbrev pub AfterEncodeFault : List ℕ → Type 0 → Option (List ℕ) → Option (List ℕ) → EncodeFault → Type 0
+-- the value has no wire form, and nothing was written
 AfterEncodeFault form HasForm held holds TooLong = (¬ HasForm) × Keeps held holds
+-- a proper prefix of the wire form was written
 AfterEncodeFault form HasForm held holds (WriteFailed e) = HasForm × AppendsBeginning held holds form
 
 -- the body is not UTF-8, and the fault is its own
@@ -59,37 +60,40 @@ GaveSomeOfBody input left =
 abbrev pub NeedsMemory : List ℕ → Type 0
 NeedsMemory b = (¬ (HasEndedEarly b)) × IsUtf8 (body b) × (¬ (IsResident (chars (body b))))
 
--- ended: the bytes end early, and all were consumed; not UTF-8: the form is whole, its body is not UTF-8, and the form was
--- consumed; out of memory: the stated size is above INLINE_CAP, and some of the body was consumed; where it is at most
--- STACK_BODY, the form is whole and needs memory, and it was consumed; io: less than the form was consumed
 abbrev pub AfterDecodeFault : Option (List ℕ) → Option (List ℕ) → DecodeFault → Type 0
+-- the bytes end early, and all were consumed
 AfterDecodeFault input left Ended = IfSome input HasEndedEarly × GaveAll input left
+-- the form is whole and was consumed, and its body is not UTF-8
 AfterDecodeFault input left (NotUtf8 e) =
     IfSome input (λ b. (¬ (HasEndedEarly b)) × IsRefusedBody (body b) e × Consumes input left (take (4 + prefix_size b) b))
+-- the stated size is above INLINE_CAP, and some of the body was consumed; if it is at most STACK_BODY, the form is whole,
+-- needs memory and was consumed
 AfterDecodeFault input left OutOfMemory =
     IfSome input (λ b. (4 ≤ length b) × (INLINE_CAP < prefix_size b) × (prefix_size b ≤ STACK_BODY →
     NeedsMemory b × Consumes input left (take (4 + prefix_size b) b))) × GaveSomeOfBody input left
+-- less than the form was consumed
 AfterDecodeFault input left (ReadFailed e) = GaveTooFew input left (λ bytes. ⊤)
 
 -- the size, where all four bytes of it are there, is within the limit
 abbrev pub StatesAtMost : ℕ → List ℕ → Type 0
 StatesAtMost limit b = 4 ≤ length b → prefix_size b ≤ limit
 
--- too long: the prefix states a size above the limit, and nothing behind it was consumed; else a fault of reading, and
--- the size is within the limit; where the reader failed, that is known of the bytes that it gave
 abbrev pub AfterLimitedFault : ℕ → Option (List ℕ) → Option (List ℕ) → LimitedFault → Type 0
+-- the prefix states a size above the limit, and nothing after it was consumed
 AfterLimitedFault limit input left AboveLimit =
     IfSome input (λ b. (4 ≤ length b) × (limit < prefix_size b) × Consumes input left (take 4 b))
+-- the bytes that the reader gave state no size above the limit
 AfterLimitedFault limit input left (Decode (ReadFailed e)) = GaveTooFew input left (StatesAtMost limit)
+-- as after reading without a limit, and the stated size is within it
 AfterLimitedFault limit input left (Decode fault) =
     AfterDecodeFault input left fault × IfSome input (StatesAtMost limit)
 
--- ended: the bytes have; else the body is there, and is not UTF-8, or is that of a text that is not resident; no reader
--- is asked, and so none fails
 abbrev pub AfterFromWireFault : List ℕ → DecodeFault → Type 0
 AfterFromWireFault b Ended = HasEndedEarly b
+-- the form is whole, and its body is not UTF-8
 AfterFromWireFault b (NotUtf8 e) = (¬ (HasEndedEarly b)) × IsRefusedBody (body b) e
 AfterFromWireFault b OutOfMemory = NeedsMemory b
+-- there is no reader that could fail
 AfterFromWireFault b (ReadFailed e) = ⊥
 
 -- the reader gave four bytes, which state the size n
@@ -119,13 +123,14 @@ pub record HasReadLarge (input left : Option (List ℕ)) (n : ℕ) : Type 0 wher
   pub large : ¬ (IsResident (chars body))
   pub bytes : Consumes input left body
 
--- after reading a body of n bytes: out of memory comes only of a body above INLINE_CAP, and where some of it came, or all
--- of it if it is at most STACK_BODY; the reader failed before the whole body had come
+-- after reading a body of n bytes
 abbrev pub AfterBodyFault : Option (List ℕ) → Option (List ℕ) → ℕ → DecodeFault → Type 0
 AfterBodyFault input left n Ended = GaveAllBelow input left n
 AfterBodyFault input left n (NotUtf8 e) = HasReadNoText input left n e
+-- the body is above INLINE_CAP, and some of it came; all of it if it is at most STACK_BODY
 AfterBodyFault input left n OutOfMemory =
     (INLINE_CAP < n) × GaveUpTo input left n × (n ≤ STACK_BODY → HasReadLarge input left n)
+-- the reader failed before the whole body had come
 AfterBodyFault input left n (ReadFailed e) = GaveBelow input left n
 
 abbrev pub of_read_fault : ReadFault → DecodeFault

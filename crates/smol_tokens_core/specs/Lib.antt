@@ -12,4 +12,3 @@ pub mod LineExamples
 pub mod TallyExamples
 pub mod ReportExamples
 pub mod ModeWordExamples
-pub mod FaultLineExamples
