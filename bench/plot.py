@@ -16,8 +16,8 @@ def bar(left, at, name, ratio):
 
 
 def picture(rows):
-    """The bars of rows: of each its kind, its name and its ratio."""
-    halves = [[(name, ratio) for kind, name, ratio in rows if (kind == "short") == is_short] for is_short in (True, False)]
+    """The bars of rows: of each whether its texts are short, its name and its ratio."""
+    halves = [[(name, ratio) for is_short, name, ratio in rows if is_short == wanted] for wanted in (True, False)]
     height = TOP + STEP * max(map(len, halves)) + 8
     lines = [f'<svg xmlns="http://www.w3.org/2000/svg" width="{WIDTH}" height="{height}" viewBox="0 0 {WIDTH} {height}" '
              'font-family="sans-serif" font-size="10">',

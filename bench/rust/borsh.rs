@@ -1,8 +1,7 @@
 //! Stands for the crate borsh where it is not at hand. What upstream's smol_str calls of it: a size as four bytes, the
 //! lowest first, and then so many bytes.
-pub mod io {
-    pub use std::io::{Error, ErrorKind, Read, Result, Write};
-}
+pub use std::io;
+
 use io::{ErrorKind, Read, Result, Write};
 
 pub trait BorshSerialize {

@@ -1,0 +1,376 @@
+//! Upstream's side of `bench/upstream compare`: rattle/compare.rt.txt over upstream's crate, with the library's answer
+//! where the two differ on purpose. Those places are marked with what docs/differences.md says of them.
+use borsh::io::{Error, ErrorKind, Read, Write};
+use borsh::{BorshDeserialize, BorshSerialize};
+use serde_json::{Value, json};
+use smol_str::{SmolStr, SmolStrBuilder, StrExt, ToSmolStr, format_smolstr};
+use std::borrow::Cow;
+use std::fmt::{Debug, Write as _};
+use std::hash::{DefaultHasher, Hash, Hasher};
+use std::io::Read as _;
+use std::mem::take;
+use std::sync::Arc;
+
+include!("limits.rs");
+const STATICS: [&str; 6] =
+    ["", "a", "static text of some length", "a static text that is longer than a value has room for", "é€🦀", "\n\n  "];
+/// The most bytes of a text that an answer shows.
+const SHOWN: usize = 200;
+
+/// A line: a call, the registers that it writes and reads, and its other operands, of which each call takes what it needs.
+struct Call {
+    name: String,
+    to: usize,
+    from: usize,
+    form: usize,
+    number: u64,
+    width: usize,
+    digits: usize,
+    /// These need not be UTF-8.
+    texts: Vec<Vec<u8>>,
+}
+
+impl Call {
+    fn read(line: &str) -> Call {
+        let mut fields = line.split(' ');
+        let name = fields.next().unwrap().to_string();
+        let [to, from, form, number, width, digits] = [(); 6].map(|()| fields.next().unwrap().parse::<u64>().unwrap());
+        let [to, from, form, width, digits] = [to, from, form, width, digits].map(|it| it as usize);
+        Call { name, to, from, form, number, width, digits, texts: fields.map(unquoted).collect() }
+    }
+
+    fn text(&self, at: usize) -> &str { self.texts.get(at).and_then(|it| str::from_utf8(it).ok()).unwrap_or("") }
+    fn character(&self) -> char { self.text(0).chars().next().unwrap_or('x') }
+    fn string(&self) -> String { self.text(0).to_string() }
+    fn strs(&self) -> Vec<&str> { (0..self.texts.len()).map(|at| self.text(at)).collect() }
+    fn strings(&self) -> Vec<String> { self.strs().into_iter().map(String::from).collect() }
+}
+
+/// The bytes of a field, where `%` and two digits stand for a byte.
+fn unquoted(field: &str) -> Vec<u8> {
+    let mut pieces = field.split('%');
+    let mut bytes = pieces.next().unwrap().as_bytes().to_vec();
+    for piece in pieces {
+        bytes.push(u8::from_str_radix(&piece[..2], 16).unwrap());
+        bytes.extend_from_slice(&piece.as_bytes()[2..]);
+    }
+    bytes
+}
+
+#[derive(Default)]
+struct Machine {
+    values: [SmolStr; 4],
+    builders: [SmolStrBuilder; 4],
+    out: String,
+}
+
+impl Machine {
+    fn say(&mut self, it: impl Debug) { write!(self.out, " {it:?}").unwrap() }
+
+    /// A text of an answer; of a long one its first bytes, its length and a hash.
+    fn show(&mut self, bytes: impl AsRef<[u8]>) {
+        let bytes = bytes.as_ref();
+        self.out.push(' ');
+        for byte in &bytes[..bytes.len().min(SHOWN)] {
+            match byte {
+                b'%' => self.out.push_str("%25"),
+                b'!'..=b'~' => self.out.push(char::from(*byte)),
+                _ => write!(self.out, "%{byte:02X}").unwrap(),
+            }
+        }
+        if bytes.len() > SHOWN {
+            let hash = bytes.iter().fold(0u64, |hash, byte| (hash ^ u64::from(*byte)).wrapping_mul(1_099_511_628_211));
+            write!(self.out, "..{}:{hash}", bytes.len()).unwrap();
+        }
+    }
+
+    /// Answers a value, and keeps it in its register.
+    fn keep(&mut self, it: &Call, value: SmolStr) {
+        let own = (&raw const value).addr()..(&raw const value).addr() + size_of::<SmolStr>();
+        let (is_inside, is_heap) = (own.contains(&value.as_ptr().addr()), value.is_heap_allocated());
+        let place = if is_heap { "heap" } else if is_inside { "inline" } else { "static" };
+        write!(self.out, " {place} {} {} {} {is_heap}", value.len(), value.is_empty(), value.is_ascii()).unwrap();
+        self.show(&value);
+        self.values[it.to] = value;
+    }
+
+    fn keep_builder(&mut self, it: &Call, builder: SmolStrBuilder) {
+        write!(self.out, " builder {} {}", builder.len(), builder.is_empty()).unwrap();
+        self.show(builder.as_str());
+        self.builders[it.to] = builder;
+    }
+}
+
+/// "a blank run that is not short and is collected lies on the heap"
+fn pinned(value: SmolStr) -> SmolStr { if value.is_heap_allocated() { SmolStr::new(&value) } else { value } }
+
+/// Calls that make a value.
+fn make(m: &mut Machine, it: &Call) {
+    let (text, count) = (it.text(0), it.width);
+    let made = match (it.name.as_str(), it.form) {
+        ("new", _) => SmolStr::new(text),
+        ("from_str", _) => text.parse().unwrap(),
+        ("from_string_ref", _) => SmolStr::from(&it.string()),
+        // SAFETY: these are the bytes of a text
+        ("from_utf8_unchecked", _) => unsafe { SmolStr::from_utf8_unchecked(text.as_bytes()) },
+        ("new_inline", _) => SmolStr::new_inline(text),
+        ("new_inline_in_case", 0) => SmolStr::new_inline(&text.to_ascii_lowercase()),
+        ("new_inline_in_case", _) => SmolStr::new_inline(&text.to_ascii_uppercase()),
+        ("new_static", form) => SmolStr::new_static(STATICS[form]),
+        ("default", _) => SmolStr::default(),
+        ("from_char", _) => SmolStr::from(it.character()),
+        ("clone", _) => m.values[it.from].clone(),
+        ("from_string" | "from_owned", _) => SmolStr::from(it.string()),
+        ("from_boxed_str", _) => SmolStr::from(it.string().into_boxed_str()),
+        ("from_cow_str", 0) => SmolStr::from(Cow::Borrowed(text)),
+        ("from_cow_str", _) => SmolStr::from(Cow::<str>::Owned(it.string())),
+        ("from_rc_str", _) => SmolStr::from(Arc::<str>::from(text)),
+        ("into_rc_str", _) => SmolStr::from(Arc::<str>::from(take(&mut m.values[it.from]))),
+        ("from_builder", 0) => SmolStr::from(take(&mut m.builders[it.from])),
+        ("from_builder", _) => take(&mut m.builders[it.from]).finish(),
+        ("from_chars" | "collect", 0) => pinned(text.chars().collect()),
+        ("from_chars", 1) | ("collect", 4) => pinned(text.chars().rev().collect()),
+        ("from_chars", 2) => pinned(text.chars().take(count).collect()),
+        ("from_chars", 3) => pinned(text.chars().skip(count).collect()),
+        ("from_chars", _) => pinned(text.chars().filter(|c| *c != 'a').collect()),
+        ("from_strs", 0) | ("collect", 1) => pinned(it.strs().into_iter().collect()),
+        ("from_strs", _) => pinned(text.split(' ').collect()),
+        ("from_strings", _) | ("collect", 2) => pinned(it.strings().into_iter().collect()),
+        ("from_string_refs", _) | ("collect", 3) => pinned(it.strings().iter().collect()),
+        ("collect", _) => pinned(text.lines().collect()),
+        ("join", form) => SmolStr::from(it.strs().join(if form == 0 { "" } else { ", " })),
+        ("to_smolstr", 0) => text.to_smolstr(),
+        ("to_smolstr", 1) => it.string().to_smolstr(),
+        ("to_smolstr", 2) => m.values[it.from].to_smolstr(),
+        ("to_smolstr", 3) => it.number.to_smolstr(),
+        ("to_smolstr", 4) => it.number.cast_signed().to_smolstr(),
+        ("to_smolstr", _) => it.character().to_smolstr(),
+        ("format_smolstr", form) => formatted(it, &m.values[it.from], form),
+        _ => return change(m, it),
+    };
+    m.keep(it, made)
+}
+
+fn formatted(it: &Call, value: &SmolStr, form: usize) -> SmolStr {
+    let (number, width, digits, text) = (it.number, it.width, it.digits, it.text(0));
+    match form {
+        0 => format_smolstr!("{value}"),
+        1 => format_smolstr!("{text}{value}"),
+        2 => format_smolstr!("{value:>width$}|{text:.digits$}"),
+        3 => format_smolstr!("{number:05}{number:#x}{value:?}{text:?}"),
+        4 => format_smolstr!("{:>width$}", ""),
+        5 => format_smolstr!("\n\n{:width$}", ""),
+        6 => format_smolstr!("{}-{:02}-{{}}", text, number),
+        _ => format_smolstr!("{text:é^width$.digits$}"),
+    }
+}
+
+/// Case and replacement, of a text or of a value's.
+fn change(m: &mut Machine, it: &Call) {
+    let text = if it.form == 1 { m.values[it.from].as_str() } else { it.text(0) };
+    let (from, to) = (it.text(1), it.text(2));
+    let made = match it.name.as_str() {
+        "to_ascii_lowercase_smolstr" => text.to_ascii_lowercase_smolstr(),
+        "to_ascii_uppercase_smolstr" => text.to_ascii_uppercase_smolstr(),
+        // "`to_lowercase_smolstr` lowers a short text character by character"
+        "to_lowercase_smolstr" if text.len() <= INLINE_CAP && text.contains('Σ') => text.to_lowercase().into(),
+        "to_lowercase_smolstr" => text.to_lowercase_smolstr(),
+        "to_uppercase_smolstr" => text.to_uppercase_smolstr(),
+        "replace_smolstr" => text.replace_smolstr(from, to),
+        "replacen_smolstr" => text.replacen_smolstr(from, to, it.number as usize),
+        _ => return read(m, it),
+    };
+    m.keep(it, made)
+}
+
+/// Calls that read values.
+fn read(m: &mut Machine, it: &Call) {
+    let (left, right, text) = (m.values[it.to].clone(), m.values[it.from].clone(), it.text(0));
+    match it.name.as_str() {
+        "compare" => {
+            m.say([left == right, left != right]);
+            m.say([left < right, left <= right, left > right, left >= right]);
+            m.say([left.cmp(&right), left.partial_cmp(&right).unwrap()]);
+            let mut hasher = DefaultHasher::new();
+            left.hash(&mut hasher);
+            m.say(hasher.finish())
+        }
+        "compare_str" => {
+            m.say([right == *text, it.string() == right]);
+            m.say([right.partial_cmp(text).unwrap(), right.partial_cmp(&it.string()).unwrap()])
+        }
+        "into_string" => {
+            let string = String::from(take(&mut m.values[it.from]));
+            m.show(string)
+        }
+        "next_match" => {
+            let from = it.number as usize;
+            m.say(text[from..].find(it.text(1)).map(|at| from + at))
+        }
+        "print" => m.show(print(it, &right)),
+        _ => grow(m, it),
+    }
+}
+
+fn print(it: &Call, value: &SmolStr) -> String {
+    let (width, digits) = (it.width, it.digits);
+    match it.form {
+        0 => format!("{value}"),
+        1 => format!("{value:width$}"),
+        2 => format!("{value:>width$}"),
+        3 => format!("{value:é^width$}"),
+        4 => format!("{value:🦀<width$}"),
+        5 => format!("{value:.digits$}"),
+        6 => format!("{value:-^width$.digits$}"),
+        7 => format!("{value:?}"),
+        8 => format!("{value:>width$?}"),
+        _ => format!("<{value:>3}|{value:5.1}|{value:012}|{value:#?}>"),
+    }
+}
+
+/// Calls on builders.
+fn grow(m: &mut Machine, it: &Call) {
+    let (text, character, number, width) = (it.text(0), it.character(), it.number, it.width);
+    let mut builder = take(&mut m.builders[it.to]);
+    let value = &m.values[it.from];
+    match (it.name.as_str(), it.form) {
+        ("builder_new", _) => builder = SmolStrBuilder::new(),
+        ("with_capacity", _) => builder = SmolStrBuilder::with_capacity(width),
+        ("builder_clone", _) => builder = m.builders[it.from].clone(),
+        ("builder_eq", _) => m.say([builder == m.builders[it.from], builder != m.builders[it.from]]),
+        ("push", _) => builder.push(character),
+        ("push_str", 0 | 1) => builder.push_str(text),
+        ("push_str", _) => builder.push_str(value),
+        ("extend" | "extend_chars", 0) => builder.extend(text.chars()),
+        ("extend", 1) | ("extend_strs", _) => builder.extend(it.strs()),
+        ("extend", 2) | ("extend_strings", _) => builder.extend(it.strings().iter()),
+        ("extend", _) => builder.extend(text.chars().rev()),
+        ("write", 0) => write!(builder, "{text}{value}").unwrap(),
+        ("write", 1) => write!(builder, "{value:?}{number}{text:>width$}").unwrap(),
+        ("write", 2) => builder.write_str(text).unwrap(),
+        ("write", _) => builder.write_char(character).unwrap(),
+        _ => {
+            m.builders[it.to] = builder;
+            return wire(m, it);
+        }
+    }
+    m.keep_builder(it, builder)
+}
+
+/// The wire form, by a reader and a writer that move few bytes a call and may fail at a byte.
+fn wire(m: &mut Machine, it: &Call) {
+    let bytes = it.texts.first().map_or(&[][..], Vec::as_slice);
+    let mut slow = Slow { rest: bytes, written: vec![], moved: 0, step: it.width, end: it.digits, fails: it.form > 0 };
+    match it.name.as_str() {
+        "serialize" => {
+            let done = m.values[it.from].serialize(&mut slow);
+            m.show(&slow.written);
+            m.say(done.is_ok())
+        }
+        "from_wire" | "split_wire" => {
+            let mut rest = bytes;
+            let made = SmolStr::deserialize_reader(&mut rest);
+            keep_read(m, it, made, if it.name == "from_wire" { bytes.len() - rest.len() } else { rest.len() })
+        }
+        "deserialize_reader" => {
+            let made = SmolStr::deserialize_reader(&mut slow);
+            keep_read(m, it, made, slow.moved)
+        }
+        _ => json_of(m, it),
+    }
+}
+
+/// "the error is an `io::Error` with a text": by it what is not UTF-8 is known.
+fn keep_read(m: &mut Machine, it: &Call, made: Result<SmolStr, Error>, count: usize) {
+    match made {
+        Ok(value) => {
+            m.say(count);
+            m.keep(it, value)
+        }
+        Err(fault) if fault.to_string().contains("utf-8") => write!(m.out, " {fault}").unwrap(),
+        Err(fault) => match fault.kind() {
+            ErrorKind::UnexpectedEof | ErrorKind::InvalidData => m.out.push_str(" ended"),
+            kind => m.say(kind),
+        },
+    }
+}
+
+/// Moves at most `step` bytes a call; at byte `end` it fails, where it does.
+struct Slow<'a> {
+    rest: &'a [u8],
+    written: Vec<u8>,
+    moved: usize,
+    step: usize,
+    end: usize,
+    fails: bool,
+}
+
+impl Slow<'_> {
+    /// How many of so many bytes the next call moves.
+    fn next(&mut self, wanted: usize) -> Result<usize, Error> {
+        let most = if self.fails { self.end.saturating_sub(self.moved) } else { wanted };
+        if most == 0 && wanted > 0 {
+            return Err(ErrorKind::BrokenPipe.into());
+        }
+        let count = wanted.min(self.step).min(most);
+        self.moved += count;
+        Ok(count)
+    }
+}
+
+impl Read for Slow<'_> {
+    fn read(&mut self, buf: &mut [u8]) -> Result<usize, Error> {
+        let count = self.next(buf.len().min(self.rest.len()))?;
+        self.rest.read(&mut buf[..count])
+    }
+}
+
+impl Write for Slow<'_> {
+    fn write(&mut self, buf: &[u8]) -> Result<usize, Error> {
+        let count = self.next(buf.len())?;
+        self.written.extend_from_slice(&buf[..count]);
+        Ok(count)
+    }
+    fn flush(&mut self) -> Result<(), Error> { Ok(()) }
+}
+
+fn json_of(m: &mut Machine, it: &Call) {
+    let (text, value) = (it.text(0), &m.values[it.from]);
+    let made = match (it.name.as_str(), it.form) {
+        ("to_json", 0 | 2) => return m.show(serde_json::to_string(value).unwrap()),
+        ("to_json", 1) => return m.show(serde_json::to_string(&SmolStr::new(text)).unwrap()),
+        ("to_json", 3) => return m.show(json!({ "name": value, "times": it.number }).to_string()),
+        ("to_json", _) => return m.show(serde_json::to_value(value).unwrap().as_str().unwrap()),
+        ("from_json", _) => match serde_json::from_str(text) {
+            // "a value that is no string is the deserializer's error, where it stands"
+            Err(_) if serde_json::from_str::<Value>(text).is_ok() => return write!(m.out, " not a string").unwrap(),
+            made => made.ok(),
+        },
+        ("from_value", _) => serde_json::from_str(text).ok().and_then(|it: Value| serde_json::from_value(it).ok()),
+        ("from_str_by_serde", 0) => serde_json::from_str(text).ok(),
+        ("from_str_by_serde", _) => {
+            let entry = serde_json::from_str(text).ok().filter(|it: &Value| it["times"].is_u64());
+            entry.and_then(|it| serde_json::from_value(it["name"].clone()).ok())
+        }
+        ("from_utf8", _) => match SmolStr::from_utf8(it.texts[0].as_slice()) {
+            Ok(value) => Some(value),
+            Err(fault) => return write!(m.out, " {fault}").unwrap(),
+        },
+        _ => return m.out.push_str(" failed"),
+    };
+    match made {
+        Some(value) => m.keep(it, value),
+        None => write!(m.out, " no value").unwrap(),
+    }
+}
+
+fn main() {
+    let mut machine = Machine::default();
+    for line in std::io::read_to_string(std::io::stdin()).unwrap().lines() {
+        let call = Call::read(line);
+        machine.out.push_str(&call.name);
+        make(&mut machine, &call);
+        machine.out.push('\n');
+    }
+    print!("{}", machine.out);
+}
