@@ -84,6 +84,77 @@ fn check_read(test: &Test, json: &str, text: &str) {
     }
 }
 
+/// Escapes by number, and what is nearly one, up to the end of a string. What they stand for is not said here: serde_json's
+/// own reader says it.
+static BY_NUMBER: [&str; 38] = [
+    // One to three bytes of UTF-8 at the ends of their ranges, digits in both cases.
+    "\\u0000\\u007f\"",
+    "\\u0080\\u07ff\"",
+    "\\u0800\\uffff\"",
+    "\\u00e9\\u00E9\\u20ac\\u20AC\"",
+    "\\uabcd\\uABCD\\uFfFd\"",
+    "\\u0022\\u005c\\u002f\\u000A\"",
+    // Pairs, the least and the greatest, and the code units beside surrogates.
+    "\\ud83e\\udd80\"",
+    "\\uD83E\\uDD80\"",
+    "\\ud83E\\uDd80\"",
+    "\\ud800\\udc00\\udbff\\udfff\"",
+    "\\ud7ff\\ue000\"",
+    "é\\ud83e\\udd80é\\n\\u00e9\"",
+    // Surrogates without their other half.
+    "\\ud800\"",
+    "\\udbff\"",
+    "\\udc00\"",
+    "\\udfff\"",
+    "\\ud800a\"",
+    "\\ud800\\n\"",
+    "\\ud800\\u0041\"",
+    "\\ud800\\ud800\\udc00\"",
+    "\\udc00\\ud800\"",
+    "\\ud800\\udbff\"",
+    "\\ud800\\ue000\"",
+    "\\ud83eudd80\"",
+    "\\ud83e\\\\udd80\"",
+    // Digits that are missing or are none.
+    "\\u\"",
+    "\\u00e\"",
+    "\\u00eg\"",
+    "\\u00éa\"",
+    "\\u+0e9\"",
+    "\\u 0e9\"",
+    "\\U00e9\"",
+    "\\ud83e\\udd8\"",
+    // No end.
+    "\\u00e9",
+    "\\u00e",
+    "\\ud83e\\udd80",
+    "\\ud83e\\",
+    "\\",
+];
+
+// At the front of a string, at both sides of a buffer's end, and behind much text.
+#[test]
+fn escapes_by_number(rt: HostRuntime) -> Result<(), Fail> {
+    let test = Test::begin(rt);
+    for &size in &[0, 37, 38, 39, 40, 300] {
+        let letters = test.repeated("a", size);
+        for &end in &BY_NUMBER {
+            let string = test.joined(letters.as_str(), end);
+            check_as_serde_json(&test, test.joined("\"", string.as_str()).as_str());
+        }
+    }
+    test.end()
+}
+
+/// The text or the error is that of serde_json's own reader.
+fn check_as_serde_json(test: &Test, json: &str) {
+    match Value::from_str(test.alloc, json) {
+        Ok(Value::String(text)) => check_read(test, json, text.as_str()),
+        Ok(_) => test.fail(&("no string:", json)),
+        Err(_) => check_not_read(test, json, false),
+    }
+}
+
 /// The escapes of two bytes, and what they stand for.
 static ESCAPES: [&str; 7] = ["\\\"", "\\\\", "\\b", "\\f", "\\n", "\\r", "\\t"];
 
