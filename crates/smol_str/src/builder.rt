@@ -221,6 +221,19 @@ impl SmolStrBuilder {
         self.push_str(blank_text(newlines, spaces))
     }
 
+    /// Like [`SmolStrBuilder::push_with_spare`], but looks for the heap first: for loops over the pieces of a long text.
+    #[inline(always)]
+    pub(crate) fn push_piece(&mut self, text: &str, spare: usize) -> Result<(), AllocError>
+        ensures ok { OnOk result (self.new ≡ appended self.old (chars text.now)) }
+        ensures unchanged { OnErr result (self.new ≡ self.old) }
+        ensures refused { OnErr result ((appended self.old (chars text.now)).kind ≡ OnHeap) }
+    {
+        if let BuilderRepr::Heap(heap) = &mut self.repr {
+            return heap.push_str(text);
+        }
+        self.push_with_spare(text, spare)
+    }
+
     /// Appends a text with which the builder stays in its buffer; `false` where it would not.
     #[inline(always)]
     fn push_short(&mut self, text: &str) -> bool

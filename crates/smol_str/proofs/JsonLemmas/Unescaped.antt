@@ -1,10 +1,10 @@
 -- What the characters and escapes of a JSON string stand for, from the front.
 use Rattle.smol_str.proofs.Common.{◌≡◌, ◌<◌, ◌≤◌, ◌⊎◌, ℕ, List, [], ◌∷◌, ◌++◌, Bool, true, false, cond, ◌&&◌, IsTrue, Option, Some, None, refl, sym, ap, ◌∙◌, arith, common_steps, nat_tests, list_all, append_assoc, append-nil, encodes-append, encodes-chars, encode_utf8}
-use Rattle.std.specs.Char.{digit_value, is_digit}
+use Rattle.std.specs.Char.{is_digit}
 use Rattle.std.proofs.lemmas.Str.{encode_ascii}
 use Rattle.smol_str.specs.Plain.{is_plain}
 use Rattle.smol_str.specs.Unescaped.{Unescapes, UnescapesAfterU, BeginsWithUnit, IsSurrogatePair}
-use Rattle.json.specs.Text.{content, plain, after_u, prepend, code_unit, short_escape, surrogate_pair}
+use Rattle.json.specs.Text.{content, plain, prepend, code_unit, short_escape}
 use Rattle.json.specs.Lex.{lex, in_string}
 
 -- ---- piece by piece

@@ -179,9 +179,9 @@ fn push_matches(
         };
         let found = index + skipped;
         left = left.saturating_sub(skipped);
-        builder.push_with_spare(&text[index..found], left)?;
+        builder.push_piece(&text[index..found], left)?;
         left = left.saturating_sub(step);
-        builder.push_with_spare(to, left)?;
+        builder.push_piece(to, left)?;
         index = found + from.len();
     }
     Ok(index)
