@@ -9,7 +9,7 @@ use Rattle.std.specs.Option.{is_some}
 use Rattle.std.specs.Char.Unicode.ToLowercase.{to_lowercase}
 use Rattle.std.specs.StrCase.Lower.{lowercase_chars, is_in_word_after}
 use Rattle.std.proofs.lemmas.Grind.{flat_map-append}
-use Rattle.smol_str.proofs.TextLemmas.Places.{OnErr-always, size-chars, some_char, chars-empty}
+use Rattle.smol_str.proofs.TextLemmas.Places.{OnErr-always, size-chars, some_char}
 use Rattle.smol_str.proofs.BuilderLemmas.Draft.{OnHeap-long, appended-twice}
 
 pub IsAscii-front : (t : List ℕ) → IsAscii (front t)
@@ -85,7 +85,7 @@ full-front case t =
     let k = front_first case (front t) p.0 (IsAscii-front t) in (k.0, ap (full_case case) p.1 ∙ k.1)
 
 -- no text without characters has a character that is mapped by what stands around it
-pub alone-nil : (case : AsciiCase) → IsMappedAlone case []
+alone-nil : (case : AsciiCase) → IsMappedAlone case []
 alone-nil Lower = λ o. omega (arith, ap length o.2, length-append o.0 (0x3A3 ∷ o.1))
 alone-nil Upper = tt
 
@@ -150,4 +150,4 @@ pub ruleset short_texts = (OnErr-always, ascii-converted, full-ascii)
 
 pub ruleset short_fronts = (OnErr-always, front-refused, short-text, short-refused)
 
-pub ruleset contexts = (none-found, alone-nil, alone-lower, chars-empty, some_char, nat_tests)
+pub ruleset contexts = (none-found, alone-lower, some_char, nat_tests)

@@ -5,7 +5,7 @@ ghost use Rattle.std.specs.Str.{chars};
 ghost use Rattle.smol_str.specs.Text.{IsShort};
 ghost use Rattle.smol_str.specs.Meaning.{IsValueOf};
 ghost use Rattle.smol_str.specs.Draft.{InBuffer, OnHeap, empty_draft, appended};
-ghost use Rattle.smol_str.specs.Case.{front, converted, full_case, mapped, IsMappedAlone};
+ghost use Rattle.smol_str.specs.Case.{front, converted, full_case, lowercased, mapped, IsMappedAlone};
 ghost use Rattle.smol_str.specs.declared.bytes.ascii.AsciiCase.TheVariants.{Lower};
 
 use super::ascii_case::to_ascii_case_on_heap;
@@ -63,7 +63,7 @@ fn short_full_case(alloc: Global, text: &str, case: AsciiCase) -> Result<SmolStr
     let mut builder = SmolStrBuilder::new(alloc);
     let rest = push_front(&mut builder, text, case)?;
     if has_context(rest, case) {
-        return by_characters(alloc, text, case);
+        return by_context(alloc, text);
     }
     push_mapped(&mut builder, rest, case)?;
     builder.into_value()
@@ -95,27 +95,23 @@ fn by_characters(alloc: Global, text: &str, case: AsciiCase) -> Result<SmolStr, 
     ensures ok { IfOk result (λ v. IsValueOf (full_case case (chars text.now)) v) }
     ensures refused { OnErr result (¬ (IsShort (full_case case (chars text.now)))) }
 {
+    if has_context(text, case) {
+        return by_context(alloc, text);
+    }
     let mut builder = SmolStrBuilder::new(alloc);
-    push_full_case(&mut builder, text, case)?;
+    push_mapped(&mut builder, text, case)?;
     builder.into_value()
 }
 
-/// Appends a text in a case to a new builder.
+/// The text in lower case, each capital sigma by what stands around it.
 #[tactic(auto, using(crate::proofs::CaseLemmas::Full::whole_texts))]
-fn push_full_case(
-    builder: &mut SmolStrBuilder,
-    text: &str,
-    case: AsciiCase,
-) -> Result<(), AllocError>
-    requires { builder.old ≡ empty_draft InBuffer }
-    ensures ok { OnOk result (builder.new ≡ appended builder.old (full_case case (chars text.now))) }
-    ensures refused { OnErr result
-        ((appended builder.old (full_case case (chars text.now))).kind ≡ OnHeap) }
+fn by_context(alloc: Global, text: &str) -> Result<SmolStr, AllocError>
+    ensures ok { IfOk result (λ v. IsValueOf (lowercased (chars text.now)) v) }
+    ensures refused { OnErr result (¬ (IsShort (lowercased (chars text.now)))) }
 {
-    if has_context(text, case) {
-        return push_lowercase(builder, text);
-    }
-    push_mapped(builder, text, case)
+    let mut builder = SmolStrBuilder::new(alloc);
+    push_lowercase(&mut builder, text)?;
+    builder.into_value()
 }
 
 /// Whether a character is mapped by what stands around it.
@@ -125,7 +121,7 @@ fn has_context(text: &str, case: AsciiCase) -> bool
     ensures lower { IsTrue result → case ≡ Lower }
 {
     match case {
-        AsciiCase::Lower => !text.is_empty() && next_match(text, 0, "Σ").is_some(),
+        AsciiCase::Lower => next_match(text, 0, "Σ").is_some(),
         AsciiCase::Upper => false,
     }
 }
