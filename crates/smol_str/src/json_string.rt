@@ -25,8 +25,7 @@ ghost use Rattle.smol_str.specs.declared.json_string.JsonFault.TheVariants.{OutO
 
 use crate::builder::SmolStrBuilder;
 use crate::bytes::plain::{
-    is_all_plain, is_all_spaces, plain_len, split_ascii, split_at_escape, split_plain, strip_ascii,
-    without_spaces,
+    is_all_plain, is_all_spaces, plain_len, split_ascii, split_plain, strip_ascii, without_spaces,
 };
 use crate::value::SmolStr;
 use serde_json::{ToValue, Value};
@@ -181,18 +180,47 @@ fn escaped(alloc: Global, text: &str) -> Result<String, AllocError>
     json.push('"')?;
     let mut rest = text;
     loop {
-        let (plain, behind) = split_at_escape(rest);
-        if !plain.is_empty() {
-            json.push_str(plain)?;
-        }
+        let (plain, behind) = split_plain(rest);
+        json.push_str(plain)?;
         let Some((byte, after)) = split_ascii(behind) else {
             break;
         };
         push_escape(&mut json, byte)?;
-        rest = after;
+        rest = push_escapes(&mut json, after)?;
     }
     json.push('"')?;
     Ok(json)
+}
+
+/// Appends the escapes of the bytes that come first and are not plain, so that a run of them is not searched; returns what
+/// comes after them.
+#[inline(always)]
+#[tactic(auto, using(crate::proofs::JsonLemmas::pieces))]
+fn push_escapes<'a>(json: &mut String, text: &'a str) -> Result<&'a str, AllocError>
+    ensures escapes { IfOk result (λ rest.
+        string_bytes json.new ++ escape rest.now ≡ string_bytes json.old ++ escape text.now) }
+    ensures shorter { IfOk result (λ rest. length rest.now ≤ length text.now) }
+{
+    let mut rest = text;
+    while let Some((byte, after)) = split_escaped(rest) {
+        push_escape(json, byte)?;
+        rest = after;
+    }
+    Ok(rest)
+}
+
+/// The first byte of a text where it is not plain, and the rest.
+#[inline(always)]
+fn split_escaped(text: &str) -> Option<(u8, &str)>
+    ensures byte { IfSome result (λ cut. is_plain cut.0 ≡ false) }
+    ensures text { IfSome result (λ cut. text.now ≡ cut.0 ∷ cut.1.now) }
+{
+    let (byte, rest) = split_ascii(text)?;
+    if byte == b'"' || byte == b'\\' || byte < b' ' {
+        Some((byte, rest))
+    } else {
+        None
+    }
 }
 
 /// Appends the escape of a byte that is not plain.
@@ -201,30 +229,34 @@ fn push_escape(json: &mut String, byte: u8) -> Result<(), AllocError>
     requires { is_plain byte ≡ false }
     ensures { OnOk result (string_bytes json.new ≡ string_bytes json.old ++ escape_byte byte) }
 {
-    match letter_escape(byte) {
-        Some(escape) => json.push_str(escape),
+    match letter_for(byte) {
+        Some(letter) => {
+            json.push('\\')?;
+            json.push(letter)
+        }
         None => push_control(json, byte),
     }
 }
 
-/// The escape of two bytes for a byte that is not plain, where there is one.
+/// The letter that stands behind a backslash for a byte that is not plain, where there is one.
 #[inline(always)]
 #[tactic(auto, unfolding(json::specs::Print::escape_byte))]
-fn letter_escape(byte: u8) -> Option<&'static str>
+fn letter_for(byte: u8) -> Option<char>
     requires { is_plain byte ≡ false }
-    ensures escape { IfSome result (λ escape. escape.now ≡ escape_byte byte) }
+    ensures ascii { IfSome result (λ letter. letter < 128) }
+    ensures escape { IfSome result (λ letter. escape_byte byte ≡ 92 ∷ letter ∷ []) }
     ensures control { result ≡ None → byte < 32 }
     ensures number { result ≡ None → escape_byte byte ≡
         92 ∷ 117 ∷ 48 ∷ 48 ∷ digit_char (byte / 16) ∷ digit_char (byte % 16) ∷ [] }
 {
     match byte {
-        b'"' => Some("\\\""),
-        b'\\' => Some("\\\\"),
-        8 => Some("\\b"),
-        b'\t' => Some("\\t"),
-        b'\n' => Some("\\n"),
-        12 => Some("\\f"),
-        b'\r' => Some("\\r"),
+        b'"' => Some('"'),
+        b'\\' => Some('\\'),
+        8 => Some('b'),
+        b'\t' => Some('t'),
+        b'\n' => Some('n'),
+        12 => Some('f'),
+        b'\r' => Some('r'),
         _ => None,
     }
 }
@@ -346,26 +378,31 @@ fn push_unescaped<'a>(builder: &mut SmolStrBuilder, text: &'a str) -> Result<&'a
 {
     let mut rest = text;
     loop {
-        let (plain, behind) = split_at_escape(rest);
-        push_plain(builder, plain, behind.len())?;
+        let (plain, behind) = split_plain(rest);
+        builder.push_with_spare(plain, behind.len())?;
         let Some((character, after)) = split_escape(behind) else {
             return Ok(behind);
         };
         builder.push_next(character)?;
-        rest = after;
+        rest = push_characters(builder, after)?;
     }
 }
 
-/// Appends a text behind which some `spare` bytes are to come; between two escapes there is none.
+/// Appends the characters of the escapes that come first, so that a run of them is not searched; returns what comes after
+/// them.
 #[inline(always)]
-#[tactic(auto, using(crate::proofs::JsonLemmas::Unescaped::pieces_read))]
-fn push_plain(builder: &mut SmolStrBuilder, text: &str, spare: usize) -> Result<(), AllocError>
-    ensures { OnOk result (builder.new.text ≡ builder.old.text ++ chars text.now) }
+fn push_characters<'a>(builder: &mut SmolStrBuilder, text: &'a str) -> Result<&'a str, AllocError>
+    ensures unescapes { IfOk result (λ rest. (whole : List ℕ) →
+        Unescapes whole (encode_utf8_all builder.old.text) text.now →
+        Unescapes whole (encode_utf8_all builder.new.text) rest.now) }
+    ensures shorter { IfOk result (λ rest. length rest.now ≤ length text.now) }
 {
-    if text.is_empty() {
-        return Ok(());
+    let mut rest = text;
+    while let Some((character, after)) = split_escape(rest) {
+        builder.push_next(character)?;
+        rest = after;
     }
-    builder.push_with_spare(text, spare)
+    Ok(rest)
 }
 
 /// The character that an escape stands for, and what comes after it.

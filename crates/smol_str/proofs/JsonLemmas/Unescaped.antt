@@ -1,5 +1,5 @@
 -- What the characters and escapes of a JSON string stand for, from the front.
-use Rattle.smol_str.proofs.Common.{◌≡◌, ◌<◌, ◌≤◌, ◌⊎◌, ℕ, List, [], ◌∷◌, ◌++◌, Bool, true, false, cond, ◌&&◌, IsTrue, Option, Some, None, refl, sym, ap, ◌∙◌, arith, common_steps, nat_tests, list_all, append_assoc, append-nil, encodes-append, encodes-chars, encode_utf8}
+use Rattle.smol_str.proofs.Common.{◌≡◌, ◌<◌, ◌≤◌, ◌⊎◌, ℕ, List, [], ◌∷◌, ◌++◌, Bool, true, false, cond, ◌&&◌, IsTrue, Option, Some, None, refl, sym, ap, ◌∙◌, arith, common_steps, nat_tests, list_all, append_assoc, append-nil, encodes-append, encodes-chars, encode_utf8, encode_utf8_all}
 use Rattle.std.specs.Char.{is_digit}
 use Rattle.std.proofs.lemmas.Str.{encode_ascii}
 use Rattle.smol_str.specs.Plain.{is_plain}
@@ -22,6 +22,13 @@ Unescapes-nothing text = (sym (prepend-nil _), refl)
 
 pub Unescapes-more : (text s rest more after : List ℕ) → Unescapes text s rest → Unescapes rest more after → Unescapes text (s ++ more) after
 Unescapes-more text s rest more after h k = (h.0 ∙ ap (prepend s) k.0 ∙ prepend-prepend s more _, h.1 ∙ k.1)
+
+-- a character more
+pub Unescapes-character : (text t rest : List ℕ) (c : ℕ) (u after : List ℕ) → Unescapes text (encode_utf8_all t) rest
+    → Unescapes rest (encode_utf8 c) after → u ≡ t ++ c ∷ [] → Unescapes text (encode_utf8_all u) after
+Unescapes-character text t rest c u after h k is =
+    let bytes : encode_utf8_all u ≡ encode_utf8_all t ++ encode_utf8 c = grind (arith, common_steps, encodes-append, append-nil) in
+    rw bytes (Unescapes-more text _ rest _ after h k)
 
 -- a byte that is neither a quote nor a backslash leaves the string open
 lex-inside : (x : ℕ) (r : List ℕ) → (x ≡ 34 → ⊥) → (x ≡ 92 → ⊥) → lex in_string (x ∷ r) ≡ lex in_string r

@@ -20,21 +20,6 @@ pub(crate) fn split_plain(text: &str) -> (&str, &str)
     text.split_at(plain_len(text.as_bytes()))
 }
 
-/// The same as [`split_plain`], where escapes may follow each other: text that begins with one is not searched.
-#[inline(always)]
-#[tactic(auto, using(crate::proofs::PlainLemmas::fronts))]
-pub(crate) fn split_at_escape(text: &str) -> (&str, &str)
-    ensures whole { text.now ≡ result.0.now ++ result.1.now }
-    ensures plain { list_all is_plain result.0.now ≡ true }
-    ensures escape { escape result.0.now ≡ result.0.now }
-    ensures stops { 0 < length result.1.now → is_plain (slice_index result.1.now 0) ≡ false }
-{
-    match text.as_bytes().first() {
-        Some(b'"' | b'\\' | 0..b' ') => ("", text),
-        _ => split_plain(text),
-    }
-}
-
 /// Whether the text is plain as a whole.
 #[inline(always)]
 #[tactic(auto, using(crate::proofs::PlainLemmas::runs))]
@@ -60,15 +45,13 @@ pub(crate) fn split_ascii(text: &str) -> Option<(u8, &str)>
 
 /// The text behind an ASCII character with which it begins.
 #[inline(always)]
+#[tactic(auto, using(std::proofs::lemmas::Str::Pattern::strip_prefix_char))]
 pub(crate) fn strip_ascii(text: &str, byte: u8) -> Option<&str>
     requires { byte < 128 }
     ensures { MatchOption result ((rest : List ℕ) → ¬ (text.now ≡ byte ∷ rest))
         (λ rest. text.now ≡ byte ∷ rest.now) }
 {
-    match split_ascii(text) {
-        Some((first, rest)) if first == byte => Some(rest),
-        _ => None,
-    }
+    text.strip_prefix(byte as char)
 }
 
 /// How many plain bytes come first. Where there are few, few are tested at a time.
