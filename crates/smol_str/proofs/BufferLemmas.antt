@@ -1,3 +1,4 @@
 pub mod Packed
 pub mod Words
 pub mod WordOrder
+pub mod Ends

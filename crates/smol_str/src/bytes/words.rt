@@ -68,8 +68,8 @@ fn read_u32(bytes: &[u8], at: usize) -> u64
     u32::from_le_bytes(*bytes[at..].first_chunk::<4>().unwrap()) as u64
 }
 
-/// Whether the texts are equal. From 8 to 32 bytes they are compared by two or four words, which takes fewer instructions
-/// than std's comparison; that is as good for others.
+/// Whether the texts are equal. From 8 to 128 bytes they are compared by blocks that may overlap, which takes fewer
+/// instructions than std's loop; that is as good for others.
 #[inline(always)]
 pub(crate) fn same_text(left: &str, right: &str) -> bool
     ensures { result ≡ pointwise nat_eq left.now right.now }
@@ -78,10 +78,36 @@ pub(crate) fn same_text(left: &str, right: &str) -> bool
     if len != right.len() {
         return false;
     }
-    if len < 8 || len > 32 {
-        return left == right;
+    match len {
+        8..=32 => same_bytes(left.as_bytes(), right.as_bytes()),
+        33..=64 => same_ends::<32>(left.as_bytes(), right.as_bytes()),
+        65..=128 => same_ends::<64>(left.as_bytes(), right.as_bytes()),
+        _ => left == right,
     }
-    same_bytes(left.as_bytes(), right.as_bytes())
+}
+
+/// Whether the bytes are equal: the first `N` and the last, which may overlap.
+#[inline(always)]
+fn same_ends<const N: usize>(left: &[u8], right: &[u8]) -> bool
+    requires few { (0 < N) × (N ≤ 64) }
+    requires long { length left.now ≡ length right.now }
+    requires least { N ≤ length left.now }
+    requires most { length left.now ≤ N + N }
+    ensures { result ≡ pointwise nat_eq left.now right.now }
+{
+    let last = left.len() - N;
+    same_lanes::<N>(left, right, 0) & same_lanes::<N>(left, right, last)
+}
+
+/// Whether the `N` bytes from an index on are equal.
+#[inline(always)]
+fn same_lanes<const N: usize>(left: &[u8], right: &[u8], at: usize) -> bool
+    requires few { (0 < N) × (N ≤ 64) }
+    requires in_left { at + N ≤ length left.now }
+    requires in_right { at + N ≤ length right.now }
+    ensures { IsTrue result ↔ (take N (drop at left.now) ≡ take N (drop at right.now)) }
+{
+    !load::<N>(left, at).simd_ne(load::<N>(right, at)).any()
 }
 
 /// Whether the bytes are equal: the first words and the last, which may overlap.
