@@ -1,5 +1,5 @@
-//! Ten calls of the library, for `bench/program --check`: `calls NAME ROUNDS` makes one so many times of the text of standard
-//! input, and prints a sum. It is small, since `./check` proves it; rows.rt.txt has more calls, and no more work between two.
+//! Ten calls of the library, whose instructions `bench/program --check` counts: `counted_calls NAME ROUNDS` makes one so many
+//! times of the text of standard input, and prints a sum.
 #![tactic(auto)]
 
 use smol_str::borsh::BorshSerialize;
@@ -12,7 +12,9 @@ use std::hash::{DefaultHasher, Hash, Hasher};
 use std::process::ExitCode;
 
 fn main(rt: HostRuntime) -> ExitCode {
-    let Some(sum) = run(&rt) else { return ExitCode::from(1) };
+    let Some(sum) = run(&rt) else {
+        return ExitCode::from(1)
+    };
     let _ = println!(rt; "{sum}");
     ExitCode::SUCCESS
 }
@@ -20,10 +22,15 @@ fn main(rt: HostRuntime) -> ExitCode {
 fn run(rt: &HostRuntime) -> Option<u64> {
     let alloc = rt.alloc();
     let words: Vec<String> = env::args(rt).ok()?.skip(1).collect(alloc).ok()?;
-    let [name, rounds] = words.as_slice() else { return None };
+    let [name, rounds] = words.as_slice() else {
+        return None
+    };
     let input = read_all(alloc, &mut rt.stdin()).ok()?;
     let text = str::from_utf8(input.as_slice()).ok()?;
-    let (left, right) = (SmolStr::new(alloc, text).ok()?, SmolStr::new(alloc, text).ok()?);
+    let (left, right) = (
+        SmolStr::new(alloc, text).ok()?,
+        SmolStr::new(alloc, text).ok()?,
+    );
     let json = to_json(alloc, &left).ok()?;
     let mut sum = 0u64;
     for _ in 0..u64::from_str_radix(rounds, 10).ok()? {
