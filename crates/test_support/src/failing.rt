@@ -2,8 +2,8 @@
 //! call.
 ghost use Rattle.std.specs.Prelude.{Some, ◌≡◌, []};
 
-use crate::refuse::{count_blocks, start_counts};
-use crate::test::{Test, holds, same};
+use crate::memory::start_counts;
+use crate::test::{Test, holds, no_blocks, same};
 use std::alloc::Global;
 use std::fmt::Debug;
 use std::io;
@@ -40,7 +40,8 @@ fn is_tried(place: usize, size: usize, chunk: usize) -> bool {
 
 /// A reader that gives its bytes, at most `step` a call, and returns the error `failure` at the call
 /// `fails_at`, counted from 1. It keeps the least and the greatest length of the buffers that it was
-/// given. It cannot be dropped, so that no test forgets its `end`, which looks for leaks.
+/// given.
+#[derive(Drop)]
 pub struct Trickle<'a> {
     pub rest: &'a [u8],
     pub step: usize,
@@ -69,32 +70,10 @@ impl Read for Trickle<'_> {
     }
 }
 
-impl Trickle<'_> {
-    /// No memory is left that was asked for since the reader was made.
-    pub fn end(self, test: &Test, row: &impl Debug) {
-        let Trickle {
-            rest: _,
-            step: _,
-            calls: _,
-            fails_at: _,
-            failure: _,
-            least: _,
-            most: _,
-        } = self;
-        no_blocks(test, row);
-    }
-}
-
-/// All memory is freed that was asked for since the counts began.
-fn no_blocks(test: &Test, row: &impl Debug) {
-    holds(test, count_blocks(test.alloc) == 0, &(row, "leaks"));
-}
-
 /// A reader of these bytes; it never fails where `fails_at` is 0, and else returns EINTR.
-pub fn trickle_of<'a>(test: &Test, rest: &'a [u8], step: usize, fails_at: usize) -> Trickle<'a>
+pub fn trickle_of<'a>(rest: &'a [u8], step: usize, fails_at: usize) -> Trickle<'a>
     ensures { result.rest.now ≡ rest.now }
 {
-    start_counts(test.alloc);
     Trickle {
         rest,
         step,
@@ -198,14 +177,14 @@ pub fn fails_at_each_read<C: Reading>(
     wanted: &[u8],
 ) {
     for step in steps_about(chunk) {
-        let calls = count_reads(test, call, trickle_of(test, bytes, step, 0), wanted);
+        let calls = count_reads(test, call, trickle_of(bytes, step, 0), wanted);
         for fails_at in 1..calls.saturating_add(1) {
             if is_tried(fails_at.saturating_mul(step), bytes.len(), chunk) {
                 fails_at_read(test, call, bytes, (step, fails_at));
             }
         }
         // a failure after the last read is not met
-        let after = trickle_of(test, bytes, step, calls.saturating_add(1));
+        let after = trickle_of(bytes, step, calls.saturating_add(1));
         let row = (call.name(), bytes.len(), step, calls);
         same(test, &count_reads(test, call, after, wanted), &calls, &row);
     }
@@ -214,6 +193,7 @@ pub fn fails_at_each_read<C: Reading>(
 /// How often the call reads: by single bytes once a byte, and once more where only the reader says that it has ended.
 fn count_reads<C: Reading>(test: &Test, call: &C, mut reader: Trickle<'_>, wanted: &[u8]) -> usize {
     let row = (call.name(), reader.rest.len(), reader.step, reader.fails_at);
+    start_counts(test.alloc);
     match call.read(test, &mut reader) {
         Ok(made) => holds(test, made.as_slice() == wanted, &row),
         Err(kind) => test.fail(&(row, kind)),
@@ -223,9 +203,8 @@ fn count_reads<C: Reading>(test: &Test, call: &C, mut reader: Trickle<'_>, wante
         let at_end = usize::from(call.reads_the_end());
         same(test, &reader.calls.saturating_sub(at_end), &row.1, &row);
     }
-    let calls = reader.calls;
-    reader.end(test, &row);
-    calls
+    no_blocks(test, &row);
+    reader.calls
 }
 
 /// No buffer was empty or too large.
@@ -236,7 +215,8 @@ fn has_read<C: Reading>(test: &Test, call: &C, reader: &Trickle<'_>, row: &Row<'
 
 fn fails_at_read<C: Reading>(test: &Test, call: &C, bytes: &[u8], (step, fails_at): At) {
     let row = (call.name(), bytes.len(), step, fails_at);
-    let mut reader = trickle_of(test, bytes, step, fails_at);
+    let mut reader = trickle_of(bytes, step, fails_at);
+    start_counts(test.alloc);
     if let Some(error) = failure_at(place_of(row)) {
         reader.failure = error;
     }
@@ -245,7 +225,7 @@ fn fails_at_read<C: Reading>(test: &Test, call: &C, bytes: &[u8], (step, fails_a
     same(test, &kind, &Some(wanted), &row);
     same(test, &reader.calls, &fails_at, &row);
     has_read(test, call, &reader, &row);
-    reader.end(test, &row);
+    no_blocks(test, &row);
 }
 
 /// Another number at the next place, and in the next row.

@@ -1,22 +1,29 @@
-//! What the tests of all crates share: a running test and what its rows compare, memory refused and counted, and streams
-//! that fail. A test takes all of it, by `use test_support::*`. This crate does not use the library, so the gate proves both
-//! at once; helpers for values are in `test_values`.
+//! What the tests of all crates share: a running test and what its rows compare, values and texts, memory refused and
+//! counted, the law of memory, and streams that fail. A test takes all of it, by `use test_support::*`.
 #![tactic(auto)]
 
 mod failing;
-mod refuse;
+mod memory;
+mod memory_law;
+mod sampling;
 mod test;
+mod things;
+mod values;
 
 pub use failing::{
     Cause, Drip, Kind, Reading, Trickle, Writing, cause_of, empty_drip, fails_at_each_read,
     fails_at_each_write, steps_about, trickle_of,
 };
-pub use refuse::{
-    Asked, Refusable, Refusals, can_refuse, count_asked, count_blocks, count_bytes, count_held,
-    each_refused, end_refusals, made_requests, refuse_all, run_once, start_counts,
+pub use memory::{
+    Count, Refusals, can_refuse, counted, end_refusals, is_at_most, refuse, refuse_all,
+    start_counts,
 };
+pub use memory_law::{Call, Free, Law, Requests, check_law};
+pub use sampling::{leaked, samples};
 pub use std::alloc::{AllocError, Global};
 pub use std::test::Fail;
-pub use test::{
-    Test, holds, is_so, ok, ok_bytes, ok_string, same, same_count, same_flag, same_str, same_text,
+pub use test::{Test, holds, no_blocks, ok, same};
+pub use things::{IntoThing, Thing, changed, made, nothing};
+pub use values::{
+    ABOVE_BUFFERS, full_text, long_blank, long_text, place_of, same_place, same_value,
 };

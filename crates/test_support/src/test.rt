@@ -2,10 +2,9 @@
 //!
 //! The first row that is wrong is kept, and the test ends with it; the rows behind it are gone through all the same. So no
 //! helper gives up, and all that a row holds is dropped at one place, which costs the proof of a test far less than an
-//! assertion or a `?` does. A helper of one type costs its caller less than one of any type. A test that compares nothing
-//! fails, and `.ci/refused` pins how many comparisons the tests of a crate make.
-use crate::refuse::tell_compared;
-use std::alloc::{AllocError, Global};
+//! assertion or a `?` does. A test that compares nothing fails.
+use crate::memory::{Count, can_refuse, is_at_most};
+use std::alloc::Global;
 use std::cell::Cell;
 use std::default::MadeWith;
 use std::fmt::{Debug, InlineText};
@@ -19,21 +18,16 @@ const TOLD: usize = 480;
 pub struct Test {
     pub alloc: Global,
     wrong: Cell<Option<InlineText<TOLD>>>,
-    compared: Cell<u32>,
+    has_compared: Cell<bool>,
 }
 
 impl Test {
     /// A test of this process, with no wrong row.
     pub fn begin(rt: HostRuntime) -> Test {
-        Test::new(rt.alloc())
-    }
-
-    /// A test with no wrong row.
-    pub fn new(alloc: Global) -> Test {
         Test {
-            alloc,
+            alloc: rt.alloc(),
             wrong: Cell::new(None),
-            compared: Cell::new(0),
+            has_compared: Cell::new(false),
         }
     }
 
@@ -47,7 +41,7 @@ impl Test {
 
     /// A string of the text.
     pub fn string(&self, text: &str) -> String {
-        ok_string(self, String::from_str(self.alloc, text))
+        ok(self, String::from_str(self.alloc, text))
     }
 
     /// A text so many times.
@@ -57,11 +51,23 @@ impl Test {
 
     /// A text so many times, and then an end.
     pub fn repeated_and(&self, text: &str, times: usize, end: &str) -> String {
-        let mut all = String::new(self.alloc);
+        let room = text.len().saturating_mul(times).saturating_add(end.len());
+        let mut all = ok(self, String::with_capacity(self.alloc, room));
         for _ in 0..times {
             ok(self, all.push_str(text));
         }
         ok(self, all.push_str(end));
+        all
+    }
+
+    /// Texts so many times, one after the other.
+    pub fn text(&self, parts: &[(&str, usize)]) -> String {
+        let mut all = String::new(self.alloc);
+        for &(text, times) in parts {
+            for _ in 0..times {
+                ok(self, all.push_str(text));
+            }
+        }
         all
     }
 
@@ -77,23 +83,17 @@ impl Test {
         }
     }
 
-    /// The first wrong row, where there is one, or that nothing was compared.
-    pub fn first_wrong(self) -> Option<InlineText<TOLD>> {
-        if self.compared.get() == 0 {
+    /// The test's result: its first wrong row, where there is one, or that nothing was compared.
+    pub fn end(self) -> Result<(), Fail> {
+        if !self.has_compared.get() {
             self.fail(&"nothing was compared");
         }
         let Test {
             alloc: _,
             wrong,
-            compared: _,
+            has_compared: _,
         } = self;
-        wrong.into_inner()
-    }
-
-    /// The test's result: its first wrong row, where there is one.
-    pub fn end(self) -> Result<(), Fail> {
-        tell_compared(self.alloc, self.compared.get());
-        match self.first_wrong() {
+        match wrong.into_inner() {
             Some(row) => Err(Fail::new(row.as_str())),
             None => Ok(()),
         }
@@ -108,17 +108,12 @@ macro_rules! table {
     };
 }
 
-/// It is so, in a row of any type.
+/// It is so.
 pub fn holds(test: &Test, is_so: bool, row: &impl Debug) {
-    test.compared.set(test.compared.get().saturating_add(1));
+    test.has_compared.set(true);
     if !is_so {
         test.fail(row);
     }
-}
-
-/// It is so.
-pub fn is_so(test: &Test, is_so: bool, row: &str) {
-    holds(test, is_so, &row);
 }
 
 /// The two are equal.
@@ -126,24 +121,10 @@ pub fn same<T: PartialEq + Debug>(test: &Test, found: &T, wanted: &T, row: &impl
     holds(test, found == wanted, &(row, found, wanted));
 }
 
-/// The counts are equal.
-pub fn same_count(test: &Test, found: usize, wanted: usize, row: &str) {
-    same(test, &found, &wanted, &row);
-}
-
-/// Both are so, or neither is.
-pub fn same_flag(test: &Test, found: bool, wanted: bool, row: &str) {
-    same(test, &found, &wanted, &row);
-}
-
-/// The texts are equal, in a row of any type.
-pub fn same_text(test: &Test, found: &str, wanted: &str, row: &impl Debug) {
-    holds(test, found == wanted, &(row, found, wanted));
-}
-
-/// The texts are equal.
-pub fn same_str(test: &Test, found: &str, wanted: &str, row: &str) {
-    same_text(test, found, wanted, &row);
+/// All memory is freed that was asked for since the counts began.
+pub fn no_blocks(test: &Test, row: &impl Debug) {
+    let is_freed = is_at_most(test.alloc, Count::Blocks, 0);
+    holds(test, is_freed || !can_refuse(test.alloc), &(row, "leaks"));
 }
 
 /// What a call returns; a fault fails the test, and an empty thing stands in its place.
@@ -155,14 +136,4 @@ pub fn ok<T: MadeWith<Global>, E: Debug + Drop>(test: &Test, outcome: Result<T, 
             T::made_with(test.alloc)
         }
     }
-}
-
-/// The string that a call makes.
-pub fn ok_string(test: &Test, outcome: Result<String, AllocError>) -> String {
-    ok(test, outcome)
-}
-
-/// The bytes that a call makes.
-pub fn ok_bytes(test: &Test, outcome: Result<Vec<u8>, AllocError>) -> Vec<u8> {
-    ok(test, outcome)
 }

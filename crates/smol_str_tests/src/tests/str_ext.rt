@@ -1,20 +1,18 @@
-//! Case, against outside rows.
-mod replace;
-
+//! Case and replacement, against outside rows.
 use Call::*;
-use Place::{Heap, Inline, Static};
-use replace::{assert_rows, upstream_rows};
-use smol_str::{Place, SmolStr, StrExt};
+use smol_str::{INLINE_CAP, SmolStr, StrExt};
 use test_support::*;
-use test_values::*;
 
-/// A case call.
-#[derive(Clone, Copy)]
+#[derive(Clone, Copy, Debug)]
 enum Call {
     AsciiLower,
     AsciiUpper,
     Lower,
     Upper,
+    /// A pattern by a new text.
+    Replace(&'static str, &'static str),
+    /// At most so often.
+    Replacen(&'static str, &'static str, usize),
 }
 
 fn answer(alloc: Global, call: Call, text: &str) -> Result<SmolStr, AllocError> {
@@ -23,80 +21,79 @@ fn answer(alloc: Global, call: Call, text: &str) -> Result<SmolStr, AllocError> 
         AsciiUpper => text.to_ascii_uppercase_smolstr(alloc),
         Lower => text.to_lowercase_smolstr(alloc),
         Upper => text.to_uppercase_smolstr(alloc),
+        Replace(from, to) => text.replace_smolstr(alloc, from, to),
+        Replacen(from, to, count) => text.replacen_smolstr(alloc, from, to, count),
     }
 }
 
-/// A call, a text, the result and its place.
-static ROWS: [(Call, &str, &str, Place); 15] = table! {
-    (AsciiLower, "aßΔC", "aßΔc", Inline);
-    (AsciiUpper, "aßΔC", "AßΔC", Inline);
-    (Upper, "aßΔC", "ASSΔC", Inline);
-    (Lower, "aßΔC", "aßδc", Inline);
-    (Lower, "ΑΣ", "ας", Inline);
-    (Lower, "Σ", "σ", Inline);
-    (Lower, "ὈΔΥΣΣΕΎΣ", "ὀδυσσεύς", Inline);
-    (Lower, "İ", "i\u{307}", Inline);
-    (Upper, "ﬃ", "FFI", Inline);
-    (AsciiLower, "@AZ[`az{", "@az[`az{", Inline);
-    (AsciiUpper, "@AZ[`az{", "@AZ[`AZ{", Inline);
-    (AsciiLower, "AAAAAAAAAAAAAAAAAAAAAAAA", "aaaaaaaaaaaaaaaaaaaaaaaa", Inline);
-    (AsciiUpper, "                        ", "                        ", Inline);
-    (Lower, "aaaaaaAAAAAaaaaaaaaaaaaaaaaaaaaaAAAAaaaaaaaaaaaaaa", "aaaaaaaaaaaaaaaaaaaaaaaaaaaaaaaaaaaaaaaaaaaaaaaaaa", Heap);
-    // Each character becomes three, as long as it was.
-    (Upper, "ﬃﬃﬃﬃﬃﬃﬃ", "FFIFFIFFIFFIFFIFFIFFI", Inline);
+/// A call, a text and the result. Those of upstream's test_str_ext are the first eight.
+static ROWS: &[(Call, &str, &str)] = &table! {
+    (AsciiLower, "aßΔC", "aßΔc");
+    (AsciiUpper, "aßΔC", "AßΔC");
+    (Upper, "aßΔC", "ASSΔC");
+    (Lower, "aßΔC", "aßδc");
+    (Lower, "aaaaaaAAAAAaaaaaaaaaaaaaaaaaaaaaAAAAaaaaaaaaaaaaaa", "aaaaaaaaaaaaaaaaaaaaaaaaaaaaaaaaaaaaaaaaaaaaaaaaaa");
+    (Replace("ba", "do"), "foo_bar_baz", "foo_dor_doz");
+    (Replacen("ba", "do", 1), "foo_bar_baz", "foo_dor_baz");
+    (Replacen("o", "u", 1), "foo_bar_baz", "fuo_bar_baz");
+    (Lower, "ΑΣ", "ας");
+    (Lower, "Σ", "σ");
+    (Lower, "ὈΔΥΣΣΕΎΣ", "ὀδυσσεύς");
+    (Lower, "İ", "i\u{307}");
+    (Upper, "ﬃ", "FFI");
+    // each character becomes three, as long as it was
+    (Upper, "ﬃﬃﬃﬃﬃﬃﬃ", "FFIFFIFFIFFIFFIFFIFFI");
+    (AsciiLower, "@AZ[`az{", "@az[`az{");
+    (AsciiUpper, "@AZ[`az{", "@AZ[`AZ{");
+    (AsciiLower, "AAAAAAAAAAAAAAAAAAAAAAAA", "aaaaaaaaaaaaaaaaaaaaaaaa");
+    (AsciiUpper, "                        ", "                        ");
+    (Replacen("o", "u", 0), "foo_bar_baz", "foo_bar_baz");
+    (Replace("aa", "b"), "aaa", "ba");
+    (Replace("éé", "b"), "ééé", "bé");
+    (Replace("©", "x"), "é", "é");
+    (Replace("an", ""), "banana", "ba");
+    (Replacen("", "-", 2), "abc", "-a-bc");
+    (Replace("", "-"), "abc", "-a-b-c-");
+    (Replace("", "-"), "é", "-é-");
+    (Replacen("", "-", 1), "é", "-é");
+    (Replacen("", "-", 0), "é", "é");
+    (Replace("", "x"), "", "x");
+    (Replace("c", "cc"), "abcabc", "abccabcc");
+    (Replace("ab", "b"), "abab", "bb");
+    (Replacen("a", "b", 2), "aaaa", "bbaa");
+    (Replace("a", "b"), "aaaa", "bbbb");
+    (Replace("x", "a"), "xb", "ab");
 };
 
-// Upstream's rows are among these.
+/// A byte more than a value has room for.
+const LONG: usize = INLINE_CAP + 1;
+
+/// A call, a text so many times, and the result in parts.
+static LONG_ROWS: &[(Call, &str, usize, &[(&str, usize)])] = &table! {
+    (AsciiLower, "A", LONG, &[("a", LONG)]);
+    (AsciiUpper, " ", LONG, &[(" ", LONG)]);
+    (Lower, " ", LONG, &[(" ", LONG)]);
+    (Replace("x", " "), "x", 24, &[(" ", 24)]);
+    (Replace("x", " "), "x", LONG, &[(" ", LONG)]);
+    (Replace("aa", "b"), "a", LONG, &[("b", 20)]);
+    (Replacen("x", "y", 39), "x", LONG, &[("y", 39), ("x", 1)]);
+    (Replace("a", "b"), "a", 39, &[("b", 39)]);
+};
+
 #[test]
 fn test_str_ext(rt: HostRuntime) -> Result<(), Fail> {
     let test = Test::begin(rt);
-    for &(call, text, wanted, place) in &ROWS {
-        assert_answer(&test, call, text, wanted, place);
+    for &(call, text, wanted) in ROWS {
+        check_answer(&test, call, text, wanted);
     }
-    assert_rows(&test, upstream_rows());
-    test.end()
-}
-
-#[test]
-fn long_rows(rt: HostRuntime) -> Result<(), Fail> {
-    let test = Test::begin(rt);
-    let (capitals, text, blank) = (long_capitals(), long_text(), long_blank());
-    assert_answer(&test, AsciiLower, capitals, text, Heap);
-    assert_answer(&test, AsciiUpper, blank, blank, Static);
-    assert_answer(&test, Lower, blank, blank, Static);
-    test.end()
-}
-
-fn assert_answer(test: &Test, call: Call, text: &str, wanted: &str, place: Place) {
-    let value = ok_value(test, answer(test.alloc, call, text));
-    same_value(test, &value, wanted, place, &text);
-}
-
-/// Letters whose case has more bytes, fewer, or more letters.
-static LETTERS: [&str; 7] = ["ΐ", "ǅ", "ß", "İ", "ŉ", "ﬃ", "Σ"];
-
-// Far above the buffer, and about its end.
-#[test]
-fn full_case_as_std(rt: HostRuntime) -> Result<(), Fail> {
-    let test = Test::begin(rt);
-    for letter in &LETTERS {
-        check_as_std(&test, test.repeated(letter, 100).as_str());
-        for count in 30..45 {
-            let text = test.repeated_and("a", count, letter);
-            check_as_std(&test, text.as_str());
-        }
+    for &(call, unit, times, wanted) in LONG_ROWS {
+        let (text, wanted) = (test.repeated(unit, times), test.text(wanted));
+        check_answer(&test, call, text.as_str(), wanted.as_str());
     }
     test.end()
 }
 
-fn check_as_std(test: &Test, text: &str) {
-    let lower = ok_string(test, text.to_lowercase(test.alloc));
-    let upper = ok_string(test, text.to_uppercase(test.alloc));
-    assert_text(test, Lower, text, lower.as_str());
-    assert_text(test, Upper, text, upper.as_str())
-}
-
-fn assert_text(test: &Test, call: Call, text: &str, wanted: &str) {
-    let value = ok_value(test, answer(test.alloc, call, text));
-    same_text(test, value.as_str(), wanted, &text)
+fn check_answer(test: &Test, call: Call, text: &str, wanted: &str) {
+    let value = ok(test, answer(test.alloc, call, text));
+    same_value(test, &value, wanted, place_of(wanted), &(call, text));
 }

@@ -1,77 +1,102 @@
 //! Where texts are kept.
 mod compare;
 mod convert;
-mod deref;
 
 use Place::{Heap, Inline, Static};
 use smol_str::{BLANK_NEWLINES, BLANK_SPACES, INLINE_CAP, InlineBuffer, Place, SmolStr};
+use std::convert::AsSlice;
 use test_support::*;
-use test_values::*;
 
-/// A text so many times and then an end, and the place of the value.
-static PLACES: [(&str, usize, &str, Place); 10] = [
-    ("", 0, "", Inline),
-    ("a", INLINE_CAP, "", Inline),
-    ("a", INLINE_CAP + 1, "", Heap),
-    ("a", INLINE_CAP - 2, "é", Inline),
-    ("a", INLINE_CAP - 1, "é", Heap),
-    ("🦀", INLINE_CAP / 4, "", Inline),
-    ("🦀", INLINE_CAP / 4 + 1, "", Heap),
-    ("a", 23, "", Inline),
-    ("a", 24, "", Inline),
-    ("a", 22, "é", Inline),
-];
-
-/// Newlines, spaces and newlines again, and the place of the text that they make.
-static BLANKS: [(usize, usize, usize, Place); 17] = [
-    (BLANK_NEWLINES, BLANK_SPACES, 0, Static),
-    (0, BLANK_SPACES + 1, 0, Heap),
-    (BLANK_NEWLINES + 1, 0, 0, Heap),
-    (0, INLINE_CAP, 1, Heap),
-    (1, INLINE_CAP - 1, 0, Inline),
-    (BLANK_NEWLINES, 0, 0, Static),
-    (BLANK_NEWLINES, 1, 1, Heap),
-    (0, INLINE_CAP + 1, 0, Static),
-    (0, BLANK_SPACES, 0, Static),
-    (BLANK_NEWLINES + 1, BLANK_SPACES, 0, Heap),
-    (32, 128, 0, Static),
-    (0, 129, 0, Static),
-    (33, 0, 0, Inline),
-    (0, 23, 1, Inline),
-    (32, 0, 0, Inline),
-    (32, 1, 1, Inline),
-    (0, 24, 0, Inline),
-];
+/// Texts so many times, one after the other, and the place of the value.
+static PLACES: &[(&[(&str, usize)], Place)] = &table! {
+    (&[], Inline);
+    (&[("a", INLINE_CAP)], Inline);
+    (&[("a", INLINE_CAP + 1)], Heap);
+    (&[("a", INLINE_CAP - 2), ("é", 1)], Inline);
+    (&[("a", INLINE_CAP - 1), ("é", 1)], Heap);
+    (&[("🦀", INLINE_CAP / 4)], Inline);
+    (&[("🦀", INLINE_CAP / 4 + 1)], Heap);
+    (&[("a", 23)], Inline);
+    (&[("a", 24)], Inline);
+    (&[("\n", BLANK_NEWLINES), (" ", BLANK_SPACES)], Static);
+    (&[(" ", BLANK_SPACES + 1)], Heap);
+    (&[("\n", BLANK_NEWLINES + 1)], Heap);
+    (&[(" ", INLINE_CAP), ("\n", 1)], Heap);
+    (&[("\n", 1), (" ", INLINE_CAP - 1)], Inline);
+    (&[("\n", BLANK_NEWLINES)], Static);
+    (&[("\n", BLANK_NEWLINES), (" ", 1), ("\n", 1)], Heap);
+    (&[(" ", INLINE_CAP + 1)], Static);
+    (&[(" ", BLANK_SPACES)], Static);
+    (&[("\n", BLANK_NEWLINES + 1), (" ", BLANK_SPACES)], Heap);
+    (&[("\n", 32), (" ", 128)], Static);
+    (&[(" ", 129)], Static);
+    (&[("\n", 33)], Inline);
+    (&[(" ", 23), ("\n", 1)], Inline);
+    (&[("\n", 32), (" ", 1), ("\n", 1)], Inline);
+    (&[(" ", 24)], Inline);
+};
 
 #[test]
-fn new_places(rt: HostRuntime) -> Result<(), Fail> {
+fn places(rt: HostRuntime) -> Result<(), Fail> {
     let test = Test::begin(rt);
-    for &(piece, times, end, place) in &PLACES {
-        let text = test.repeated_and(piece, times, end);
-        assert_new(&test, text.as_str(), place);
+    for &(parts, place) in PLACES {
+        let text = test.text(parts);
+        same_value(
+            &test,
+            &test.value(text.as_str()),
+            text.as_str(),
+            place,
+            &parts,
+        );
+        same(&test, &place_of(text.as_str()), &place, &parts);
     }
+    same(&test, &test.value(""), &SmolStr::default(), &"default");
     test.end()
 }
 
 #[test]
-fn blank_places(rt: HostRuntime) -> Result<(), Fail> {
+fn blank_runs(rt: HostRuntime) -> Result<(), Fail> {
     let test = Test::begin(rt);
-    for &(newlines, spaces, more, place) in &BLANKS {
-        let text = blank(&test, newlines, spaces, more);
-        assert_new(&test, text.as_str(), place);
-    }
+    let (short, long) = (SmolStr::blank(1, 8), SmolStr::blank(0, INLINE_CAP + 1));
+    same_value(&test, &short, "\n        ", Inline, &"short");
+    same_value(&test, &long, long_blank(), Static, &"long");
     test.end()
 }
 
-fn assert_new(test: &Test, text: &str, place: Place) {
-    has_text(test, &test.value(text), text, place, text)
+#[test]
+fn lent_as_bytes(rt: HostRuntime) -> Result<(), Fail> {
+    let test = Test::begin(rt);
+    let (value, builder) = (test.value("é"), test.builder(0, "é"));
+    holds(
+        &test,
+        AsSlice::as_slice(&value) == "é".as_bytes(),
+        &"a value",
+    );
+    holds(
+        &test,
+        AsSlice::as_slice(&builder) == "é".as_bytes(),
+        &"a builder",
+    );
+    test.end()
 }
 
-fn blank(test: &Test, newlines: usize, spaces: usize, more_newlines: usize) -> String {
-    let end = test.repeated("\n", more_newlines);
-    let rest = test.repeated_and(" ", spaces, end.as_str());
-    test.repeated_and("\n", newlines, rest.as_str())
+// The buffer, a byte for the length, and a word for the place.
+#[test]
+fn limits(rt: HostRuntime) -> Result<(), Fail> {
+    let test = Test::begin(rt);
+    same(
+        &test,
+        &[INLINE_CAP, BLANK_NEWLINES, BLANK_SPACES],
+        &[39, 64, 256],
+        &"limits",
+    );
+    same(&test, &size_of::<SmolStr>(), &48, &"a value");
+    test.end()
 }
+
+static SHORT: [&str; 5] = table! {
+    ""; "A"; "HELLO"; "ABCDEFGHIZKLMNOPQRSTUVW"; "                       ";
+};
 
 #[test]
 fn const_fn_ctor(rt: HostRuntime) -> Result<(), Fail> {
@@ -83,84 +108,52 @@ fn const_fn_ctor(rt: HostRuntime) -> Result<(), Fail> {
     test.end()
 }
 
-static SHORT: [&str; 5] = [
-    "",
-    "A",
-    "HELLO",
-    "ABCDEFGHIZKLMNOPQRSTUVW",
-    "                       ",
-];
-
 /// It is what `new` makes, and inline.
 fn assert_inline(test: &Test, text: &str) {
     if text.len() > INLINE_CAP {
         return test.fail(&(text, "is too long"));
     }
     let value = SmolStr::new_inline(text);
-    is_so(test, value == test.value(text), text);
-    in_place(test, &value, Inline, text);
-}
-
-/// The text of so many characters, the given ones in turn.
-fn in_turn(test: &Test, characters: &[char], count: usize) -> String {
-    let mut text = String::new(test.alloc);
-    for i in 0..count {
-        if let Some(character) = characters.get(i % characters.len().max(1)) {
-            ok(test, text.push(*character));
-        }
-    }
-    text
+    same(test, &value, &test.value(text), &text);
+    same_place(test, &value, Inline, &text);
 }
 
 /// Texts of 0 to 400 characters, the given ones in turn, are kept as they are.
-fn assert_round_trips(test: &Test, characters: &[char]) {
+fn check_round_trips(test: &Test, characters: &[&str]) {
+    let mut text = String::new(test.alloc);
     for count in 0..=400usize {
-        let text = in_turn(test, characters, count);
-        assert_keeps(test, &test.value(text.as_str()), text.as_str());
+        let value = test.value(text.as_str());
+        same_value(test, &value, text.as_str(), place_of(text.as_str()), &count);
+        let next = characters.get(count % characters.len().max(1));
+        ok(test, text.push_str(next.copied().unwrap_or("")));
     }
-}
-
-fn assert_keeps(test: &Test, value: &SmolStr, text: &str) {
-    same_str(test, value.as_str(), text, "round trip");
-    same_count(test, value.len(), text.len(), text);
-    let may_be_on_heap = text.len() > INLINE_CAP;
-    is_so(test, may_be_on_heap || !value.is_heap_allocated(), text);
-    is_so(test, value.is_empty() == text.is_empty(), text);
 }
 
 #[test]
 fn roundtrip(rt: HostRuntime) -> Result<(), Fail> {
     let test = Test::begin(rt);
-    assert_round_trips(&test, &['a', 'é', '€', '🦀']);
+    check_round_trips(&test, &["a", "é", "€", "🦀"]);
     test.end()
 }
 
 #[test]
 fn roundtrip_spaces(rt: HostRuntime) -> Result<(), Fail> {
     let test = Test::begin(rt);
-    assert_round_trips(&test, &[' ']);
+    check_round_trips(&test, &[" "]);
     test.end()
 }
 
 #[test]
 fn roundtrip_newlines(rt: HostRuntime) -> Result<(), Fail> {
     let test = Test::begin(rt);
-    assert_round_trips(&test, &['\n']);
+    check_round_trips(&test, &["\n"]);
     test.end()
 }
 
 #[test]
 fn roundtrip_ws(rt: HostRuntime) -> Result<(), Fail> {
     let test = Test::begin(rt);
-    assert_round_trips(&test, &['\n', ' ']);
-    test.end()
-}
-
-// The buffer, a byte for the length, and a word for the place.
-#[test]
-fn size_of_a_value(rt: HostRuntime) -> Result<(), Fail> {
-    let test = Test::begin(rt);
-    same_count(&test, size_of::<SmolStr>(), 48, "a value");
+    check_round_trips(&test, &["\n", " "]);
     test.end()
 }
 
@@ -168,30 +161,17 @@ fn size_of_a_value(rt: HostRuntime) -> Result<(), Fail> {
 #[test]
 fn inline_buffers(rt: HostRuntime) -> Result<(), Fail> {
     let test = Test::begin(rt);
-    let value = test.value("ab");
-    assert_holds_ab(&test, value.inline_buffer());
-    let builder = test.builder(0, "ab");
-    assert_holds_ab(&test, builder.inline_buffer());
+    let mut ab = [0; INLINE_CAP];
+    ab[0] = b'a';
+    ab[1] = b'b';
+    same_buffer(&test, test.value("ab").inline_buffer(), Some(&ab));
+    same_buffer(&test, test.builder(0, "ab").inline_buffer(), Some(&ab));
+    same_buffer(&test, SmolStr::new_static("ab").inline_buffer(), None);
+    same_buffer(&test, test.value(long_text()).inline_buffer(), None);
+    same_buffer(&test, test.builder(100, "ab").inline_buffer(), None);
     test.end()
 }
 
-#[test]
-fn no_inline_buffers(rt: HostRuntime) -> Result<(), Fail> {
-    let test = Test::begin(rt);
-    assert_no_buffer(&test, SmolStr::new_static("ab"));
-    assert_no_buffer(&test, test.value(long_text()));
-    let large = test.builder(100, "ab");
-    is_so(&test, large.inline_buffer().is_none(), "a large builder");
-    test.end()
-}
-
-fn assert_no_buffer(test: &Test, value: SmolStr) {
-    is_so(test, value.inline_buffer().is_none(), value.as_str());
-}
-
-fn assert_holds_ab(test: &Test, buffer: Option<&InlineBuffer>) {
-    let mut wanted = [0; INLINE_CAP];
-    wanted[0] = b'a';
-    wanted[1] = b'b';
-    holds(test, buffer == Some(&wanted), &buffer);
+fn same_buffer(test: &Test, found: Option<&InlineBuffer>, wanted: Option<&InlineBuffer>) {
+    holds(test, found == wanted, &(found, wanted));
 }

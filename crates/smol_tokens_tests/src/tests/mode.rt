@@ -22,7 +22,7 @@ pub fn mode_by(test: &Test, words: &[&str]) -> Mode {
 }
 
 /// Words, and how the mode prints that they ask for.
-static MODES: [(&[&str], &str); 7] = table! {
+static MODES: [(&[&str], &str); 9] = table! {
     (&[], "Show");
     (&["show"], "Show");
     (&["join"], "Join");
@@ -30,67 +30,27 @@ static MODES: [(&[&str], &str); 7] = table! {
     (&["upper"], "Upper");
     (&["tokens"], "Tokens");
     (&["merge"], "Merge");
-};
-
-static REPLACEMENTS: [(&[&str], &str); 2] = table! {
     (&["replace", "", "x"], "Replace(\"\", \"x\")");
     (&["replace", "ba", ""], "Replace(\"ba\", \"\")");
+};
+
+static WRONG: [&[&str]; 21] = table! {
+    &["Show"]; &[""]; &["show", "x"]; &["show", "show"]; &["x", "show"]; &["show "]; &["join", "x"]; &["show", "join"];
+    &["lower", "x"]; &["upper", "x", "y"]; &["Lower"]; &["tokens", "x"]; &["tokens", "x", "y"]; &["token"]; &["merge", "x"];
+    &["replace"]; &["replace", "x"]; &["replace", "x", "y", "z"]; &["Replace", "x", "y"]; &["x", "replace", "y"];
+    &["replace", "replace"];
 };
 
 #[test]
 fn modes(rt: HostRuntime) -> Result<(), Fail> {
     let test = Test::begin(rt);
     for &(words, printed) in &MODES {
-        check_mode(&test, words, printed);
+        let mode = mode_by(&test, words);
+        let found = ok(&test, format!(in test.alloc; "{mode:?}"));
+        same(&test, &found.as_str(), &printed, &words);
     }
-    test.end()
-}
-
-#[test]
-fn replacements(rt: HostRuntime) -> Result<(), Fail> {
-    let test = Test::begin(rt);
-    for &(words, printed) in &REPLACEMENTS {
-        check_mode(&test, words, printed);
-    }
-    test.end()
-}
-
-fn check_mode(test: &Test, words: &[&str], printed: &str) {
-    let mode = mode_by(test, words);
-    let found = ok_string(test, format!(in test.alloc; "{mode:?}"));
-    same_text(test, found.as_str(), printed, &words);
-}
-
-static WRONG: &[&[&str]] = &[
-    &["Show"],
-    &[""],
-    &["show", "x"],
-    &["show", "show"],
-    &["x", "show"],
-    &["show "],
-    &["join", "x"],
-    &["show", "join"],
-    &["lower", "x"],
-    &["upper", "x", "y"],
-    &["Lower"],
-    &["tokens", "x"],
-    &["tokens", "x", "y"],
-    &["token"],
-    &["merge", "x"],
-    &["replace"],
-    &["replace", "x"],
-    &["replace", "x", "y", "z"],
-    &["Replace", "x", "y"],
-    &["x", "replace", "y"],
-    &["replace", "replace"],
-];
-
-#[test]
-fn wrong_words(rt: HostRuntime) -> Result<(), Fail> {
-    let test = Test::begin(rt);
-    for &words in WRONG {
-        let mode = mode_of(strings(&test, words));
-        holds(&test, mode.is_none(), &words);
+    for &words in &WRONG {
+        holds(&test, mode_of(strings(&test, words)).is_none(), &words);
     }
     test.end()
 }

@@ -1,8 +1,6 @@
 //! Reports of every mode, on short and on long inputs.
-use super::run::{Words, run_by};
-use smol_str::INLINE_CAP;
+use super::run::Words;
 use test_support::*;
-use test_values::*;
 
 /// The words of a mode, an input, and the report on it.
 static REPORTS: &[(Words, &str, &str)] = &table! {
@@ -45,7 +43,7 @@ static REPORTS: &[(Words, &str, &str)] = &table! {
 /// The words of a mode, how the report line for one of 9,000 `a` begins, and the letter made of an `a`.
 type Letters = (Words, &'static str, &'static str);
 
-pub static LETTERS: &[Letters] = &[
+static LETTERS: &[Letters] = &[
     (&["show"], "heap 9000 ", "a"),
     (&["join"], "heap 9000 ", "a"),
     (&["lower"], "heap 9000 ", "a"),
@@ -63,14 +61,12 @@ pub struct Row {
     pub report: String,
 }
 
-/// The reports of the table, those on texts about the limit, and those on a line of 9,000 letters.
+/// The reports of the table, and those on a line of 9,000 letters.
 pub fn all_rows(test: &Test) -> Vec<Row> {
     let mut all = Vec::new(test.alloc);
     for &(words, input, report) in REPORTS {
         push_row(test, &mut all, words, input, test.string(report));
     }
-    push_full(test, &mut all);
-    push_tokens(test, &mut all);
     for &(words, front, letter) in LETTERS {
         push_letters(test, &mut all, words, front, letter);
     }
@@ -84,40 +80,6 @@ fn push_letters(test: &Test, all: &mut Vec<Row>, words: Words, front: &str, lett
     push_row(test, all, words, input.as_str(), report)
 }
 
-/// A line that fills a buffer, and lines that are a byte too long.
-fn push_full(test: &Test, all: &mut Vec<Row>) {
-    let line = test.repeated("x", INLINE_CAP + 1);
-    let spaces = test.repeated(" ", INLINE_CAP);
-    push_line(test, all, &["show"], full_text(), ("inline", full_text()));
-    push_line(test, all, &["show"], long_text(), ("heap", long_text()));
-    let capitals = ("heap", long_capitals());
-    push_line(test, all, &["upper"], long_text(), capitals);
-    let answer = ("static", long_blank());
-    push_line(test, all, &["replace", "x", " "], line.as_str(), answer);
-    let lines = test.joined(" \n", spaces.as_str());
-    push_line(test, all, &["join"], lines.as_str(), answer)
-}
-
-/// A token that is a byte too long, among short ones.
-fn push_tokens(test: &Test, all: &mut Vec<Row>) {
-    let long = long_text();
-    let input = ok_string(test, format!(in test.alloc; "x\n{long}\nx\n{long}\nx\n"));
-    let report = ok_string(test, format!(in test.alloc; "3 x\n2 {long}\n"));
-    push_row(test, all, &["tokens"], input.as_str(), report)
-}
-
-/// An input, and the report of one line on it: where a text is kept, its size, and the text.
-fn push_line(
-    test: &Test,
-    all: &mut Vec<Row>,
-    words: Words,
-    input: &str,
-    (place, text): (&str, &str),
-) {
-    let report = format!(in test.alloc; "{place} {} {text}\n", text.len());
-    push_row(test, all, words, input, ok_string(test, report))
-}
-
 fn push_row(test: &Test, all: &mut Vec<Row>, words: Words, input: &str, report: String) {
     let input = test.string(input);
     test.push(
@@ -128,12 +90,4 @@ fn push_row(test: &Test, all: &mut Vec<Row>, words: Words, input: &str, report: 
             report,
         },
     );
-}
-
-/// The report in the mode of these words, by std's reader and writer over memory.
-pub fn report_by(test: &Test, words: &[&str], input: &[u8]) -> Vec<u8> {
-    let (mut reader, mut out) = (input, Vec::new(test.alloc));
-    let ended = run_by(test, words, &mut reader, &mut out);
-    holds(test, ended.is_none(), &(words, ended));
-    out
 }

@@ -1,9 +1,6 @@
-//! `run` in every mode, over readers and writers of every step, which fail at each call, over inputs that are not UTF-8, and
-//! over what is no count lines.
-mod refused;
-
+//! `run` in every mode, over readers and writers of every step, which fail at each call, and over what is no count lines.
 use super::mode::mode_by;
-use super::report::{LETTERS, Row, all_rows};
+use super::report::{Row, all_rows};
 use smol_str::stream::CHUNK;
 use smol_tokens_core::fault::RunFault;
 use smol_tokens_core::run::run;
@@ -113,57 +110,6 @@ fn runs_on(row: &Row) -> Runs<'_> {
     }
 }
 
-// An input that ends is whole, and not UTF-8 where it ends within a character, here of one to four bytes and in two lines.
-#[test]
-fn end_after_each_byte(rt: HostRuntime) -> Result<(), Fail> {
-    let test = Test::begin(rt);
-    for &(words, ..) in LETTERS {
-        check_ends(&test, words, "aßΔ\nC€🦀");
-    }
-    test.end()
-}
-
-fn check_ends(test: &Test, words: Words, text: &str) {
-    for end in 0..=text.len() {
-        let is_whole = text.is_char_boundary(end);
-        let wanted = if is_whole { None } else { Some(Kind::NotUtf8) };
-        check_ended(test, words, &text.as_bytes()[..end], 1, wanted);
-    }
-}
-
-/// What is returned after the whole input came.
-fn check_ended(test: &Test, words: Words, input: &[u8], step: usize, wanted: Option<Kind>) {
-    let mut reader = trickle_of(test, input, step, 0);
-    let ended = Runs { words, input }.read(test, &mut reader).err();
-    let row = (words, input.len());
-    same(test, &ended, &wanted, &row);
-    holds(test, reader.rest.is_empty(), &row);
-    reader.end(test, &row);
-}
-
-// The only byte, the last of whole pieces and of a part of one, and a surrogate.
-#[test]
-fn not_utf8(rt: HostRuntime) -> Result<(), Fail> {
-    let test = Test::begin(rt);
-    for &(words, ..) in LETTERS {
-        for count in [0, CHUNK - 1, 9000] {
-            let input = ending_badly(&test, count);
-            for step in steps_about(CHUNK) {
-                check_ended(&test, words, input.as_slice(), step, Some(Kind::NotUtf8));
-            }
-        }
-        check_ended(&test, words, b"\xed\xa0\x80\n", 1, Some(Kind::NotUtf8));
-    }
-    test.end()
-}
-
-/// So many letters, and a byte that no text has.
-fn ending_badly(test: &Test, count: usize) -> Vec<u8> {
-    let mut input = ok_bytes(test, vec![in test.alloc; b'a'; count]);
-    test.push(&mut input, 0xff);
-    input
-}
-
 /// An input, and how its merge ends.
 static FAULTS: &[(&[u8], Kind)] = &[
     (b"1", Kind::NotCounts(1)),
@@ -199,6 +145,20 @@ fn faults_of_merges(rt: HostRuntime) -> Result<(), Fail> {
     let test = Test::begin(rt);
     for &(input, kind) in FAULTS {
         check_merge(&test, input, kind);
+    }
+    test.end()
+}
+
+// Behind many lines too.
+#[test]
+fn late_faults_of_merges(rt: HostRuntime) -> Result<(), Fail> {
+    let test = Test::begin(rt);
+    for lines in 0..300 {
+        let front = test.repeated("1 b\n", lines);
+        let input = test.joined(front.as_str(), "x\n");
+        check_merge(&test, input.as_bytes(), Kind::NotCounts(lines + 1));
+        let input = test.joined("18446744073709551615 a\n1 a\n", front.as_str());
+        check_merge(&test, input.as_bytes(), Kind::Full);
     }
     test.end()
 }

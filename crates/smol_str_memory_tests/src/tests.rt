@@ -1,0 +1,2 @@
+//! The law of memory, over every call that may be refused it.
+mod law;

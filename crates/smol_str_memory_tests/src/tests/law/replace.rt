@@ -1,0 +1,103 @@
+//! Replacement, by patterns and new texts of each size.
+use Replace::*;
+use smol_str::{INLINE_CAP, StrExt};
+use test_support::*;
+
+#[derive(Clone, Copy)]
+pub enum Replace {
+    /// A byte by a byte.
+    ByteByByte,
+    /// A byte by more, in a text that is not short.
+    ByteByMore,
+    /// A byte by more, in a short text.
+    FewByMore,
+    /// Two bytes and more by as many or fewer.
+    ByLess,
+    /// Two bytes and more by more.
+    ByMore,
+    /// No bytes: a new text in front of each character and at the end.
+    Between,
+}
+
+/// However often the pattern stands.
+const ALL: usize = usize::MAX;
+
+/// A text of 40 bytes.
+const LONG: &str = "aaaaaaaaaaaaaaaaaaaaaaaaaaaaaaaaaaaaaaaa";
+
+/// A pattern, the new text, and at most how often it is taken.
+type Change = (&'static str, &'static str, usize);
+
+static BYTE_BY_BYTE: [Change; 3] = table! {
+    ("a", "b", ALL); ("a", " ", ALL); ("z", "y", ALL);
+};
+
+static BYTE_BY_MORE: [Change; 6] = table! {
+    ("a", "bb", ALL); ("a", "éé", ALL); ("a", LONG, ALL); ("a", "bb", 1); ("z", "yy", ALL); ("a", "b", 3);
+};
+
+static BY_LESS: [Change; 10] = table! {
+    ("a", "", ALL); ("aa", "", ALL); ("aa", "b", ALL); ("aa", "bb", ALL); ("aaa", "b", ALL); ("aab", "bbb", ALL);
+    ("ab", "c", ALL); (LONG, "bbb", ALL); ("aa", "b", 1); ("aac", "b", ALL);
+};
+
+static BY_MORE: [Change; 8] = table! {
+    ("aa", "bbb", ALL); ("aaa", "bbbb", ALL); ("ab", "abc", ALL); ("aab", LONG, ALL); ("aa", LONG, ALL);
+    (LONG, "bbbbbbbbbbbbbbbbbbbbbbbbbbbbbbbbbbbbbbbbbbb", ALL); ("aa", LONG, 1); ("aac", LONG, ALL);
+};
+
+static BETWEEN: [Change; 4] = table! {
+    ("", "", ALL); ("", "-", ALL); ("", LONG, ALL); ("", LONG, 1);
+};
+
+impl Replace {
+    fn changes(self) -> &'static [Change] {
+        match self {
+            ByteByByte => &BYTE_BY_BYTE,
+            ByteByMore | FewByMore => &BYTE_BY_MORE,
+            ByLess => &BY_LESS,
+            ByMore => &BY_MORE,
+            Between => &BETWEEN,
+        }
+    }
+
+    fn change(self, way: usize) -> Change {
+        match self.changes().get(way) {
+            Some(change) => *change,
+            None => ("a", "b", ALL),
+        }
+    }
+}
+
+impl Call for Replace {
+    type Input = Change;
+
+    fn ways(self) -> usize {
+        self.changes().len()
+    }
+
+    fn takes(self, text: &str) -> bool {
+        match self {
+            ByteByMore => text.len() > INLINE_CAP,
+            FewByMore => text.len() <= INLINE_CAP,
+            _ => true,
+        }
+    }
+
+    fn input(self, _test: &Test, _text: &'static str, way: usize) -> Change {
+        self.change(way)
+    }
+
+    fn run(self, alloc: Global, text: &str, (from, to, count): Change) -> Result<Thing, Thing> {
+        match count {
+            ALL => made(text.replace_smolstr(alloc, from, to)),
+            _ => made(text.replacen_smolstr(alloc, from, to, count)),
+        }
+    }
+
+    /// As std replaces.
+    fn wanted(self, test: &Test, text: &'static str, way: usize) -> String {
+        let (from, to, count) = self.change(way);
+        ok(test, text.replacen(test.alloc, from, to, count))
+    }
+}

@@ -1,0 +1,68 @@
+//! Calls that take a `String` of the text, or what is made of one.
+use OnString::*;
+use smol_str::SmolStr;
+use std::borrow::CowStr;
+use std::rc::RcStr;
+use test_support::*;
+
+#[derive(Clone, Copy)]
+pub enum OnString {
+    FromStringRef,
+    FromString,
+    FromOwned,
+    FromCow,
+    FromBoxed,
+    FromShared,
+}
+
+impl Call for OnString {
+    /// A `String`, or a shared text.
+    type Input = Result<String, RcStr>;
+
+    /// With no more room than the text needs, and with more.
+    fn ways(self) -> usize {
+        match self {
+            FromBoxed | FromShared => 1,
+            _ => 2,
+        }
+    }
+
+    fn input(self, test: &Test, text: &'static str, way: usize) -> Result<String, RcStr> {
+        if let FromShared = self {
+            if let Ok(shared) = RcStr::from_str(test.alloc, text) {
+                return Err(shared);
+            }
+        }
+        let room = text
+            .len()
+            .saturating_mul(way)
+            .saturating_add(5000usize.saturating_mul(way));
+        let mut string = ok(
+            test,
+            String::with_capacity(test.alloc, text.len().max(room)),
+        );
+        ok(test, string.push_str(text));
+        Ok(string)
+    }
+
+    fn run(self, alloc: Global, _text: &str, input: Result<String, RcStr>) -> Result<Thing, Thing> {
+        match input {
+            Ok(string) => self.of_string(alloc, string),
+            Err(shared) => Ok(Thing::Value(SmolStr::from_rc_str(shared))),
+        }
+    }
+}
+
+impl OnString {
+    fn of_string(self, alloc: Global, string: String) -> Result<Thing, Thing> {
+        match self {
+            FromStringRef => made(SmolStr::from_string_ref(alloc, &string)),
+            FromString => made(SmolStr::from_string(alloc, string)),
+            FromOwned => made(SmolStr::from_owned(string)),
+            FromCow => made(SmolStr::from_cow_str(alloc, CowStr::Owned(string))),
+            FromBoxed | FromShared => {
+                made(SmolStr::from_boxed_str(alloc, string.into_boxed_str()))
+            }
+        }
+    }
+}

@@ -1,0 +1,105 @@
+//! Calls on a value. A clone shares the text, and a value on the heap hands out the shared text that it has.
+use OnValue::*;
+use serde_json::Value;
+use smol_str::borsh::BorshSerialize;
+use smol_str::json_string::{to_json, to_value};
+use smol_str::{Place, SmolStr};
+use test_support::*;
+
+#[derive(Clone, Copy)]
+pub enum OnValue {
+    Cloned,
+    IntoString,
+    IntoRcStr,
+    IntoRcStrOnHeap,
+    /// To a list that has room.
+    Write,
+    ToValue,
+    ToJson,
+    ToJsonPlain,
+}
+
+impl Call for OnValue {
+    /// A value, and a list with room for its wire form.
+    type Input = (SmolStr, Vec<u8>);
+
+    /// As it is made by `new`, and pinned.
+    fn ways(self) -> usize {
+        match self {
+            IntoRcStrOnHeap => 1,
+            _ => 2,
+        }
+    }
+
+    fn takes(self, text: &str) -> bool {
+        match self {
+            IntoRcStr => place_of(text) != Place::Heap,
+            IntoRcStrOnHeap => place_of(text) == Place::Heap,
+            ToJson => !is_plain(text),
+            ToJsonPlain => is_plain(text),
+            _ => true,
+        }
+    }
+
+    fn input(self, test: &Test, text: &'static str, way: usize) -> (SmolStr, Vec<u8>) {
+        let room = match self {
+            Write => text.len().saturating_add(4),
+            _ => 0,
+        };
+        let value = if way == 1 {
+            SmolStr::new_static(text)
+        } else {
+            test.value(text)
+        };
+        (value, ok(test, Vec::with_capacity(test.alloc, room)))
+    }
+
+    fn run(
+        self,
+        alloc: Global,
+        _text: &str,
+        (value, out): (SmolStr, Vec<u8>),
+    ) -> Result<Thing, Thing> {
+        match self {
+            Cloned => made(value.clone()),
+            IntoString => made(value.into_string(alloc)),
+            IntoRcStr | IntoRcStrOnHeap => made(value.into_rc_str(alloc)),
+            Write => written(&value, out),
+            ToValue => tree(alloc, &value),
+            ToJson | ToJsonPlain => made(to_json(alloc, &value)),
+        }
+    }
+
+    fn wanted(self, test: &Test, text: &'static str, _way: usize) -> String {
+        match self {
+            ToJson | ToJsonPlain => json_of(test, text),
+            _ => test.string(text),
+        }
+    }
+}
+
+/// Whether JSON has the text as it is.
+pub fn is_plain(text: &str) -> bool {
+    text.bytes()
+        .all(|byte| byte >= b' ' && byte != b'"' && byte != b'\\')
+}
+
+/// The text in JSON, as serde_json writes it.
+pub fn json_of(test: &Test, text: &str) -> String {
+    ok(test, Value::String(test.string(text)).to_string(test.alloc))
+}
+
+fn written(value: &SmolStr, mut out: Vec<u8>) -> Result<Thing, Thing> {
+    match value.serialize(&mut out) {
+        Ok(()) => Ok(Thing::Nothing),
+        Err(_) => Err(Thing::Fault),
+    }
+}
+
+fn tree(alloc: Global, value: &SmolStr) -> Result<Thing, Thing> {
+    match to_value(alloc, value) {
+        Ok(Value::String(text)) => Ok(Thing::Owned(text)),
+        Ok(_) => Err(Thing::Fault),
+        Err(fault) => Err(fault.into_thing()),
+    }
+}

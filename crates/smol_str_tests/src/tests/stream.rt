@@ -1,0 +1,238 @@
+//! Each call that reads or writes, over readers and writers of every step, which end after each byte and fail at each call.
+use super::borsh::fault::{kind_of, kind_of_limited};
+use super::borsh::{LETTERS, ROWS, form_of, of_units, ok_found};
+use Call::*;
+use smol_str::borsh::{
+    BorshDeserialize, BorshSerialize, EncodeFault, deserialize_limited, from_wire,
+};
+use smol_str::stream::{CHUNK, ReadFault, fill, read_all, read_up_to, write_steps};
+use smol_str::{INLINE_CAP, SmolStr};
+use std::io;
+use test_support::*;
+
+/// A call that reads.
+#[derive(Clone, Copy)]
+enum Call {
+    Fill,
+    ReadUpTo,
+    ReadAll,
+    WireForm,
+    LimitedForm,
+}
+
+static CALLS: [Call; 5] = [Fill, ReadUpTo, ReadAll, WireForm, LimitedForm];
+
+/// A call that is asked for so many bytes.
+#[derive(Drop)]
+struct Reads {
+    call: Call,
+    size: usize,
+}
+
+impl Reading for Reads {
+    fn name(&self) -> &str {
+        match self.call {
+            Fill => "stream::fill",
+            ReadUpTo => "stream::read_up_to",
+            ReadAll => "stream::read_all",
+            WireForm => "BorshDeserialize::deserialize_reader",
+            LimitedForm => "borsh::deserialize_limited",
+        }
+    }
+
+    /// The buffer of `fill` is the caller's own.
+    fn largest_buffer(&self) -> usize {
+        match self.call {
+            Fill => self.size,
+            _ => CHUNK,
+        }
+    }
+
+    fn reads_the_end(&self) -> bool {
+        matches!(self.call, ReadAll)
+    }
+
+    /// Of a value, its wire form.
+    fn read(&self, test: &Test, reader: &mut Trickle<'_>) -> Result<Vec<u8>, Kind> {
+        let alloc = test.alloc;
+        match self.call {
+            Fill => filled(alloc, reader, self.size),
+            ReadUpTo => all_read(read_up_to(alloc, reader, self.size)),
+            ReadAll => all_read(read_all(alloc, reader)),
+            WireForm => written_again(alloc, reader),
+            LimitedForm => limited_again(alloc, reader, self.size),
+        }
+    }
+}
+
+fn all_read(read: Result<Vec<u8>, ReadFault>) -> Result<Vec<u8>, Kind> {
+    match read {
+        Ok(all) => Ok(all),
+        Err(ReadFault::OutOfMemory) => Err(Kind::OutOfMemory),
+        Err(ReadFault::Io(error)) => Err(Kind::Io(cause_of(&error))),
+    }
+}
+
+fn filled(alloc: Global, reader: &mut Trickle<'_>, size: usize) -> Result<Vec<u8>, Kind> {
+    let Ok(mut room) = vec![in alloc; 0u8; size] else {
+        return Err(Kind::OutOfMemory);
+    };
+    match fill(reader, room.as_mut_slice()) {
+        Ok(count) => {
+            room.truncate(count);
+            Ok(room)
+        }
+        Err(error) => Err(Kind::Io(cause_of(&error))),
+    }
+}
+
+fn written_again(alloc: Global, reader: &mut Trickle<'_>) -> Result<Vec<u8>, Kind> {
+    match SmolStr::deserialize_reader(alloc, reader) {
+        Ok(value) => written(alloc, &value),
+        Err(fault) => Err(kind_of(&fault)),
+    }
+}
+
+fn limited_again(alloc: Global, reader: &mut Trickle<'_>, limit: usize) -> Result<Vec<u8>, Kind> {
+    match deserialize_limited(alloc, reader, limit) {
+        Ok(value) => written(alloc, &value),
+        Err(fault) => Err(kind_of_limited(&fault)),
+    }
+}
+
+/// Only memory could be refused.
+fn written(alloc: Global, value: &SmolStr) -> Result<Vec<u8>, Kind> {
+    let mut form = Vec::new(alloc);
+    match value.serialize(&mut form) {
+        Ok(()) => Ok(form),
+        Err(_) => Err(Kind::OutOfMemory),
+    }
+}
+
+/// The wire forms of the table, and one of two pieces and a part of a third.
+fn forms(test: &Test) -> Vec<Vec<u8>> {
+    let mut all = Vec::new(test.alloc);
+    for row in &ROWS {
+        test.push(&mut all, form_of(test, *row));
+    }
+    test.push(&mut all, of_units(test, &[0x28, 0x23, 0, 0], LETTERS, 750));
+    all
+}
+
+#[test]
+fn fails_at_each_read_call(rt: HostRuntime) -> Result<(), Fail> {
+    let test = Test::begin(rt);
+    for form in &forms(&test) {
+        let form = form.as_slice();
+        for &call in &CALLS {
+            let size = form.len();
+            fails_at_each_read(&test, CHUNK, &Reads { call, size }, form, form);
+        }
+    }
+    test.end()
+}
+
+// Upstream's calls go on after an interruption, ours do not.
+#[test]
+fn interrupted(rt: HostRuntime) -> Result<(), Fail> {
+    let test = Test::begin(rt);
+    let interruption = io::Error::from_raw_os_error(4);
+    let wanted = Kind::Io(cause_of(&interruption));
+    let mut reader = trickle_of(b"\x02\0\0\0ab", 1, 1);
+    let (call, size) = (WireForm, 6);
+    let found = Reads { call, size }.read(&test, &mut reader).err();
+    same(&test, &found, &Some(wanted), &"a reader");
+    let mut writer = empty_drip(test.alloc, 1, 2, Some(interruption));
+    let found = serialized(&test.value("ab"), &mut writer);
+    same(&test, &found, &Some(wanted), &"a writer");
+    same(
+        &test,
+        &writer.taken.as_slice(),
+        &b"\x02".as_slice(),
+        &"a writer",
+    );
+    test.end()
+}
+
+#[test]
+fn no_read_into_nothing(rt: HostRuntime) -> Result<(), Fail> {
+    let test = Test::begin(rt);
+    check_no_read(&test, Fill);
+    check_no_read(&test, ReadUpTo);
+    test.end()
+}
+
+fn check_no_read(test: &Test, call: Call) {
+    let (reads, mut reader) = (Reads { call, size: 0 }, trickle_of(b"ab", 1, 1));
+    let is_done = reads.read(test, &mut reader).is_ok();
+    holds(test, is_done && reader.calls == 0, &reads.name());
+}
+
+/// A call that writes a wire form.
+#[derive(Drop)]
+enum Writes<'a> {
+    Serialize(SmolStr),
+    WriteSteps(&'a [u8]),
+}
+
+impl Writing for Writes<'_> {
+    fn name(&self) -> &str {
+        match self {
+            Writes::Serialize(_) => "BorshSerialize::serialize",
+            Writes::WriteSteps(_) => "stream::write_steps",
+        }
+    }
+
+    fn write(&self, _test: &Test, writer: &mut Drip) -> Option<Kind> {
+        match self {
+            Writes::Serialize(value) => serialized(value, writer),
+            Writes::WriteSteps(form) => steps_written(form, writer),
+        }
+    }
+}
+
+fn steps_written(form: &[u8], writer: &mut Drip) -> Option<Kind> {
+    match write_steps(writer, form) {
+        Ok(()) => None,
+        Err(error) => Some(Kind::Io(cause_of(&error))),
+    }
+}
+
+fn serialized(value: &SmolStr, writer: &mut Drip) -> Option<Kind> {
+    match value.serialize(writer) {
+        Ok(()) => None,
+        Err(EncodeFault::Io(error)) => Some(Kind::Io(cause_of(&error))),
+        Err(EncodeFault::TooLong) => Some(Kind::TooLong),
+    }
+}
+
+#[test]
+fn fails_at_each_write_call(rt: HostRuntime) -> Result<(), Fail> {
+    let test = Test::begin(rt);
+    for form in &forms(&test) {
+        let form = form.as_slice();
+        let (value, _) = ok_found(&test, from_wire(test.alloc, form));
+        fails_at_each_write(&test, CHUNK, &Writes::Serialize(value), form);
+        fails_at_each_write(&test, CHUNK, &Writes::WriteSteps(form), form);
+    }
+    test.end()
+}
+
+// An inline text goes out by one call. Of a longer one the size does, and then the text by another.
+#[test]
+fn few_calls(rt: HostRuntime) -> Result<(), Fail> {
+    let test = Test::begin(rt);
+    for len in 0..=INLINE_CAP {
+        check_write_calls(&test, len, 1);
+    }
+    check_write_calls(&test, INLINE_CAP + 1, 2);
+    check_write_calls(&test, 5_000_000, 2);
+    test.end()
+}
+
+fn check_write_calls(test: &Test, len: usize, wanted: usize) {
+    let value = test.value(test.repeated("a", len).as_str());
+    let mut writer = empty_drip(test.alloc, usize::MAX, 0, None);
+    same(test, &serialized(&value, &mut writer), &None, &len);
+    same(test, &writer.calls, &wanted, &len);
+}

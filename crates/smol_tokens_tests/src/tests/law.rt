@@ -1,0 +1,220 @@
+//! The law of memory for the program: each mode on each line, and a token added to tallies of some.
+use super::mode::mode_by;
+use super::run::{fixed_state, kind_of};
+use Free::Never;
+use OnLine::*;
+use Requests::{Doubling, Most};
+use smol_str::{Place, SmolStr};
+use smol_tokens_core::mode::Mode;
+use smol_tokens_core::run::run;
+use smol_tokens_core::tally::{AddFault, Tally};
+use test_support::*;
+
+/// A mode; a row reads as those of the library.
+#[derive(Clone, Copy)]
+enum OnLine {
+    Show,
+    Join,
+    Lower,
+    Upper,
+    Replace(&'static str, &'static str),
+    Tokens,
+    Merge,
+}
+
+static MODES: [Law<OnLine>; 9] = table! {
+    (Show, "run::run, show", Doubling(9), 9, 20_000, Never);
+    (Join, "run::run, join", Doubling(9), 9, 20_000, Never);
+    (Lower, "run::run, lower", Doubling(9), 9, 20_000, Never);
+    (Upper, "run::run, upper", Doubling(9), 9, 20_000, Never);
+    (Replace("a", "é"), "run::run, replace", Doubling(9), 9, 20_000, Never);
+    (Replace("aa", "bbb"), "run::run, replace", Doubling(9), 9, 20_000, Never);
+    (Replace("", "-"), "run::run, replace", Doubling(9), 9, 20_000, Never);
+    (Tokens, "run::run, tokens", Doubling(9), 9, 20_000, Never);
+    (Merge, "run::run, merge", Doubling(9), 9, 20_000, Never);
+};
+
+#[test]
+fn of_modes(rt: HostRuntime) -> Result<(), Fail> {
+    check_law(rt, &MODES)
+}
+
+impl OnLine {
+    fn words(&self) -> [&'static str; 3] {
+        match *self {
+            Show => ["show", "", ""],
+            Join => ["join", "", ""],
+            Lower => ["lower", "", ""],
+            Upper => ["upper", "", ""],
+            Tokens => ["tokens", "", ""],
+            Merge => ["merge", "", ""],
+            Replace(from, to) => ["replace", from, to],
+        }
+    }
+
+    fn mode(&self, test: &Test) -> Mode {
+        let words = self.words();
+        mode_by(
+            test,
+            if let Replace(..) = self {
+                &words
+            } else {
+                &words[..1]
+            },
+        )
+    }
+
+    /// What becomes of a line, as std has it.
+    fn mapped(self, test: &Test, line: &str) -> String {
+        match self {
+            Lower => ok(test, line.to_ascii_lowercase(test.alloc)),
+            Upper => ok(test, line.to_ascii_uppercase(test.alloc)),
+            Replace(from, to) => ok(test, line.replace(test.alloc, from, to)),
+            _ => test.string(line),
+        }
+    }
+}
+
+/// How often a line stands; a count of so many digits.
+fn times_of(way: usize) -> usize {
+    [1, 3][way / 2 % 2]
+}
+
+fn count_of(way: usize) -> u64 {
+    10u64.saturating_pow(way as u32 % 20)
+}
+
+fn place_word(text: &str) -> &'static str {
+    match place_of(text) {
+        Place::Inline => "inline",
+        Place::Static => "static",
+        Place::Heap => "heap",
+    }
+}
+
+impl Call for OnLine {
+    /// The mode, the input, how many bytes the reader gives a call, and a list with room for the report.
+    type Input = (Mode, String, usize, Vec<u8>);
+
+    /// Once and three times, and by single bytes; each number of digits of a count.
+    fn ways(self) -> usize {
+        match self {
+            Merge => 20,
+            _ => 4,
+        }
+    }
+
+    fn takes(self, text: &str) -> bool {
+        !text.contains('\n')
+    }
+
+    fn input(self, test: &Test, text: &'static str, way: usize) -> (Mode, String, usize, Vec<u8>) {
+        let line = match self {
+            Merge => ok(test, format!(in test.alloc; "{} {text}\n", count_of(way))),
+            _ => test.joined(text, "\n"),
+        };
+        let times = if let Merge = self { 1 } else { times_of(way) };
+        let input = test.repeated(line.as_str(), times);
+        let room = self.wanted(test, text, way).len();
+        let out = ok(test, Vec::with_capacity(test.alloc, room));
+        (self.mode(test), input, [1, usize::MAX][way % 2], out)
+    }
+
+    fn run(
+        self,
+        alloc: Global,
+        _text: &str,
+        (mode, input, step, mut out): (Mode, String, usize, Vec<u8>),
+    ) -> Result<Thing, Thing> {
+        let mut reader = trickle_of(input.as_bytes(), step, 0);
+        match run(alloc, fixed_state(), mode, &mut reader, &mut out) {
+            Ok(()) => Ok(Thing::Bytes(out)),
+            Err(fault) => Err(nothing(kind_of(&fault) == Kind::OutOfMemory && out.is_empty())),
+        }
+    }
+
+    fn wanted(self, test: &Test, text: &'static str, way: usize) -> String {
+        let times = times_of(way);
+        let made = self.mapped(test, text);
+        let made = match self {
+            Join => test.repeated(text, times),
+            _ => made,
+        };
+        let (place, size) = (place_word(made.as_str()), made.len());
+        let report = match self {
+            Tokens => format!(in test.alloc; "{times} {made}\n"),
+            Merge => format!(in test.alloc; "{} {made}\n", count_of(way)),
+            _ => format!(in test.alloc; "{place} {size} {made}\n"),
+        };
+        match self {
+            Join | Tokens | Merge => ok(test, report),
+            _ => test.repeated(ok(test, report).as_str(), times),
+        }
+    }
+}
+
+/// A token, added to a tally of so many others, four of which grow: a new one, and one that is there.
+#[derive(Clone, Copy)]
+enum Add {
+    New,
+    Again,
+}
+
+static ADDS: [Law<Add>; 2] = table! {
+    (Add::New, "Tally::add", Most(4), 0, 20_000, Never);
+    (Add::Again, "Tally::add", Most(0), 0, 0, Never);
+};
+
+static OTHERS: [u64; 8] = [0, 1, 3, 4, 7, 8, 14, 28];
+
+#[test]
+fn of_tallies(rt: HostRuntime) -> Result<(), Fail> {
+    check_law(rt, &ADDS)
+}
+
+impl Call for Add {
+    type Input = (Tally, SmolStr, u64);
+
+    fn ways(self) -> usize {
+        8
+    }
+
+    /// None of the others.
+    fn takes(self, text: &str) -> bool {
+        text.len() > 2
+    }
+
+    fn input(self, test: &Test, text: &'static str, way: usize) -> (Tally, SmolStr, u64) {
+        let mut tally = Tally::new(test.alloc);
+        let others = OTHERS[way % 8];
+        for number in 0..others {
+            let token = ok(test, format!(in test.alloc; "{number}"));
+            holds(
+                test,
+                tally.add(test.value(token.as_str()), 1).is_ok(),
+                &number,
+            );
+        }
+        match self {
+            Add::New => {}
+            Add::Again => holds(test, tally.add(test.value(text), 1).is_ok(), &text),
+        }
+        (tally, test.value(text), others)
+    }
+
+    /// A token that comes back is not counted.
+    fn run(
+        self,
+        _alloc: Global,
+        _text: &str,
+        (mut tally, token, others): (Tally, SmolStr, u64),
+    ) -> Result<Thing, Thing> {
+        match tally.add(token, 7) {
+            Ok(count) => Ok(nothing(count == if let Add::New = self { 7 } else { 8 })),
+            Err(AddFault::OutOfMemory(back)) if tally.len() as u64 == others => {
+                Err(Thing::Value(back))
+            }
+            Err(_) => Err(Thing::Fault),
+        }
+    }
+}

@@ -1,0 +1,267 @@
+//! The law of memory: what a call may ask the heap for, and what stands where that is refused.
+use crate::memory::{
+    Count, Refusals, can_refuse, counted, end_refusals, is_at_most, refuse, start_counts,
+};
+use crate::sampling::samples;
+use crate::test::{Test, holds};
+use crate::things::Thing;
+use crate::values::place_of;
+use smol_str::{INLINE_CAP, Place};
+use std::alloc::Global;
+use std::test::Fail;
+
+/// How many requests for memory a call may make.
+#[derive(Clone, Copy)]
+pub enum Requests {
+    /// So many.
+    Most(u32),
+    /// So many, and one more each time that its text is twice as long, from a full buffer on.
+    Doubling(u32),
+}
+
+/// Where a call makes no request.
+#[derive(Clone, Copy)]
+pub enum Free {
+    /// Where its result is short, or a blank run.
+    Resident,
+    /// Where its result is short.
+    Short,
+    /// Where its result is empty.
+    Empty,
+    Never,
+}
+
+/// A call, its name as the library's documentation has it, how many requests it may make, for how many bytes in all (so many
+/// times the longer of its text and its result, and so many more), and where it makes none.
+pub type Law<C> = (C, &'static str, Requests, usize, usize, Free);
+
+/// How a call is made.
+pub trait Call: Copy {
+    /// What it takes beside a text.
+    type Input;
+
+    /// In how many ways it is made on each text.
+    fn ways(self) -> usize {
+        1
+    }
+
+    /// Whether it is made on the text.
+    fn takes(self, _text: &str) -> bool {
+        true
+    }
+
+    /// What it takes, made of the text with ample memory.
+    fn input(self, test: &Test, text: &'static str, way: usize) -> Self::Input;
+
+    /// The call, and what it makes or leaves.
+    fn run(self, alloc: Global, text: &str, input: Self::Input) -> Result<Thing, Thing>;
+
+    /// The text that it makes, which is its own where nothing else is said.
+    fn wanted(self, test: &Test, text: &'static str, _way: usize) -> String {
+        test.string(text)
+    }
+}
+
+/// Holds each call of a table to its row, on each text, in each way. Each call that may ask for memory is refused it.
+pub fn check_law<C: Call>(rt: HostRuntime, table: &[Law<C>]) -> Result<(), Fail> {
+    let test = Test::begin(rt);
+    let texts = samples(&test);
+    for &(call, name, requests, times, more, free) in table {
+        let most = Most {
+            requests,
+            times,
+            more,
+            free,
+        };
+        let was_refused = check_texts(&test, call, name, most, &texts);
+        let is_asking = !matches!(requests, Requests::Most(0)) && can_refuse(test.alloc);
+        holds(&test, was_refused == is_asking, &(name, "is refused"));
+    }
+    test.end()
+}
+
+/// Whether a request of the call was refused.
+fn check_texts<C: Call>(
+    test: &Test,
+    call: C,
+    name: &'static str,
+    most: Most,
+    texts: &Vec<&'static str>,
+) -> bool {
+    let mut was_refused = false;
+    for &text in texts {
+        if call.takes(text) {
+            for way in 0..call.ways() {
+                let wanted = call.wanted(test, text, way);
+                let on = On {
+                    call,
+                    name,
+                    most,
+                    text,
+                    way,
+                    wanted,
+                };
+                was_refused |= check_requests(test, &on);
+            }
+        }
+    }
+    was_refused
+}
+
+/// The limits of a row.
+#[derive(Clone, Copy)]
+struct Most {
+    requests: Requests,
+    times: usize,
+    more: usize,
+    free: Free,
+}
+
+/// A call on a text, in a way, and the text that it makes.
+#[derive(Drop)]
+struct On<C> {
+    call: C,
+    name: &'static str,
+    most: Most,
+    text: &'static str,
+    way: usize,
+    wanted: String,
+}
+
+/// The call with ample memory; with no block made smaller, which is no reason to give up; and with each of its requests
+/// refused in turn, that one alone and that one with all after it. Returns whether one was refused.
+fn check_requests<C: Call>(test: &Test, on: &On<C>) -> bool {
+    run(test, on, Refusals::One(0));
+    if is_at_most(test.alloc, Count::Requests, 0) || !can_refuse(test.alloc) {
+        return false;
+    }
+    run(test, on, Refusals::Smaller);
+    for nth in 1..TRIED {
+        let was_refused = run(test, on, Refusals::One(nth));
+        if run(test, on, Refusals::From(nth)) != was_refused || !was_refused {
+            return nth > 1;
+        }
+    }
+    test.fail(&(on.name, "makes too many requests"));
+    true
+}
+
+/// More requests than a call under test makes.
+const TRIED: u32 = 1000;
+
+/// One run with these requests refused. Returns whether one was.
+fn run<C: Call>(test: &Test, on: &On<C>, refusals: Refusals) -> bool {
+    let alloc = test.alloc;
+    start_counts(alloc);
+    let input = on.call.input(test, on.text, on.way);
+    let before = match refusals {
+        Refusals::From(_) => counted(alloc, Count::Held),
+        _ => 0,
+    };
+    refuse(alloc, refusals);
+    let returned = on.call.run(alloc, on.text, input);
+    let was_refused = end_refusals(alloc);
+    match returned {
+        Ok(thing) => {
+            check_made(test, on, &thing, was_refused);
+            if !matches!(refusals, Refusals::Smaller) {
+                check_held(test, on, &thing);
+            }
+        }
+        Err(left) => {
+            let is_left = left.stands_after(on.text, on.wanted.as_bytes());
+            check(test, on, is_left, "leaves something else");
+            let has_room = left.is_none() || counted(alloc, Count::Held) >= before;
+            check(test, on, has_room, "leaves less room");
+            check(test, on, was_refused, "gives up unrefused");
+        }
+    }
+    check(
+        test,
+        on,
+        is_at_most(alloc, Count::Blocks, 0) || !can_refuse(alloc),
+        "leaks",
+    );
+    was_refused
+}
+
+/// The call made what is wanted, and asked for no more than its row says.
+fn check_made<C: Call>(test: &Test, on: &On<C>, thing: &Thing, was_refused: bool) {
+    check(
+        test,
+        on,
+        thing.reads(on.wanted.as_bytes()),
+        "makes something else",
+    );
+    check(test, on, !was_refused, "hides a refusal");
+    if can_refuse(test.alloc) {
+        let requests = on.most_requests();
+        check_count(test, on, Count::Requests, requests as usize);
+        let bytes = if requests == 0 { 0 } else { on.most_bytes() };
+        check_count(test, on, Count::Bytes, bytes);
+    }
+}
+
+/// A value keeps its text and no more.
+fn check_held<C: Call>(test: &Test, on: &On<C>, thing: &Thing) {
+    match thing.most_held() {
+        Some(held) if can_refuse(test.alloc) => check_count(test, on, Count::Held, held),
+        _ => {}
+    }
+}
+
+fn check_count<C: Call>(test: &Test, on: &On<C>, count: Count, most: usize) {
+    if !is_at_most(test.alloc, count, u32::try_from(most).unwrap_or(u32::MAX)) {
+        let found = counted(test.alloc, count);
+        test.fail(&(
+            on.name,
+            on.way,
+            on.text.len(),
+            start_of(on.text),
+            (count, found, most),
+        ));
+    }
+}
+
+fn check<C: Call>(test: &Test, on: &On<C>, is_so: bool, what: &str) {
+    holds(
+        test,
+        is_so,
+        &(on.name, on.way, on.text.len(), start_of(on.text), what),
+    );
+}
+
+/// Some characters of a text, for a message.
+fn start_of(text: &str) -> &str {
+    text.get(..8).unwrap_or("")
+}
+
+impl<C: Call> On<C> {
+    fn most_requests(&self) -> u32 {
+        let is_free = match self.most.free {
+            Free::Resident => place_of(self.wanted.as_str()) != Place::Heap,
+            Free::Short => self.wanted.len() <= INLINE_CAP,
+            Free::Empty => self.wanted.is_empty(),
+            Free::Never => false,
+        };
+        match self.most.requests {
+            _ if is_free => 0,
+            Requests::Most(most) => most,
+            Requests::Doubling(most) => {
+                let buffers = self.size() / INLINE_CAP;
+                most.saturating_add(buffers.checked_ilog2().unwrap_or(0))
+            }
+        }
+    }
+
+    fn most_bytes(&self) -> usize {
+        self.size()
+            .saturating_mul(self.most.times)
+            .saturating_add(self.most.more)
+    }
+
+    /// The longer of the text and the result.
+    fn size(&self) -> usize {
+        self.text.len().max(self.wanted.len())
+    }
+}

@@ -1,0 +1,105 @@
+//! Texts of each length and kind, on which calls are tried.
+use crate::memory::can_refuse;
+use crate::table;
+use crate::test::Test;
+use smol_str::{BLANK_NEWLINES, INLINE_CAP};
+
+/// Texts that repeat: letters of one to four bytes, mixed ones, one whose case is shorter, blanks, and what JSON escapes.
+static UNITS: [&str; 12] = table! {
+    "a"; "AΣé€🦀"; "aab"; "\u{2126}"; "ab "; " "; "\u{7ff}"; "\u{ffff}"; "\u{10ffff}"; "\""; "\n"; "\u{1}";
+};
+
+/// What stands in front, in the middle and at the end of letters: characters about each length, those whose case has another
+/// length or depends on its neighbours, and each kind of escape of JSON.
+static MARKS: [&str; 23] = table! {
+    "B"; "\u{7f}"; "\u{80}"; "\u{7ff}"; "\u{800}"; "\u{ffff}"; "\u{10000}";
+    "ß"; "İ"; "ŉ"; "ǅ"; "ΐ"; "ﬃ"; "\u{2126}"; "Σ";
+    "\""; "\\"; "\u{8}"; "\t"; "\n"; "\u{c}"; "\r"; "\u{1}";
+};
+
+/// Texts of each length from 0 to 300, about the powers of two up to 70,000, and of more than a megabyte. Where memory can't
+/// be refused, some.
+pub fn samples(test: &Test) -> Vec<&'static str> {
+    let mut texts = Vec::new(test.alloc);
+    if !can_refuse(test.alloc) {
+        for len in [0, 1, INLINE_CAP, INLINE_CAP + 1, 300] {
+            push_samples(test, &mut texts, len);
+        }
+        return texts;
+    }
+    for len in 0..=300 {
+        push_samples(test, &mut texts, len);
+    }
+    for power in 9..=16u32 {
+        for len in [(1 << power) - 1, 1 << power, (1 << power) + 1] {
+            push_samples(test, &mut texts, len);
+        }
+    }
+    push_samples(test, &mut texts, 70_000);
+    push_samples(test, &mut texts, 1_300_003);
+    texts
+}
+
+/// The texts of a length: all that are short or about that, and of others each mark at one length; few that are long.
+fn push_samples(test: &Test, texts: &mut Vec<&'static str>, len: usize) {
+    let units = match len {
+        0..=1_000 => 12,
+        1_001..=100_000 => 4,
+        _ => 2,
+    };
+    for unit in &UNITS[..units] {
+        push_repeated(test, texts, unit, len);
+    }
+    if units > 2 {
+        push_text(test, texts, blank(test, len));
+        push_text(test, texts, blank_and(test, len));
+    }
+    for (index, mark) in MARKS.iter().enumerate() {
+        if len <= 2 * INLINE_CAP + 2 || units > 2 && len.wrapping_add(index) % MARKS.len() == 0 {
+            push_marked(test, texts, mark, len);
+        }
+    }
+}
+
+/// A unit as often as the length has room for it, and letters.
+fn push_repeated(test: &Test, texts: &mut Vec<&'static str>, unit: &str, len: usize) {
+    let size = unit.len().max(1);
+    let rest = test.repeated("a", len % size);
+    push_text(
+        test,
+        texts,
+        test.repeated_and(unit, len / size, rest.as_str()),
+    );
+}
+
+/// Newlines, and then spaces.
+fn blank(test: &Test, len: usize) -> String {
+    let newlines = len.min(BLANK_NEWLINES);
+    let spaces = test.repeated(" ", len - newlines);
+    test.repeated_and("\n", newlines, spaces.as_str())
+}
+
+/// Spaces, and then a letter.
+fn blank_and(test: &Test, len: usize) -> String {
+    test.repeated_and(" ", len.saturating_sub(1), "a")
+}
+
+/// A mark in front of letters, among them and behind them.
+fn push_marked(test: &Test, texts: &mut Vec<&'static str>, mark: &str, len: usize) {
+    let Some(letters) = len.checked_sub(mark.len()) else {
+        return;
+    };
+    for front in [0, letters / 2, letters] {
+        let rest = test.repeated_and(mark, 1, test.repeated("a", letters - front).as_str());
+        push_text(test, texts, test.repeated_and("a", front, rest.as_str()));
+    }
+}
+
+fn push_text(test: &Test, texts: &mut Vec<&'static str>, text: String) {
+    test.push(texts, leaked(text));
+}
+
+/// A text that stays for as long as the process lives.
+pub fn leaked(text: String) -> &'static str {
+    str::from_utf8(text.into_bytes().leak()).unwrap_or("")
+}

@@ -1,0 +1,197 @@
+//! What calls make and leave.
+use smol_str::borsh::{DecodeFault, LimitedFault};
+use smol_str::json_string::JsonFault;
+use smol_str::stream::ReadFault;
+use smol_str::{FormatError, FromUtf8Fault, Place, SmolStr, SmolStrBuilder};
+use std::alloc::AllocError;
+use std::borrow::CowStr;
+use std::boxed::BoxedStr;
+use std::rc::RcStr;
+
+/// What a call made, or left where it was refused.
+#[derive(Drop)]
+pub enum Thing {
+    /// Nothing, or what no row asks about.
+    Nothing,
+    /// A fault that does not say that memory was refused.
+    Fault,
+    Value(SmolStr),
+    Builder(SmolStrBuilder),
+    Owned(String),
+    Bytes(Vec<u8>),
+    Shared(RcStr),
+}
+
+/// What a shared text has beside its bytes: its counts, and what the C library leaves at the end of a block.
+const BESIDE: usize = 128;
+
+impl Thing {
+    /// The bytes of its text, where it has one.
+    pub fn bytes(&self) -> Option<&[u8]> {
+        Some(match self {
+            Thing::Nothing | Thing::Fault => return None,
+            Thing::Value(value) => value.as_str().as_bytes(),
+            Thing::Builder(builder) => builder.as_str().as_bytes(),
+            Thing::Owned(string) => string.as_bytes(),
+            Thing::Bytes(bytes) => bytes.as_slice(),
+            Thing::Shared(shared) => shared.as_str().as_bytes(),
+        })
+    }
+
+    /// Whether it is what was to be made.
+    pub fn reads(&self, wanted: &[u8]) -> bool {
+        match self.bytes() {
+            Some(bytes) => bytes == wanted,
+            None => matches!(self, Thing::Nothing),
+        }
+    }
+
+    /// How many bytes of memory it may hold, where that is its text and no more.
+    pub fn most_held(&self) -> Option<usize> {
+        match self {
+            Thing::Value(value) if value.place() != Place::Heap => Some(0),
+            Thing::Value(value) => Some(value.len().saturating_add(BESIDE)),
+            Thing::Shared(shared) => Some(shared.as_str().len().saturating_add(BESIDE)),
+            _ => None,
+        }
+    }
+
+    /// Whether nothing came back.
+    pub fn is_none(&self) -> bool {
+        matches!(self, Thing::Nothing | Thing::Fault)
+    }
+
+    /// Whether it may stand after a refusal of a call on the text: nothing, the text, or a builder that has a front of what
+    /// was to be made.
+    pub fn stands_after(&self, text: &str, wanted: &[u8]) -> bool {
+        match self {
+            Thing::Nothing => true,
+            Thing::Fault => false,
+            Thing::Builder(builder) => wanted.starts_with(builder.as_str().as_bytes()),
+            _ => self.bytes() == Some(text.as_bytes()),
+        }
+    }
+}
+
+/// What a call returned, as things.
+pub fn made<M: IntoThing, F: IntoThing>(outcome: Result<M, F>) -> Result<Thing, Thing> {
+    match outcome {
+        Ok(made) => Ok(made.into_thing()),
+        Err(fault) => Err(fault.into_thing()),
+    }
+}
+
+/// What a call leaves that changes a builder.
+pub fn changed<F: Drop>(outcome: Result<(), F>, builder: SmolStrBuilder) -> Result<Thing, Thing> {
+    match outcome {
+        Ok(()) => Ok(Thing::Builder(builder)),
+        Err(_) => Err(Thing::Builder(builder)),
+    }
+}
+
+/// What a fault says of memory.
+pub fn nothing(is_out_of_memory: bool) -> Thing {
+    if is_out_of_memory {
+        Thing::Nothing
+    } else {
+        Thing::Fault
+    }
+}
+
+pub trait IntoThing {
+    fn into_thing(self) -> Thing;
+}
+
+impl IntoThing for Thing {
+    fn into_thing(self) -> Thing {
+        self
+    }
+}
+
+impl IntoThing for SmolStr {
+    fn into_thing(self) -> Thing {
+        Thing::Value(self)
+    }
+}
+
+impl IntoThing for SmolStrBuilder {
+    fn into_thing(self) -> Thing {
+        Thing::Builder(self)
+    }
+}
+
+impl IntoThing for String {
+    fn into_thing(self) -> Thing {
+        Thing::Owned(self)
+    }
+}
+
+impl IntoThing for Vec<u8> {
+    fn into_thing(self) -> Thing {
+        Thing::Bytes(self)
+    }
+}
+
+impl IntoThing for BoxedStr {
+    fn into_thing(self) -> Thing {
+        Thing::Owned(self.into_string())
+    }
+}
+
+impl IntoThing for RcStr {
+    fn into_thing(self) -> Thing {
+        Thing::Shared(self)
+    }
+}
+
+/// A borrowed text that was handed in is no thing.
+impl IntoThing for CowStr<'_> {
+    fn into_thing(self) -> Thing {
+        match self {
+            CowStr::Borrowed(_) => Thing::Nothing,
+            CowStr::Owned(string) => Thing::Owned(string),
+        }
+    }
+}
+
+impl IntoThing for AllocError {
+    fn into_thing(self) -> Thing {
+        Thing::Nothing
+    }
+}
+
+impl IntoThing for FormatError {
+    fn into_thing(self) -> Thing {
+        Thing::Nothing
+    }
+}
+
+impl IntoThing for FromUtf8Fault {
+    fn into_thing(self) -> Thing {
+        nothing(matches!(self, FromUtf8Fault::OutOfMemory))
+    }
+}
+
+impl IntoThing for DecodeFault {
+    fn into_thing(self) -> Thing {
+        nothing(matches!(self, DecodeFault::OutOfMemory))
+    }
+}
+
+impl IntoThing for LimitedFault {
+    fn into_thing(self) -> Thing {
+        nothing(matches!(self, LimitedFault::Decode(DecodeFault::OutOfMemory)))
+    }
+}
+
+impl IntoThing for ReadFault {
+    fn into_thing(self) -> Thing {
+        nothing(matches!(self, ReadFault::OutOfMemory))
+    }
+}
+
+impl IntoThing for JsonFault {
+    fn into_thing(self) -> Thing {
+        nothing(matches!(self, JsonFault::OutOfMemory))
+    }
+}
