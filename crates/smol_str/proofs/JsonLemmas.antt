@@ -122,7 +122,7 @@ pub ruleset laws = (read-compact, escape-encoded, read-plain)
 pub read-same : (text s : List ℕ) → IsJsonText text s → (t : List ℕ) → IsJsonText text t → t ≡ s
 read-same text s reads t e = encodes_same t s cc
 
--- no bytes are no JSON text
+-- the empty list of bytes is not a JSON text
 pub some_bytes : (bs : List ℕ) (d : Data) → read bs ≡ Some d → 0 < length bs
 unfolding serde_json_on_literals
 some_bytes [] d e = cc

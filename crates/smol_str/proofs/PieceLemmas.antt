@@ -27,7 +27,7 @@ lacks_char c (d ∷ t) (other, none) ([], r, e) = grind (arith, nat_tests)
 lacks_char c (d ∷ t) (other, none) (x ∷ a, r, e) = lacks_char c t none (a, r, ap (drop 1) e)
 
 module _ (w : List ℕ) (u : IsUtf8 w) where
-  -- a pattern that stands between bytes, as characters
+  -- a pattern that occurs between bytes, as characters
   pub found_parts : (p : List ℕ) (i j : ℕ) → 0 < length p → drop i w ≡ encode_utf8_all p ++ drop j w
       → (0 < j) × IsUtf8 (take i w) × IsUtf8 (drop j w) × (chars w ≡ chars (take i w) ++ (p ++ chars (drop j w)))
   found_parts p i j some e =
@@ -43,7 +43,7 @@ module _ (w : List ℕ) (u : IsUtf8 w) where
       let h = found_parts (c ∷ []) q.0 q.1 (omega arith) (cc (at.split, append-nil (encode_utf8 c))) in
       (h.0, h.1, h.2, h.3, rw (chars_from_encodes cs _ h.1 e, ← append-nil (chars (take q.0 w))) at (lacks_char c cs none))
 
-  -- characters that stand have bytes that stand
+  -- where characters occur, their bytes do
   pub bytes_there : (nd a r : List ℕ) → IsUtf8 nd → chars w ≡ a ++ (chars nd ++ r) → drop (size a) w ≡ nd ++ encode_utf8_all r
   bytes_there nd a r v e = cc (drop-parts w a (chars nd ++ r) (size a) u e refl, encodes-append (chars nd) r, encodes-chars nd v)
 

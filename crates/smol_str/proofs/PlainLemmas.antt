@@ -51,7 +51,7 @@ run-padded [] zero = refl
 run-padded [] (suc n) = refl
 run-padded (x ∷ xs) n = grind (arith, common_steps, run-padded xs n)
 
--- plain bytes are written as they stand
+-- plain bytes are written without escapes
 pub escape-plain : (s : List ℕ) → list_all is_plain s ≡ true → escape s ≡ s
 escape-plain [] h = refl
 escape-plain (x ∷ s) h = grind (arith, nat_tests, common_steps, escape_byte_plain x, escape-plain s)

@@ -1,6 +1,6 @@
 -- ASCII case, and full case.
 --     letter case c         the character c in this case of ASCII
---     converted case t      t in this case of ASCII, character by character; what is no letter of ASCII stays
+--     converted case t      t in this case of ASCII, character by character; others than ASCII letters stay
 --     lower t               A to Z made a to z
 --     upper t               a to z made A to Z
 --     front t               the longest front of t of ASCII characters
@@ -12,8 +12,8 @@
 --     lowercased t          t as `str::to_lowercase` makes it
 --     uppercased t          t as `str::to_uppercase` makes it
 --     full_case case t      t in this case of Unicode
---     HasSigma t            the capital sigma, U+03A3, stands in t
---     IsMappedAlone case t  no character of t is mapped by what stands around it
+--     HasSigma t            the capital sigma, U+03A3, occurs in t
+--     IsMappedAlone case t  no character of t is mapped by its context
 -- `to_ascii_lowercase`, `to_ascii_uppercase` and `is_ascii` of a character are std's.
 use Rattle.std.specs.Prelude.{ℕ, false, ◌<◌, ◌≤◌, List, [], ◌∷◌, ⊤, length, take, map, take_while, All}
 use Rattle.std.specs.List.{flat_map}
@@ -83,7 +83,7 @@ abbrev pub full_case : AsciiCase → List ℕ → List ℕ
 full_case Lower t = lowercased t
 full_case Upper t = uppercased t
 
--- the one character that lower case maps by what stands around it
+-- the one character that lower case maps by its context
 abbrev pub HasSigma : List ℕ → Type 0
 HasSigma t = Occurs (0x3A3 ∷ []) t
 

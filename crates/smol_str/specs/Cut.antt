@@ -1,7 +1,7 @@
 -- A text cut at a pattern: the pieces between the matches.
---     Occurs p t               p stands somewhere in t
---     StandsAt p t i           p stands in t after a front of i bytes
---     IsFirstAfter p q         in q followed by p, p stands first at the end
+--     Occurs p t               p occurs in t
+--     StandsAt p t i           p occurs in t after a prefix of i bytes
+--     IsFirstAfter p q         in q followed by p, the first match of p is at the end
 --     joined_by p pieces       the pieces in a row, with p between each two
 --     IsCut t p n pieces       the pieces of t, cut at p at most n times
 --     IsOnlyCut t p n pieces   these are the pieces, and no others are
@@ -12,11 +12,11 @@ use Rattle.std.specs.Prelude.{◌≡◌, ℕ, ◌+◌, ◌<◌, ◌≤◌, min, 
 use Rattle.std.specs.List.{concat, join_by, last_or}
 use Rattle.smol_str.specs.Text.{size}
 
--- the text is some a, the pattern, and some r
+-- t = a ++ p ++ r for some a and r
 abbrev pub Occurs : List ℕ → List ℕ → Type 0
 Occurs p t = (a : List ℕ) × (r : List ℕ) × (t ≡ a ++ (p ++ r))
 
--- the same, where a is i bytes long
+-- t = a ++ p ++ r for some a of i bytes and some r
 abbrev pub StandsAt : List ℕ → List ℕ → ℕ → Type 0
 StandsAt p t i = (a : List ℕ) × (r : List ℕ) × (t ≡ a ++ (p ++ r)) × (size a ≡ i)
 
@@ -26,7 +26,7 @@ but_last [] = []
 but_last (x ∷ []) = []
 but_last (x ∷ y ∷ rest) = x ∷ but_last (y ∷ rest)
 
--- p stands nowhere in q followed by all of p but its last character
+-- p does not occur in q followed by all of p but its last character
 abbrev pub IsFirstAfter : List ℕ → List ℕ → Type 0
 IsFirstAfter p q = ¬ Occurs p (q ++ but_last p)
 

@@ -11,7 +11,7 @@ use Rattle.smol_str.specs.Text.{IsResident}
 pub record IsUtf8FaultOf (bytes : List ℕ) (e : Utf8Error) : Type 0 where
   -- so many bytes are the longest front that is UTF-8
   pub valid : IsValidUpTo bytes (valid_up_to e)
-  -- so many bytes after them are no character, or the bytes end within one
+  -- so many bytes after them are not a character, or the bytes end within one
   pub bounded : IsErrorLen bytes (valid_up_to e) (error_len e)
   pub fault : error_len e ≡ utf8_error_len (drop (valid_up_to e) bytes)
 

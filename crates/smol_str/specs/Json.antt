@@ -32,7 +32,7 @@ abbrev pub IsOther : json.Data → Type 0
 IsOther (json.string bytes) = ⊥
 IsOther _ = ⊤
 
--- of a JSON value: it is no string; or it is the string of a text, and no text of which it is the string is resident
+-- of a JSON value: it is not a string; or it is the string of a text, and no text of which it is the string is resident
 abbrev pub AfterValueFault : json.Data → JsonFault → Type 0
 AfterValueFault d NotString = IsOther d
 AfterValueFault d (Json e) = ⊥

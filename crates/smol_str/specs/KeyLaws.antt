@@ -1,7 +1,7 @@
--- That a `&str` may stand for a key, as `indexmap` wants it of what is looked up: `impl Equivalent<SmolStr>` for a type
+-- That a `&str` may be looked up in place of a key, as `indexmap` wants it: `impl Equivalent<SmolStr>` for a type
 -- of the caller's that holds a `&str` cites these.
---     stands_for-hash    it is hashed as the key that it stands for
---     stands_for-same    it stands for the keys that are equal to that one, and for no other
+--     stands_for-hash    it is hashed as each key that it matches
+--     stands_for-same    it matches the keys that are equal to that one, and no other
 use Rattle.std.specs.Prelude.{◌≡◌, ℕ, List, encode_utf8_all, IsTrue}
 use Rattle.std.proofs.Common.{ap, sym, ◌∙◌}
 use Rattle.std.proofs.lemmas.Str.{encodes_same}

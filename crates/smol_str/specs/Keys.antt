@@ -10,7 +10,7 @@
 --     has_text t values         whether a list has a value of the text t
 --     is_before s t             whether a value of the text s comes before one of t
 --     stands_for bytes key      whether a `&str` of these bytes has the text of the value
---     id_of t names             at which place the text t stands first among names, if it does, as in an interner
+--     id_of t names             the index of the first t among names, if there is one, as in an interner
 --     interned t names          the names once the text is among them
 --     ids_of names              the id of each text among names
 --     ids_in es                 what a map of these entries has at each text

@@ -1,4 +1,4 @@
--- Plain texts, which JSON writes in quotes as they stand.
+-- Plain texts, which JSON writes in quotes without escapes.
 --     is_plain c        the character, or the byte, needs no escape
 --     IsPlain t         none of the text needs one
 --     is_space c        the byte is white space of JSON

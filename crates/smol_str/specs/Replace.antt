@@ -10,7 +10,7 @@ use Rattle.std.specs.Prelude.{ℕ, ◌+◌, ◌-◌, zero, suc, List, [], ◌∷
 use Rattle.std.specs.List.{starts_with, flat_map}
 use Rattle.smol_str.specs.Cut.{joined_by}
 
--- what stands before the first match of p, and what follows that match; p is not empty, as `cut_at` has it
+-- what comes before the first match of p, and what follows that match; p is not empty, as `cut_at` has it
 abbrev pub first_match : List ℕ → List ℕ → Option (List ℕ × List ℕ)
 first_match p [] = None
 first_match p (c ∷ t) =

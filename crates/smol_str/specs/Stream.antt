@@ -3,7 +3,7 @@
 --     Gave remaining old new bytes         the reader gave the bytes, where `remaining` says what a reader has left
 --     AppendsBeginning held holds bytes    the writer took a beginning of the bytes, but not all of them
 --     GaveAll input left                   the reader gave all that it had
---     GaveAllBelow input left n            the same, and that were fewer than n bytes
+--     GaveAllBelow input left n            the reader gave all that it had, fewer than n bytes
 --     GaveBelow input left n               it gave fewer than n bytes, and may have more
 --     GaveUpTo input left n                it gave at least one byte, and n at the most
 --     AfterReadFault limit input left      what it gave where not all bytes were read up to a limit

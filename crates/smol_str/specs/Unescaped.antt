@@ -1,5 +1,5 @@
--- What the front of a JSON string's content stands for, in the words of `json`'s grammar.
---     Unescapes bytes s rest         within a string, the bytes stand for s, and then for what rest stands for
+-- The characters that the front of a JSON string's content spells, in the words of `json`'s grammar.
+--     Unescapes bytes s rest         within a string, the bytes spell s, and then what rest spells
 --     UnescapesAfterU bytes s rest   the same of bytes behind a backslash and a `u`
 --     BeginsWithUnit bytes u rest    four hex digits that spell the UTF-16 code unit u, and then rest
 --     IsSurrogatePair high low c     the two surrogates of the character c

@@ -18,7 +18,7 @@ HasWire t = size t < 2 ^ 32
 unfoldable pub wire : List ℕ → List ℕ
 wire t = to_le_bytes w32 (size t) ++ encode_utf8_all t
 
--- b has n bytes at least, and its first n are the wire form of t; no bytes hold what is no scalar value, such as U+D800
+-- b has n bytes at least, and its first n are the wire form of t; t has scalar values only (no surrogates)
 pub record Holds (b t : List ℕ) (n : ℕ) : Type 0 where
   pub scalars : IsTrue (all_scalars t)
   pub sized : HasWire t

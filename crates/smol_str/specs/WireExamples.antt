@@ -21,7 +21,7 @@ prefix_size_low : prefix_size (0x84 ∷ 1 ∷ 0 ∷ 0 ∷ []) ≡ 388
 unfolding prefix_size
 prefix_size_low = refl
 
--- the seventh byte is no part of the body
+-- the seventh byte is not part of the body
 body_ab : body (2 ∷ 0 ∷ 0 ∷ 0 ∷ 97 ∷ 98 ∷ 99 ∷ []) ≡ 97 ∷ 98 ∷ []
 unfolding prefix_size
 body_ab = refl

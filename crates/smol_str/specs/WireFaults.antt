@@ -10,7 +10,7 @@
 --     HasReadSize           the size came
 --     HasReadBody           the body came, and is the text of a value
 --     HasReadLarge          the body came, and is a text that is not resident
---     AfterBodyFault        it did not, or is no text, or memory was refused
+--     AfterBodyFault        it did not, or is not UTF-8, or memory was refused
 -- And what other calls' faults become.
 --     of_read_fault         the fault of a reader that was read by chunks
 --     of_utf8_fault         the fault of bytes that were to be a value's text

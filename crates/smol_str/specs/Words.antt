@@ -6,6 +6,6 @@ unfoldable pub word : ℕ → List ℕ → ℕ → ℕ
 word zero bytes at = 0
 word (suc k) bytes at = word k bytes at + 256 ^ k * get_or bytes (at + k) 0
 
--- the bytes stand at `start`, and the others are as before
+-- the bytes are at `start`, and the others are as before
 abbrev pub put_at : List ℕ → ℕ → List ℕ → List ℕ
 put_at others start bytes = take start others ++ (bytes ++ drop (start + length bytes) others)

@@ -276,7 +276,7 @@ impl BorshSerialize for SmolStr {
 /// size 0. A body of at most [`INLINE_CAP`] bytes takes no memory. A longer one takes memory by
 /// what came, and not by the stated size. UTF-8 is tested when the whole body is there.
 ///
-/// What stands after each fault is in the table of [`deserialize_limited`], in the rows of `Decode`. Of
+/// What holds after each fault is in the table of [`deserialize_limited`], in the rows of `Decode`. Of
 /// a body above [`STACK_BODY`] [`DecodeFault::OutOfMemory`] may come before an early end is seen, and
 /// [`DecodeFault::Io`], perhaps of `Interrupted`, before every other fault.
 ///

@@ -288,7 +288,7 @@ impl SmolStrBuilder {
         }
     }
 
-    /// The same text in the same kind, with the builder's own allocator.
+    /// A builder of equal text and kind, with this builder's allocator.
     ///
     /// Only a builder on the heap can be refused a clone. The clone has the room that its text needs,
     /// and none that a larger capacity left over.
@@ -335,7 +335,7 @@ impl SmolStrBuilder {
         }
     }
 
-    /// The same value, where the builder is not wanted back: it keeps the memory that the text is in,
+    /// Like `finish`, but drops the builder on failure, and reuses the allocation that the text is in,
     /// shrunk to fit where the heap does that. That no copy is made is only tested.
     ///
     /// It is refused with [`AllocError`] where the heap has no room for the value's own count.
@@ -359,7 +359,7 @@ impl SmolStrBuilder {
     }
 }
 
-/// For containers of builders; the same as [`SmolStrBuilder::clone`].
+/// For containers of builders; calls [`SmolStrBuilder::clone`].
 impl Clone for SmolStrBuilder {
     ghost is_clone = { λ b copy. copy ≡ b };
 
@@ -374,7 +374,7 @@ impl Clone for SmolStrBuilder {
 }
 
 impl SmolStr {
-    /// The same as `builder.finish()`; stands for upstream's `From<SmolStrBuilder>`.
+    /// Calls `builder.finish()`; replaces upstream's `From<SmolStrBuilder>`.
     pub fn from_builder(builder: SmolStrBuilder) -> Result<SmolStr, SmolStrBuilder>
         ensures ok { IfOk result (λ v. IsValueOf builder.text v) }
         ensures back { IfErr result (λ back. back ≡ builder) }

@@ -3,7 +3,7 @@
 //! Collecting is extending an empty builder and finishing it. The items are drawn one at a time and
 //! nothing is gathered first, and size hints are not read: they reserve nothing and decide nothing.
 //! Memory may be refused only where the text drawn is not short: `Outgrown`, in `specs/Collect.antt`.
-//! `extend_chars` writes to the builder's buffer, so it stands in `builder/chars.rt`.
+//! `extend_chars` writes to the builder's buffer, so it is in `builder/chars.rt`.
 ghost use Rattle.std.specs.Prelude.{◌≡◌, ℕ, List, IfOk, OnOk, OnErr};
 ghost use Rattle.std.proofs.Common.{refl};
 ghost use Rattle.std.specs.Iterator.{IsFinite};

@@ -1,4 +1,4 @@
-//! Values of what is printed.
+//! Formatting: `ToSmolStr`, `format_smolstr!`, `fmt::Write`.
 ghost use Rattle.std.specs.Prelude.{◌≡◌, Some, IfOk, OnOk, OnErr};
 ghost use Rattle.std.specs.Str.{chars, IsUtf8};
 ghost use Rattle.smol_str.specs.Text.{IsResident};
@@ -17,7 +17,7 @@ use std::fmt;
 #[derive(Debug, Drop)]
 pub struct FormatError;
 
-/// The fault in a sentence.
+/// The message.
 impl fmt::Display for FormatError {
     ghost output = { λ _. Some format_said };
 
@@ -80,7 +80,7 @@ impl SmolStrBuilder {
     }
 }
 
-/// Makes a value of what a type prints; implemented for every sized type that prints.
+/// Converts a value to a [`SmolStr`] by its `Display`; implemented for every sized type that has one.
 pub trait ToSmolStr: fmt::Display {
     /// The value of what `{}` prints, in the place of that text.
     ///

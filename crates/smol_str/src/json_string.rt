@@ -42,7 +42,7 @@ const SPARE: usize = 8;
 pub enum JsonFault {
     /// It is a JSON value, but not a string.
     NotString,
-    /// The text is no JSON; serde_json's error says why and where.
+    /// The text is not JSON; serde_json's error says why and where.
     Json(serde_json::Error),
     /// Memory was refused.
     OutOfMemory,
@@ -65,7 +65,7 @@ impl<T: Drop> From<AllocFailed<T>> for JsonFault {
     }
 }
 
-/// The fault in a sentence.
+/// The message.
 impl Display for JsonFault {
     ghost output = { json_said ⟦<serde_json::Error as Display>⟧.output };
 
@@ -238,7 +238,7 @@ fn push_escape(json: &mut String, byte: u8) -> Result<(), AllocError>
     }
 }
 
-/// The letter that stands behind a backslash for a byte that is not plain, where there is one.
+/// The letter after the backslash in the escape of a byte that is not plain, if there is one.
 #[inline(always)]
 #[tactic(auto, unfolding(json::specs::Print::escape_byte))]
 fn letter_for(byte: u8) -> Option<char>
@@ -277,12 +277,12 @@ fn push_control(json: &mut String, byte: u8) -> Result<(), AllocError>
 
 /// The value of a JSON text that is one string, with nothing but white space around it.
 ///
-/// The whole text is read first: one that is no JSON is [`JsonFault::Json`], one that is another
+/// The whole text is read first: one that is not JSON is [`JsonFault::Json`], one that is another
 /// JSON value [`JsonFault::NotString`]. Lists and objects may nest 127 deep, as `serde_json` reads
 /// them. A string is read in place, and needs memory only where its text is not short, which is only
 /// tested. Any other text needs memory for a copy, so the call may be refused with
 /// [`JsonFault::OutOfMemory`]. It never is where the text is resident and *plain*: no control character,
-/// quote or backslash stands between the quotes.
+/// quote or backslash occurs between the quotes.
 ///
 /// ```
 /// let name = json_string::from_json(alloc, "\"if\"")?;
@@ -370,7 +370,7 @@ fn unescaped(alloc: Global, text: &str) -> Result<Option<SmolStr>, AllocError>
     }
 }
 
-/// Appends what the content of a JSON string stands for; returns what comes after it.
+/// Appends the characters that a JSON string's content spells; returns what comes after them.
 #[tactic(auto, using(crate::proofs::JsonLemmas::Unescaped::pieces_read))]
 fn push_unescaped<'a>(builder: &mut SmolStrBuilder, text: &'a str) -> Result<&'a str, AllocError>
     requires { builder.old ≡ empty_draft InBuffer }
@@ -405,7 +405,7 @@ fn push_characters<'a>(builder: &mut SmolStrBuilder, text: &'a str) -> Result<&'
     Ok(rest)
 }
 
-/// The character that an escape stands for, and what comes after it.
+/// The character that an escape spells, and what comes after it.
 #[inline(always)]
 #[tactic(auto, using(crate::proofs::JsonLemmas::Unescaped::escapes))]
 fn split_escape(text: &str) -> Option<(char, &str)>
@@ -502,7 +502,7 @@ fn split_digit(text: &str) -> Option<(u32, &str)>
     Some(((byte as char).to_digit(16)?, rest))
 }
 
-/// The same, as `serde_json` reads it.
+/// The value of any JSON text, as `serde_json` reads it.
 #[inline(never)]
 #[tactic(auto, using(crate::proofs::JsonLemmas::values_read))]
 fn read_any(alloc: Global, text: &str) -> Result<SmolStr, JsonFault>

@@ -37,7 +37,7 @@ pub fn convert_while_ascii(text: &str, case: AsciiCase) -> (InlineBuffer, usize)
 ///
 /// `from` must be a char boundary, as 0 always is, and `pattern` not empty. Both the index that is
 /// returned and the one behind the match are char boundaries, so you may cut the text at either. The
-/// clause `parts` says what you get, and `first` that the pattern stands nowhere before.
+/// clause `parts` says what you get, and `first` that the pattern does not occur before.
 ///
 /// ```
 /// assert_eq!(rt; next_match("foo_bar_baz", 5, "ba"), Some(8));

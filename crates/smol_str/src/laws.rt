@@ -2,8 +2,8 @@
 //! that does nothing.
 //!
 //! A contract elsewhere says that a call meets a definition. The laws here say that the
-//! definitions are the right ones. They range over every list of numbers, so a premise stands only
-//! where a law would be false without it.
+//! definitions are the right ones. They range over every list of numbers, so a law has a premise only
+//! where it would be false without it.
 
 ghost use Rattle.std.specs.Prelude.{◌≡◌, ◌↔◌, ◌+◌, ◌^◌, ◌<◌, ◌≤◌, ℕ, List, [], ◌∷◌, ◌++◌, length, min, All, IsTrue, encode_utf8_all};
 ghost use Rattle.std.specs.Str.{chars, all_scalars};
@@ -64,9 +64,9 @@ pub fn ascii_case()
     ensures upper_unchanged { (t : List ℕ) → All (λ c. ¬ IsAsciiLowercase c) t → upper t ≡ t }
 {}
 
-/// The ASCII front of a text ends where the first character past ASCII stands.
+/// The ASCII front of a text ends before its first character past ASCII.
 ///
-/// Both premises are needed: `é` is no ASCII front, and the front of `ab` is longer than `a`.
+/// Both premises are needed: `é` is not ASCII, and the front of `ab` is longer than `a`.
 pub fn ascii_front()
     ensures longest { (a r : List ℕ) → IsAsciiText a → BeginsPastAscii r → front (a ++ r) ≡ a }
     ensures parts { (t : List ℕ) →
@@ -82,9 +82,9 @@ pub fn full_case()
     ensures upper_ascii { (t : List ℕ) → IsAsciiText t → uppercased t ≡ upper t }
 {}
 
-/// A pattern stands first after `q` exactly where it stands after no shorter text.
+/// A pattern first matches after `q` iff it matches after no shorter prefix.
 ///
-/// The empty pattern is left out: it stands after the empty text, and is first after none.
+/// The empty pattern is left out: it matches after the empty prefix, but `IsFirstAfter` holds of none.
 pub fn first_match()
     ensures { (p q r : List ℕ) → 0 < length p → IsFirstAfter p q ↔
         ((a s : List ℕ) → q ++ (p ++ r) ≡ a ++ (p ++ s) → length q ≤ length a) }
@@ -134,7 +134,7 @@ pub fn replacement_by_steps()
     ensures end { (w : List ℕ) (n : ℕ) → replaced [] [] w (n + 1) ≡ w }
 {}
 
-/// At most one byte index is that of the next match, and where there is one the pattern stands.
+/// There is at most one index of the next match, and if there is one the pattern occurs.
 ///
 /// The empty pattern is left out of the first: nothing comes before its first match.
 pub fn next_match()
@@ -143,7 +143,7 @@ pub fn next_match()
     ensures stands { (a b p : List ℕ) (i : ℕ) → IsNextMatch a b p i → Occurs p b }
 {}
 
-/// Wire forms can be told apart, bytes hold at most one, and they hold it where they say so.
+/// The encoding is prefix-free, and decoding inverts it.
 ///
 /// The first law needs its limit: the empty text and a text of 2^32 bytes would state one size. The
 /// last needs bytes: a number above 255 is lost in the size that is read.
@@ -163,8 +163,8 @@ pub fn wire_forms()
         body b ≡ encode_utf8_all t → IsTrue (all_scalars t) → Holds b t (size t + 4) }
 {}
 
-/// The JSON that is written for a text is read as that text. A plain text is written in quotes as it
-/// stands, and so it is read, with white space around it or without.
+/// The JSON that is written for a text is read as that text. A plain text is written in quotes without
+/// escapes, and is read so, with white space around it or without.
 #[tactic(auto, using(crate::proofs::JsonLemmas::laws))]
 pub fn json_strings()
     ensures back { (t : List ℕ) → IsJsonText (compact_text (json_value t)) t }
@@ -181,10 +181,10 @@ pub fn byte_order()
         slice_cmp nat_cmp (encode_utf8_all s) (encode_utf8_all t) ≡ slice_cmp nat_cmp s t }
 {}
 
-/// Where the bytes of a pattern stand in the bytes of a text, the pattern stands in the text, and the
+/// If the bytes of a pattern occur in the bytes of a text, the pattern occurs in the text, and the
 /// other way round.
 ///
-/// The empty pattern is left out of the first: it stands between the two bytes of `é`.
+/// The empty pattern is left out of the first: it occurs between the two bytes of `é`.
 pub fn self_synchronisation()
     ensures from_bytes { (t p x y : List ℕ) → 0 < length p →
         encode_utf8_all t ≡ x ++ (encode_utf8_all p ++ y) → StandsAt p t (length x) }

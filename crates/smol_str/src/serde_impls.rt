@@ -44,7 +44,7 @@ impl DeserializeOwned for SmolStr {
     }
 }
 
-/// The same, also where memory is refused: a value borrows nothing from the input.
+/// As `DeserializeOwned`, also when memory is refused: a value borrows nothing from the input.
 impl<'de> Deserialize<'de> for SmolStr {
     fn deserialize<F: Format>(
         alloc: Global,

@@ -53,7 +53,7 @@ impl<T: Drop> From<AllocFailed<T>> for ReadFault {
     }
 }
 
-/// The fault in a sentence.
+/// The message.
 impl Display for ReadFault {
     ghost output = { read_said ⟦<io::Error as Display>⟧.output };
 
@@ -98,7 +98,7 @@ pub fn fill<R: Read>(reader: &mut R, buf: &mut [u8]) -> Result<usize, io::Error>
 }
 
 /// Reads `limit` bytes, or up to the reader's end, in chunks of at most [`CHUNK`] bytes. Memory is
-/// asked for by what came, and not by `limit`.
+/// asked for as bytes come, however large `limit` is.
 ///
 /// ```
 /// let mut reader = b"abc".as_slice();

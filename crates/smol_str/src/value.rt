@@ -28,8 +28,8 @@ use std::marker::Model;
 /// values: those that [`SmolStr::new_static`] made and their clones, which are in place Static
 /// whatever their text.
 ///
-/// A text is *resident* where it has at most [`INLINE_CAP`] bytes or is a blank run. To make a value
-/// of resident text takes no memory and is never refused.
+/// A text is *resident* where it has at most [`INLINE_CAP`] bytes or is a blank run. [`SmolStr::new`],
+/// and each other call that is passed the value's whole text, takes no memory for it.
 ///
 /// ```
 /// let token = SmolStr::new(alloc, "if")?;
@@ -138,7 +138,7 @@ impl SmolStr {
         }
     }
 
-    /// A value that refers to `text` where it stands, in place Static whatever its length.
+    /// A value that refers to `text` itself, without a copy: in place Static whatever its length.
     ///
     /// ```
     /// let name = SmolStr::new_static("a constant");
@@ -154,7 +154,7 @@ impl SmolStr {
         }
     }
 
-    /// The same text in the same place. Only a heap value's clone can be refused.
+    /// A value of equal text and place. Only the clone of a heap value can be refused memory.
     #[inline(always)]
     pub fn clone(&self) -> Result<SmolStr, AllocError>
         ensures ok { IfOk result (λ copy. copy ≡ self.now) }
@@ -299,7 +299,7 @@ impl From<SmolStr> for AllocError {
     }
 }
 
-/// For containers of values; the same as [`SmolStr::clone`].
+/// For containers of values; calls [`SmolStr::clone`].
 impl Clone for SmolStr {
     ghost is_clone = { λ s copy. copy ≡ s };
 

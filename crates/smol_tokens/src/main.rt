@@ -1,4 +1,4 @@
-//! Reads text from standard input and writes, for each line, where a `SmolStr` would keep it; or how often each line stands.
+//! Reads text from standard input and writes, for each line, where a `SmolStr` would keep it; or how often each line occurs.
 //!
 //! `main` gathers the words, calls [`run`] and reports the fault; the promise of the whole program is
 //! the contract of `run`.

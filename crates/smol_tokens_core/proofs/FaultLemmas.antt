@@ -1,4 +1,4 @@
--- What stands where an input was not read, or where there is no report on it.
+-- What holds if an input was not read, or has no report.
 use Rattle.std.proofs.Common.{◌≡◌, ℕ, List, Option, Result, IsUtf8, arith, rules}
 use Rattle.std.specs.Result.{IsErrAnd, IfErr, OnErr}
 use Rattle.std.specs.Str.{chars}

@@ -11,12 +11,12 @@ use Rattle.smol_str.proofs.CallerLemmas.{joined_more, IsCut-cut}
 use Rattle.smol_tokens_core.specs.Lines.{is_newline, newline, lines, without_empty_last, HasNoNewline, ended}
 use Rattle.smol_tokens_core.proofs.PieceLemmas.{lines-pieces, lines-nil, lines-cons}
 
--- a piece in front of others is no last one
+-- a piece before others is not the last
 before : (q : List ℕ) (pieces : List (List ℕ)) → 0 < length pieces
     → without_empty_last (q ∷ pieces) ≡ q ∷ without_empty_last pieces
 before q pieces some = search rules
 
--- what stands before the first newline is the first line
+-- what comes before the first newline is the first line
 pub lines-first : (q t : List ℕ) → All (λ c. is_newline c ≡ false) q → lines (q ++ 10 ∷ t) ≡ q ∷ lines t
 lines-first q t none = search (rules, arith, length-slice_split, lines-pieces, slice_split_at, before)
 

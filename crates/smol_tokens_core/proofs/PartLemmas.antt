@@ -36,7 +36,7 @@ pub lines-parts : (a b : List ℕ) → IsWhole a → lines (a ++ b) ≡ lines a 
 lines-parts a b (inl e) = rw (e, lines-nil) refl
 lines-parts a b (inr (t, e)) = rw e (lines-front t b).0
 
--- a tally stands for its pairs, wherever it stands
+-- a tally may replace its pairs anywhere
 tally-behind : (es fs : List (List ℕ × ℕ)) → tally (es ++ tally fs) ≡ tally (es ++ fs)
 tally-behind [] fs = tally-table (tally fs) (once-tally fs)
 tally-behind (e ∷ es) fs =
@@ -52,7 +52,7 @@ tally-lines a b whole =
     rw (lines-parts a b whole, map-append {B = List ℕ × ℕ} (λ t. (t, 1)) (lines a) (lines b))
     (sym (tally-parts (seen_once (lines a)) (seen_once (lines b))))
 
--- the times in the tallies of two parts are how often a line stands in both
+-- the times in the tallies of two parts are how often a line occurs in both
 times-parts : (a b t : List ℕ) → IsWhole a
     → times_of t (tally (seen_once (lines a)) ++ tally (seen_once (lines b))) ≡ count_by (is_same t) (lines (a ++ b))
 times-parts a b t whole = grind (arith, tally-lines a b whole, times_of-tally, times_of-seen_once)

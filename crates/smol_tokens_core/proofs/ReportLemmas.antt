@@ -46,7 +46,7 @@ pub report-last : {A : Type 0} (f : A → List ℕ) (items : List A) (x : A) (ou
     → new ≡ encode_utf8_all (flat_map f (items ++ x ∷ []))
 report-last f items x out new so_far is = search (rules, arith, flat_map-append, append-nil, encodes-append)
 
--- the same, where the items are taken by their places
+-- what is out, and the value_line of the item at the next index
 pub report-next : {A : Type 0} (f : A → List ℕ) (items : List A) (i : ℕ) (x : A) (out new : List ℕ)
     → slice_get items i ≡ Some x → out ≡ encode_utf8_all (flat_map f (take i items))
     → new ≡ out ++ encode_utf8_all (f x) → new ≡ encode_utf8_all (flat_map f (take (i + 1) items))

@@ -1,4 +1,4 @@
--- For the laws of tallies by steps: a list in which no token stands twice is its tally, and takes one more entry.
+-- For the laws of tallies by steps: a list in which no token occurs twice is its tally, and takes one more entry.
 use Rattle.std.proofs.Common.{◌≡◌, ◌≢◌, ℕ, ◌+◌, suc, List, [], ◌∷◌, ◌++◌, false, unwrap_or, refl, arith, rules, append_assoc, append-nil}
 use Rattle.std.specs.Prelude.{All}
 use Rattle.std.specs.List.{AllPairs}
@@ -39,7 +39,7 @@ put-same : (t : List ℕ) (es : List (List ℕ × ℕ)) (v : ℕ)
 put-same t [] v = search (rules, is_same_itself)
 put-same t (e ∷ es) v = search (rules, by_same, put-same t es v)
 
--- how often a token stands, by whether the first entry is its own
+-- how often a token occurs, by whether the first entry is its own
 ruleset times = (by_same, same_from, tally-cons, times-cons)
 
 pub lookup-tally : (es : List (List ℕ × ℕ)) (t : List ℕ) → unwrap_or (lookup (is_same t) (tally es)) 0 ≡ times_of t es

@@ -29,7 +29,7 @@ differ s t e same = search (rules, bytes_eq-Decides, false≢true)
 pub other_way : (s t : List ℕ) → is_same s t ≡ false → is_same t s ≡ false
 other_way s t e = search (rules, other_from, differ)
 
--- no text stands twice
+-- no text occurs twice
 sights_once : (ts : List (List ℕ)) → AllPairs (λ s t. s ≢ t) (first_sights ts)
 sights_once [] = search (rules, arith)
 sights_once (t ∷ ts) =
@@ -71,7 +71,7 @@ tokens_again : (es : List (List ℕ × ℕ)) (us : List (List ℕ)) → tokens (
 tokens_again es [] = refl
 tokens_again es (u ∷ us) = ap (λ s. u ∷ s) (tokens_again es us)
 
--- no token stands twice
+-- no token occurs twice
 pub once-tally : (es : List (List ℕ × ℕ)) → AllPairs (λ s t. s ≢ t) (tokens (tally es))
 once-tally es = rw (tokens_again es (first_sights (tokens es))) (sights_once (tokens es))
 

@@ -50,7 +50,7 @@ added-new es new was token times is once none after =
     rw (← is, after, insert-by_text es token times)
     (put (by_text es) token.text None times times once (cc (is, none)) (omega arith))
 
--- the same by the bytes of a text, where the count is written at the token that is there
+-- looked up by the bytes of a text, where the count is written at the token that is there
 lookup-by_bytes : (bs : List ℕ) (es : List (Meaning × ℕ)) → IsUtf8 bs
     → lookup (stands_for bs) es ≡ lookup (is_same (chars bs)) (by_text es)
 lookup-by_bytes bs [] u = refl

@@ -12,7 +12,7 @@ use Rattle.smol_tokens_core.proofs.PieceLemmas.{lines-nil}
 use Rattle.smol_tokens_core.proofs.TableLemmas.{lookup-tally, tally-again, times_of-tally}
 use Rattle.smol_tokens_core.proofs.TallyLemmas.{is_same_itself, counts-tally}
 
--- of texts that were seen once each, the times are how often a text stands
+-- of texts that were seen once each, the times are how often a text occurs
 pub times_of-seen_once : (t : List ℕ) (texts : List (List ℕ))
     → times_of t (seen_once texts) ≡ count_by (is_same t) texts
 times_of-seen_once t [] = refl
@@ -48,7 +48,7 @@ no_report-add t line seen rest left old so_far is next full =
     let worth : List ℕ → ℕ = λ u. cond (is_same line u) 1 0 in
     (line, grind (arith, before, is_same_itself line, sum_by-append worth seen left, sum_by-cons worth line rest))
 
--- the counts of all lines are `u64`s, exactly where no line stands too often
+-- the counts of all lines are `u64`s, exactly where no line occurs too often
 pub no_line_too_often : (t : List ℕ) → All (λ e. e.1 < 2 ^ 64) (tally (seen_once (lines t))) → ¬ HasALineTooOften t
 no_line_too_often t fit h =
     let below = All-lookup (λ n. n < 2 ^ 64) (is_same h.0) (tally (seen_once (lines t))) fit in

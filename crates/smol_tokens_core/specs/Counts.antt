@@ -1,10 +1,10 @@
 -- Texts of count lines, as mode tokens writes them, and their merge.
---     count_line e                the count line of a token and how often it stands
+--     count_line e                the count line of a token and how often it occurs
 --     IsEntry e                   what a count line can hold: a token without a newline, and a `u64`
 --     IsCounts t pairs            the text is the count lines of the pairs
 --     IsMerge t out               out counts each token of the count lines t once, with the sum of its counts
 --     BeginsWith t pairs rest     t is the count lines of the pairs, and then the rest
---     IsFirstOther t n            line n of t is the first that is no count line
+--     IsFirstOther t n            line n of t is the first that is not a count line
 --     IsWhole t                   t is empty or ends with a newline
 --     HasATokenTooOften pairs     the times of some token add up to more than `u64::MAX`
 use Rattle.std.specs.Prelude.{◌≡◌, ◌⊎◌, ◌+◌, ◌<◌, ◌≤◌, ◌^◌, ℕ, List, [], ◌∷◌, ◌++◌, length, codes, All}
@@ -39,7 +39,7 @@ IsFirstOther t n =
     (pairs : List (List ℕ × ℕ)) × (rest : List ℕ) × BeginsWith t pairs rest × (length pairs + 1 ≡ n)
     × (0 < length rest) × ((e : List ℕ × ℕ) (after : List ℕ) → ¬ BeginsWith rest (e ∷ []) after)
 
--- nothing stands behind the last newline
+-- nothing follows the last newline
 abbrev pub IsWhole : List ℕ → Type 0
 IsWhole t = (t ≡ []) ⊎ ((front : List ℕ) × (t ≡ front ++ newline))
 

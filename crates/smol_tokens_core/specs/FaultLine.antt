@@ -1,6 +1,6 @@
 -- The line that reports a fault on standard error.
 --     fault_line f       its words
---     numbered_line f    its words, and the number of a line that is no count line
+--     numbered_line f    its words, and the number of a line that is not a count line
 use Rattle.std.specs.Prelude.{ℕ, List, ◌++◌, codes}
 use Rattle.std.specs.Fmt.{decimal}
 use Rattle.smol_tokens_core.specs.declared.fault.RunFault.{RunFault}

@@ -1,9 +1,9 @@
 -- What holds after a run: after `Ok`, and after each fault.
 --     Streams           what a reader and a writer had before the run, and what they have after it
 --     WroteReport       the whole input was read, and exactly the report on it was written
---     WroteBeginning    the same, but only a beginning of the report went out
+--     WroteBeginning    the whole input was read, and only a beginning of the report was written
 --     StopsReading      some of the input was read, and there was no room for it
---     AfterFault        what stands after a fault
+--     AfterFault        what holds after a fault
 use Rattle.std.specs.Prelude.{ℕ, ◌≡◌, ◌<◌, ◌⊎◌, List, length, Option, IfSome, IsUtf8, encode_utf8_all}
 use Rattle.std.specs.Str.{chars}
 use Rattle.std.specs.Io.KnownBytes.{Appends, Consumes, Keeps}
@@ -37,7 +37,7 @@ module _ (mode : Mode) (s : Streams) where
       × IfSome s.input (λ bytes. IsUtf8 bytes
       × ((report : List ℕ) × IsReport mode (chars bytes) report × Appends s.held s.holds (encode_utf8_all report)))
 
-  -- the same, but only a beginning of the report was written, and not all of it
+  -- the reader gave all its bytes, UTF-8 of a text, and a beginning of the report on it was written, but not all
   abbrev pub WroteBeginning : Type 0
   WroteBeginning =
       GaveAll s.input s.left

@@ -13,7 +13,7 @@ use Rattle.smol_str.specs.Replace.{cut, no_limit}
 abbrev pub is_newline : ℕ → Bool
 is_newline c = c == 10
 
--- the same, as a text
+-- that character, as a text
 abbrev pub newline : List ℕ
 newline = 10 ∷ []
 

@@ -36,7 +36,7 @@ replace_alone = refl
 other_word : mode_of_word (codes "nonsense") ≡ None
 other_word = refl
 
--- behind it stands first what is replaced, and then what by
+-- after it come the text that is replaced, and then its replacement
 replace_words : (word from to : String Global) → string_bytes word ≡ codes "replace"
     → asked_mode (word ∷ from ∷ to ∷ []) ≡ Some (Replace from to)
 replace_words word from to is = ap (λ w. if bytes_eq w (codes "replace") then Some (Replace from to) else None) is

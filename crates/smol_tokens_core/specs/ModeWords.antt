@@ -17,7 +17,7 @@ mode_of_word word =
     else (if bytes_eq word (codes "tokens") then Some Tokens
     else (if bytes_eq word (codes "merge") then Some Merge else None)))))
 
--- the words after the program's name; no word at all asks for the same as `show`
+-- the words after the program's name; no word at all asks for `show`
 abbrev pub asked_mode : List (String Global) → Option Mode
 asked_mode [] = Some Show
 asked_mode (word ∷ []) = mode_of_word (string_bytes word)

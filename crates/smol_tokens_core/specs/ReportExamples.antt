@@ -98,7 +98,7 @@ replaced_newline : replace_report (codes "a\nb") (codes "-") (codes "a\nb") ≡ 
 unfolding lines place_of is_blank_run digits lib.Utf8.encode
 replaced_newline = refl
 
--- the empty text stands before each character and at the end of a line, and in an empty line once
+-- the empty text matches before each character and at the end of a line, and in an empty line once
 replaced_nothing : replace_report [] (codes "-") (codes "ab\n\n") ≡ codes "inline 5 -a-b-\ninline 1 -\n"
 unfolding lines place_of is_blank_run digits lib.Utf8.encode
 replaced_nothing = refl

@@ -1,5 +1,5 @@
 -- Why there is no report on a text.
---     HasALineTooOften t             some line stands in the text more than `u64::MAX` times
+--     HasALineTooOften t             some line occurs in the text more than `u64::MAX` times
 --     WantsMemory mode t             some report is to be written: always in mode join, else on each text but the empty one
 --     CountsTooFar mode t            a count of the report would pass `u64::MAX`: in the modes that count
 --     HasNoReport mode t             what is known after each fault of making the report

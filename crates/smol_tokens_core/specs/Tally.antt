@@ -1,11 +1,11 @@
--- How often each text of a list of pairs (text, times) stands in it.
+-- How often each text of a list of pairs (text, times) occurs in it.
 --     is_same s t            s and t are one text
 --     tokens pairs           the texts of the pairs
---     times_of t pairs       the sum of the times that stand with t
---     first_sights texts     each text once, in the order in which they first stand
+--     times_of t pairs       the sum of the times of t
+--     first_sights texts     each text once, in the order in which they first occur
 --     tally pairs            those of the pairs, each with the sum of its times
 --     seen_once texts        the texts, each with times 1
---     HasEachOnce pairs      no text stands in two of the pairs
+--     HasEachOnce pairs      no text is in two of the pairs
 --     by_text entries        the entries of a table by values, each by its value's text
 use Rattle.std.specs.Prelude.{◌≢◌, ℕ, List, [], ◌∷◌, Bool, not, map, filter, sum_by, nat_eq, AllPairs, if◌then◌else◌}
 use Rattle.std.specs.Cmp.Lexicographic.{pointwise}
@@ -36,7 +36,7 @@ first_sights (t ∷ texts) = t ∷ without t (first_sights texts)
 abbrev pub tally : List (List ℕ × ℕ) → List (List ℕ × ℕ)
 tally pairs = map (λ t. (t, times_of t pairs)) (first_sights (tokens pairs))
 
--- a text that stands twice has two pairs
+-- a text that occurs twice has two pairs
 abbrev pub seen_once : List (List ℕ) → List (List ℕ × ℕ)
 seen_once texts = map (λ t. (t, 1)) texts
 

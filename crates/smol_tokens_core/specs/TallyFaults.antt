@@ -1,4 +1,4 @@
--- When each fault of a tally comes, what it gives back, and what it makes of a run; what stands after a text was to be
+-- When each fault of a tally comes, what it gives back, and what it makes of a run; what holds after a text was to be
 -- counted again.
 use Rattle.std.specs.Prelude.{◌≡◌, ℕ, ◌+◌, ◌<◌, ◌≤◌, ◌^◌, List, [], ◌∷◌, ◌++◌, Option, None, Some, codes}
 use Rattle.std.specs.Map.{lookup}
@@ -11,7 +11,7 @@ use Rattle.smol_tokens_core.specs.declared.fault.RunFault.{RunFault}
 use Rattle.smol_tokens_core.specs.declared.fault.RunFault.TheVariants as run
 use Rattle.smol_tokens_core.specs.Tally.{is_same, times_of, tally}
 
--- of t, with so many times, to a tally of the pairs: t is new; or its count would be no `u64`
+-- of t, with so many times, to a tally of the pairs: t is new; or its count would exceed `u64::MAX`
 abbrev pub AfterAddFault : List (List ℕ × ℕ) → List ℕ → ℕ → AddFault → Type 0
 AfterAddFault pairs t times (OutOfMemory token) = lookup (is_same t) pairs ≡ None
 AfterAddFault pairs t times (Full token) = 2 ^ 64 ≤ times_of t pairs + times

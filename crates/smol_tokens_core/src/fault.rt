@@ -12,14 +12,14 @@ use std::error::Error;
 use std::fmt::{Display, Formatter, Write};
 use std::{fmt, io};
 
-/// Why a run failed; the contract of [`crate::run::run`] says what stands after each.
+/// Why a run failed; the contract of [`crate::run::run`] says what holds after each.
 #[derive(Debug, Drop)]
 pub enum RunFault {
     /// The input is not UTF-8.
     NotUtf8,
     /// Memory was refused.
     OutOfMemory,
-    /// The line of this number, from 1, is the first that is no count line.
+    /// The line of this number, from 1, is the first that is not a count line.
     NotCounts(usize),
     /// A count would pass `u64::MAX`.
     Full,
@@ -65,7 +65,7 @@ impl From<AddFault> for RunFault {
     }
 }
 
-/// The line of [`fault_line`], with the number of a line that is no count line.
+/// The line of [`fault_line`], with the number of a line that is not a count line.
 impl Display for RunFault {
     ghost output = { λ fault. Some (numbered_line fault) };
 

@@ -42,7 +42,7 @@ pub fn lines_from_left()
 {}
 
 /// A tally counts each token once, in order of first sight, and can be taken up again. A text that was
-/// seen once each time has as many times as it stands in the list.
+/// seen once each time has as many times as it occurs in the list.
 pub fn tallies()
     ensures taken_up_again { (pairs more : List (List ℕ × ℕ)) →
         tally (tally pairs ++ more) ≡ tally (pairs ++ more) }
@@ -75,8 +75,8 @@ pub fn lines_too_often()
         All (λ entry. entry.1 < 2 ^ 64) (tally (seen_once (lines t))) ↔ ¬ HasALineTooOften t }
 {}
 
-/// A text is the count lines of one list of pairs at most, and has one merge at most; it has none where a line is no count
-/// line.
+/// A text is the count lines of one list of pairs at most, and has one merge at most; it has none if one of its lines is
+/// not a count line.
 pub fn counts_read_back()
     ensures once { (t : List ℕ) (pairs others : List (List ℕ × ℕ)) →
         IsCounts t pairs → IsCounts t others → pairs ≡ others }

@@ -18,8 +18,8 @@ use std::hash::BuildHasher;
 
 /// The count line of each different token of a text of count lines, with the sum of its counts, in order of first sight.
 ///
-/// The tokens are hashed by `state`, on which the report does not depend. Memory may be refused first; a line that is no
-/// count line is told before a sum that is too large.
+/// The tokens are hashed by `state`; the report does not depend on it. A malformed line is reported before an overflow;
+/// memory may be refused before either.
 pub fn merge_counts<S: BuildHasher + Drop>(
     alloc: Global,
     state: S,
@@ -61,7 +61,7 @@ fn add_counts<S: BuildHasher>(
 {
     let (mut rest, mut lines, mut fits) = (text, 0, true);
     while let Some((count, token, after)) = first_count(rest) {
-        // The lines behind a sum that is too large are read too: one may be no count line.
+        // The lines after an overflow are read too: one may be malformed.
         if fits {
             fits = tally.add_text(alloc, token, count)?;
         }
@@ -102,7 +102,7 @@ fn cut_at<'a>(text: &'a str, pattern: &str) -> Option<(&'a str, &'a str)>
     Some((&text[..at], &text[at + pattern.len()..]))
 }
 
-/// The number of which this is the decimal: no sign stands in front, and no zero before other digits.
+/// Parses a canonical decimal `u64`: no sign, no leading zero.
 fn read_decimal(digits: &str) -> Option<u64>
     ensures { MatchOption result ((n : ℕ) → n < 2 ^ 64 → chars digits.now ≢ decimal n) (λ n. chars digits.now ≡ decimal n) }
 {

@@ -7,17 +7,17 @@ ghost use Rattle.smol_tokens_core.specs.ModeWords.{asked_mode, mode_of_word};
 pub enum Mode {
     /// For each line, the place of its text, its length in bytes and the text.
     Show,
-    /// The same once, of all lines joined without their newlines; also where there is no line.
+    /// As `Show`, once: of all lines joined without their newlines, even if there are none.
     Join,
-    /// The same of each line with A to Z as a to z.
+    /// As `Show`, of each line with A to Z as a to z.
     Lower,
-    /// The same of each line with a to z as A to Z.
+    /// As `Show`, of each line with a to z as A to Z.
     Upper,
-    /// The same of each line with the second text in place of each match of the first.
+    /// As `Show`, of each line with the second text in place of each match of the first.
     Replace(String, String),
-    /// For each different line how often it stands, and the line, in order of first sight.
+    /// For each different line how often it occurs, and the line, in order of first sight.
     Tokens,
-    /// The same of count lines, as mode tokens writes them: for each different token the sum of its counts.
+    /// For each different token of count lines, as mode tokens writes them, the sum of its counts, and the token.
     Merge,
 }
 

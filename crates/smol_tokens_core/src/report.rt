@@ -19,7 +19,7 @@ use smol_str::{INLINE_CAP, Place, SmolStr, SmolStrBuilder, StrExt};
 use std::alloc::{AllocError, Global};
 use std::hash::BuildHasher;
 
-/// What becomes of each line, in the modes with a report line for each.
+/// A mode's mapping of each line, in the modes with a report line for each.
 #[derive(Clone, Copy)]
 enum LineMap<'a> {
     Keep,
@@ -30,7 +30,7 @@ enum LineMap<'a> {
 }
 
 impl LineMap<'_> {
-    /// What a line is made to.
+    /// Applies the mode's mapping to a line.
     fn value_of(self, alloc: Global, line: &str) -> Result<SmolStr, AllocError>
         ensures { IfOk result (λ v. IsValueOf (mapped self.entry (chars line.now)) v) }
     {
@@ -72,7 +72,7 @@ pub fn make_report<S: BuildHasher + Drop>(
     Ok(report)
 }
 
-/// One report line per line of the text, of what the line is made to.
+/// One report line for each line of the text, after the mode's mapping.
 fn report_lines(alloc: Global, map: LineMap<'_>, text: &str) -> Result<String, AllocError>
     ensures ok { IfOk result (λ out. string_bytes out ≡ encode_utf8_all
         (flat_map (λ line. value_line (mapped map.entry line)) (lines (chars text.now)))) }
@@ -110,7 +110,7 @@ fn push_line(alloc: Global, out: &mut String, value: &SmolStr) -> Result<(), All
     }
 }
 
-/// The same, printed at once.
+/// Prints the report line of a value into the report.
 #[tactic(auto, using(crate::proofs::ReportLemmas::lines_in_bytes))]
 fn print_line(out: &mut String, value: &SmolStr) -> Result<(), AllocError>
     ensures { OnOk result (string_bytes out.new ≡ string_bytes out.old
@@ -120,7 +120,7 @@ fn print_line(out: &mut String, value: &SmolStr) -> Result<(), AllocError>
     write!(out, "{place} {size} {value}\n")
 }
 
-/// The same of an inline value, printed into a builder first.
+/// Prints the report line of an inline value into a builder, and appends that.
 fn push_inline(alloc: Global, out: &mut String, value: &SmolStr) -> Result<(), AllocError>
     ensures { OnOk result (string_bytes out.new ≡ string_bytes out.old
         ++ encode_utf8_all (report_line Inline (size value.now.text) value.now.text)) }

@@ -23,7 +23,7 @@ pub enum AddFault {
     Full(SmolStr),
 }
 
-/// The fault in a sentence; the token is not printed.
+/// The message; the token is not printed.
 impl Display for AddFault {
     ghost output = { add_said };
 
@@ -49,7 +49,7 @@ pub(crate) enum Again {
 
 /// A table of tokens and how often each was counted, in order of first sight.
 ///
-/// It means the list of pairs of a token's text and its count, each text once. Tokens are told apart
+/// It means the list of pairs of a token's text and its count, each text once. Tokens are compared
 /// by their texts alone: values of one text in different places are one token. A token that is there
 /// keeps its position and the value that came first.
 ///

@@ -1,4 +1,4 @@
-//! The report of mode tokens: how often each line stands.
+//! The report of mode tokens: how often each line occurs.
 ghost use Rattle.std.specs.Prelude.{◌≡◌, ◌<◌, ◌++◌, length, IfOk, IfErr, OnOk, OnErr, encode_utf8_all};
 ghost use Rattle.std.specs.List.{flat_map};
 ghost use Rattle.std.specs.Str.{chars};
@@ -32,7 +32,7 @@ pub fn count_lines<S: BuildHasher + Drop>(
     Ok(write_counts(alloc, &tally)?)
 }
 
-/// The lines of a text as tokens, each with how often it stands.
+/// The lines of a text as tokens, each with how often it occurs.
 fn tally_lines<S: BuildHasher + Drop>(
     alloc: Global,
     state: S,

@@ -35,7 +35,7 @@ len-size all t h e = rw (← e, encodes-chars (unpacked all) h.utf8) (len-bytes 
 pub IsShort-packed : (all : List ℕ) → IsPacked all → IsShort (chars (unpacked all))
 IsShort-packed all h = rw (encodes-chars (unpacked all) h.utf8) h.within
 
--- what stands behind an appended text: fewer zeros, and the old length
+-- what follows an appended text: fewer zeros, and the old length
 drop-packed : (old : List ℕ) (m : ℕ) → length old + m ≤ INLINE_CAP →
     drop (length old + m) (packed old) ≡ replicate (INLINE_CAP - (length old + m)) 0 ++ (length old ∷ [])
 unfolding behind

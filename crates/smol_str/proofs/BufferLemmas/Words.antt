@@ -84,7 +84,7 @@ get_or-zeros [] (suc m) (suc k) = get_or-zeros [] m k
 get_or-zeros (x ∷ xs) m (suc k) = get_or-zeros xs m k
 get_or-zeros xs m k = refl
 
--- bytes, and zeros after them up to where the length is to stand, and there
+-- bytes, and zeros after them up to the place of the length, and there
 abbrev pub with_zeros : List ℕ → List ℕ
 with_zeros bytes = bytes ++ replicate (INLINE_CAP + 1 - length bytes) 0
 

@@ -150,7 +150,7 @@ module _ (f : ℕ → ℕ) (m : MovesAscii f) where
     pub size-mapped : size (map f (chars bs)) ≡ length bs
     size-mapped = ap length encodes-mapped ∙ length-map bs f
 
--- of what is packed, zeros and the length are no letters
+-- of what is packed, zeros and the length are not letters
 map-zeros : (f : ℕ → ℕ) → f 0 ≡ 0 → (n : ℕ) → map f (replicate n 0) ≡ replicate n 0
 map-zeros f e n =
     map-unchanged f (λ c. 0 < c) (λ c h. grind arith) (replicate n 0)

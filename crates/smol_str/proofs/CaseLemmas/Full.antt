@@ -84,7 +84,7 @@ full-front case t =
     let p = front-parts t in
     let k = front_first case (front t) p.0 (IsAscii-front t) in (k.0, ap (full_case case) p.1 ∙ k.1)
 
--- no text without characters has a character that is mapped by what stands around it
+-- no text without characters has a character that is mapped by its context
 alone-nil : (case : AsciiCase) → IsMappedAlone case []
 alone-nil Lower = λ o. omega (arith, ap length o.2, length-append o.0 (0x3A3 ∷ o.1))
 alone-nil Upper = tt

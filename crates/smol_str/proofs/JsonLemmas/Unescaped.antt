@@ -1,4 +1,4 @@
--- What the characters and escapes of a JSON string stand for, from the front.
+-- Reading the characters and escapes of a JSON string, from the front.
 use Rattle.smol_str.proofs.Common.{◌≡◌, ◌<◌, ◌≤◌, ◌⊎◌, ℕ, List, [], ◌∷◌, ◌++◌, Bool, true, false, cond, ◌&&◌, IsTrue, Option, Some, None, refl, sym, ap, ◌∙◌, arith, common_steps, nat_tests, list_all, append_assoc, append-nil, encodes-append, encodes-chars, encode_utf8, encode_utf8_all}
 use Rattle.std.specs.Char.{is_digit}
 use Rattle.std.proofs.lemmas.Str.{encode_ascii}

@@ -13,7 +13,7 @@ module _ {X : Type 0} (f : X → List ℕ) (xs : List X) (i : ℕ) where
   pub flat_map-parts : flat_map f xs ≡ flat_map f (take i xs) ++ flat_map f (drop i xs)
   flat_map-parts = cc (take-append-drop i xs, flat_map-append f (take i xs) (drop i xs))
 
--- what stands nowhere in a text stands nowhere in its tail
+-- what does not occur in a text does not occur in its tail
 pub not_later : (p : List ℕ) (c : ℕ) (t : List ℕ) → ¬ Occurs p (c ∷ t) → ¬ Occurs p t
 not_later p c t none o = none (c ∷ o.0, o.1, ap (λ xs. c ∷ xs) o.2)
 

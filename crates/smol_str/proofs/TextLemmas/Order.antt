@@ -16,7 +16,7 @@ nat_cmp-greater a b h = grind (arith, nat_tests)
 pub less_head : (a b : ℕ) (xs ys : List ℕ) → a < b → slice_cmp nat_cmp (a ∷ xs) (b ∷ ys) ≡ Less
 less_head a b xs ys h = rw (nat_cmp-less a b h)
 
--- or is the same
+-- or is equal
 pub same_head : (a b : ℕ) (xs ys : List ℕ) → a ≡ b → slice_cmp nat_cmp xs ys ≡ Less →
     slice_cmp nat_cmp (a ∷ xs) (b ∷ ys) ≡ Less
 same_head a b xs ys e h = rw (e, nat_cmp-same b) h

@@ -36,7 +36,7 @@ pub IsBlankRun-bytes : (bs : List ℕ) → IsUtf8 bs → IsBlankRun (chars bs) �
 IsBlankRun-bytes bs u r =
     let plain = encodes-IsAscii _ (IsAscii-blank_run r.newlines r.spaces) in grind (arith, encodes-chars, plain)
 
--- no text is resident that is longer than the buffer, and whose bytes are no blank run
+-- no text is resident that is longer than the buffer, and whose bytes are not a blank run
 pub not_resident : (bs : List ℕ) → IsUtf8 bs → INLINE_CAP < length bs → ¬ (IsBlankRun bs) → ¬ (IsResident (chars bs))
 not_resident bs u long other resident = search (rules, size-chars, IsBlankRun-bytes)
 

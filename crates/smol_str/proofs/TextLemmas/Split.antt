@@ -27,7 +27,7 @@ pub chars-middle : (bs a q s : List ℕ) (i j : ℕ) → IsUtf8 bs → chars bs 
     → size (a ++ q) ≡ j → chars (take (j - i) (drop i bs)) ≡ q
 chars-middle bs a q s i j u e m n = grind (arith, common_steps, scalars_parts, scalars-chars, size-append, drop-parts, encodes-append, take_at, chars-encodes)
 
--- before a cut stands the first of two parts
+-- before a cut is the first of two parts
 pub chars-take : (bs a b : List ℕ) (i : ℕ) → IsUtf8 bs → chars bs ≡ a ++ b → size a ≡ i → chars (take i bs) ≡ a
 chars-take bs a b i u e n =
     subst (λ k. chars (take k bs) ≡ a) (omega arith) (chars-middle bs [] a b 0 i u e refl n)

@@ -133,7 +133,7 @@ impl<T: Drop> From<AllocFailed<T>> for LimitedFault {
     }
 }
 
-/// The fault in a sentence.
+/// The message.
 impl Display for EncodeFault {
     ghost output = { encode_said ⟦<io::Error as Display>⟧.output };
 
@@ -147,7 +147,7 @@ impl Display for EncodeFault {
 
 impl Error for EncodeFault {}
 
-/// The fault in a sentence.
+/// The message.
 impl Display for DecodeFault {
     ghost output = { decode_said ⟦<Utf8Error as Display>⟧.output ⟦<io::Error as Display>⟧.output };
 
@@ -163,7 +163,7 @@ impl Display for DecodeFault {
 
 impl Error for DecodeFault {}
 
-/// The fault in a sentence.
+/// The message.
 impl Display for LimitedFault {
     ghost output = { limited_said ⟦<DecodeFault as Display>⟧.output };
 

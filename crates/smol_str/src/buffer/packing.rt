@@ -70,7 +70,7 @@ pub(super) fn copy_packed(packed: &Packed) -> Packed
     buf
 }
 
-/// The same as [`pack`], for the text of one character.
+/// [`pack`] for the text of one character.
 #[inline(always)]
 pub(super) fn pack_char(character: char) -> Packed
     ensures { result ≡ packed (encode_utf8 character) }

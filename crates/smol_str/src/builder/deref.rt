@@ -9,7 +9,7 @@ use std::alloc::{AllocError, Global};
 use std::convert::{AsSlice, AsStr};
 use std::default::{Emptied, MadeWith};
 
-/// For what takes anything that lends a text; the same as [`SmolStrBuilder::as_str`].
+/// For code over anything that lends a text; calls [`SmolStrBuilder::as_str`].
 impl AsStr for SmolStrBuilder {
     ghost text = { λ b. encode_utf8_all b.text };
 
@@ -23,7 +23,7 @@ impl AsStr for SmolStrBuilder {
     }
 }
 
-/// For what takes anything that lends bytes; stands for upstream's `AsRef<[u8]>` of a value.
+/// For what takes anything that lends bytes, as upstream's `AsRef<[u8]>` of a value does.
 impl AsSlice<u8> for SmolStrBuilder {
     ghost items = { λ b. encode_utf8_all b.text };
 
@@ -33,7 +33,7 @@ impl AsSlice<u8> for SmolStrBuilder {
     }
 }
 
-/// An empty builder, for `or_default` of a map; stands for upstream's `Default`.
+/// An empty builder, for `or_default` of a map; replaces upstream's `Default`.
 impl MadeWith<Global> for SmolStrBuilder {
     ghost is_made_with = { λ b. b ≡ empty_draft InBuffer };
 

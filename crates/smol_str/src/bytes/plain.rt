@@ -1,4 +1,4 @@
-//! The front of bytes that JSON writes as they stand, and that of its white space.
+//! The prefix of bytes that JSON writes without escapes, and that of its white space.
 ghost use Rattle.std.specs.Prelude.{◌≡◌, ◌<◌, ◌≤◌, ◌+◌, ◌∷◌, ◌++◌, ℕ, List, None, true, false, IfSome, MatchOption, length, take, drop, slice_index};
 ghost use Rattle.std.specs.List.{list_all, prefix_len};
 ghost use Rattle.json.specs.Print.{escape};
@@ -68,7 +68,7 @@ pub(crate) fn plain_len(bytes: &[u8]) -> usize
     }
 }
 
-/// The same, `N` bytes at a time. The last block may overlap the one before it.
+/// How many plain bytes come first, `N` bytes at a time. The last block may overlap the one before it.
 #[inline(always)]
 #[tactic(auto, using(crate::proofs::PlainLemmas::runs))]
 fn plain_len_by<const N: usize>(bytes: &[u8]) -> usize

@@ -28,7 +28,7 @@ pub(crate) fn find(bytes: &[u8], needle: &[u8]) -> Option<usize>
     }
 }
 
-/// The same by all of the needle. Slow path, kept out of line so that the fast path inlines.
+/// Searches for the whole needle. Slow path, kept out of line so that the fast path inlines.
 #[inline(never)]
 fn find_whole(bytes: &[u8], needle: &[u8]) -> Option<usize>
     ensures { FindsNeedle bytes.now needle.now 0 result }
@@ -65,7 +65,7 @@ fn first_index(byte: u8, bytes: &[u8]) -> Option<usize>
     memchr(byte, bytes)
 }
 
-/// The same among the bytes that are tested at once from an index on.
+/// The index of the first byte that is `byte`, among those that are tested at once from an index on.
 #[inline(always)]
 fn index_in_lanes(byte: u8, bytes: &[u8], at: usize) -> Option<usize>
     requires { at + LANES ≤ length bytes.now }
@@ -146,7 +146,7 @@ fn find_two(bytes: &[u8], needle: &[u8]) -> Option<usize>
     two_in_lanes::<32>(bytes, needle, last)
 }
 
-/// The same where a match can begin only at the first `N` places or at the last `N`.
+/// The index of the first match of two bytes, where one can begin only at the first `N` indexes or the last `N`.
 #[inline(always)]
 fn two_in_ends<const N: usize>(bytes: &[u8], needle: &[u8]) -> Option<usize>
     requires two { length needle.now ≡ 2 }
@@ -161,7 +161,7 @@ fn two_in_ends<const N: usize>(bytes: &[u8], needle: &[u8]) -> Option<usize>
     two_in_lanes::<N>(bytes, needle, bytes.len() - N - 1)
 }
 
-/// The same in a few bytes.
+/// The index of the first match of two bytes, among a few bytes.
 fn find_two_by_one(bytes: &[u8], needle: &[u8]) -> Option<usize>
     requires { length needle.now ≡ 2 }
     ensures { FindsNeedle bytes.now needle.now 0 result }

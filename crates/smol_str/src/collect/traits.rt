@@ -11,7 +11,7 @@ use crate::value::SmolStr;
 use std::alloc::{AllocError, Global};
 use std::iter::{Extend, FromIterator};
 
-/// A value of the items' texts, one after another: of a `char`, `&str`, `String` or `&String`.
+/// A value of the items' texts, one after another, of any [`Piece`].
 ///
 /// std's `collect` cannot say when memory is refused: while the joined text is short it is not, as
 /// [`SmolStr::from_chars`] has it. After a refusal nothing is made, and the iterator is dropped.
@@ -32,7 +32,7 @@ impl<P: Piece> FromIterator<P> for SmolStr {
     }
 }
 
-/// Appends the items' texts, in order: of a `char`, `&str`, `String` or `&String`.
+/// Appends the items' texts, in order, of any [`Piece`].
 ///
 /// A refusal is [`AllocError`]: the texts of the items before the refused one stay appended, and the
 /// iterator is dropped.

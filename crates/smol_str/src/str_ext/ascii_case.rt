@@ -27,7 +27,7 @@ pub(super) fn to_ascii_case(
     to_ascii_case_on_heap(alloc, text, case)
 }
 
-/// The same of any text, in a copy of it. Slow path, kept out of line so that the fast path
+/// Any text with its ASCII letters in a case, in a copy. Slow path, kept out of line so that the fast path
 /// inlines.
 #[inline(never)]
 pub(super) fn to_ascii_case_on_heap(

@@ -1,5 +1,5 @@
 //! Full case. ASCII text takes ASCII case. Of any other text each character is mapped by itself,
-//! and a short text's ASCII front by lanes, unless a character is mapped by what stands around it.
+//! and a short text's ASCII front by lanes, unless a character is mapped by its context.
 ghost use Rattle.std.specs.Prelude.{◌≡◌, ◌<◌, ◌≤◌, [], ◌∷◌, ◌++◌, false, length, IfOk, OnOk, OnErr, IsTrue};
 ghost use Rattle.std.specs.Str.{chars};
 ghost use Rattle.smol_str.specs.Text.{IsShort};
@@ -38,7 +38,7 @@ pub(super) fn to_full_case(
     short_full_case(alloc, text, case)
 }
 
-/// The same of a long text. Slow path, kept out of line so that the fast path inlines.
+/// A long text in a case. Slow path, kept out of line so that the fast path inlines.
 #[inline(never)]
 #[tactic(auto, using(crate::proofs::CaseLemmas::Full::ascii_texts))]
 fn long_full_case(alloc: Global, text: &str, case: AsciiCase) -> Result<SmolStr, AllocError>
@@ -52,7 +52,7 @@ fn long_full_case(alloc: Global, text: &str, case: AsciiCase) -> Result<SmolStr,
     by_characters(alloc, text, case)
 }
 
-/// The same of a short text.
+/// A short text in a case.
 #[inline(never)]
 #[tactic(auto, using(crate::proofs::CaseLemmas::Full::short_fronts))]
 fn short_full_case(alloc: Global, text: &str, case: AsciiCase) -> Result<SmolStr, AllocError>
@@ -89,7 +89,7 @@ fn push_front<'a>(
     Ok(&text[len..])
 }
 
-/// The same of any text, character by character.
+/// Any text in a case, character by character.
 #[tactic(auto, using(crate::proofs::CaseLemmas::Full::whole_texts))]
 fn by_characters(alloc: Global, text: &str, case: AsciiCase) -> Result<SmolStr, AllocError>
     ensures ok { IfOk result (λ v. IsValueOf (full_case case (chars text.now)) v) }
@@ -114,7 +114,7 @@ fn by_context(alloc: Global, text: &str) -> Result<SmolStr, AllocError>
     builder.into_value()
 }
 
-/// Whether a character is mapped by what stands around it.
+/// Whether a character of the text is mapped by its context.
 #[tactic(auto, using(crate::proofs::CaseLemmas::Full::contexts))]
 fn has_context(text: &str, case: AsciiCase) -> bool
     ensures alone { result ≡ false → IsMappedAlone case (chars text.now) }

@@ -74,7 +74,7 @@ fn replace_each(bytes: &mut [u8], from: u8, to: u8)
     }
 }
 
-/// The same by pieces pushed into one builder. A text that lacks the pattern's first byte is copied.
+/// Replaces by pieces pushed into one builder. A text that lacks the pattern's first byte is copied.
 /// Slow path, kept out of line so that the fast path inlines.
 #[inline(never)]
 #[tactic(auto, using(crate::proofs::CutLemmas::Replacing::last_steps))]
@@ -151,7 +151,7 @@ fn push_between(
     Ok(index)
 }
 
-/// Appends what stands before each of the first `count` matches, and the new text; returns the
+/// Appends the text before each of the first `count` matches, and the new text; returns the
 /// index where the rest begins.
 fn push_matches(
     builder: &mut SmolStrBuilder,

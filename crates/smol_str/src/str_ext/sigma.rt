@@ -1,4 +1,4 @@
-//! Lower case by what stands around a capital sigma: `Σ` at the end of a word becomes `ς`.
+//! Lower case by the context of a capital sigma: `Σ` at the end of a word becomes `ς`.
 ghost use Rattle.std.specs.Prelude.{◌≡◌, OnOk, OnErr};
 ghost use Rattle.std.specs.Str.{chars};
 ghost use Rattle.std.specs.StrCase.Lower.{starts_with_cased, lowercase_before, is_in_word_after};
@@ -26,7 +26,7 @@ pub(super) fn push_lowercase(builder: &mut SmolStrBuilder, text: &str) -> Result
     Ok(())
 }
 
-/// Appends a character in lower case, which stands before `rest`.
+/// Appends a character in lower case, where `rest` follows it.
 fn push_before(
     builder: &mut SmolStrBuilder,
     in_word: bool,

@@ -14,7 +14,7 @@ pub const BLANK_SPACES: usize = 256;
 const BLANK: &str =
     "\n\n\n\n\n\n\n\n\n\n\n\n\n\n\n\n\n\n\n\n\n\n\n\n\n\n\n\n\n\n\n\n\n\n\n\n\n\n\n\n\n\n\n\n\n\n\n\n\n\n\n\n\n\n\n\n\n\n\n\n\n\n\n\n                                                                                                                                                                                                                                                                ";
 
-/// The slice of the blank constant that reads as the text; `None` exactly where the text is no
+/// The slice of the blank constant that equals the text; `None` exactly where the text is not a
 /// blank run.
 #[inline(always)]
 pub(crate) fn blank_slice(text: &str) -> Option<&'static str>

@@ -21,7 +21,7 @@ use std::cmp::Ordering;
 use std::hash::{Hash, Hasher};
 
 impl SmolStr {
-    /// Whether the texts are equal; it stands for `==` with a `str`, either way round.
+    /// Whether the texts are equal; replaces `==` with a `str` on either side.
     ///
     /// ```
     /// assert!(rt; SmolStr::new_inline("if").eq_str("if"));
@@ -36,7 +36,7 @@ impl SmolStr {
         }
     }
 
-    /// Whether the texts are equal; it stands for `==` with a `String`, either way round.
+    /// Whether the texts are equal; replaces `==` with a `String` on either side.
     #[inline(always)]
     pub fn eq_string(&self, other: &String) -> bool
         ensures { IsTrue result ↔ (self.now.text ≡ chars (string_bytes other.now)) }

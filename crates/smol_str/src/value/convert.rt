@@ -51,7 +51,7 @@ impl<T: Drop> From<AllocFailed<T>> for FromUtf8Fault {
     }
 }
 
-/// The fault in a sentence, so that `?` may turn it into an `anyhow::Error`.
+/// The message, so that `?` may turn the fault into an `anyhow::Error`.
 impl Display for FromUtf8Fault {
     ghost output = { utf8_said ⟦<Utf8Error as Display>⟧.output };
 
@@ -66,7 +66,7 @@ impl Display for FromUtf8Fault {
 impl Error for FromUtf8Fault {}
 
 impl SmolStr {
-    /// The same as [`SmolStr::new`].
+    /// Calls [`SmolStr::new`]; replaces upstream's `FromStr`, which is passed no allocator.
     pub fn from_str(alloc: Global, text: &str) -> Result<SmolStr, AllocError>
         ensures ok { IfOk result (λ v. IsValueOf (chars text.now) v) }
         ensures refused { OnErr result (¬ (IsResident (chars text.now))) }
@@ -224,7 +224,7 @@ impl From<char> for SmolStr {
     }
 }
 
-/// The value of a shared text, which takes no memory; the same as [`SmolStr::from_rc_str`].
+/// The value of a shared text, which takes no memory; calls [`SmolStr::from_rc_str`].
 impl From<SharedText> for SmolStr {
     ghost from_gives = { λ shared value. IsValueOf (chars (shared_bytes shared)) value };
 

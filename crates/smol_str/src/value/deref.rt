@@ -6,7 +6,7 @@ use super::SmolStr;
 use std::convert::{AsSlice, AsStr};
 use std::ops::{AsDeref, DerefStr};
 
-/// Lends the text, so that a value has every method of `str`; the same as [`SmolStr::as_str`].
+/// Lends the text as [`SmolStr::as_str`] does, so that a value has every method of `str`.
 ///
 /// ```
 /// let token = SmolStr::new_inline(" let ");
@@ -24,7 +24,7 @@ impl DerefStr for SmolStr {
     }
 }
 
-/// For what takes anything that lends a text, as `join` of a slice; stands for upstream's `AsRef<str>`.
+/// For code over anything that lends a text, such as `join` of a slice; replaces upstream's `AsRef<str>`.
 impl AsStr for SmolStr {
     ghost text = { λ v. encode_utf8_all v.text };
 
@@ -37,7 +37,7 @@ impl AsStr for SmolStr {
     }
 }
 
-/// For what takes anything that lends bytes, such as a field of a CSV row or a digest; stands for upstream's `AsRef<[u8]>`.
+/// For what takes anything that lends bytes, such as a field of a CSV row or a digest: upstream's `AsRef<[u8]>`.
 impl AsSlice<u8> for SmolStr {
     ghost items = { λ v. encode_utf8_all v.text };
 

@@ -87,8 +87,8 @@ fn not_read(rt: HostRuntime) -> Result<(), Fail> {
     test.end()
 }
 
-/// Escapes by number, and what is nearly one, up to the end of a string. What they stand for is not said here: serde_json's
-/// own reader says it.
+/// Escapes by number, and what is nearly one, up to the end of a string. serde_json's own reader
+/// says what they spell.
 static BY_NUMBER: [&str; 38] = [
     // One to three bytes of UTF-8 at the ends of their ranges, digits in both cases.
     "\\u0000\\u007f\"",
