@@ -6,7 +6,7 @@ pub use Rattle.smol_str.specs.Cut.{StandsAt, Occurs, IsNextMatch, IsCut, IsOnlyC
 pub use Rattle.smol_str.specs.Draft.{Draft, OnHeap, empty_draft, kind_for, appended, Kind, InBuffer, kind_with}
 pub use Rattle.smol_str.specs.Joined.{joined, str_text, string_text, joined_strs, joined_strings, joined_string_refs}
 pub use Rattle.smol_str.specs.Meaning.{Meaning, IsValueOf}
-pub use Rattle.smol_str.specs.Replace.{replaced, replaced_all, first_match, cut, cut_at, cut_between, spell, no_limit, match_count, each_with, each_replaced}
+pub use Rattle.smol_str.specs.Replace.{replaced, replaced_all, split_at_first, cut, cut_at, cut_between, spell, no_limit, match_count, each_with, each_replaced}
 pub use Rattle.smol_str.specs.Replacing.{IsReplacing}
 pub use Rattle.smol_str.specs.Text.{IsShort, size, is_short, place_of, blank_run, leading_newlines, all_spaces, IsBlankRun, IsResident}
 pub use Rattle.smol_str.specs.Wire.{HasWire, wire, Holds, HasEndedEarly, body}

@@ -28,6 +28,6 @@ pub mod CutExamples
 pub mod CaseExamples
 pub mod JsonExamples
 pub mod WireExamples
-pub mod Said
+pub mod Messages
 pub mod Stream
 pub mod WireFaults

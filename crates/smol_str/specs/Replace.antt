@@ -11,17 +11,17 @@ use Rattle.std.specs.List.{starts_with, flat_map}
 use Rattle.smol_str.specs.Cut.{joined_by}
 
 -- what comes before the first match of p, and what follows that match; p is not empty, as `cut_at` has it
-abbrev pub first_match : List ℕ → List ℕ → Option (List ℕ × List ℕ)
-first_match p [] = None
-first_match p (c ∷ t) =
+abbrev pub split_at_first : List ℕ → List ℕ → Option (List ℕ × List ℕ)
+split_at_first p [] = None
+split_at_first p (c ∷ t) =
     if starts_with nat_eq (c ∷ t) p
     then Some ([], drop (length p) (c ∷ t))
-    else option_map (λ m. (c ∷ m.0, m.1)) (first_match p t)
+    else option_map (λ m. (c ∷ m.0, m.1)) (split_at_first p t)
 
 -- at a pattern that is not empty: before the first match a piece, and what follows the match is cut further
 abbrev pub cut_at : ℕ → List ℕ → List ℕ → List (List ℕ)
 cut_at zero p t = t ∷ []
-cut_at (suc n) p t = unwrap_or (option_map (λ m. m.0 ∷ cut_at n p m.1) (first_match p t)) (t ∷ [])
+cut_at (suc n) p t = unwrap_or (option_map (λ m. m.0 ∷ cut_at n p m.1) (split_at_first p t)) (t ∷ [])
 
 -- at most n pieces of one character, and the rest
 abbrev pub spell : ℕ → List ℕ → List (List ℕ)

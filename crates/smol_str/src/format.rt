@@ -4,7 +4,7 @@ ghost use Rattle.std.specs.Str.{chars, IsUtf8};
 ghost use Rattle.smol_str.specs.Text.{IsResident};
 ghost use Rattle.smol_str.specs.Meaning.{IsValueOf, IsPrintOf};
 ghost use Rattle.smol_str.specs.Draft.{OnHeap, appended, AppendsPrintOf};
-ghost use Rattle.smol_str.specs.Said.{format_said};
+ghost use Rattle.smol_str.specs.Messages.{format_message};
 
 use crate::buffer::INLINE_CAP;
 use crate::builder::SmolStrBuilder;
@@ -19,7 +19,7 @@ pub struct FormatError;
 
 /// The message.
 impl fmt::Display for FormatError {
-    ghost output = { λ _. Some format_said };
+    ghost output = { λ _. Some format_message };
 
     fn fmt<W: fmt::Write>(&self, f: &mut fmt::Formatter<W>) -> fmt::Result {
         f.write_str("formatting failed or memory ran out")

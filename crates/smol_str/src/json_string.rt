@@ -19,7 +19,7 @@ ghost use Rattle.smol_str.specs.Meaning.{IsValueOf};
 ghost use Rattle.smol_str.specs.Draft.{InBuffer, empty_draft};
 ghost use Rattle.smol_str.specs.Plain.{is_plain, is_space, IsPlain, IsPlainJson, in_quotes};
 ghost use Rattle.smol_str.specs.Unescaped.{Unescapes, UnescapesAfterU, BeginsWithUnit, IsSurrogatePair};
-ghost use Rattle.smol_str.specs.Said.{json_said};
+ghost use Rattle.smol_str.specs.Messages.{json_fault_message};
 ghost use Rattle.smol_str.specs.Json.{json_value, IsJsonText, IsJsonOf, AfterValueFault, AfterJsonFault};
 ghost use Rattle.smol_str.specs.declared.json_string.JsonFault.TheVariants.{OutOfMemory};
 
@@ -67,7 +67,7 @@ impl<T: Drop> From<AllocFailed<T>> for JsonFault {
 
 /// The message.
 impl Display for JsonFault {
-    ghost output = { json_said ⟦<serde_json::Error as Display>⟧.output };
+    ghost output = { json_fault_message ⟦<serde_json::Error as Display>⟧.output };
 
     fn fmt<W: Write>(&self, f: &mut Formatter<W>) -> fmt::Result {
         match self {

@@ -6,7 +6,7 @@
 ghost use Rattle.std.specs.Prelude.{◌≡◌, ◌<◌, ◌≤◌, ◌-◌, ◌^◌, length, take, IfOk, OnOk, IfErr, OnErr};
 ghost use Rattle.std.specs.Io.KnownBytes.{Appends, IsAtEnd};
 ghost use Rattle.smol_str.specs.Stream.{Gave, GaveBelow, AppendsBeginning, AfterReadFault};
-ghost use Rattle.smol_str.specs.Said.{read_said};
+ghost use Rattle.smol_str.specs.Messages.{read_fault_message};
 ghost use Rattle.smol_str.specs.declared.stream.ReadFault.TheVariants.{OutOfMemory, Io};
 
 use crate::bytes::zeros;
@@ -55,7 +55,7 @@ impl<T: Drop> From<AllocFailed<T>> for ReadFault {
 
 /// The message.
 impl Display for ReadFault {
-    ghost output = { read_said ⟦<io::Error as Display>⟧.output };
+    ghost output = { read_fault_message ⟦<io::Error as Display>⟧.output };
 
     fn fmt<W: fmt::Write>(&self, f: &mut Formatter<W>) -> fmt::Result {
         match self {

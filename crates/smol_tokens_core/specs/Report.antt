@@ -4,7 +4,7 @@
 --     show_report t, join_report t, lower_report t, upper_report t, replace_report from to t, tokens_report t
 --                        what is written of t in the mode of that name
 --     IsReport mode t out    out is what the program writes of t in a mode
---     mapped map l       what a line is made to, in the modes with a report line for each
+--     mapped_line map l       the mode's mapping applied to a line, in the modes with a report line for each
 use Rattle.std.specs.Prelude.{◌≡◌, ℕ, List, ◌++◌, codes}
 use Rattle.std.specs.List.{concat, flat_map}
 use Rattle.std.specs.Fmt.{decimal}
@@ -71,9 +71,9 @@ IsReport (Replace from to) t out = out ≡ replace_report (chars (string_bytes f
 IsReport Tokens t out = out ≡ tokens_report t
 IsReport Merge t out = IsMerge t out
 
--- what a line is made to
-abbrev pub mapped : LineMap → List ℕ → List ℕ
-mapped to.Keep line = line
-mapped to.Lower line = lower line
-mapped to.Upper line = upper line
-mapped (to.Replace a b) line = replaced_all line (chars a.now) (chars b.now)
+-- applies the mode's mapping to a line
+abbrev pub mapped_line : LineMap → List ℕ → List ℕ
+mapped_line to.Keep line = line
+mapped_line to.Lower line = lower line
+mapped_line to.Upper line = upper line
+mapped_line (to.Replace a b) line = replaced_all line (chars a.now) (chars b.now)

@@ -22,9 +22,9 @@ given_back (OutOfMemory token) = token
 given_back (Full token) = token
 
 -- what it prints
-abbrev pub add_said : AddFault → Option (List ℕ)
-add_said (OutOfMemory token) = Some (codes "memory allocation failed")
-add_said (Full token) = Some (codes "the count would exceed 18446744073709551615")
+abbrev pub add_fault_message : AddFault → Option (List ℕ)
+add_fault_message (OutOfMemory token) = Some (codes "memory allocation failed")
+add_fault_message (Full token) = Some (codes "the count would exceed 18446744073709551615")
 
 -- the token is let go
 abbrev pub of_add_fault : AddFault → RunFault

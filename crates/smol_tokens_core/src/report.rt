@@ -7,7 +7,7 @@ ghost use Rattle.smol_str.specs.Text.{size};
 ghost use Rattle.smol_str.specs.Meaning.{IsValueOf};
 ghost use Rattle.smol_str.specs.declared.value.place.Place.TheVariants.{Inline};
 ghost use Rattle.smol_tokens_core.specs.Lines.{lines};
-ghost use Rattle.smol_tokens_core.specs.Report.{place_word, report_line, value_line, join_report, IsReport, mapped};
+ghost use Rattle.smol_tokens_core.specs.Report.{place_word, report_line, value_line, join_report, IsReport, mapped_line};
 ghost use Rattle.smol_tokens_core.specs.ReportFaults.{HasNoReport};
 
 use crate::fault::RunFault;
@@ -32,7 +32,7 @@ enum LineMap<'a> {
 impl LineMap<'_> {
     /// Applies the mode's mapping to a line.
     fn value_of(self, alloc: Global, line: &str) -> Result<SmolStr, AllocError>
-        ensures { IfOk result (λ v. IsValueOf (mapped self.entry (chars line.now)) v) }
+        ensures { IfOk result (λ v. IsValueOf (mapped_line self.entry (chars line.now)) v) }
     {
         match self {
             LineMap::Keep => SmolStr::new(alloc, line),
@@ -75,7 +75,7 @@ pub fn make_report<S: BuildHasher + Drop>(
 /// One report line for each line of the text, after the mode's mapping.
 fn report_lines(alloc: Global, map: LineMap<'_>, text: &str) -> Result<String, AllocError>
     ensures ok { IfOk result (λ out. string_bytes out ≡ encode_utf8_all
-        (flat_map (λ line. value_line (mapped map.entry line)) (lines (chars text.now)))) }
+        (flat_map (λ line. value_line (mapped_line map.entry line)) (lines (chars text.now)))) }
     ensures refused { OnErr result (0 < length (chars text.now)) }
 {
     let mut out = String::new(alloc);

@@ -3,7 +3,7 @@ ghost use Rattle.std.specs.Prelude.{◌≡◌, ◌<◌, ◌≤◌, ◌+◌, ◌^
 ghost use Rattle.std.specs.Map.{lookup};
 ghost use Rattle.std.specs.Str.{chars};
 ghost use Rattle.smol_tokens_core.specs.Tally.{is_same, times_of, tally, HasEachOnce};
-ghost use Rattle.smol_tokens_core.specs.TallyFaults.{AfterAddFault, AfterAgain, given_back, add_said};
+ghost use Rattle.smol_tokens_core.specs.TallyFaults.{AfterAddFault, AfterAgain, given_back, add_fault_message};
 
 use indexmap::IndexMap;
 use smol_str::SmolStr;
@@ -25,7 +25,7 @@ pub enum AddFault {
 
 /// The message; the token is not printed.
 impl Display for AddFault {
-    ghost output = { add_said };
+    ghost output = { add_fault_message };
 
     fn fmt<W: Write>(&self, f: &mut Formatter<W>) -> fmt::Result {
         match self {

@@ -1,5 +1,5 @@
 -- For the laws of cuts and first matches: each text has one cut at a pattern, and `cut` is it.
-use Rattle.smol_str.proofs.Common.{◌≡◌, ◌↔◌, ℕ, ◌+◌, ◌-◌, ◌<◌, ◌≤◌, zero, suc, min, List, [], ◌∷◌, ◌++◌, Bool, true, false, cond, Option, Some, None, ◌⊎◌, inl, inr, ⊎_elim, length, drop, option_map, unwrap_or, MatchOption, refl, sym, ap, ◌∙◌, arith, length-append, append_assoc, append-nil, take-append-drop, nat_eq, concat, starts_with, flat_map, false≢true, false_from_ne_true, Decides-eqb, take_at, take-append-le, append_cancel_left, All, All-nil, All-cons, All-head, All-tail, Occurs, but_last, IsFirstAfter, joined_by, IsCutAt, IsSpelled, IsCutBetween, IsCut, first_match, cut_at, spell, cut_between, cut, rules}
+use Rattle.smol_str.proofs.Common.{◌≡◌, ◌↔◌, ℕ, ◌+◌, ◌-◌, ◌<◌, ◌≤◌, zero, suc, min, List, [], ◌∷◌, ◌++◌, Bool, true, false, cond, Option, Some, None, ◌⊎◌, inl, inr, ⊎_elim, length, drop, option_map, unwrap_or, MatchOption, refl, sym, ap, ◌∙◌, arith, length-append, append_assoc, append-nil, take-append-drop, nat_eq, concat, starts_with, flat_map, false≢true, false_from_ne_true, Decides-eqb, take_at, take-append-le, append_cancel_left, All, All-nil, All-cons, All-head, All-tail, Occurs, but_last, IsFirstAfter, joined_by, IsCutAt, IsSpelled, IsCutBetween, IsCut, split_at_first, cut_at, spell, cut_between, cut, rules}
 use Rattle.std.proofs.lemmas.Slice.Eq.{starts_is}
 pub use Rattle.smol_str.proofs.TextLemmas.Lists.{head_same, tail_same}
 use Rattle.smol_str.proofs.TextLemmas.Lists.{not_later, length_but_last}
@@ -135,7 +135,7 @@ first_step p c t some false e (Some m) h = (
 )
 first_step p c t some b e o h = search (rules, starts_with-true, starts_with-false, occurs_cases, too_long)
 
-pub first_found : (p t : List ℕ) → 0 < length p → MatchOption (first_match p t) (¬ Occurs p t) (First p t)
+pub first_found : (p t : List ℕ) → 0 < length p → MatchOption (split_at_first p t) (¬ Occurs p t) (First p t)
 first_found p [] some = λ o. omega (arith, ap length o.2, length-append o.0 (p ++ o.1), length-append p o.1)
 first_found p (c ∷ t) some = search (rules, first_step, first_found p t some)
 
@@ -149,7 +149,7 @@ pub IsCutAt-cut : (n : ℕ) (p t : List ℕ) → 0 < length p → IsCutAt t p n 
 IsCutAt-cut zero p t some = search (rules, arith, joined_one, All-nil)
 IsCutAt-cut (suc n) p t some =
     let next : suc n ≡ n + 1 = omega arith in
-    rw next (cut_step n p t (λ s. IsCutAt-cut n p s some) (first_match p t) (first_found p t some))
+    rw next (cut_step n p t (λ s. IsCutAt-cut n p s some) (split_at_first p t) (first_found p t some))
 
 -- at the empty pattern
 one_spelling : (xs ys : List (List ℕ)) → length xs ≡ length ys → All One (but_last xs) → All One (but_last ys) →

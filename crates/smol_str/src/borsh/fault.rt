@@ -1,7 +1,7 @@
 //! Why a value was not written, or not read.
 ghost use Rattle.std.specs.Prelude.{◌≡◌};
 ghost use Rattle.smol_str.specs.WireFaults.{of_read_fault, of_utf8_fault};
-ghost use Rattle.smol_str.specs.Said.{encode_said, decode_said, limited_said};
+ghost use Rattle.smol_str.specs.Messages.{encode_fault_message, decode_fault_message, limited_fault_message};
 ghost use Rattle.smol_str.specs.declared.borsh.fault.EncodeFault.TheVariants.{Io as WriteFailed};
 ghost use Rattle.smol_str.specs.declared.borsh.fault.DecodeFault.TheVariants.{OutOfMemory as NoMemory, Io as ReadFailed};
 ghost use Rattle.smol_str.specs.declared.borsh.fault.LimitedFault.TheVariants.{Decode};
@@ -135,7 +135,7 @@ impl<T: Drop> From<AllocFailed<T>> for LimitedFault {
 
 /// The message.
 impl Display for EncodeFault {
-    ghost output = { encode_said ⟦<io::Error as Display>⟧.output };
+    ghost output = { encode_fault_message ⟦<io::Error as Display>⟧.output };
 
     fn fmt<W: Write>(&self, f: &mut Formatter<W>) -> fmt::Result {
         match self {
@@ -149,7 +149,7 @@ impl Error for EncodeFault {}
 
 /// The message.
 impl Display for DecodeFault {
-    ghost output = { decode_said ⟦<Utf8Error as Display>⟧.output ⟦<io::Error as Display>⟧.output };
+    ghost output = { decode_fault_message ⟦<Utf8Error as Display>⟧.output ⟦<io::Error as Display>⟧.output };
 
     fn fmt<W: Write>(&self, f: &mut Formatter<W>) -> fmt::Result {
         match self {
@@ -165,7 +165,7 @@ impl Error for DecodeFault {}
 
 /// The message.
 impl Display for LimitedFault {
-    ghost output = { limited_said ⟦<DecodeFault as Display>⟧.output };
+    ghost output = { limited_fault_message ⟦<DecodeFault as Display>⟧.output };
 
     fn fmt<W: Write>(&self, f: &mut Formatter<W>) -> fmt::Result {
         match self {

@@ -8,7 +8,7 @@ ghost use Rattle.smol_str.specs.Shared.{shared_bytes};
 ghost use Rattle.smol_str.specs.Text.{IsResident};
 ghost use Rattle.smol_str.specs.Meaning.{IsValueOf};
 ghost use Rattle.smol_str.specs.Faults.{AfterFromUtf8Fault, IsUtf8FaultOf};
-ghost use Rattle.smol_str.specs.Said.{utf8_said};
+ghost use Rattle.smol_str.specs.Messages.{utf8_fault_message};
 ghost use Rattle.smol_str.specs.declared.value.convert.FromUtf8Fault.TheVariants.{OutOfMemory};
 
 use super::place::Place;
@@ -53,7 +53,7 @@ impl<T: Drop> From<AllocFailed<T>> for FromUtf8Fault {
 
 /// The message, so that `?` may turn the fault into an `anyhow::Error`.
 impl Display for FromUtf8Fault {
-    ghost output = { utf8_said ⟦<Utf8Error as Display>⟧.output };
+    ghost output = { utf8_fault_message ⟦<Utf8Error as Display>⟧.output };
 
     fn fmt<W: Write>(&self, f: &mut Formatter<W>) -> fmt::Result {
         match self {

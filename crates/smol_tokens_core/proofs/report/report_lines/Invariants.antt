@@ -4,10 +4,10 @@ use Rattle.std.specs.List.{flat_map}
 use Rattle.std.specs.Str.{chars}
 use Rattle.std.specs.String.{string_bytes}
 use Rattle.smol_tokens_core.specs.Lines.{lines}
-use Rattle.smol_tokens_core.specs.Report.{value_line, mapped}
+use Rattle.smol_tokens_core.specs.Report.{value_line, mapped_line}
 use Rattle.smol_tokens_core.proofs.report.report_lines.Given as goal
 
 abbrev pub invariant-loop-line : goal.invariant-loop-line
 invariant-loop-line l =
-    (string_bytes l.out ≡ encode_utf8_all (flat_map (λ line. value_line (mapped l.map (chars line.now))) l.yielded))
+    (string_bytes l.out ≡ encode_utf8_all (flat_map (λ line. value_line (mapped_line l.map (chars line.now))) l.yielded))
     × (lines (chars l.text) ≡ map (λ line. chars line.now) l.yielded ++ lines (chars l.line-iterator))
