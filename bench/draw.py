@@ -17,7 +17,8 @@ WIDE = "éß\x80\u07ff€\u0800\ufffd\uffff\ud7ff\ue000🦀\U00010000\U0010ffff�
 # Characters that stand in another order by their code units of 16 bits.
 ORDERED = "é中\ue000\uffff\U00010000🦀"
 QUOTED = '"\\/\n\r\t\b\f\0\1\x0b\x0e\x10\x1a\x1f\x7f\u2028\xad\u0300aé'
-ALPHABETS = [LETTERS, LETTERS, WITH_CASE, WITH_CASE, WIDE, "abAZz@[`{\x7f0", "\u212aẞ\u2126ﬃ", "aaZ Σ", "abé€", "aab", QUOTED]
+ALPHABETS = [LETTERS, LETTERS, WITH_CASE, WITH_CASE, WIDE, "abAZz@[`{\x7f0", "\u212aẞ\u2126ﬃ", "aaZ Σ", "abé€", "aab",
+             QUOTED]
 NOT_UTF8 = [b"\xed\xa0\x80", b"\xed\xbf\xbf", b"\xf4\x90\x80\x80", b"\xe0\x9f\xbf", b"\xf0\x8f\xbf\xbf", b"\xc0\x80", b"\xc1\xbf",
             b"\xf0\x9f\xa6", b"\xe2\x82", b"\xc3", b"\xf5\x80\x80\x80", b"\xff", b"\x80", b"\xf4\x8f\xbf\xbf", b"\xef\xbf\xbf"]
 # The ends of what a byte of UTF-8 may be at each place.
@@ -61,8 +62,10 @@ class Draw(random.Random):
         return int(self.random() * limit)
 
     def length(self):
-        turn = self.below(8)
-        return self.below(46) if turn < 3 else self.choice(self.edges) if turn < 6 else self.below(400 if turn < 7 else self.longest)
+        turn = self.below(40)
+        if turn < 16:
+            return self.choice(self.edges[:20] if turn > 1 else self.edges)
+        return self.below(46 if turn < 34 else 400 if turn < 39 else self.longest)
 
     def characters(self, count, alphabet):
         return "".join(self.choices(alphabet, k=count))
@@ -97,8 +100,9 @@ class Draw(random.Random):
         turn = self.below(20)
         if turn < 3:
             return self.blank()
-        # one of few texts that begin in the same way, so that orders are decided late and by wide characters
-        return "a" * self.choice([0, 0, 15, 39]) + self.choice(ORDERED) + self.choice(["", "a"]) if turn < 5 else self.sized(self.length())
+        if turn < 5:  # one of few texts that begin in the same way, so that orders are decided late and by wide characters
+            return "a" * self.choice([0, 0, 15, 39]) + self.choice(ORDERED) + self.choice(["", "a"])
+        return self.sized(self.length())
 
     def short(self):
         return self.cut(self.text(), self.limits["INLINE_CAP"])
@@ -110,8 +114,9 @@ class Draw(random.Random):
         return self.sized(self.below(12)) if self.one_in(2) else self.text()
 
     def pieces(self):
-        return [self.sized(self.below(12)) if self.one_in(4) else self.characters(self.below(9), LETTERS) for _ in range(self.below(12))] \
-            or [self.text()]
+        pieces = [self.sized(self.below(12)) if self.one_in(4) else self.characters(self.below(9), LETTERS)
+                  for _ in range(self.below(12))]
+        return pieces or [self.text()]
 
     def spoilt(self, whole):
         """Bytes with a few faults."""
@@ -148,14 +153,12 @@ class Draw(random.Random):
         if turn == 0:
             json = self.choice(JSON_WORDS)
         elif turn == 1:  # about as deep as is read
-            depth, (start, inside, end) = self.choice([1, 2, 126, 127, 128, 129, 300]), self.choice([("[", "", "]"), ('{"a":', "1", "}")])
+            (start, inside, end), depth = self.choice([("[", "", "]"), ('{"a":', "1", "}")]), self.choice([1, 2, 127, 128, 300])
             json = start * depth + inside + end * (depth - self.below(2))
         else:
             parts = [ESCAPES, PAIRS, self.choices(KNOWN, k=9), LETTERS, LETTERS, LETTERS, *[BAD_ESCAPES] * self.one_in(8)]
             parts = [self.choice(parts)] if self.one_in(3) else parts
             json = '"' + "".join(self.choice(self.choice(parts)) for _ in range(min(self.length(), 700))) + '"'
-        if self.one_in(8):
-            json = f'{{"name":{json},"times":{self.below(9)}}}'
         json = self.choice(["", "", " ", "\n", "\t\r"]) + json + self.choice(["", "", " ", "\n", "\t\r"])
         turn = self.below(16)
         return json[:-1] if turn == 0 else json + self.choice(BEHIND_JSON) if turn == 1 else json
@@ -167,7 +170,8 @@ class Draw(random.Random):
         at, turn = self.below(len(text) + 1), self.below(8)
         few = text[at:at + self.below(len(text) + 1 if self.one_in(8) else 4)]
         pattern = "" if turn == 0 else self.choice(["a", "aa", "aba", "b", "ab", "é", "€", "\n", " "]) if turn < 3 else few
-        to = self.choice(["", "x", "\n", " ", "é", "aa", "🦀", pattern + "a", " " * self.below(5), self.characters(self.below(9), LETTERS)])
+        piece = self.characters(self.below(9), LETTERS)
+        to = self.choice(["", "x", "\n", " ", "é", "aa", "🦀", pattern + "a", " " * self.below(5), piece])
         return [text, pattern, to]
 
 
@@ -176,10 +180,11 @@ def has_new(bytes):
     return any(it > "\x7f" and not is_known(it) for it in bytes.decode(errors="ignore"))
 
 
-TEXT, NONE = (lambda draw: [draw.text()]), (lambda draw: [])
+TEXT, NONE, WIRE, READ = (lambda draw: [draw.text()]), (lambda draw: []), (lambda draw: [draw.wire()]), (lambda draw: [draw.json()])
 # The calls: how often each is drawn beside the others, how many forms it has, and its texts.
 CALLS = {
-    **dict.fromkeys("new from_str from_string_ref from_utf8_unchecked from_string from_owned from_boxed_str".split(), (9, 1, TEXT)),
+    **dict.fromkeys("new from_str from_string_ref from_utf8_unchecked".split(), (9, 1, TEXT)),
+    **dict.fromkeys("from_string from_owned from_boxed_str".split(), (9, 1, TEXT)),
     **dict.fromkeys("from_cow_str from_rc_str".split(), (9, 2, TEXT)),
     "from_utf8": (17, 1, lambda draw: [draw.bytes()]), "new_inline": (8, 1, lambda draw: [draw.short()]),
     "new_inline_in_case": (8, 2, lambda draw: [draw.short()]), "new_static": (14, 6, NONE), "default": (2, 1, NONE),
@@ -195,22 +200,32 @@ CALLS = {
     "push": (20, 1, lambda draw: [draw.choice(KNOWN)]), "push_str": (40, 3, lambda draw: [draw.piece()]),
     "extend": (15, 4, Draw.pieces), "extend_chars": (10, 1, TEXT),
     "extend_strs": (6, 1, Draw.pieces), "extend_strings": (6, 1, Draw.pieces), "write": (20, 4, TEXT),
-    "serialize": (20, 2, NONE), "from_wire": (20, 1, lambda draw: [draw.wire()]), "split_wire": (10, 1, lambda draw: [draw.wire()]),
-    "deserialize_reader": (30, 2, lambda draw: [draw.wire()]), "to_json": (40, 5, lambda draw: [draw.characters(draw.length(), QUOTED + LETTERS)]), "from_json": (30, 1, lambda draw: [draw.json()]),
-    "from_value": (15, 2, lambda draw: [draw.json()]), "from_str_by_serde": (20, 2, lambda draw: [draw.json()]),
+    "serialize": (20, 2, NONE), "from_wire": (20, 1, WIRE), "split_wire": (10, 1, WIRE), "deserialize_reader": (30, 2, WIRE),
+    "to_json": (40, 4, lambda draw: [draw.characters(draw.length(), QUOTED + LETTERS)]),
+    "from_json": (30, 1, READ), "from_value": (15, 2, READ), "from_str_by_serde": (20, 1, READ),
 }
 JSON = "to_json from_json from_value from_str_by_serde".split()
 
 
 def call(draw, name, forms, texts):
     texts = [it.encode() if isinstance(it, str) else bytes(it) for it in texts(draw)]
-    number, width = draw.choice([draw.choice(NUMBERS), draw.below(1000), draw.getrandbits(64) >> draw.below(64)]), draw.choice(draw.edges[:40])
+    number = draw.choice([draw.choice(NUMBERS), draw.below(1000), draw.getrandbits(64) >> draw.below(64)])
+    width = max(draw.choice(draw.edges[:40]), 1)
     if name == "replacen_smolstr":
         number = draw.choice(COUNTS)
     if name == "next_match":
-        texts[1], number = texts[1] or b"a", len(draw.cut(texts[0].decode(), draw.below(len(texts[0]) + 1)).encode())
-    fields = [name, draw.below(4), draw.below(4), draw.below(forms), number, max(width, 1), draw.below(45)]
-    return " ".join([*map(str, fields), *map(quote_from_bytes, texts)]) + "\n"
+        number = len(draw.cut(texts[0].decode(), draw.below(len(texts[0]) + 1)).encode())
+        texts[1] = texts[1] or b"a"
+    fields = [name, draw.below(4), draw.below(4), draw.below(forms), number, width, draw.below(45)]
+    return " ".join([*map(str, fields), *map(field, texts)]) + "\n"
+
+
+def field(text):
+    """A text in a line: where it is UTF-8, as it is but for what parts fields and lines."""
+    try:
+        return text.decode().replace("%", "%25").replace(" ", "%20").replace("\n", "%0A").replace("\r", "%0D")
+    except UnicodeDecodeError:
+        return quote_from_bytes(text)
 
 
 def lines(count, seed, longest, limits, json_weight):

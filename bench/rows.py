@@ -111,12 +111,14 @@ class Side:
 
     def sum(self, row, rounds=2):
         """What it prints for a row; None where it has none."""
-        ran = subprocess.run([*map(str, self.words), row.operation, str(rounds), "0"], input=given(row), capture_output=True)
+        words = [*map(str, self.words), row.operation, str(rounds), "0"]
+        ran = subprocess.run(words, input=given(row), capture_output=True)
         return ran.stdout if ran.returncode == 0 else None
 
     def instructions(self, row):
-        """Instructions of an operation on a text: those of more rounds less those of few. Either side has the C library's best loops."""
-        few, many = (building.count([*self.words, row.operation, rounds, 0], given(row), os.environ) for rounds in (4, 4 + rounds_of(row)))
+        """Instructions of an operation on a text, of more rounds less those of few; with the C library's best loops here."""
+        few, many = (building.count([*self.words, row.operation, rounds, 0], given(row), os.environ)
+                     for rounds in (4, 4 + rounds_of(row)))
         return (many - few) / rounds_of(row) / row.count
 
     def nanoseconds(self, row):

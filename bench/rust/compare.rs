@@ -2,7 +2,7 @@
 //! where the two differ on purpose. Those places are marked with what docs/differences.md says of them.
 use borsh::io::{Error, ErrorKind, Read, Write};
 use borsh::{BorshDeserialize, BorshSerialize};
-use serde_json::{Value, json};
+use serde_json::Value;
 use smol_str::{SmolStr, SmolStrBuilder, StrExt, ToSmolStr, format_smolstr};
 use std::borrow::Cow;
 use std::fmt::{Debug, Write as _};
@@ -67,20 +67,17 @@ struct Machine {
 impl Machine {
     fn say(&mut self, it: impl Debug) { write!(self.out, " {it:?}").unwrap() }
 
-    /// A text of an answer; of a long one its first bytes, its length and a hash.
-    fn show(&mut self, bytes: impl AsRef<[u8]>) {
-        let bytes = bytes.as_ref();
-        self.out.push(' ');
-        for byte in &bytes[..bytes.len().min(SHOWN)] {
-            match byte {
-                b'%' => self.out.push_str("%25"),
-                b'!'..=b'~' => self.out.push(char::from(*byte)),
-                _ => write!(self.out, "%{byte:02X}").unwrap(),
-            }
+    /// A text of an answer, in one line; of a long one its beginning, its length and a hash.
+    fn show(&mut self, text: impl AsRef<str>) {
+        let text = text.as_ref();
+        for line in text[..text.floor_char_boundary(SHOWN)].split('\n') {
+            self.out.push('|');
+            self.out.push_str(line);
         }
-        if bytes.len() > SHOWN {
-            let hash = bytes.iter().fold(0u64, |hash, byte| (hash ^ u64::from(*byte)).wrapping_mul(1_099_511_628_211));
-            write!(self.out, "..{}:{hash}", bytes.len()).unwrap();
+        if text.len() > SHOWN {
+            let mut hasher = DefaultHasher::new();
+            hasher.write(text.as_bytes());
+            write!(self.out, "..{}:{}", text.len(), hasher.finish()).unwrap();
         }
     }
 
@@ -88,7 +85,7 @@ impl Machine {
     fn keep(&mut self, it: &Call, value: SmolStr) {
         let own = (&raw const value).addr()..(&raw const value).addr() + size_of::<SmolStr>();
         let (is_inside, is_heap) = (own.contains(&value.as_ptr().addr()), value.is_heap_allocated());
-        let place = if is_heap { "heap" } else if is_inside { "inline" } else { "static" };
+        let place = if is_heap { "Heap" } else if is_inside { "Inline" } else { "Static" };
         write!(self.out, " {place} {} {} {} {is_heap}", value.len(), value.is_empty(), value.is_ascii()).unwrap();
         self.show(&value);
         self.values[it.to] = value;
@@ -264,8 +261,9 @@ fn wire(m: &mut Machine, it: &Call) {
     match it.name.as_str() {
         "serialize" => {
             let done = m.values[it.from].serialize(&mut slow);
-            m.show(&slow.written);
-            m.say(done.is_ok())
+            m.say(done.is_ok());
+            m.say(&slow.written[..slow.written.len().min(SHOWN)]);
+            m.say(slow.written.len())
         }
         "from_wire" | "split_wire" => {
             let mut rest = bytes;
@@ -339,7 +337,6 @@ fn json_of(m: &mut Machine, it: &Call) {
     let made = match (it.name.as_str(), it.form) {
         ("to_json", 0 | 2) => return m.show(serde_json::to_string(value).unwrap()),
         ("to_json", 1) => return m.show(serde_json::to_string(&SmolStr::new(text)).unwrap()),
-        ("to_json", 3) => return m.show(json!({ "name": value, "times": it.number }).to_string()),
         ("to_json", _) => return m.show(serde_json::to_value(value).unwrap().as_str().unwrap()),
         ("from_json", _) => match serde_json::from_str(text) {
             // "a value that is no string is the deserializer's error, where it stands"
@@ -347,11 +344,7 @@ fn json_of(m: &mut Machine, it: &Call) {
             made => made.ok(),
         },
         ("from_value", _) => serde_json::from_str(text).ok().and_then(|it: Value| serde_json::from_value(it).ok()),
-        ("from_str_by_serde", 0) => serde_json::from_str(text).ok(),
-        ("from_str_by_serde", _) => {
-            let entry = serde_json::from_str(text).ok().filter(|it: &Value| it["times"].is_u64());
-            entry.and_then(|it| serde_json::from_value(it["name"].clone()).ok())
-        }
+        ("from_str_by_serde", _) => serde_json::from_str(text).ok(),
         ("from_utf8", _) => match SmolStr::from_utf8(it.texts[0].as_slice()) {
             Ok(value) => Some(value),
             Err(fault) => return write!(m.out, " {fault}").unwrap(),
