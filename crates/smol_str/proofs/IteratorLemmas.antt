@@ -156,31 +156,3 @@ module _ {A : Type 0} {s : _} (all : List A) where
   pub gives-skip_slice : all ≡ drop (skip_count s) (iter_rest (skip_source s))
       → YieldsList (skip_steps iter_steps) (λ y. y.now) s all
   gives-skip_slice e = rw e (YieldsList-from_skip (skip_count s) (YieldsList-from_slice (iter_rest (skip_source s)) refl) refl)
-
--- each of these, and those of std that serve as they are
-pub ruleset iterators = (
-  gives-slice,
-  gives-rev_slice,
-  gives-chars,
-  gives-rev_chars,
-  gives-lines,
-  gives-split_char,
-  gives-copied,
-  gives-rev_copied,
-  gives-map,
-  gives-map_lent,
-  gives-flat_chars,
-  gives-take_chars,
-  gives-skip_chars,
-  gives-take_slice,
-  gives-skip_slice,
-  YieldsList-from_repeat_n,
-  YieldsList-from_vec,
-  YieldsList-from_array,
-  YieldsList-from_take,
-  YieldsList-from_skip,
-  YieldsList-from_take_while,
-  YieldsList-from_skip_while,
-  YieldsList-from_chain,
-  YieldsList-from_filter,
-)

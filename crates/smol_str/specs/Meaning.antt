@@ -4,6 +4,8 @@
 --     IsPrintOf output v       the same of what was printed, where the type says what it prints
 --     texts values             the texts of values
 --     AreValuesOf ts values    the values have the texts ts, each in the place of its text
+--     pair_texts pairs         the texts of pairs of values, as of keys and what stands at them
+--     ArePairsOf ts pairs      the same of pairs
 use Rattle.std.specs.Prelude.{◌≡◌, ℕ, List, map, All, Option, IfSome, encode_utf8_all}
 use Rattle.std.specs.Str.{chars}
 use Rattle.smol_str.specs.declared.value.place.Place.{Place}
@@ -33,3 +35,11 @@ texts values = map (λ value. value.text) values
 pub record AreValuesOf (ts : List (List ℕ)) (values : List Meaning) : Type 0 where
   pub text : texts values ≡ ts
   pub place : All (λ v. v.place ≡ place_of v.text) values
+
+abbrev pub pair_texts : List (Meaning × Meaning) → List (List ℕ × List ℕ)
+pair_texts pairs = map (λ pair. (pair.0.text, pair.1.text)) pairs
+
+-- pairs of values of these texts, one for each
+pub record ArePairsOf (ts : List (List ℕ × List ℕ)) (pairs : List (Meaning × Meaning)) : Type 0 where
+  pub text : pair_texts pairs ≡ ts
+  pub place : All (λ pair. (pair.0.place ≡ place_of pair.0.text) × (pair.1.place ≡ place_of pair.1.text)) pairs

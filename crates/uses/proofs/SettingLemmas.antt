@@ -1,13 +1,8 @@
 -- For settings: what is set by lines, and what a key's last line sets.
 use Rattle.std.proofs.Common.{◌≡◌, ℕ, List, [], ◌∷◌, ◌++◌, map, fold, Bool, if◌then◌else◌, Option, Some, None, Bor, bytes_eq, refl, ap, ◌∙◌, arith}
 use Rattle.std.specs.Map.{lookup}
-use Rattle.std.proofs.lemmas.Grind.{fold-append}
-use Rattle.std.proofs.lemmas.List.{map-append}
-use Rattle.indexmap.specs.IndexMap.{insert_entry}
-use Rattle.smol_str.specs.Keys.{same_key, with_entry, entry_texts}
-use Rattle.smol_str.specs.Meaning.{Meaning}
-use Rattle.smol_str.specs.declared.value.SmolStr.{SmolStr}
-use Rattle.smol_str.proofs.CallerLemmas.{entry_texts-insert, lookup-with_entry}
+use Rattle.smol_str.specs.Keys.{with_entry}
+use Rattle.smol_str.proofs.CallerLemmas.{lookup-with_entry}
 use Rattle.uses.specs.Settings.{setting, with_setting, settings, value_in, or_else, last_value}
 
 module _ (key : List ℕ) where
@@ -33,23 +28,4 @@ module _ (key : List ℕ) where
   pub lookup-settings : (lines : List (List ℕ)) → lookup (bytes_eq key) (settings lines) ≡ last_value key lines
   lookup-settings lines = grind (arith, lookup-from lines [])
 
--- one line more
-pub settings-more : (yielded : List (Bor (List ℕ))) (line : Bor (List ℕ))
-    → settings (map (λ x. x.now) (yielded ++ line ∷ []))
-    ≡ with_setting (settings (map (λ x. x.now) yielded)) (setting line.now)
-settings-more yielded line =
-    ap settings (map-append (λ (x : Bor (List ℕ)). x.now) yielded (line ∷ []))
-    ∙ fold-append (λ pairs line. with_setting pairs (setting line)) [] (map (λ x. x.now) yielded) (line.now ∷ [])
-
--- a map's insert, as texts
-pub entry_texts-inserted : (eq : Meaning → Meaning → Bool) (es : List (Meaning × SmolStr)) (k : Meaning) (v : SmolStr)
-    → ((x y : Meaning) → eq x y ≡ same_key x y)
-    → entry_texts (λ (v : SmolStr). v.text) (insert_entry eq es k v)
-    ≡ with_entry (entry_texts (λ (v : SmolStr). v.text) es) k.text v.text
-entry_texts-inserted eq es k v same =
-    entry_texts-insert (λ (v : SmolStr). v.text) (insert_entry eq) (λ _ _. refl)
-    (λ e es k v. ap (λ b. if b then (e.0, v) ∷ es else e ∷ insert_entry eq es k v) (same k e.0)) es k v
-
-pub ruleset inserts = (entry_texts-inserted)
-
-pub ruleset lookups = (lookup-settings, settings-more)
+pub ruleset lookups = (lookup-settings)

@@ -5,7 +5,7 @@ use Rattle.std.specs.Prelude.{ℕ, ◌*◌, ◌==◌, List, [], ◌∷◌, ◌++
 use Rattle.std.specs.List.{flat_map}
 use Rattle.smol_str.specs.Cut.{joined_by}
 use Rattle.smol_str.specs.Meaning.{texts}
-use Rattle.uses.specs.declared.layout.Line.{Line}
+use Rattle.uses.specs.declared.making.Line.{Line}
 
 abbrev pub untabbed : List ℕ → List ℕ
 untabbed t = flat_map (λ c. if c == 9 then replicate 4 32 else c ∷ []) t

@@ -1,15 +1,28 @@
 //! Lines cut at a separator, and joined again; what a caller does with an index or a buffer that a call returns.
-ghost use Rattle.std.specs.Prelude.{◌≡◌, ◌≢◌, ◌<◌, ◌≤◌, ◌↔◌, ◌++◌, ◌∷◌, ◌-◌, [], ℕ, List, codes, drop, length, map, set, take, IfNone, IfOk, IfSome, IsTrue, MatchBool, OnErr, encode_utf8_all};
+ghost use Rattle.std.specs.Str.Lines.{lines};
+ghost use Rattle.std.specs.List.{enumerate_from, prefix_len};
+ghost use Rattle.std.specs.Prelude.{◌≡◌, ◌≢◌, ◌<◌, ◌≤◌, ◌↔◌, ◌++◌, ◌∷◌, ◌-◌, [], ℕ, List, codes, drop, length, map, set, take, IfNone, IfOk, IfSome, IsTrue, MatchBool, OnErr, encode_utf8_all, String, OnOk, reverse, All, Some, ◌==◌};
 ghost use Rattle.std.specs.Str.{IsCharBoundary, chars, trim};
 ghost use Rattle.smol_str.specs.Cut.{IsFirstAfter, Occurs, joined_by};
-ghost use Rattle.smol_str.specs.Joined.{str_text};
-ghost use Rattle.smol_str.specs.Meaning.{AreValuesOf, IsValueOf, texts};
+ghost use Rattle.smol_str.specs.Joined.{str_text, joined, string_text};
+ghost use Rattle.smol_str.specs.Meaning.{AreValuesOf, IsValueOf, texts, ArePairsOf};
 ghost use Rattle.smol_str.specs.Replace.{cut, each_replaced, no_limit};
-ghost use Rattle.smol_str.specs.Text.{IsShort};
+ghost use Rattle.smol_str.specs.Text.{IsShort, IsResident, place_of};
+ghost use Rattle.std.specs.Iterator.{Drains, IsFinite};
+ghost use Rattle.std.specs.Rc.{rc_str_bytes};
+ghost use Rattle.std.specs.String.{string_bytes};
+ghost use Rattle.serde.specs.Event.{Logs, text};
+ghost use Rattle.smol_str.specs.Collect.{Outgrown, StoppedAt};
+ghost use Rattle.smol_str.specs.Draft.{appended};
+ghost use Rattle.smol_str.specs.Serde.{HasReadText};
 
+use crate::headline::line_of;
+use serde::{Deserialize, DeserializeOwned, Deserializer, Format, Serialize, Serializer};
 use smol_str::kernel::{AsciiCase, convert_while_ascii, next_match};
 use smol_str::{INLINE_CAP, SmolStr, SmolStrBuilder, StrExt};
 use std::alloc::{AllocError, Global};
+use std::convert::AsStr;
+use std::rc::RcStr;
 
 /// The fields of a line, which commas separate.
 #[tactic(auto, using(smol_str::proofs::CallerLemmas::cutting))]
@@ -47,25 +60,8 @@ pub fn segments(alloc: Global, path: &str) -> Result<Vec<SmolStr>, AllocError>
     Ok(segments)
 }
 
-/// The line of some fields.
-pub fn line_of(alloc: Global, fields: &[SmolStr], separator: &str) -> Result<SmolStr, AllocError>
-    ensures value { IfOk result (λ v. IsValueOf (joined_by (chars separator.now) (texts fields.now)) v) }
-    ensures refused { OnErr result (¬ (IsShort (joined_by (chars separator.now) (texts fields.now)))) }
-{
-    SmolStr::join(alloc, fields, separator)
-}
-
-/// The same of `&str`s, at a comma.
-#[tactic(auto, using(smol_str::proofs::CallerLemmas::texts))]
-pub fn line_of_strs(alloc: Global, fields: &[&str]) -> Result<SmolStr, AllocError>
-    ensures value { IfOk result (λ v. IsValueOf (joined_by (44 ∷ []) (map str_text fields.now)) v) }
-    ensures refused { OnErr result (¬ (IsShort (joined_by (44 ∷ []) (map str_text fields.now)))) }
-{
-    SmolStr::join(alloc, fields, ",")
-}
-
 /// The line of all fields but the last.
-#[tactic(auto, using(smol_str::proofs::CallerLemmas::cutting))]
+#[tactic(auto, using(smol_str::proofs::CallerLemmas::joining))]
 pub fn without_last(
     alloc: Global,
     fields: &[SmolStr],
@@ -80,7 +76,7 @@ pub fn without_last(
 }
 
 /// A line cut into values and joined again: the line.
-#[tactic(auto, using(smol_str::proofs::CallerLemmas::cutting))]
+#[tactic(auto, using(smol_str::proofs::CallerLemmas::joining))]
 pub fn again(alloc: Global, line: &str, separator: &str) -> Result<SmolStr, AllocError>
     requires some { 0 < length separator.now }
     ensures { IfOk result (λ v. IsValueOf (chars line.now) v) }
@@ -210,10 +206,10 @@ pub fn unquoted(token: &str) -> Option<&str>
 
 /// What stands between two marks.
 #[tactic(auto, using(smol_str::proofs::CallerLemmas::cut_once))]
-pub fn between<'a>(token: &'a str, open: &str, close: &str) -> Option<&'a str>
-    ensures { IfSome result (λ it. chars token.now ≡ chars open.now ++ (chars it.now ++ chars close.now)) }
+pub fn between<'a>(token: &'a str, front: &str, back: &str) -> Option<&'a str>
+    ensures { IfSome result (λ it. chars token.now ≡ chars front.now ++ (chars it.now ++ chars back.now)) }
 {
-    token.strip_prefix(open)?.strip_suffix(close)
+    token.strip_prefix(front)?.strip_suffix(back)
 }
 
 /// What follows a value's prefix, as a value, if it has it.
@@ -249,7 +245,7 @@ pub fn trimmed(alloc: Global, name: &SmolStr) -> Result<SmolStr, AllocError>
 }
 
 /// A line with another text in place of one of its fields.
-#[tactic(auto, using(smol_str::proofs::CallerLemmas::texts, smol_str::proofs::CallerLemmas::cutting))]
+#[tactic(auto, using(smol_str::proofs::CallerLemmas::texts, smol_str::proofs::CallerLemmas::joining))]
 pub fn with_field(
     alloc: Global,
     line: &str,
@@ -315,16 +311,114 @@ pub fn bytes_inside(value: &SmolStr) -> Option<&[u8]> {
     Some(&buffer[..value.len()])
 }
 
-/// The bytes of a builder's text, read off its buffer.
-pub fn bytes_so_far(builder: &SmolStrBuilder) -> Option<&[u8]> {
-    let buffer = builder.inline_buffer()?;
-    Some(&buffer[..builder.len()])
-}
-
 /// Whether a value and a builder have no text.
 pub fn have_nothing(value: &SmolStr, builder: &SmolStrBuilder) -> (bool, bool)
     ensures value { IsTrue result.0 ↔ (value.now.text ≡ []) }
     ensures builder { IsTrue result.1 ↔ (builder.now.text ≡ []) }
 {
     (value.is_empty(), builder.is_empty())
+}
+
+/// Tokens on one line, by std's `join` of a slice.
+#[tactic(auto, using(smol_str::proofs::CallerLemmas::joining))]
+pub fn row(alloc: Global, tokens: &[SmolStr]) -> Result<String, AllocError>
+    ensures { IfOk result (λ line. string_bytes line ≡
+        encode_utf8_all (joined_by (chars (codes " ")) (texts tokens.now))) }
+{
+    tokens.join(alloc, " ")
+}
+
+/// The fields of a line, none of which has a comma.
+#[tactic(auto, using(smol_str::proofs::CallerLemmas::pieces_lack))]
+pub fn plain_fields(alloc: Global, line: &str) -> Result<Vec<SmolStr>, AllocError>
+    ensures { IfOk result (λ fields. All (λ v. ¬ Occurs (44 ∷ []) v.text) fields.items) }
+{
+    fields(alloc, line)
+}
+
+/// The fields of a line, each in the place of its text.
+pub fn placed_fields(alloc: Global, line: &str) -> Result<Vec<SmolStr>, AllocError>
+    ensures { IfOk result (λ fields. All (λ v. v.place ≡ place_of v.text) fields.items) }
+{
+    fields(alloc, line)
+}
+
+/// The three parts of a rule, at patterns of two characters.
+#[tactic(auto, using(smol_str::proofs::CallerLemmas::cut_at_texts))]
+pub fn three_sides(rule: &str) -> Option<(&str, &str, &str)>
+    ensures { IfSome result (λ it. chars rule.now ≡ chars it.0.now ++ (chars (codes "->")
+        ++ (chars it.1.now ++ (chars (codes "=>") ++ chars it.2.now)))) }
+{
+    let (first, rest) = rule.split_once("->")?;
+    let (second, third) = rest.split_once("=>")?;
+    Some((first, second, third))
+}
+
+/// Lines `key=value` that read the same have the same key and the same value, where no key has an equals sign.
+#[tactic(auto, using(smol_str::proofs::CallerLemmas::cut_alike))]
+pub fn one_setting(key: &SmolStr, value: &SmolStr, other_key: &SmolStr, other_value: &SmolStr)
+    requires first { IsFirstAfter (61 ∷ []) key.now.text }
+    requires other_first { IsFirstAfter (61 ∷ []) other_key.now.text }
+    requires one_line { key.now.text ++ (61 ∷ value.now.text) ≡ other_key.now.text ++ (61 ∷ other_value.now.text) }
+    ensures key { key.now.text ≡ other_key.now.text }
+    ensures value { value.now.text ≡ other_value.now.text }
+{}
+
+/// A text without the spaces in front.
+#[tactic(auto, using(smol_str::proofs::CallerLemmas::trimmed))]
+pub fn unindented(text: &str) -> &str
+    ensures { chars result.now ≡ drop (prefix_len (λ c. c == 32) (chars text.now)) (chars text.now) }
+{
+    text.trim_start_matches(' ')
+}
+
+/// What a command is.
+#[tactic(auto, using(smol_str::proofs::CallerLemmas::compared))]
+pub fn command(text: &str) -> Option<u8>
+    ensures help { result ≡ Some 1 ↔ (chars text.now ≡ chars (codes "help")) }
+    ensures quit { result ≡ Some 2 ↔ (chars text.now ≡ chars (codes "quit")) }
+{
+    match text {
+        "help" => Some(1),
+        "quit" => Some(2),
+        _ => None,
+    }
+}
+
+/// Whether two texts are equal.
+#[tactic(auto, using(smol_str::proofs::CallerLemmas::compared))]
+pub fn is_same(text: &str, other: &str) -> bool
+    ensures { IsTrue result ↔ (chars text.now ≡ chars other.now) }
+{
+    text == other
+}
+
+/// Values of pairs of texts, as of names and what they stand for.
+#[tactic(auto, using(smol_str::proofs::CallerLemmas::items))]
+pub fn pairs_of(
+    alloc: Global,
+    pairs: &[(&str, &str)],
+) -> Result<Vec<(SmolStr, SmolStr)>, AllocError>
+    ensures { IfOk result (λ values. ArePairsOf (map (λ p. (chars p.0.now, chars p.1.now)) pairs.now) values.items) }
+{
+    let mut values = Vec::new(alloc);
+    for pair in pairs {
+        values.push(pair_of(alloc, pair)?)?;
+    }
+    Ok(values)
+}
+
+fn pair_of(alloc: Global, pair: &(&str, &str)) -> Result<(SmolStr, SmolStr), AllocError>
+    ensures first { IfOk result (λ p. IsValueOf (chars pair.now.0.now) p.0) }
+    ensures second { IfOk result (λ p. IsValueOf (chars pair.now.1.now) p.1) }
+{
+    Ok((SmolStr::new(alloc, pair.0)?, SmolStr::new(alloc, pair.1)?))
+}
+
+/// A text cut at a byte index, where that is a char boundary.
+#[tactic(auto, using(smol_str::proofs::CallerLemmas::chars_cut))]
+pub fn halves(text: &str, at: usize) -> Option<(&str, &str)>
+    ensures { IfSome result (λ it. chars text.now ≡ chars it.0.now ++ chars it.1.now) }
+{
+    text.split_at_checked(at)
 }

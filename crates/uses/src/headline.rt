@@ -4,8 +4,8 @@
 //! Each way ensures `value`, that the value is of exactly the text that is meant and lies in the place of that text; and
 //! `refused`, that memory may be refused only for text that is not resident, or not short where it comes in parts. At the
 //! end stand values that cannot fail, or that lie where the caller knows.
-ghost use Rattle.std.specs.Prelude.{◌≡◌, ◌<◌, ◌≤◌, ◌⊎◌, ◌↔◌, ◌++◌, [], ◌∷◌, length, codes, encode_utf8_all, IfOk, IsOk, OnOk, OnErr, IsTrue};
-ghost use Rattle.std.specs.Str.{chars, IsUtf8};
+ghost use Rattle.std.specs.Prelude.{◌≡◌, ◌<◌, ◌≤◌, ◌⊎◌, ◌↔◌, ◌++◌, [], ◌∷◌, length, codes, encode_utf8_all, IfOk, IsOk, OnOk, OnErr, IsTrue, ◌≢◌, ◌-◌, ℕ, List, drop, map, set, take, IfNone, IfSome, MatchBool};
+ghost use Rattle.std.specs.Str.{chars, IsUtf8, IsCharBoundary, trim};
 ghost use Rattle.std.specs.String.{string_bytes};
 ghost use Rattle.std.specs.Ordering.{nat_cmp};
 ghost use Rattle.std.specs.Cmp.Lexicographic.{slice_cmp};
@@ -14,15 +14,16 @@ ghost use Rattle.std.specs.Cow.{cow_str_bytes};
 ghost use Rattle.std.specs.Iterator.{IsFinite};
 ghost use Rattle.std.specs.Rc.{rc_str_bytes};
 ghost use Rattle.smol_str.specs.Text.{IsShort, IsResident, blank_run, place_of};
-ghost use Rattle.smol_str.specs.Meaning.{IsValueOf};
-ghost use Rattle.smol_str.specs.Joined.{joined, joined_strs, joined_strings, joined_string_refs, string_text};
+ghost use Rattle.smol_str.specs.Meaning.{IsValueOf, AreValuesOf, texts};
+ghost use Rattle.smol_str.specs.Joined.{joined, joined_strs, joined_strings, joined_string_refs, string_text, str_text};
 ghost use Rattle.smol_str.specs.Collect.{Collected, Outgrown, AppendedAll, StoppedAt};
 ghost use Rattle.smol_str.specs.Steps.{step_text};
 ghost use Rattle.smol_str.specs.Case.{IsAsciiText, lower, upper, lowercased, uppercased, converted};
 ghost use Rattle.smol_str.specs.declared.value.place.Place.TheVariants.{Heap};
-ghost use Rattle.smol_str.specs.Replace.{replaced, replaced_all};
+ghost use Rattle.smol_str.specs.Replace.{replaced, replaced_all, cut, each_replaced, no_limit};
+ghost use Rattle.smol_str.specs.Cut.{IsFirstAfter, Occurs, joined_by};
 
-use smol_str::kernel::AsciiCase;
+use smol_str::kernel::{AsciiCase, convert_while_ascii, next_match};
 use smol_str::{
     BLANK_NEWLINES, BLANK_SPACES, INLINE_CAP, Place, SmolStr, SmolStrBuilder, Step, StrExt,
     ValueAlloc, build, laws,
@@ -121,7 +122,7 @@ pub fn of_string(alloc: Global, text: String) -> Result<SmolStr, AllocError>
     ensures value { IfOk result (λ v. IsValueOf (chars (string_bytes text)) v) }
     ensures refused { OnErr result (¬ (IsResident (chars (string_bytes text)))) }
 {
-    SmolStr::from_string(alloc, text).map_err(|_| AllocError)
+    SmolStr::from_string(alloc, text).or(Err(AllocError))
 }
 
 /// The same where the `String` is not wanted back, and the value keeps its memory.
@@ -137,7 +138,7 @@ pub fn of_boxed_str(alloc: Global, text: BoxedStr) -> Result<SmolStr, AllocError
     ensures value { IfOk result (λ v. IsValueOf (chars (boxed_str_bytes text)) v) }
     ensures refused { OnErr result (¬ (IsResident (chars (boxed_str_bytes text)))) }
 {
-    SmolStr::from_boxed_str(alloc, text).map_err(|_| AllocError)
+    SmolStr::from_boxed_str(alloc, text).or(Err(AllocError))
 }
 
 /// A text that is borrowed or owned.
@@ -145,10 +146,7 @@ pub fn of_cow_str(alloc: Global, text: CowStr<'_>) -> Result<SmolStr, AllocError
     ensures value { IfOk result (λ v. IsValueOf (chars (cow_str_bytes text.entry)) v) }
     ensures refused { OnErr result (¬ (IsResident (chars (cow_str_bytes text.entry)))) }
 {
-    match SmolStr::from_cow_str(alloc, text) {
-        Ok(value) => Ok(value),
-        Err(_back) => Err(AllocError),
-    }
+    SmolStr::from_cow_str(alloc, text).or(Err(AllocError))
 }
 
 /// A shared text, which is never refused.
@@ -166,7 +164,7 @@ pub fn of_character(character: char) -> SmolStr
 }
 
 /// Characters, one after another.
-#[tactic(auto, using(smol_str::proofs::CallerLemmas::collecting))]
+#[tactic(auto, using(smol_str::proofs::CallerLemmas::collecting_chars))]
 pub fn of_characters(alloc: Global, text: &str) -> Result<SmolStr, AllocError>
     ensures value { IfOk result (λ v. IsValueOf (chars text.now) v) }
     ensures refused { OnErr result (¬ (IsShort (chars text.now))) }
@@ -175,7 +173,7 @@ pub fn of_characters(alloc: Global, text: &str) -> Result<SmolStr, AllocError>
 }
 
 /// Pieces, one after another.
-#[tactic(auto, using(smol_str::proofs::CallerLemmas::collecting))]
+#[tactic(auto, using(smol_str::proofs::CallerLemmas::collecting_strings))]
 pub fn of_pieces(alloc: Global, pieces: &[String]) -> Result<SmolStr, AllocError>
     ensures value { IfOk result (λ v. IsValueOf (joined string_text pieces.now) v) }
     ensures refused { OnErr result (¬ (IsShort (joined string_text pieces.now))) }
@@ -468,4 +466,21 @@ pub fn owned(alloc: Global, value: SmolStr) -> Result<String, SmolStr>
     ensures refused { OnErr result (¬ (value.text ≡ [])) }
 {
     value.into_string(alloc)
+}
+
+/// The line of some fields.
+pub fn line_of(alloc: Global, fields: &[SmolStr], separator: &str) -> Result<SmolStr, AllocError>
+    ensures value { IfOk result (λ v. IsValueOf (joined_by (chars separator.now) (texts fields.now)) v) }
+    ensures refused { OnErr result (¬ (IsShort (joined_by (chars separator.now) (texts fields.now)))) }
+{
+    SmolStr::join(alloc, fields, separator)
+}
+
+/// The same of `&str`s, at a comma.
+#[tactic(auto, using(smol_str::proofs::CallerLemmas::texts))]
+pub fn line_of_strs(alloc: Global, fields: &[&str]) -> Result<SmolStr, AllocError>
+    ensures value { IfOk result (λ v. IsValueOf (joined_by (44 ∷ []) (map str_text fields.now)) v) }
+    ensures refused { OnErr result (¬ (IsShort (joined_by (44 ∷ []) (map str_text fields.now)))) }
+{
+    SmolStr::join(alloc, fields, ",")
 }

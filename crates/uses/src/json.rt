@@ -1,5 +1,5 @@
 //! A value there and back through JSON.
-ghost use Rattle.std.specs.Prelude.{◌≡◌, [], IfOk, IfErr, OnErr, encode_utf8_all};
+ghost use Rattle.std.specs.Prelude.{◌∷◌, ◌++◌, ◌≡◌, [], IfOk, IfErr, OnErr, encode_utf8_all, codes};
 ghost use Rattle.std.specs.Str.{chars};
 ghost use Rattle.std.specs.String.{string_bytes};
 ghost use Rattle.serde_json.specs.View.{view};
@@ -105,4 +105,13 @@ pub fn read_empty(alloc: Global, json: &str) -> Result<SmolStr, JsonFault>
     ensures { IfErr result (λ fault. ¬ (fault ≡ JsonFault.OutOfMemory)) }
 {
     from_json(alloc, json)
+}
+
+/// The value of a plain text from a line that has it in quotes, behind a space.
+pub fn of_line(alloc: Global, line: &str, text: &str) -> Result<SmolStr, AllocError>
+    requires plain { IsPlain (chars text.now) }
+    requires line { line.now ≡ 32 ∷ 34 ∷ (text.now ++ 34 ∷ 10 ∷ []) }
+    ensures { IfOk result (λ v. IsValueOf (chars text.now) v) }
+{
+    of_plain(alloc, line, text)
 }

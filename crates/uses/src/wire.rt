@@ -1,22 +1,37 @@
 //! A value there and back: its wire form written, and read again by both calls. Readers that are read to their end, and
 //! bytes that are no text.
-ghost use Rattle.std.specs.Prelude.{◌≡◌, ◌<◌, ◌+◌, ◌≤◌, ◌++◌, [], drop, length, take, Some, IfOk, IfErr, IfSome, OnOk, OnErr};
+ghost use Rattle.std.specs.Prelude.{◌≡◌, ◌<◌, ◌+◌, ◌≤◌, ◌++◌, [], drop, length, take, Some, IfOk, IfErr, IfSome, OnOk, OnErr, ◌∷◌, MatchOption, ◌↔◌, ℕ, List, String, IsTrue, codes, reverse, encode_utf8_all};
 ghost use Rattle.std.specs.Io.KnownBytes.{Keeps};
 ghost use Rattle.smol_str.specs.Stream.{Gave};
 ghost use Rattle.std.specs.Str.{IsUtf8, chars};
 ghost use Rattle.std.specs.Str.Lossy.{utf8_invalid_len};
 ghost use Rattle.smol_str.specs.Text.{size, IsResident, place_of};
-ghost use Rattle.smol_str.specs.Meaning.{IsValueOf};
-ghost use Rattle.smol_str.specs.Wire.{HasWire, body, prefix_size, wire};
+ghost use Rattle.smol_str.specs.Meaning.{IsValueOf, texts};
+ghost use Rattle.smol_str.specs.Wire.{HasWire, body, prefix_size, wire, HasEndedEarly};
+ghost use Rattle.std.specs.Int.{w32, to_le_bytes};
+ghost use Rattle.std.specs.Iterator.{Drains, IsFinite};
+ghost use Rattle.std.specs.Rc.{rc_str_bytes};
+ghost use Rattle.std.specs.String.{string_bytes};
+ghost use Rattle.serde.specs.Event.{Logs, text};
+ghost use Rattle.smol_str.specs.Collect.{Outgrown, StoppedAt};
+ghost use Rattle.smol_str.specs.Cut.{joined_by};
+ghost use Rattle.smol_str.specs.Draft.{appended};
+ghost use Rattle.smol_str.specs.Joined.{joined, string_text};
+ghost use Rattle.smol_str.specs.Serde.{HasReadText};
+
+pub mod lists;
+pub mod log_records;
 
 use smol_str::borsh::{
-    BorshDeserialize, BorshSerialize, DecodeFault, EncodeFault, LimitedFault, deserialize_limited,
-    from_wire,
+    BorshDeserialize, BorshSerialize, DecodeFault, EncodeFault, LimitedFault, STACK_BODY,
+    deserialize_limited, from_wire, length_prefix, split_wire,
 };
 use smol_str::stream::{ReadFault, read_all};
-use smol_str::{FromUtf8Fault, INLINE_CAP, SmolStr};
-use std::alloc::{AllocError, Global};
-use std::io::{Read, Write};
+use smol_str::{FromUtf8Fault, INLINE_CAP, SmolStr, SmolStrBuilder};
+use std::alloc::{AllocError, AllocFailed, Global};
+use std::convert::AsStr;
+use std::io::{self, Read, Write};
+use std::rc::RcStr;
 
 /// The wire form of a value, with `rest` after it.
 pub fn written(alloc: Global, value: &SmolStr, rest: &[u8]) -> Result<Vec<u8>, EncodeFault>
@@ -81,18 +96,6 @@ pub fn read_from_reader<'a>(
         Err(DecodeFault::OutOfMemory | DecodeFault::Io(_)) => None,
         Err(DecodeFault::Ended | DecodeFault::NotUtf8(_)) => unreachable!(),
     }
-}
-
-/// A value of `text`, written into a `Vec` with `rest` after it, and read back by both calls.
-pub fn there_and_back(alloc: Global, text: &str, rest: &[u8]) -> Option<(SmolStr, SmolStr)>
-    ensures bytes { IfSome result (λ values. IsValueOf (chars text.now) values.0) }
-    ensures reader { IfSome result (λ values. IsValueOf (chars text.now) values.1) }
-{
-    let value = SmolStr::new(alloc, text).ok()?;
-    let bytes = written(alloc, &value, rest).ok()?;
-    let (one, _) = read_from_bytes(alloc, &bytes, text, rest).ok()?;
-    let (other, _) = read_from_reader(alloc, &bytes, text, rest)?;
-    Some((one, other))
 }
 
 /// A value of a reader whose bytes state a short text: it never runs out of memory, and what can fail is the reader,
@@ -206,4 +209,28 @@ pub fn valid_in_body(alloc: Global, bytes: &[u8]) -> Option<usize>
         Err(DecodeFault::NotUtf8(fault)) => Some(fault.valid_up_to()),
         Ok(_) | Err(_) => None,
     }
+}
+
+/// The next message of at most `limit` bytes. Of a longer one its size alone is read.
+pub fn next_limited(
+    alloc: Global,
+    messages: &mut &[u8],
+    limit: usize,
+) -> Result<SmolStr, LimitedFault>
+    ensures allowed { prefix_size messages.old.now ≤ limit →
+        IfErr result (λ fault. ¬ (fault ≡ LimitedFault.TooLong)) }
+    ensures skipped { IfErr result (λ fault. fault ≡ LimitedFault.TooLong →
+        messages.new.now ≡ drop 4 messages.old.now) }
+{
+    deserialize_limited(alloc, messages, limit)
+}
+
+/// The first message, and the others: whatever the memory, one that is cut short or no text is told as that.
+pub fn split_message(alloc: Global, messages: &[u8]) -> Result<(SmolStr, &[u8]), DecodeFault>
+    ensures form { IfOk result (λ first. messages.now ≡ wire first.0.text ++ first.1.now) }
+    ensures place { IfOk result (λ first. first.0.place ≡ place_of first.0.text) }
+    ensures tested { IfErr result (λ fault. fault ≡ DecodeFault.OutOfMemory →
+        (¬ HasEndedEarly messages.now) × IsUtf8 (body messages.now)) }
+{
+    split_wire(alloc, messages)
 }

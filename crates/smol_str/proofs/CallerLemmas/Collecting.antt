@@ -10,7 +10,10 @@ use Rattle.std.proofs.lemmas.List.Folds.{flat_map-map}
 use Rattle.smol_str.specs.Collect.{AppendedAll, StoppedAt, Collected, Outgrown}
 use Rattle.smol_str.specs.JoinedLaws.{joined-strs}
 use Rattle.smol_str.proofs.BuilderLemmas.Collect.{Reads, collected, made, not_short-outgrown, text-appended, heap-stopped, front-stopped}
-use Rattle.smol_str.proofs.IteratorLemmas.{YieldsList-from_array, iterators, gives-chars, gives-rev_chars, gives-slice}
+use Rattle.smol_str.proofs.IteratorLemmas.{YieldsList-from_array, gives-chars, gives-rev_chars, gives-slice, gives-lines, gives-split_char, gives-copied, gives-rev_copied, gives-map, gives-map_lent, gives-flat_chars, gives-take_chars, gives-skip_chars, gives-take_slice, gives-skip_slice}
+use Rattle.std.proofs.lemmas.Iterator.Adapters.{YieldsList-from_repeat_n, YieldsList-from_vec, YieldsList-from_skip_while}
+use Rattle.std.proofs.lemmas.Iterator.Consumers.{YieldsList-from_chain, YieldsList-from_filter}
+use Rattle.std.proofs.lemmas.Iterator.Search.{YieldsList-from_take_while}
 use Rattle.smol_str.proofs.PieceLemmas.{joined-nothing, gives-split, gives-split_at}
 use Rattle.smol_str.proofs.TextLemmas.Lists.{flat_map-parts}
 
@@ -40,11 +43,6 @@ module _ {S E : Type 0} {steps : S → Option ℕ → S → Type 0} {s : S} {all
       → OnErr r (StoppedAt (λ xs. xs) steps s old new) → YieldsList steps (λ c. c) s all
       → OnErr r ((n : ℕ) × (n < length all) × (new ≡ appended old (take n all)))
   chars_extend_stopped r old new out gives = on_err_weaker r (λ out. front-stopped characters old new out gives) out
-
-  pub chars_made : (r : Result Meaning E)
-      → IfOk r (λ y. (xs : List ℕ) × DrainsIf steps (Unit {0}) s xs × IsValueOf xs y)
-      → YieldsList steps (λ c. c) s all → IfOk r (λ y. IsValueOf all y)
-  chars_made r is gives = made characters r is gives
 
 -- of `&str`s, read off their bytes,
 strs : Reads joined_strs (joined chars) (λ x. x.now)
@@ -243,27 +241,46 @@ split_long s u v some more out =
     let long = rw joined-nothing at (not_short-outgrown texts_lent out gives) in
     (refl, omega (arith, long))
 
--- for `#[tactic(auto, using(..))]` at a caller, and for `search (rules, collecting)` at its goal
-pub ruleset collecting = (
-  iterators,
-  gives-split,
-  gives-split_at,
+-- for `#[tactic(auto, using(..))]` at a caller, and for `search (rules, collecting_chars)` at its goal: of characters,
+pub ruleset collecting_chars = (
+  gives-slice,
+  gives-chars,
+  gives-rev_chars,
+  gives-map,
+  gives-flat_chars,
+  gives-take_chars,
+  gives-skip_chars,
+  YieldsList-from_repeat_n,
+  YieldsList-from_array,
+  YieldsList-from_take_while,
+  YieldsList-from_skip_while,
+  YieldsList-from_chain,
+  YieldsList-from_filter,
   chars-encodes,
+  append-nil,
   chars_collected,
   chars_refused,
   chars_extended,
   chars_extend_refused,
   chars_extend_stopped,
+  array_chars_long,
+)
+
+-- of `&str`s,
+pub ruleset collecting_strs = (
+  gives-slice,
+  gives-lines,
+  gives-split_char,
+  gives-copied,
+  gives-rev_copied,
+  gives-map_lent,
+  chars-encodes,
+  append-nil,
   strs_collected,
   strs_refused,
   strs_extended,
   strs_extend_refused,
-  strings_collected,
-  strings_refused,
-  string_refs_collected,
-  string_refs_refused,
-  string_refs_extended,
-  string_refs_extend_refused,
+  strs_made,
   mapped_collected,
   mapped_refused,
   mapped_extended,
@@ -271,14 +288,25 @@ pub ruleset collecting = (
   items_collected,
   items_refused,
   items_extended,
-  split_collected,
-  split_refused,
-  array_chars_long,
   array_strs_long,
   array_strs_collected,
-  append-nil,
-  split_long,
-  strs_made,
+)
+
+-- of the pieces of a `split`,
+pub ruleset collecting_pieces = (gives-split, gives-split_at, split_collected, split_refused, split_long)
+
+-- and of `String`s
+pub ruleset collecting_strings = (
+  gives-slice,
+  gives-take_slice,
+  gives-skip_slice,
+  YieldsList-from_vec,
+  strings_collected,
+  strings_refused,
   strings_made,
+  string_refs_collected,
+  string_refs_refused,
+  string_refs_extended,
+  string_refs_extend_refused,
   string_refs_made,
 )

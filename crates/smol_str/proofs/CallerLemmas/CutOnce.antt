@@ -1,11 +1,14 @@
 -- Texts that std searches and cuts once: `split_once`, `strip_prefix`, `strip_suffix`, `starts_with`, `ends_with` and `contains`.
-use Rattle.smol_str.proofs.Common.{arith, ◌≡◌, ℕ, ◌+◌, ◌-◌, ◌<◌, ◌≤◌, Bool, true, false, List, [], ◌∷◌, ◌++◌, ◌==◌, length, take, drop, All, Bor, Option, Some, None, MatchOption, refl, sym, ap, ◌∙◌, subst, IsTrue, all_scalars, IsUtf8, chars, chars-nil, chars-append, chars-encodes, chars_from_encodes, encode_utf8, encode_utf8_all, encodes-append, encodes-chars, append-nil, size, Occurs, IsFirstAfter}
+use Rattle.smol_str.proofs.Common.{arith, zero, suc, ◌≡◌, ℕ, ◌+◌, ◌-◌, ◌<◌, ◌≤◌, Bool, true, false, List, [], ◌∷◌, ◌++◌, ◌==◌, length, take, drop, All, Bor, Option, Some, None, MatchOption, refl, sym, ap, ◌∙◌, subst, IsTrue, all_scalars, IsUtf8, chars, chars-nil, chars-append, chars-encodes, chars_from_encodes, encode_utf8, encode_utf8_all, encodes-append, encodes-chars, append-nil, size, Occurs, IsFirstAfter, IfSome, replicate, length-append, length-replicate, len_utf8_bounds}
 use Rattle.std.proofs.Common.{◌≢◌, MatchBool}
 use Rattle.std.specs.Str.{IsCharBoundary, NonePass}
-use Rattle.std.specs.Str.Pattern.{FindsChar, FindsText, FindsTextPrefix, FindsTextSuffix, HasCharAt, HasMatch, HasPrefixMatch, HasSuffixMatch, HasTextAt, LacksTextAt}
+use Rattle.std.specs.Str.Pattern.{CutsPrefixes, FindsCharPrefix, IsTrimStartMatches, FindsChar, FindsText, FindsTextPrefix, FindsTextSuffix, HasCharAt, HasMatch, HasPrefixMatch, HasSuffixMatch, HasTextAt, LacksTextAt}
 use Rattle.std.proofs.Math.Seq.{drop-length}
 use Rattle.std.proofs.lemmas.Str.{IsUtf8-drop, IsUtf8-from_ascii, IsUtf8-take}
 use Rattle.smol_str.proofs.CallerLemmas.Texts.{encodes-literal, literal-utf8}
+use Rattle.smol_str.proofs.CutLemmas.Cut.{same_parts}
+use Rattle.std.specs.List.{prefix_len}
+use Rattle.smol_str.proofs.Common.{cond, nat_tests}
 use Rattle.smol_str.proofs.PieceLemmas.{bytes_there, found_char, found_parts, found_text}
 use Rattle.smol_str.proofs.TextLemmas.Places.{size-append, size-chars, some_char}
 
@@ -40,6 +43,47 @@ module _ (c : ℕ) (bs : List ℕ) (u : IsUtf8 bs) where
       → MatchBool b (Occurs (c ∷ []) (chars bs)) (¬ Occurs (c ∷ []) (chars bs))
   contains-char true (i, j, found, order, within) = (chars (take i bs), chars (drop j bs), (char_between i j found.1).0)
   contains-char false none = found_char bs u c None none
+
+-- `trim_start_matches` at a character
+repeated-next : (k c : ℕ) (t : List ℕ) → replicate k c ++ (c ∷ t) ≡ replicate (suc k) c ++ t
+repeated-next zero c t = refl
+repeated-next (suc k) c t = ap (λ l. c ∷ l) (repeated-next k c t)
+
+past_repeated : (k c : ℕ) (t : List ℕ) → ((rest : List ℕ) → t ≢ c ∷ rest)
+    → drop (prefix_len (λ d. d == c) (replicate k c ++ t)) (replicate k c ++ t) ≡ t
+past_repeated zero c [] other = refl
+past_repeated zero c (d ∷ t) other = by (d == c) refl where
+  by : (b : Bool) → (d == c) ≡ b → drop (cond b (1 + prefix_len (λ d. d == c) t) 0) (d ∷ t) ≡ d ∷ t
+  by true e = let same : d ≡ c = grind (arith, nat_tests) in absurd (other t (ap (λ x. x ∷ t) same))
+  by false e = refl
+past_repeated (suc k) c t other =
+    let same : (c == c) ≡ true = grind (arith, nat_tests) in
+    let more : 1 + prefix_len (λ d. d == c) (replicate k c ++ t) ≡ suc (prefix_len (λ d. d == c) (replicate k c ++ t)) = omega arith in
+    rw (same, more) (past_repeated k c t other)
+
+module _ (c : ℕ) where
+  cut_off : (ns : List ℕ) (s r : List ℕ) → IsUtf8 s → CutsPrefixes (FindsCharPrefix c) s ns r
+      → IsUtf8 r × (chars s ≡ replicate (length ns) c ++ chars r)
+  cut_off [] s r u same = (subst IsUtf8 (sym same) u, ap chars (sym same))
+  cut_off (n ∷ ns) s r u (m, before, found, rest) =
+      let h = cut_off ns s m u before in
+      let one = char_in_front c m h.0 n found in (
+        subst IsUtf8 (sym rest) one.2,
+        h.1 ∙ ap (λ l. replicate (length ns) c ++ l) (one.1 ∙ ap (λ b. c ∷ chars b) (sym rest)) ∙ repeated-next (length ns) c (chars r),
+      )
+
+  none_left : (r : List ℕ) (o : Option ℕ) → IsUtf8 r → FindsCharPrefix c r o → IfSome o (λ n. n ≡ 0)
+      → (rest : List ℕ) → chars r ≢ c ∷ rest
+  none_left r None u found least rest e = found (encode_utf8_all rest) (sym (encodes-chars r u) ∙ ap encode_utf8_all e)
+  none_left r (Some n) u found least rest e = let few = len_utf8_bounds c in omega (arith, found.ends, least, few.0)
+
+  pub char_trimmed : (s r ns : List ℕ) (o : Option ℕ) → IsUtf8 s → CutsPrefixes (FindsCharPrefix c) s ns r
+      → FindsCharPrefix c r o → IfSome o (λ n. n ≡ 0) → chars r ≡ drop (prefix_len (λ d. d == c) (chars s)) (chars s)
+  char_trimmed s r ns o u cuts found least =
+      let h = cut_off ns s r u cuts in
+      rw h.1 (sym (past_repeated (length ns) c (chars r) (none_left r o h.0 found least)))
+
+pub ruleset trimmed = (char_trimmed)
 
 -- ---- and a text, which may be a literal of ASCII
 module _ (nd bs : List ℕ) (u : IsUtf8 bs) where
@@ -113,7 +157,6 @@ module _ (nd bs : List ℕ) (u : IsUtf8 bs) where
   contains-literal b some low said = contains-text b some (literal-utf8 nd low) said
 
 pub ruleset cut_once = (
-  arith,
   append-nil,
   chars_from_encodes,
   encodes-append,
@@ -140,3 +183,17 @@ pub ruleset cut_once = (
   contains-text,
   contains-literal,
 )
+
+-- a text cut at several literals or texts, one after another
+pub ruleset cut_at_texts = (text_between, literal_between)
+
+-- texts that are cut at their first matches of a character, or of a text, are cut alike
+pub same_at_char : (c : ℕ) (q x : List ℕ) → IsFirstAfter (c ∷ []) q → (q ++ (c ∷ x) ≡ q ++ (c ∷ x))
+    × ((r y : List ℕ) → IsFirstAfter (c ∷ []) r → q ++ (c ∷ x) ≡ r ++ (c ∷ y) → (q ≡ r) × (x ≡ y))
+same_at_char c q x first = (refl, λ r y other e. same_parts (c ∷ []) q r x y (omega arith) e first other)
+
+pub same_at_text : (p q x : List ℕ) → 0 < length p → IsFirstAfter p q → (q ++ (p ++ x) ≡ q ++ (p ++ x))
+    × ((r y : List ℕ) → IsFirstAfter p r → q ++ (p ++ x) ≡ r ++ (p ++ y) → (q ≡ r) × (x ≡ y))
+same_at_text p q x some first = (refl, λ r y other e. same_parts p q r x y some e first other)
+
+pub ruleset cut_alike = (same_at_char, same_at_text)

@@ -9,11 +9,16 @@ use Rattle.std.specs.Iterator.Adapters.{map_source, map_callee}
 use Rattle.std.specs.declared.iter.Map.{Map}
 use Rattle.smol_str.specs.Meaning.{texts, IsValueOf}
 use Rattle.smol_str.specs.Text.{place_of}
-use Rattle.smol_str.proofs.Common.{All, Result}
-use Rattle.smol_str.proofs.CallerLemmas.Lists.{AreOk, MapsBy, collected_oks, mapped, oks, texts_made}
+use Rattle.smol_str.proofs.Common.{All, All-cons, All-head, All-nil, All-tail, IfSome, Result, append_assoc, but_last, get_or}
+use Rattle.std.proofs.Common.{◌≢◌}
+use Rattle.std.proofs.lemmas.List.{get_or-map}
+use Rattle.smol_str.proofs.TextLemmas.Places.{some_char}
+use Rattle.std.specs.List.{last_or}
+use Rattle.smol_str.proofs.CutLemmas.Cut.{IsCut-cut}
+use Rattle.smol_str.proofs.CallerLemmas.Loops.{AreOk, MapsBy, collected_oks, mapped, oks, texts_made}
 use Rattle.smol_str.proofs.CallerLemmas.Texts.{IsUtf8-one, chars-cons, literal-utf8}
 use Rattle.smol_str.proofs.CallerLemmas.Wire.{items}
-use Rattle.smol_str.proofs.CutLemmas.Replace.{replaced-itself}
+use Rattle.smol_str.proofs.CutLemmas.Replace.{few_pieces, replaced-itself}
 use Rattle.smol_str.proofs.PieceLemmas.{gives-split, gives-split_at}
 use Rattle.std.specs.Iterator.{Yields}
 
@@ -108,6 +113,50 @@ tried_at_text more rs s t run ends by last live all =
 pub joined-cut : (p t : List ℕ) (n : ℕ) → joined_by p (cut t p n) ≡ t
 joined-cut p t n = replaced-itself t p n
 
+-- in no piece stands what the text was cut at
+pub first-lacks : (p q : List ℕ) → IsFirstAfter p q → ¬ Occurs p q
+first-lacks p q first (a, r, e) = first (
+  a,
+  r ++ but_last p,
+  ap (λ t. t ++ but_last p) e ∙ append_assoc a (p ++ r) (but_last p)
+      ∙ ap (λ t. a ++ t) (append_assoc p r (but_last p)),
+)
+
+all_lack : (p : List ℕ) (pieces : List (List ℕ)) → 1 ≤ length pieces → All (λ q. IsFirstAfter p q) (but_last pieces)
+    → IfSome (last_or None pieces) (λ q. ¬ Occurs p q) → All (λ q. ¬ Occurs p q) pieces
+all_lack p [] some first last = absurd (omega arith)
+all_lack p (q ∷ []) some first last = All-cons (λ q. ¬ Occurs p q) q [] last (All-nil (λ q. ¬ Occurs p q))
+all_lack p (q ∷ r ∷ rs) some first last =
+    All-cons (λ q. ¬ Occurs p q) q (r ∷ rs) (first-lacks p q (All-head (λ q. IsFirstAfter p q) q (but_last (r ∷ rs)) first))
+    (all_lack p (r ∷ rs) (omega arith) (All-tail (λ q. IsFirstAfter p q) q (but_last (r ∷ rs)) first) last)
+
+pub pieces-lack : (t p : List ℕ) → 0 < length p → All (λ q. ¬ Occurs p q) (cut t p (no_limit t))
+pieces-lack t [] some = absurd (omega arith)
+pieces-lack t (c ∷ p) some =
+    let h = IsCut-cut t (c ∷ p) (no_limit t) in
+    let few : length (cut t (c ∷ p) (no_limit t)) < no_limit t + 1 =
+    omega (arith, few_pieces (c ∷ p) (cut t (c ∷ p) (no_limit t)) (omega arith), ap length h.joined) in
+    all_lack (c ∷ p) (cut t (c ∷ p) (no_limit t)) h.some h.first (h.complete few)
+
+-- so of values that are these pieces: at a character, and at a text, which may be a literal of ASCII
+module _ (values : List Meaning) (k : ℕ) (d : Meaning) (a r : List ℕ) (within : k < length values) where
+  lacked : (t p : List ℕ) → texts values ≡ cut t p (no_limit t) → 0 < length p → (get_or values k d).text ≢ a ++ (p ++ r)
+  lacked t p are some e =
+      let n : k < length (texts values) = omega (arith, within, length-map values (λ (v : Meaning). v.text)) in
+      let at : get_or (texts values) k d.text ≡ (get_or values k d).text = get_or-map (λ (v : Meaning). v.text) values k d d.text within in
+      (subst (λ pieces. All (λ q. ¬ Occurs p q) pieces) (sym are) (pieces-lack t p some)) k d.text n (a, r, at ∙ e)
+
+  pub char_lacked : (t : List ℕ) (c : ℕ) → texts values ≡ cut t (c ∷ []) (no_limit t) → (get_or values k d).text ≢ a ++ (c ∷ r)
+  char_lacked t c are = lacked t (c ∷ []) are (omega arith)
+
+  pub text_lacked : (t nd : List ℕ) → texts values ≡ cut t (chars nd) (no_limit t) → 0 < length nd → IsUtf8 nd
+      → (get_or values k d).text ≢ a ++ (chars nd ++ r)
+  text_lacked t nd are some u = lacked t (chars nd) are (some_char nd u some)
+
+  pub literal_lacked : (t nd : List ℕ) → texts values ≡ cut t (chars nd) (no_limit t) → 0 < length nd → All (λ b. b < 128) nd
+      → (get_or values k d).text ≢ a ++ (chars nd ++ r)
+  literal_lacked t nd are some low = text_lacked t nd are some (literal-utf8 nd low)
+
 -- values joined by std's `join`, whose contract speaks of bytes: those of the joined text
 module _ (p : List ℕ) (u : IsUtf8 p) where
   bytes-behind : (vs : List Meaning) → flat_map (λ (v : Meaning). p ++ encode_utf8_all v.text) vs
@@ -123,9 +172,25 @@ module _ (p : List ℕ) (u : IsUtf8 p) where
   joined-bytes (v ∷ vs) =
       cc (bytes-behind vs, encodes-append v.text (flat_map (λ (t : List ℕ). chars p ++ t) (texts vs)))
 
+-- no piece of a cut has what it was cut at
+pub ruleset pieces_lack = (char_lacked, text_lacked, literal_lacked)
+
 pub ruleset cutting = (
-  arith,
   items,
+  chars-cons,
+  chars-nil,
+  split_at_char,
+  split_at_text,
+  split_at_literal,
+  IsUtf8-one,
+  tried_at_char,
+  tried_at_text,
+  collected_oks,
+)
+
+-- values joined, also those that a text was cut into, and some of them, or with one changed
+pub ruleset joining = (
+  IsUtf8-one,
   chars-cons,
   chars-nil,
   map-set,
@@ -134,13 +199,6 @@ pub ruleset cutting = (
   length-map,
   set_past,
   joined-cut,
-  split_at_char,
-  split_at_text,
-  split_at_literal,
-  IsUtf8-one,
-  tried_at_char,
-  tried_at_text,
-  collected_oks,
   joined-bytes,
   chars_from_encodes,
   encodes-append,

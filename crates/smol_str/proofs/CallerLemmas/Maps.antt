@@ -1,8 +1,12 @@
 -- Maps with values as keys, at texts.
-use Rattle.smol_str.proofs.Common.{◌≡◌, ◌+◌, ◌≤◌, ◌++◌, ◌∙◌, ℕ, Bor, Option, None, Some, List, [], ◌∷◌, length, length-map, map, take, get_or, Bool, false, cond, false≢true, refl, sym, ap, arith, common_steps, IsUtf8, bytes_eq, chars, encodes-chars, encodes_same, false_from_ne_true, option_map, if◌then◌else◌, Meaning, rules}
+use Rattle.smol_str.proofs.Common.{◌≡◌, ◌+◌, ◌≤◌, ◌++◌, ◌∙◌, ℕ, Bor, Option, None, Some, List, [], ◌∷◌, length, length-map, map, take, get_or, Bool, true, false, cond, false≢true, refl, sym, ap, arith, common_steps, IsUtf8, bytes_eq, chars, encodes-chars, encodes_same, false_from_ne_true, option_map, if◌then◌else◌, Meaning, rules}
 use Rattle.std.proofs.Common.{set}
 use Rattle.std.proofs.lemmas.List.{take_more_set, take-map, take-set-le}
 use Rattle.std.specs.HashMap.{HashMap}
+use Rattle.indexmap.specs.IndexMap.{insert_entry}
+use Rattle.std.specs.List.{list_any}
+use Rattle.smol_str.specs.Meaning.{texts}
+use Rattle.smol_str.proofs.CallerLemmas.Values.{texts-push}
 use Rattle.std.specs.Map.{lookup, KeepsOthers}
 use Rattle.std.specs.Option.{option_copied, option_or}
 use Rattle.std.proofs.lemmas.Slice.Eq.{bytes_eq-Decides}
@@ -53,23 +57,60 @@ lookup-lent g r bs es u found =
     let copied : option_map (λ v. g v.now) r ≡ option_map g (option_copied r) = search rules in
     cc (copied, lookup-stands_for g bs es u)
 
+lookup-keyed : {V W : Type 0} (g : V → W) (key : Meaning) (es : List (Meaning × V))
+    → option_map g (lookup (same_key key) es) ≡ lookup (bytes_eq key.text) (entry_texts g es)
+lookup-keyed g key [] = refl
+lookup-keyed g key (e ∷ es) = search (rules, lookup-keyed g key es)
+
 -- of values as what is kept: for `#[tactic(auto, using(..))]`
 pub value-lent : (r : Option (Bor Meaning)) (bs : List ℕ) (es : List (Meaning × Meaning)) → IsUtf8 bs
     → option_copied r ≡ lookup (stands_for bs) es
     → option_map (λ v. v.now.text) r ≡ lookup (bytes_eq (chars bs)) (entry_texts (λ (v : Meaning). v.text) es)
 value-lent r bs es u found = lookup-lent (λ (v : Meaning). v.text) r bs es u found
 
-pub ruleset lookups = (value-lent)
+-- and the same of a look-up by a key of that text
+pub value-keyed : (r : Option (Bor Meaning)) (key : Meaning) (es : List (Meaning × Meaning))
+    → option_copied r ≡ lookup (same_key key) es
+    → option_map (λ v. v.now.text) r ≡ lookup (bytes_eq key.text) (entry_texts (λ (v : Meaning). v.text) es)
+value-keyed r key es found =
+    let copied : option_map (λ v. v.now.text) r ≡ option_map (λ (v : Meaning). v.text) (option_copied r) = search rules in
+    cc (copied, found, lookup-keyed (λ (v : Meaning). v.text) key es)
 
--- an insert in order, which puts the value at the key that is the same, or last: its entries seen as texts
-module _ {V W : Type 0} (g : V → W) (insert : List (Meaning × V) → Meaning → V → List (Meaning × V))
-    (last : (k : Meaning) (v : V) → insert [] k v ≡ (k, v) ∷ [])
-    (place : (e : Meaning × V) (es : List (Meaning × V)) (k : Meaning) (v : V)
-    → insert (e ∷ es) k v ≡ (if same_key k e.0 then (e.0, v) ∷ es else e ∷ insert es k v)) where
-  pub entry_texts-insert : (es : List (Meaning × V)) (k : Meaning) (v : V)
-      → entry_texts g (insert es k v) ≡ with_entry (entry_texts g es) k.text (g v)
-  entry_texts-insert [] k v = ap (entry_texts g) (last k v)
-  entry_texts-insert (e ∷ es) k v = search (rules, entry_texts-insert es k v)
+pub ruleset lookups = (value-lent, value-keyed, lookup-stands_for)
+
+-- an insert into a map of `indexmap`, and into a set: its entries and its keys seen as texts
+module _ (eq : Meaning → Meaning → Bool) where
+  inserted : {V W : Type 0} (g : V → W) (es : List (Meaning × V)) (k : Meaning) (v : V) → ((x y : Meaning) → eq x y ≡ same_key x y)
+      → entry_texts g (insert_entry eq es k v) ≡ with_entry (entry_texts g es) k.text (g v)
+  inserted g [] k v same = refl
+  inserted g (e ∷ es) k v same = search (rules, same, inserted g es k v same)
+
+  -- of values as what is kept, and of what is kept as it is
+  pub values-inserted : (es : List (Meaning × Meaning)) (k v : Meaning) → ((x y : Meaning) → eq x y ≡ same_key x y)
+      → entry_texts (λ (v : Meaning). v.text) (insert_entry eq es k v)
+      ≡ with_entry (entry_texts (λ (v : Meaning). v.text) es) k.text v.text
+  values-inserted es k v same = inserted (λ (v : Meaning). v.text) es k v same
+
+  pub entries-inserted : {V : Type 0} (es : List (Meaning × V)) (k : Meaning) (v : V) → ((x y : Meaning) → eq x y ≡ same_key x y)
+      → entry_texts (λ (v : V). v) (insert_entry eq es k v) ≡ with_entry (entry_texts (λ (v : V). v) es) k.text v
+  entries-inserted {V} es k v same = inserted (λ (v : V). v) es k v same
+
+-- a set of `indexmap`, as texts: a key more, unless an equal one is there; and asked by a value
+pub texts-kept : (b : Bool) (ks : List Meaning) (k : Meaning)
+    → texts (if b then ks else ks ++ k ∷ []) ≡ (if b then texts ks else texts ks ++ k.text ∷ [])
+texts-kept true ks k = refl
+texts-kept false ks k = texts-push ks k
+
+pub among-keyed : (k : Meaning) (ks : List Meaning) → list_any (bytes_eq k.text) (texts ks) ≡ list_any (same_key k) ks
+among-keyed k [] = refl
+among-keyed k (x ∷ ks) = search (rules, among-keyed k ks)
+
+-- a set that is asked by a `&str`
+pub among-lent : (bs : List ℕ) (ks : List Meaning) → IsUtf8 bs → list_any (bytes_eq (chars bs)) (texts ks) ≡ list_any (stands_for bs) ks
+among-lent bs [] u = refl
+among-lent bs (k ∷ ks) u = search (rules, stands_for-text, among-lent bs ks u)
+
+pub ruleset inserts = (values-inserted, entries-inserted, texts-kept, among-keyed, among-lent)
 
 -- an entry that is set is found at its text, and leaves what is found at others
 module _ {V : Type 0} (key t : List ℕ) (v : V) where

@@ -1,5 +1,6 @@
 -- Texts: their bytes and sizes, builders, and one character in place of another.
-use Rattle.smol_str.proofs.Common.{All, IsAscii-from_all, IsUtf8-from_ascii, ◌≡◌, ◌∷◌, ◌++◌, sym, Draft, OnHeap, appended, kind_with, ℕ, ◌+◌, ◌<◌, ◌≤◌, Result, IfOk, OnErr, subst, List, [], length, take, encode_utf8_all, refl, ap, ◌∙◌, inl, IsTrue, arith, flat_map, chars, all_scalars, IsUtf8, chars-encodes, chars_from_encodes, encodes-chars, encodes_same, chars-IsAscii, INLINE_CAP, size, IsShort, IsResident, place_of, Meaning, IsValueOf, IsAscii, replaced_all, each_with, each_replaced, rules, nat_tests, append-nil, append_assoc, encodes-append, IsAscii-cons, IsAscii-nil}
+use Rattle.smol_str.proofs.Common.{All, IsAscii-from_all, IsUtf8-from_ascii, ◌≡◌, ◌∷◌, ◌++◌, sym, Draft, OnHeap, appended, kind_with, ℕ, ◌+◌, ◌<◌, ◌≤◌, Result, IfOk, OnErr, subst, List, [], length, take, encode_utf8_all, refl, ap, ◌∙◌, inl, IsTrue, arith, flat_map, chars, all_scalars, IsUtf8, chars-encodes, chars_from_encodes, encodes-chars, encodes_same, chars-IsAscii, INLINE_CAP, size, IsShort, IsResident, place_of, Meaning, IsValueOf, IsAscii, replaced_all, each_with, each_replaced, rules, nat_tests, append-nil, append_assoc, encodes-append, IsAscii-cons, IsAscii-nil, nat_eq, pointwise, true}
+use Rattle.std.proofs.lemmas.Slice.Eq.{bytes_eq-Decides}
 use Rattle.std.proofs.lemmas.Grind.{take_at_read, flat_map-append}
 use Rattle.std.proofs.lemmas.Str.{chars-append, chars-nil, encode_ascii}
 use Rattle.smol_str.proofs.CaseLemmas.Ascii.{size-mapped}
@@ -38,6 +39,17 @@ literal-utf8 bs low = IsUtf8-from_ascii bs (IsAscii-from_all bs low)
 pub encodes-literal : (bs : List ℕ) → All (λ b. b < 128) bs → encode_utf8_all (chars bs) ≡ bs
 encodes-literal bs low = encodes-chars bs (literal-utf8 bs low)
 
+-- what `==` says of two `&str`s, of which the second may be a literal of ASCII
+pub same_bytes : (bs cs : List ℕ) → pointwise nat_eq bs cs ≡ true → bs ≡ cs
+same_bytes bs cs e = (bytes_eq-Decides bs cs).0 e
+
+module _ (bs cs : List ℕ) (same : chars bs ≡ chars cs) (u : IsUtf8 bs) where
+  pub str_same : IsUtf8 cs → pointwise nat_eq bs cs ≡ true
+  str_same v = (bytes_eq-Decides bs cs).1 (sym (encodes-chars bs u) ∙ ap encode_utf8_all same ∙ encodes-chars cs v)
+
+  pub literal_same : All (λ b. b < 128) cs → pointwise nat_eq bs cs ≡ true
+  literal_same low = str_same (literal-utf8 cs low)
+
 pub ruleset texts = (
   chars-cons,
   chars-nil,
@@ -51,31 +63,8 @@ pub ruleset texts = (
   IsShort-front,
 )
 
--- ---- builders
-
--- in a loop that appends a piece for each item: the pieces of the first, and of one more, are no longer than all pieces
-pub size-front : {X : Type 0} (f : X → List ℕ) (xs : List X) (i : ℕ)
-    → (flat_map f (take i xs) ≡ flat_map f (take i xs)) × (size (flat_map f (take (i + 1) xs)) ≤ size (flat_map f xs))
-size-front f xs i = (refl, rw (flat_map-parts f xs (i + 1)) (omega (arith, size-append)))
-
--- a character more
-pub size-cons : (c : ℕ) (t : List ℕ) → size (c ∷ t) ≡ size (c ∷ []) + size t
-size-cons c t = size-append (c ∷ []) t
-
-pub ruleset builders = (
-  texts,
-  size-cons,
-  appended-twice,
-  appended-nothing,
-  OnHeap-long,
-  nat_tests,
-  size-append,
-  size-front,
-  take_at_read,
-  flat_map-append,
-  append-nil,
-  append_assoc,
-)
+-- two texts compared by `==` or `match`
+pub ruleset compared = (same_bytes, str_same, literal_same, chars-as_str)
 
 -- ---- a text, or one character of ASCII, in place of each character of ASCII, as `text.replace_smolstr(alloc, "_", "-")`
 

@@ -14,10 +14,6 @@ use Rattle.smol_str.proofs.WireLemmas.Wire.{length-wire, prefix_size-wire, wire-
 
 -- ---- wire forms
 
--- what is held, and what follows it
-pub Holds-parts : (b t : List ℕ) (n : ℕ) → Holds b t n → (b ≡ wire t ++ drop n b) × (n ≡ length (wire t))
-Holds-parts b t n h = (wire-held b t n h, length-Holds b t n h ∙ sym (length-wire t))
-
 -- bytes that are the form of t, and what follows it
 module _ (b t x : List ℕ) (sized : HasWire t) (scalars : IsTrue (all_scalars t)) (is : b ≡ wire t ++ x) where
   form_is_held : Holds b t (size t + 4)
@@ -56,31 +52,6 @@ form-known t x sized scalars = (
 
 pub ruleset forms = (form-known, scalars-chars)
 
--- bytes that with more are the form of t and what follows it: where they have not ended early, the form is all there
-module _ (b more t x : List ℕ) (sized : HasWire t) (scalars : IsTrue (all_scalars t)) (is : b ++ more ≡ wire t ++ x)
-    (whole : ¬ HasEndedEarly b) where
-  states : prefix_size b ≡ size t
-  unfolding prefix_size
-  states =
-      let four : 4 ≤ length b = omega (arith, λ (h : length b < 4). whole (inl h)) in
-      cc (take-append-le 4 b more four, prefix_size-wire t x sized)
-
-  within : size t + 4 ≤ length b
-  within = let says = states in omega (arith, λ (h : length b < 4 + prefix_size b). whole (inr h))
-
-  pub form-cut-held : Holds b t (size t + 4)
-  form-cut-held =
-      let written = Holds-written t x sized scalars in search (rules, within, take-append-le)
-
-  pub form-cut-long : length (wire t) ≤ length b
-  form-cut-long = rw (length-wire t) within
-
-  pub form-cut-utf8 : IsUtf8 (body b)
-  form-cut-utf8 = (t, (scalars, sym (body-Holds b t (size t + 4) form-cut-held)))
-
-  pub form-cut-text : chars (body b) ≡ t
-  form-cut-text = cc (body-Holds b t (size t + 4) form-cut-held, chars-encodes t scalars)
-
 -- ---- wire forms one after another, and how many they are
 
 -- a count before them, as four bytes
@@ -106,16 +77,13 @@ pub forms-apart : (ss ts : List (List ℕ)) (x y : List ℕ) → All HasWire ss 
 forms-apart ss ts x y h k l e =
     simp map-id at (items-apart wire HasWire (λ t. t) wire-apart ss ts x y h k l e)
 
--- more forms: behind the fewer stands the next
-pub forms-next : (ss ts : List (List ℕ)) (x y : List ℕ) → All HasWire ss → All HasWire ts
-    → All (λ t. IsTrue (all_scalars t)) ts → length ss < length ts → flat_map wire ss ++ x ≡ flat_map wire ts ++ y
-    → (t after : List ℕ) × HasWire t × IsTrue (all_scalars t) × (x ≡ wire t ++ after)
-forms-next [] (t ∷ ts) x y h k scalars l e = search (rules, arith, All-head, append_assoc)
-forms-next (s ∷ ss) (t ∷ ts) x y h k scalars l e =
-    forms-next ss ts x y (All-tail HasWire s ss h) (All-tail HasWire t ts k)
-    (All-tail (λ t. IsTrue (all_scalars t)) t ts scalars) (omega (arith, l))
-    (wire-apart s t _ _ (All-head HasWire s ss h) (All-head HasWire t ts k) (simp append_assoc at e)).1
-forms-next ss ts x y h k scalars l e = absurd (omega arith)
+-- so lists whose forms are one, with their numbers before them
+pub lists-apart : (ss ts : List (List ℕ)) (x y : List ℕ) → length ss < 2 ^ 32 → length ts < 2 ^ 32 → All HasWire ss
+    → All HasWire ts → (to_le_bytes w32 (length ss) ++ flat_map wire ss) ++ x ≡ (to_le_bytes w32 (length ts) ++ flat_map wire ts) ++ y
+    → (ss ≡ ts) × (x ≡ y)
+lists-apart ss ts x y few less h k e =
+    let parts = count-apart (length ss) (length ts) (flat_map wire ss ++ x) (flat_map wire ts ++ y) few less e in
+    forms-apart ss ts x y h k parts.0 parts.1
 
 -- one form more
 pub forms-more : (ts : List (List ℕ)) (t x : List ℕ)
@@ -139,13 +107,6 @@ module _ (bytes : List ℕ) (count : ℕ) (ts : List (List ℕ)) (rest : List �
   -- the end
   pub all_read : count ≤ i → i ≤ count → bytes ≡ (to_le_bytes w32 (length ts) ++ flat_map wire ts) ++ rest
   all_read up down = search (rules, arith)
-
-  -- a list that the bytes begin with, or they and more, has one text more
-  pub next_form : count < 2 ^ 32 → i < count → (us : List (List ℕ)) (more x : List ℕ) → length us < 2 ^ 32
-      → All HasWire us → All (λ t. IsTrue (all_scalars t)) us
-      → bytes ++ more ≡ (to_le_bytes w32 (length us) ++ flat_map wire us) ++ x
-      → (t after : List ℕ) × HasWire t × IsTrue (all_scalars t) × (rest ++ more ≡ wire t ++ after)
-  next_form few below us more x can sized scalars e = search (rules, arith, append_assoc, count-apart, forms-next)
 
 -- ---- items one after another, in a writer or of a reader
 

@@ -51,6 +51,14 @@ one_first p q q' x y some e f g =
     omega (arith, shortest p q q' x y some e f, shortest p q' q y x some (sym e) g) in
     cc (take_at q (p ++ x) (length q) refl, take_at q' (p ++ y) (length q) (sym long))
 
+-- so two texts that are cut at their first matches are cut alike
+pub same_parts : (p q q' x y : List ℕ) → 0 < length p → q ++ (p ++ x) ≡ q' ++ (p ++ y) → IsFirstAfter p q →
+    IsFirstAfter p q' → (q ≡ q') × (x ≡ y)
+same_parts p q q' x y some e f g =
+    let same = one_first p q q' x y some e f g in
+    let rest = append_cancel_left q (p ++ x) (p ++ y) (e ∙ ap (λ l. l ++ (p ++ y)) (sym same)) in
+    (same, append_cancel_left p x y rest)
+
 -- p that stands in q and p without its last character stands in q followed by p, before q's end
 pub sooner : (p q r : List ℕ) → 0 < length p → (o : Occurs p (q ++ but_last p))
     → (q ++ (p ++ r) ≡ o.0 ++ (p ++ (o.1 ++ (last_part p ++ r)))) × (length o.0 < length q)

@@ -15,7 +15,7 @@ replaced-itself t [] n = let h = (IsCutBetween-cut n t).joined in search (rules,
 replaced-itself t (c ∷ p) n = (IsCutAt-cut n (c ∷ p) t (omega arith)).joined
 
 -- each piece but one has a match behind it
-few_pieces : (p : List ℕ) (pieces : List (List ℕ)) → 0 < length p → length pieces ≤ length (joined_by p pieces) + 1
+pub few_pieces : (p : List ℕ) (pieces : List (List ℕ)) → 0 < length p → length pieces ≤ length (joined_by p pieces) + 1
 few_pieces p (q ∷ r ∷ rs) some = search (rules, arith, joined_more, length-append, few_pieces p (r ∷ rs) some)
 few_pieces p pieces some = search rules
 

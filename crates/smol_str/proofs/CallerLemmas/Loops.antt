@@ -1,0 +1,174 @@
+-- Loops over what std's iterators lend, and what `map` and `try_collect` make of it.
+use Rattle.smol_str.proofs.Common.{Ok, Err, IfOk, refl, sym, map, ◌≡◌, ℕ, List, [], ◌∷◌, ◌++◌, length, Some, None, ap, ◌∙◌, arith, length-append, Meaning, Result, encode_utf8_all, append-nil, append_assoc, Option, IsValueOf, place_of, chars, str_text, Bor, items_from_drains, FoldsTo, All-nil, All-cons, IsUtf8, YieldsList-from_chars, encode_utf8, map-id, size, ◌≤◌, All, YieldsList, YieldsList-from_slice}
+use Rattle.smol_str.proofs.CallerLemmas.Builders.{size-cons}
+use Rattle.smol_str.proofs.BuilderLemmas.Draft.{appended-twice, OnHeap-long}
+use Rattle.smol_str.specs.Meaning.{AreValuesOf}
+use Rattle.std.specs.Prelude.{Vec}
+use Rattle.std.specs.Vec.{vec_items}
+use Rattle.std.specs.List.{AllZip}
+use Rattle.std.specs.Iterator.{Yields}
+use Rattle.std.specs.Iterator.Adapters.{map_source, map_callee}
+use Rattle.std.specs.Str.Iter.{chars_rest, chars_steps, lines_rest, lines_steps}
+use Rattle.std.specs.declared.str.Chars.{Chars}
+use Rattle.smol_str.proofs.TextLemmas.Places.{size-append, size-chars}
+use Rattle.std.specs.Slice.Iter.{iter_rest, iter_steps}
+use Rattle.std.specs.declared.slice.Iter.{Iter}
+use Rattle.std.specs.Str.Lines.{lines}
+use Rattle.std.specs.declared.str.Lines.{Lines}
+use Rattle.std.proofs.lemmas.Iterator.Splits.{YieldsList-from_lines}
+use Rattle.std.proofs.lemmas.Grind.{fold-append}
+use Rattle.smol_str.proofs.Common.{map-append}
+use Rattle.smol_str.proofs.IteratorLemmas.{weaker}
+use Rattle.std.specs.declared.iter.Map.{Map}
+
+-- ---- what `map` and `try_collect` make of what an iterator lends
+
+-- the values of results, where all have one
+abbrev pub oks : {A E : Type 0} → List (Result A E) → List A
+oks [] = []
+oks (Ok y ∷ rs) = y ∷ oks rs
+oks (Err e ∷ rs) = oks rs
+
+abbrev pub AreOk : {A E : Type 0} → List (Result A E) → Type 0
+AreOk [] = Unit {0}
+AreOk (Ok y ∷ rs) = AreOk rs
+AreOk (Err e ∷ rs) = ⊥
+
+-- what was collected are the values that the items held
+module _ {A E Z : Type 0} (adds : Vec A Z → Result A E → Vec A Z → Type 0)
+    (one : (p : Vec A Z) (r : Result A E) (q : Vec A Z) → adds p r q → (y : A) × (Ok y ≡ r) × (vec_items q ≡ vec_items p ++ y ∷ [])) where
+  held : (rs : List (Result A E)) (b w : Vec A Z) → FoldsTo adds b rs w → AreOk rs × (vec_items w ≡ vec_items b ++ oks rs)
+  held [] b w e = (tt, ap vec_items (sym e) ∙ sym (append-nil (vec_items b)))
+  held (Ok y ∷ rs) b w (j, added, rest) =
+      let others = held rs j w rest in
+      let this = one b (Ok y) j added in
+      let same : this.0 ≡ y = cc this.1 in
+      (others.0, others.1 ∙ ap (λ l. l ++ oks rs) (cc (this.2, same)) ∙ append_assoc (vec_items b) (y ∷ []) (oks rs))
+  held (Err e ∷ rs) b w (j, added, rest) = let this = one b (Err e) j added in absurd (cc this.1)
+
+pub collected_oks : {A E Z : Type 0} {adds : Vec A Z → Result A E → Vec A Z → Type 0} (rs : List (Result A E)) (b w : Vec A Z)
+    → FoldsTo adds b rs w
+    → ((p : Vec A Z) (r : Result A E) (q : Vec A Z) → adds p r q → (y : A) × (Ok y ≡ r) × (vec_items q ≡ vec_items p ++ y ∷ []))
+    → (FoldsTo adds b rs w ≡ FoldsTo adds b rs w) × AreOk rs × (vec_items w ≡ vec_items b ++ oks rs)
+collected_oks {adds = adds} rs b w folds one = let h = held adds one rs b w folds in (refl, h.0, h.1)
+
+made_all : {A C : Type 0} (R : C → Type 0) (xs : List A) (cs : List C) → AllZip (λ x c. R c) xs cs → All R cs
+made_all R [] [] h = All-nil R
+made_all R [] (c ∷ cs) h = absurd h
+made_all R (x ∷ xs) [] h = absurd h
+made_all R (x ∷ xs) (c ∷ cs) h = All-cons R c cs h.0 (made_all R xs cs h.1)
+
+-- those of a `map`, whose step is one of its source, and gives of what is lent what P says
+module _ {S F A C E : Type 0} (steps : S → Option (Bor A) → S → Type 0) (P : A → C → Type 0) where
+  abbrev pub MapsBy : (Map S F → Option (Result C E) → Map S F → Type 0) → F → Type 0
+  MapsBy more f = (p : Map S F) (r : Result C E) (q : Map S F) → more p (Some r) q → map_callee p ≡ f
+      → (x : Bor A) × steps (map_source p) (Some x) (map_source q) × (map_callee q ≡ f) × IfOk r (λ c. P x.now c)
+
+  pub mapped : (more : Map S F → Option (Result C E) → Map S F → Type 0) (f : F) (rs : List (Result C E)) (s t : Map S F)
+      → Yields more s rs t → map_callee s ≡ f → MapsBy more f → AreOk rs
+      → (xs : List (Bor A)) × Yields steps (map_source s) xs (map_source t) × AllZip P (map (λ x. x.now) xs) (oks rs)
+  mapped more f [] s t same e by all = ([], ap map_source same, tt)
+  mapped more f (Ok c ∷ rs) s t (j, on, run) e by all =
+      let this = by s (Ok c) j on e in
+      let others = mapped more f rs j t run this.2 by all in
+      (this.0 ∷ others.0, (map_source j, this.1, others.1), (this.3, others.2))
+  mapped more f (Err x ∷ rs) s t run e by all = absurd all
+
+-- each of them is as R says
+pub all_tried : {S F A C E : Type 0} (steps : S → Option (Bor A) → S → Type 0) (R : C → Type 0)
+    (more : Map S F → Option (Result C E) → Map S F → Type 0) (rs : List (Result C E)) (s t : Map S F) → Yields more s rs t
+    → AreOk rs → MapsBy steps (λ x c. R c) more (map_callee s) → All R (oks rs)
+all_tried steps R more rs s t run all by = made_all R _ (oks rs) (mapped steps (λ x c. R c) more (map_callee s) rs s t run refl by all).2
+
+pub texts_made : (xs : List (Bor (List ℕ))) (vs : List Meaning) → AllZip (λ bs v. IsValueOf (chars bs) v) (map (λ x. x.now) xs) vs
+    → AreValuesOf (map str_text xs) vs
+texts_made [] [] h = record { text = refl; place = All-nil (λ v. v.place ≡ place_of v.text) }
+texts_made [] (v ∷ vs) h = absurd h
+texts_made (x ∷ xs) [] h = absurd h
+texts_made (x ∷ xs) (v ∷ vs) (this, others) =
+    let rest = texts_made xs vs others in record {
+      text = cc (this.text, rest.text);
+      place = All-cons (λ v. v.place ≡ place_of v.text) v vs (this.place ∙ ap place_of (sym this.text)) rest.place;
+    }
+
+made_same : {A C D : Type 0} (w : C → D) (h : A → D) (ys : List A) (cs : List C) → AllZip (λ y c. w c ≡ h y) ys cs → map w cs ≡ map h ys
+made_same w h [] [] same = refl
+made_same w h [] (c ∷ cs) same = absurd same
+made_same w h (y ∷ ys) [] same = absurd same
+made_same w h (y ∷ ys) (c ∷ cs) same = cc (same.0, made_same w h ys cs same.1)
+
+-- of a source that gives ys, where what w reads of each thing that is made is h of its item
+tried : {S F A C D E : Type 0} (steps : S → Option (Bor A) → S → Type 0) (ys : List A)
+    (more : Map S F → Option (Result C E) → Map S F → Type 0) (rs : List (Result C E)) (s t : Map S F) (w : C → D) (h : A → D)
+    → YieldsList steps (λ x. x.now) (map_source s) ys → Yields more s rs t → ((u : Map S F) × more t None u)
+    → ((p q : Map S F) → more p None q → steps (map_source p) None (map_source q)) → AreOk rs
+    → MapsBy steps (λ y c. w c ≡ h y) more (map_callee s) → map w (oks rs) ≡ map h ys
+tried steps ys more rs s t w h gives run ends last all by =
+    let made = mapped steps (λ y c. w c ≡ h y) more (map_callee s) rs s t run refl by all in
+    let them = items_from_drains made.0 (map_source t, made.1, λ _. (map_source ends.0, last t ends.0 ends.1)) gives in
+    made_same w h (map (λ x. x.now) made.0) (oks rs) made.2 ∙ ap (map h) them
+
+-- a loop over the lines of a text, and `map` and `try_collect` of them
+pub lines_yielded : {steps : Lines → Option (Bor (List ℕ)) → Lines → Type 0} (xs : List (Bor (List ℕ))) (s t : Lines)
+    → Yields steps s xs t → ((u : Lines) × steps t None u)
+    → ((s : Lines) (o : Option (Bor (List ℕ))) (t : Lines) → steps s o t → lines_steps s o t)
+    → (Yields steps s xs t ≡ Yields steps s xs t) × (map (λ x. x.now) xs ≡ lines (lines_rest s))
+lines_yielded {steps} xs s t run ends f =
+    (refl, items_from_drains xs (t, run, λ _. ends) (weaker f (YieldsList-from_lines (lines_rest s) refl)))
+
+pub lines_tried : {F C D E : Type 0} (more : Map Lines F → Option (Result C E) → Map Lines F → Type 0) (rs : List (Result C E))
+    (s t : Map Lines F) (w : C → D) (h : List ℕ → D) → Yields more s rs t → ((u : Map Lines F) × more t None u)
+    → ((p q : Map Lines F) → more p None q → lines_steps (map_source p) None (map_source q)) → AreOk rs
+    → MapsBy lines_steps (λ y c. w c ≡ h y) more (map_callee s) → map w (oks rs) ≡ map h (lines (lines_rest (map_source s)))
+lines_tried more rs s t w h =
+    let rest = lines_rest (map_source s) in tried lines_steps (lines rest) more rs s t w h (YieldsList-from_lines rest refl)
+
+-- a loop whose invariant folds or maps what was yielded goes on by `fold-append` and `map-append`
+pub ruleset by_line = (lines_yielded, lines_tried, collected_oks, map-append, fold-append)
+
+-- a loop over the characters of a text: all of them at its end, and in it no more than all
+module _ {steps : Chars → Option ℕ → Chars → Type 0} (xs : List ℕ) (s t : Chars) (run : Yields steps s xs t)
+    (by : (s : Chars) (o : Option ℕ) (t : Chars) → steps s o t → chars_steps s o t) where
+  pub chars_yielded : ((u : Chars) × steps t None u) → (Yields steps s xs t ≡ Yields steps s xs t)
+      × ((bs : List ℕ) → chars_rest s ≡ bs → IsUtf8 bs → xs ≡ chars bs)
+  chars_yielded ends = (
+    refl,
+    λ bs rest u.
+        sym (map-id xs) ∙ items_from_drains xs (t, run, λ _. ends) (weaker by (YieldsList-from_chars bs u rest)),
+  )
+
+  read_off : (xs : List ℕ) (s : Chars) → Yields steps s xs t → chars_rest s ≡ encode_utf8_all xs ++ chars_rest t
+  read_off [] s same = ap chars_rest same
+  read_off (x ∷ xs) s (j, this, others) =
+      (by s (Some x) j this).0 ∙ ap (λ bs. encode_utf8 x ++ bs) (read_off xs j others)
+      ∙ sym (append_assoc (encode_utf8 x) (encode_utf8_all xs) (chars_rest t))
+
+  pub chars_begun : (Yields steps s xs t ≡ Yields steps s xs t)
+      × ((bs w : List ℕ) (c : ℕ) → chars_rest s ≡ bs → IsUtf8 bs → chars_rest t ≡ encode_utf8 c ++ w
+      → size (xs ++ c ∷ []) ≤ size (chars bs))
+  chars_begun = (
+    refl,
+    λ bs w c rest u next.
+        omega (
+          arith,
+          size-append xs (c ∷ []),
+          ap length (append-nil (encode_utf8 c)),
+          size-chars bs u,
+          ap length (sym rest ∙ read_off xs s run),
+          ap length next,
+          length-append (encode_utf8_all xs) (chars_rest t),
+          length-append (encode_utf8 c) w,
+        ),
+  )
+
+pub ruleset by_char = (arith, chars_yielded, chars_begun, appended-twice, OnHeap-long, size-cons, size-append)
+
+-- and of the items of a slice
+pub items_tried : {A F C D E : Type 0} (more : Map (Iter A) F → Option (Result C E) → Map (Iter A) F → Type 0) (rs : List (Result C E))
+    (s t : Map (Iter A) F) (w : C → D) (h : A → D) → Yields more s rs t → ((u : Map (Iter A) F) × more t None u)
+    → ((p q : Map (Iter A) F) → more p None q → iter_steps (map_source p) None (map_source q)) → AreOk rs
+    → MapsBy iter_steps (λ y c. w c ≡ h y) more (map_callee s) → map w (oks rs) ≡ map h (iter_rest (map_source s))
+items_tried more rs s t w h =
+    let rest = iter_rest (map_source s) in tried iter_steps rest more rs s t w h (YieldsList-from_slice rest refl)
+
+pub ruleset by_item = (items_tried, all_tried, collected_oks)

@@ -1,0 +1,8 @@
+-- The scopes that are left decide, since none so far binds the name.
+use Rattle.std.proofs.Common.{◌≡◌}
+use Rattle.smol_str.specs.Keys.{innermost, entry_lists}
+use Rattle.uses.proofs.keys.find.Given as goal
+
+abbrev pub invariant-loop-scope : goal.invariant-loop-scope
+invariant-loop-scope l =
+    innermost l.name.text (entry_lists l.scope-iterator.iter.rest.now) ≡ innermost l.name.text (entry_lists l.scopes)

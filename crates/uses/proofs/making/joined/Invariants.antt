@@ -1,0 +1,9 @@
+-- The texts of the values so far.
+use Rattle.std.proofs.Common.{◌≡◌, take}
+use Rattle.std.specs.List.{flat_map}
+use Rattle.smol_str.specs.Draft.{appended}
+use Rattle.uses.proofs.making.joined.Given as goal
+
+abbrev pub invariant-loop-part : goal.invariant-loop-part
+invariant-loop-part l =
+    l.builder ≡ appended l.initial.builder (flat_map (λ part. part.text) (take l.part-index l.parts))

@@ -1,0 +1,218 @@
+//! Values made piece by piece, by printing, and of what a program has at hand.
+ghost use Rattle.std.specs.Prelude.{◌≡◌, ◌+◌, ◌*◌, ◌≤◌, ◌++◌, ◌∷◌, [], codes, length, IfOk, IsOk, OnErr, OnOk, encode_utf8_all, ◌↔◌, ℕ, List, String, IsTrue, reverse};
+ghost use Rattle.std.specs.List.{flat_map};
+ghost use Rattle.std.specs.Str.{chars};
+ghost use Rattle.smol_str.specs.Draft.{OnHeap, appended};
+ghost use Rattle.smol_str.specs.Text.{IsShort, blank_run, place_of, IsResident};
+ghost use Rattle.smol_str.specs.Meaning.{IsValueOf, texts};
+ghost use Rattle.std.specs.Fmt.{decimal};
+ghost use Rattle.uses.specs.Widths.{right_aligned};
+ghost use Rattle.uses.specs.Layout.{untabbed, margin, line_text};
+ghost use Rattle.std.specs.Iterator.{Drains, IsFinite};
+ghost use Rattle.std.specs.Rc.{rc_str_bytes};
+ghost use Rattle.std.specs.String.{string_bytes};
+ghost use Rattle.serde.specs.Event.{Logs, text};
+ghost use Rattle.smol_str.specs.Collect.{Outgrown, StoppedAt};
+ghost use Rattle.smol_str.specs.Cut.{joined_by};
+ghost use Rattle.smol_str.specs.Joined.{joined, string_text};
+ghost use Rattle.smol_str.specs.Serde.{HasReadText};
+
+pub mod collecting;
+
+use crate::cutting::row;
+use serde::{Deserialize, DeserializeOwned, Deserializer, Format, Serialize, Serializer};
+use smol_str::{
+    FormatError, INLINE_CAP, SmolStr, SmolStrBuilder, StrExt, ToSmolStr, format_smolstr,
+};
+use std::alloc::{AllocError, Global};
+use std::convert::AsStr;
+use std::iter;
+use std::rc::RcStr;
+
+/// The texts of values, one after another.
+pub fn joined(alloc: Global, parts: &[SmolStr]) -> Result<SmolStr, AllocError>
+    ensures value { IfOk result (λ v. IsValueOf (flat_map (λ part. part.text) parts.now) v) }
+    ensures refused { OnErr result (¬ (IsShort (flat_map (λ part. part.text) parts.now))) }
+{
+    let mut builder = SmolStrBuilder::new(alloc);
+    for part in parts {
+        builder.push_str(part.as_str())?;
+    }
+    builder.into_value()
+}
+
+/// Two texts that fit a builder together: neither append is refused.
+#[tactic(auto, using(smol_str::proofs::CallerLemmas::builders))]
+pub fn both(alloc: Global, first: &str, second: &str) -> Result<SmolStrBuilder, AllocError>
+    requires { length first.now + length second.now ≤ INLINE_CAP }
+    ensures ok { IsOk result }
+    ensures text { IfOk result (λ b. b.text ≡ chars first.now ++ chars second.now) }
+{
+    let mut builder = SmolStrBuilder::new(alloc);
+    builder.push_str(first)?;
+    builder.push_str(second)?;
+    Ok(builder)
+}
+
+/// A key, a comma and a value at a builder's end. Where an append is refused, the whole would not fit the buffer.
+#[tactic(auto, using(smol_str::proofs::CallerLemmas::builders))]
+pub fn push_entry(out: &mut SmolStrBuilder, key: &str, value: &SmolStr) -> Result<(), AllocError>
+    ensures ok { OnOk result (out.new ≡ appended out.old (chars key.now ++ (chars (codes ",") ++ value.now.text))) }
+    ensures refused { OnErr result ((appended out.old (chars key.now ++ (44 ∷ value.now.text))).kind ≡ OnHeap) }
+{
+    out.push_str(key)?;
+    out.push(',')?;
+    out.push_str(value)
+}
+
+/// A line's end and the next line's indentation at a builder's end.
+pub fn push_line_end(out: &mut SmolStrBuilder, level: u8) -> Result<(), AllocError>
+    requires { level ≤ 8 }
+    ensures ok { OnOk result (out.new ≡ appended out.old (blank_run 1 (4 * level))) }
+    ensures unchanged { OnErr result (out.new ≡ out.old) }
+{
+    out.push_blank(1, 4 * usize::from(level))
+}
+
+/// A word, a number and a value.
+pub fn line_with(
+    alloc: Global,
+    word: &str,
+    number: u64,
+    value: &SmolStr,
+) -> Result<SmolStr, FormatError>
+    ensures text { IfOk result (λ v. encode_utf8_all v.text ≡ word.now ++ (codes " " ++ (decimal number
+        ++ (codes " " ++ (encode_utf8_all value.now.text ++ codes "\n"))))) }
+    ensures place { IfOk result (λ v. v.place ≡ place_of v.text) }
+{
+    format_smolstr!(alloc; "{word} {number} {value}\n")
+}
+
+/// A text.
+pub fn copied(alloc: Global, text: &str) -> Result<SmolStr, FormatError>
+    ensures value { IfOk result (λ v. IsValueOf (chars text.now) v) }
+{
+    text.to_smolstr(alloc)
+}
+
+/// What a builder has, and after it a number and a sign.
+pub fn signed(mut builder: SmolStrBuilder, number: u64) -> Result<SmolStr, FormatError>
+    ensures { IfOk result (λ v. encode_utf8_all v.text ≡
+        encode_utf8_all builder.text ++ (decimal number ++ codes "-")) }
+{
+    write!(builder, "{number}-")?;
+    Ok(builder.into_value()?)
+}
+
+/// A number, with spaces before it where it is narrow.
+pub fn wide_number(alloc: Global, number: u64) -> Result<SmolStr, FormatError>
+    ensures text { IfOk result (λ v. encode_utf8_all v.text ≡ right_aligned 6 number) }
+    ensures place { IfOk result (λ v. v.place ≡ place_of v.text) }
+{
+    format_smolstr!(alloc; "{number:>6}")
+}
+
+/// A key and its value, as a text.
+#[tactic(auto, using(smol_str::proofs::CallerLemmas::prints))]
+pub fn entry(alloc: Global, key: &str, value: &SmolStr) -> Result<SmolStr, FormatError>
+    ensures { IfOk result (λ v. IsValueOf (chars key.now ++ (chars (codes " = ") ++ value.now.text)) v) }
+{
+    print_entry(alloc, key, value)
+}
+
+/// The same, as bytes. A ruleset does not reach into a function that prints, so the print has one of its own.
+fn print_entry(alloc: Global, key: &str, value: &SmolStr) -> Result<SmolStr, FormatError>
+    ensures text { IfOk result (λ v.
+        encode_utf8_all v.text ≡ key.now ++ (codes " = " ++ encode_utf8_all value.now.text)) }
+    ensures place { IfOk result (λ v. v.place ≡ place_of v.text) }
+{
+    format_smolstr!(alloc; "{key} = {value}")
+}
+
+/// Tokens at a level of indentation.
+#[derive(Drop)]
+pub struct Line {
+    pub level: u8,
+    pub tokens: Vec<SmolStr>,
+}
+
+/// A text with four spaces in place of each tab.
+#[tactic(auto, using(smol_str::proofs::CallerLemmas::texts, smol_str::proofs::CallerLemmas::replacing))]
+pub fn without_tabs(alloc: Global, text: &SmolStr) -> Result<SmolStr, AllocError>
+    ensures { IfOk result (λ v. IsValueOf (untabbed text.now.text) v) }
+{
+    text.as_str().replace_smolstr(alloc, "\t", "    ")
+}
+
+/// Four spaces for each level.
+#[tactic(auto, using(smol_str::proofs::CallerLemmas::collecting_chars))]
+pub fn indentation(alloc: Global, level: u8) -> Result<SmolStr, AllocError>
+    ensures { IfOk result (λ v. IsValueOf (margin level) v) }
+{
+    SmolStr::from_chars(alloc, iter::repeat_n(' ', 4 * usize::from(level)))
+}
+
+/// The text of a line: its tokens with a space between each two, and a newline.
+#[tactic(auto, using(smol_str::proofs::CallerLemmas::prints, smol_str::proofs::CallerLemmas::texts))]
+pub fn lay_out_line(alloc: Global, line: &Line) -> Result<SmolStr, FormatError>
+    ensures { IfOk result (λ v. IsValueOf (line_text line.now) v) }
+{
+    let margin = indentation(alloc, line.level)?;
+    let row = SmolStr::join(alloc, &line.tokens, " ")?;
+    print_line(alloc, &margin, &without_tabs(alloc, &row)?)
+}
+
+fn print_line(alloc: Global, margin: &SmolStr, row: &SmolStr) -> Result<SmolStr, FormatError>
+    ensures text { IfOk result (λ v. encode_utf8_all v.text ≡
+        encode_utf8_all margin.now.text ++ (encode_utf8_all row.now.text ++ codes "\n")) }
+    ensures place { IfOk result (λ v. v.place ≡ place_of v.text) }
+{
+    format_smolstr!(alloc; "{margin}{row}\n")
+}
+
+/// Whether a token is `if`.
+#[tactic(auto, using(smol_str::proofs::CallerLemmas::compared))]
+pub fn is_if(token: &SmolStr) -> bool
+    ensures { IsTrue result ↔ (token.now.text ≡ chars (codes "if")) }
+{
+    token.as_str() == "if"
+}
+
+/// The value of whatever lends a text: a `&str`, a `String`, a value, a builder.
+pub fn value_of<T: AsStr>(alloc: Global, text: &T) -> Result<SmolStr, AllocError>
+    ensures value { IfOk result (λ v. IsValueOf (chars (T.text text.now)) v) }
+    ensures refused { OnErr result (¬ (IsResident (chars (T.text text.now)))) }
+{
+    SmolStr::new(alloc, text.as_str())
+}
+
+/// A text in quotes, character by character.
+#[tactic(auto, using(smol_str::proofs::CallerLemmas::by_char))]
+pub fn in_quotes(alloc: Global, text: &str) -> Result<SmolStr, AllocError>
+    ensures value { IfOk result (λ v. IsValueOf (34 ∷ (chars text.now ++ (34 ∷ []))) v) }
+    ensures refused { OnErr result (¬ (IsShort (34 ∷ (chars text.now ++ (34 ∷ []))))) }
+{
+    let mut out = SmolStrBuilder::new(alloc);
+    out.push('"')?;
+    for character in text.chars() {
+        out.push(character)?;
+    }
+    out.push('"')?;
+    out.into_value()
+}
+
+/// Tokens on one line, as a value, by std's `join` and the memory that it asked for.
+#[tactic(auto, using(smol_str::proofs::CallerLemmas::owned))]
+pub fn row_value(alloc: Global, tokens: &[SmolStr]) -> Result<SmolStr, AllocError>
+    ensures { IfOk result (λ v. IsValueOf (joined_by (chars (codes " ")) (texts tokens.now)) v) }
+{
+    SmolStr::from_owned(row(alloc, tokens)?)
+}
+
+/// A value of a `String` has its bytes.
+#[tactic(auto, using(smol_str::proofs::CallerLemmas::owned))]
+pub fn of_bytes_of(alloc: Global, text: &String) -> Result<SmolStr, AllocError>
+    ensures { IfOk result (λ v. encode_utf8_all v.text ≡ string_bytes text.now) }
+{
+    SmolStr::from_string_ref(alloc, text)
+}
