@@ -55,7 +55,7 @@ pub use Rattle.smol_str.proofs.CallerLemmas.Collecting.{collecting_chars, collec
 pub use Rattle.smol_str.proofs.CallerLemmas.Cuts.{cutting, joining, pieces_lack}
 pub use Rattle.smol_str.proofs.CallerLemmas.CutOnce.{cut_once, cut_at_texts, cut_alike, trimmed}
 pub use Rattle.smol_str.proofs.CallerLemmas.Wire.{forms, parts, items, items-apart, lists-apart, AreRead, one_read, all_read}
-pub use Rattle.smol_str.proofs.CallerLemmas.Crates.{owned, chars_cut, same_key_laws}
+pub use Rattle.smol_str.proofs.CallerLemmas.Crates.{owned, chars_cut}
 -- each front of a short text is short; the size of the text that bytes spell, and of two texts, one after the other
 pub use Rattle.smol_str.proofs.TextLemmas.Places.{IsShort-front, size-chars, size-append}
 -- bytes of a text in two parts, at the size of the first: they may be cut there, into these

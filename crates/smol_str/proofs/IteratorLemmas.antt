@@ -19,7 +19,7 @@ use Rattle.std.specs.declared.slice.Iter.{Iter}
 use Rattle.std.specs.declared.iter.Rev.{Rev}
 use Rattle.std.specs.declared.iter.Copied.{Copied}
 use Rattle.std.proofs.lemmas.Iterator.{YieldsList, YieldsList-from_slice, YieldsList-from_chars, YieldsList-from_take, YieldsList-from_map_by}
-use Rattle.std.proofs.lemmas.Iterator.Adapters.{YieldsList-from_repeat_n, YieldsList-from_vec, YieldsList-from_rev_slice, YieldsList-from_skip, YieldsList-from_skip_while, YieldsList-from_flat_map}
+use Rattle.std.proofs.lemmas.Iterator.Adapters.{YieldsList-from_repeat_n, YieldsList-from_vec, YieldsList-from_skip, YieldsList-from_skip_while, YieldsList-from_flat_map}
 use Rattle.std.proofs.lemmas.Iterator.Consumers.{YieldsList-from_shown, YieldsList-at, YieldsList-from_chain, YieldsList-from_copied, YieldsList-from_filter}
 use Rattle.std.proofs.lemmas.Iterator.Search.{YieldsList-from_take_while}
 use Rattle.std.proofs.lemmas.Iterator.Splits.{YieldsList-from_shown_while, YieldsList-from_lines, YieldsList-from_str_split}
@@ -64,10 +64,6 @@ weaker f gives = record { runs = weaker_runs _ _ _ f _ _ gives.runs }
 -- sources
 pub gives-slice : {A : Type 0} {s : _} (xs : List A) → iter_rest s ≡ xs → YieldsList iter_steps (λ y. y.now) s xs
 gives-slice xs e = YieldsList-from_slice xs e
-
-pub gives-rev_slice : {A : Type 0} {s t : _} (xs : List A) → rev_source s ≡ t → iter_rest t ≡ xs
-    → YieldsList (rev_steps iter_steps_back) (λ y. y.now) s (reverse xs)
-gives-rev_slice xs e f = YieldsList-from_rev_slice xs (ap iter_rest e ∙ f)
 
 pub gives-chars : {s : _} (bs : List ℕ) → IsUtf8 bs → chars_rest s ≡ bs → YieldsList chars_steps (λ c. c) s (chars bs)
 gives-chars bs u e = YieldsList-from_chars bs u e

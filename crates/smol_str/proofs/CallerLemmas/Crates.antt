@@ -1,9 +1,6 @@
--- What other crates say of bytes and of keys, said of texts.
+-- What other crates say of bytes, said of texts.
 use Rattle.smol_str.proofs.Common.{◌≡◌, ◌++◌, ℕ, List, String, Global, Result, IfOk, IsAscii, IsUtf8, IsValueOf, Meaning, ap, subst, sym, ◌∙◌, chars, chars-IsAscii, chars_from_encodes, drop, encode_utf8_all, encodes-chars, string_bytes, take, take-append-drop}
 use Rattle.std.proofs.lemmas.Str.{IsUtf8-string_bytes, chars-append}
-use Rattle.std.specs.Cmp.{IsEquivalence, on_equiv}
-use Rattle.std.specs.Cmp.Lexicographic.{nat_list_eq_equiv}
-use Rattle.smol_str.specs.Keys.{same_key}
 
 -- a `String` whose bytes are the UTF-8 of a text has that text,
 pub text_owned : (s : String Global) (t : List ℕ) → string_bytes s ≡ encode_utf8_all t → chars (string_bytes s) ≡ t
@@ -27,7 +24,3 @@ pub ruleset owned = (text_owned, value_owned, bytes_owned, chars_ascii)
 pub chars_cut : (n : ℕ) (bs front back : List ℕ) → IsUtf8 front → front ≡ take n bs → back ≡ drop n bs
     → chars bs ≡ chars front ++ chars back
 chars_cut n bs front back u e f = ap chars (sym (take-append-drop n bs)) ∙ rw (← e, ← f) (chars-append front back u)
-
--- values are equal by their texts, which is an equivalence
-pub same_key_laws : IsEquivalence same_key
-same_key_laws = on_equiv (λ (v : Meaning). v.text) nat_list_eq_equiv

@@ -33,12 +33,6 @@ text-kept eq check old new keeps others = (refl, λ t apart. others (key_of t) a
 
 pub ruleset updates = (text-kept, same_key-other)
 
--- what such a map has at a text, as a text, after a value was set
-pub text-set : (b : Bool) (v : Meaning) (old : Option Meaning)
-    → option_map (λ (w : Meaning). w.text) (if b then Some v else old)
-    ≡ (if b then Some v.text else option_map (λ (w : Meaning). w.text) old)
-text-set b v old = search rules
-
 -- a `&str` stands for the keys of its text
 pub stands_for-text : (bs : List ℕ) (key : Meaning) → IsUtf8 bs → stands_for bs key ≡ bytes_eq (chars bs) key.text
 stands_for-text bs key u = search (rules, arith, encodes-chars, encodes_same)

@@ -1,17 +1,12 @@
--- Lists of values and of pairs of values, as texts.
+-- Lists of values, as texts.
 use Rattle.smol_str.proofs.Common.{get_or, sym, ◌≡◌, ℕ, ◌<◌, List, [], ◌∷◌, ◌++◌, length, Some, ap, ◌∙◌, arith, length-map, map-append, slice_get, option_map, Meaning, IsTrue, all_scalars, encode_utf8_all, chars}
 use Rattle.std.proofs.lemmas.Option.{slice_get-map, slice_get-get_or}
-use Rattle.smol_str.specs.Meaning.{texts, pair_texts}
+use Rattle.smol_str.specs.Meaning.{texts}
 use Rattle.smol_str.proofs.CallerLemmas.Texts.{chars-as_str}
 
 -- one value more
 pub texts-push : (values : List Meaning) (v : Meaning) → texts (values ++ v ∷ []) ≡ texts values ++ v.text ∷ []
 texts-push values v = map-append (λ (v : Meaning). v.text) values (v ∷ [])
-
--- one pair of values more
-pub pair_texts-push : (pairs : List (Meaning × Meaning)) (p : Meaning × Meaning)
-    → pair_texts (pairs ++ p ∷ []) ≡ pair_texts pairs ++ (p.0.text, p.1.text) ∷ []
-pair_texts-push pairs p = map-append (λ (p : Meaning × Meaning). (p.0.text, p.1.text)) pairs (p ∷ [])
 
 -- the name at a place, as a text
 pub text_at : (keys : List Meaning) (id : ℕ) (name : Meaning) → slice_get keys id ≡ Some name →

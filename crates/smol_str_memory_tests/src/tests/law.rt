@@ -56,9 +56,9 @@ fn of_texts(rt: HostRuntime) -> Result<(), Fail> {
 /// Of a pattern and a new text.
 static REPLACEMENTS: [Law<Replace>; 6] = table! {
     (ByteByByte, "StrExt::replace_smolstr", Most(2), 1, 40, Short);
-    (ByteByMore, "StrExt::replacen_smolstr", Most(2), 1, 200, Short);
+    (ByteByMore, "StrExt::replacen_smolstr", Most(2), 1, 80, Short);
     (FewByMore, "StrExt::replacen_smolstr", Doubling(2), 4, 40, Short);
-    (ByLess, "StrExt::replacen_smolstr", Most(2), 1, 200, Short);
+    (ByLess, "StrExt::replacen_smolstr", Most(2), 1, 80, Short);
     (ByMore, "StrExt::replacen_smolstr", Doubling(2), 4, 40, Short);
     (Between, "StrExt::replacen_smolstr", Doubling(2), 4, 40, Short);
 };
@@ -162,16 +162,17 @@ fn of_forms(rt: HostRuntime) -> Result<(), Fail> {
 }
 
 /// Of JSON: the text in quotes, with white space around, or a tree.
-static JSON: [Law<OnJson>; 9] = table! {
+static JSON: [Law<OnJson>; 10] = table! {
     (FromValue, "json_string::from_value", Most(2), 1, 40, Resident);
     (FromPlain, "json_string::from_json", Most(2), 1, 40, Resident);
-    (FromEscapes, "json_string::from_json", Most(2), 2, 200, Short);
-    (FromNumbers, "json_string::from_json", Doubling(4), 9, 200, Never);
-    (BehindNumbers, "json_string::from_json", Doubling(4), 9, 200, Never);
+    (FromEscape, "json_string::from_json", Most(2), 1, 200, Short);
+    (FromEscapes, "json_string::from_json", Doubling(2), 4, 40, Short);
+    (FromNumbers, "json_string::from_json", Doubling(2), 9, 200, Short);
+    (BehindNumbers, "json_string::from_json", Doubling(2), 9, 200, Short);
     (Serialize, "SmolStr::serialize", Doubling(2), 4, 128, Never);
     (Deserialize, "SmolStr::deserialize", Most(2), 1, 48, Never);
     (DeserializeEscaped, "SmolStr::deserialize", Doubling(3), 8, 200, Never);
-    (DeserializeOwned, "SmolStr::deserialize_owned", Doubling(3), 6, 200, Never);
+    (DeserializeOwned, "SmolStr::deserialize_owned", Doubling(5), 12, 400, Never);
 };
 
 #[test]

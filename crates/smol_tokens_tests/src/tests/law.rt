@@ -23,15 +23,15 @@ enum OnLine {
 }
 
 static MODES: [Law<OnLine>; 9] = table! {
-    (Show, "run::run, show", Doubling(9), 9, 20_000, Never);
-    (Join, "run::run, join", Doubling(9), 9, 20_000, Never);
-    (Lower, "run::run, lower", Doubling(9), 9, 20_000, Never);
-    (Upper, "run::run, upper", Doubling(9), 9, 20_000, Never);
-    (Replace("a", "é"), "run::run, replace", Doubling(9), 9, 20_000, Never);
-    (Replace("aa", "bbb"), "run::run, replace", Doubling(9), 9, 20_000, Never);
-    (Replace("", "-"), "run::run, replace", Doubling(9), 9, 20_000, Never);
-    (Tokens, "run::run, tokens", Doubling(9), 9, 20_000, Never);
-    (Merge, "run::run, merge", Doubling(9), 9, 20_000, Never);
+    (Show, "run::run, show", Doubling(20), 9, 20_000, Never);
+    (Join, "run::run, join", Doubling(20), 9, 20_000, Never);
+    (Lower, "run::run, lower", Doubling(20), 9, 20_000, Never);
+    (Upper, "run::run, upper", Doubling(20), 9, 20_000, Never);
+    (Replace("a", "é"), "run::run, replace", Doubling(20), 9, 20_000, Never);
+    (Replace("aa", "bbb"), "run::run, replace", Doubling(20), 9, 20_000, Never);
+    (Replace("", "-"), "run::run, replace", Doubling(20), 9, 20_000, Never);
+    (Tokens, "run::run, tokens", Doubling(20), 9, 20_000, Never);
+    (Merge, "run::run, merge", Doubling(20), 9, 20_000, Never);
 };
 
 #[test]

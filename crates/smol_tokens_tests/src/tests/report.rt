@@ -41,9 +41,7 @@ static REPORTS: &[(Words, &str, &str)] = &table! {
 };
 
 /// The words of a mode, how the report line for one of 9,000 `a` begins, and the letter made of an `a`.
-type Letters = (Words, &'static str, &'static str);
-
-static LETTERS: &[Letters] = &[
+static LETTERS: &[(Words, &str, &str)] = &[
     (&["show"], "heap 9000 ", "a"),
     (&["join"], "heap 9000 ", "a"),
     (&["lower"], "heap 9000 ", "a"),

@@ -1,6 +1,5 @@
-//! Tallies: rows, many tokens, and a token that a fault drops.
+//! Tallies: rows, and many tokens.
 use smol_str::{Place, SmolStr};
-use smol_tokens_core::fault::RunFault;
 use smol_tokens_core::tally::{AddFault, Tally};
 use test_support::*;
 
@@ -68,15 +67,5 @@ fn many_different_tokens(rt: HostRuntime) -> Result<(), Fail> {
     check_at(&test, &tally, 123_456, "token 123456", 123_456);
     let last = tally.count(&token(&test, 199_999));
     same(&test, &last, &Some(199_999), &"the last");
-    test.end()
-}
-
-#[test]
-fn a_fault_of_a_run_drops_the_token(rt: HostRuntime) -> Result<(), Fail> {
-    let test = Test::begin(rt);
-    start_counts(test.alloc);
-    drop(RunFault::from(AddFault::OutOfMemory(test.value(long_text()))));
-    drop(RunFault::from(AddFault::Full(test.value(long_text()))));
-    no_blocks(&test, &"a token");
     test.end()
 }

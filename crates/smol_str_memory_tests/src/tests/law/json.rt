@@ -1,5 +1,5 @@
 //! JSON, by calls and by serde's traits.
-use super::values::{is_plain, json_of};
+use super::values::{is_plain, is_plain_byte, json_of};
 use OnJson::*;
 use serde_json::Value;
 use smol_str::SmolStr;
@@ -10,7 +10,9 @@ use test_support::*;
 pub enum OnJson {
     FromValue,
     FromPlain,
-    /// Of which all have two bytes.
+    /// Of two bytes, of which there is one.
+    FromEscape,
+    /// Of two bytes.
     FromEscapes,
     /// Of which one is a number.
     FromNumbers,
@@ -44,7 +46,7 @@ impl Call for OnJson {
 
     fn ways(self) -> usize {
         match self {
-            FromPlain | FromEscapes | FromNumbers | BehindNumbers => 4,
+            FromPlain | FromEscape | FromEscapes | FromNumbers | BehindNumbers => 4,
             _ => 1,
         }
     }
@@ -52,7 +54,8 @@ impl Call for OnJson {
     fn takes(self, text: &str) -> bool {
         match self {
             FromPlain | Deserialize => is_plain(text),
-            FromEscapes => !is_plain(text) && !has_numbers(text),
+            FromEscape => escapes(text) == 1 && !has_numbers(text),
+            FromEscapes => escapes(text) > 1 && !has_numbers(text),
             FromNumbers => has_numbers(text),
             DeserializeEscaped => !is_plain(text),
             _ => true,
@@ -100,6 +103,11 @@ impl Call for OnJson {
             _ => test.string(text),
         }
     }
+}
+
+/// How many bytes of a text JSON does not have as they are.
+fn escapes(text: &str) -> usize {
+    text.bytes().filter(|byte| !is_plain_byte(*byte)).count()
 }
 
 /// Whether JSON has a character of the text by its number.

@@ -116,14 +116,22 @@ impl OnPieces {
     }
 }
 
+/// A builder of all pieces; what is left of others, the contracts say.
+fn gathered(outcome: Result<(), AllocError>, builder: SmolStrBuilder) -> Result<Thing, Thing> {
+    match outcome {
+        Ok(()) => Ok(Thing::Builder(builder)),
+        Err(fault) => Err(fault.into_thing()),
+    }
+}
+
 fn extended<P: Piece>(alloc: Global, pieces: Vec<P>) -> Result<Thing, Thing> {
     let mut builder = SmolStrBuilder::new(alloc);
-    changed(builder.extend(pieces), builder)
+    gathered(builder.extend(pieces), builder)
 }
 
 fn appended<P: Piece>(alloc: Global, pieces: Vec<P>) -> Result<Thing, Thing> {
     let mut builder = SmolStrBuilder::new(alloc);
-    changed(append_all(&mut builder, pieces), builder)
+    gathered(append_all(&mut builder, pieces), builder)
 }
 
 fn append_all<P: Piece>(builder: &mut SmolStrBuilder, pieces: Vec<P>) -> Result<(), AllocError> {
@@ -135,12 +143,12 @@ fn append_all<P: Piece>(builder: &mut SmolStrBuilder, pieces: Vec<P>) -> Result<
 
 fn extended_by_strs(alloc: Global, strs: Vec<&'static str>) -> Result<Thing, Thing> {
     let mut builder = SmolStrBuilder::new(alloc);
-    changed(builder.extend_strs(strs.into_iter()), builder)
+    gathered(builder.extend_strs(strs.into_iter()), builder)
 }
 
 fn extended_by_strings(alloc: Global, strings: Vec<String>) -> Result<Thing, Thing> {
     let mut builder = SmolStrBuilder::new(alloc);
-    changed(builder.extend_strings(strings.iter()), builder)
+    gathered(builder.extend_strings(strings.iter()), builder)
 }
 
 /// A text in so many pieces, about as long, and an empty one.

@@ -47,7 +47,7 @@ static BY_MORE: [Change; 8] = table! {
 };
 
 static BETWEEN: [Change; 4] = table! {
-    ("", "", ALL); ("", "-", ALL); ("", LONG, ALL); ("", LONG, 1);
+    ("", "", ALL); ("", "-", ALL); ("", "éé", ALL); ("", LONG, 1);
 };
 
 impl Replace {

@@ -80,8 +80,11 @@ impl Call for OnValue {
 
 /// Whether JSON has the text as it is.
 pub fn is_plain(text: &str) -> bool {
-    text.bytes()
-        .all(|byte| byte >= b' ' && byte != b'"' && byte != b'\\')
+    text.bytes().all(|byte| is_plain_byte(byte))
+}
+
+pub fn is_plain_byte(byte: u8) -> bool {
+    byte >= b' ' && byte != b'"' && byte != b'\\'
 }
 
 /// The text in JSON, as serde_json writes it.
