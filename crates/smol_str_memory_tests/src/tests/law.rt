@@ -165,7 +165,7 @@ fn of_forms(rt: HostRuntime) -> Result<(), Fail> {
 static JSON: [Law<OnJson>; 10] = table! {
     (FromValue, "json_string::from_value", Most(2), 1, 40, Resident);
     (FromPlain, "json_string::from_json", Most(2), 1, 40, Resident);
-    (FromEscape, "json_string::from_json", Most(2), 1, 200, Short);
+    (FromEscape, "json_string::from_json", Most(3), 1, 200, Short);
     (FromEscapes, "json_string::from_json", Doubling(2), 4, 40, Short);
     (FromNumbers, "json_string::from_json", Doubling(2), 9, 200, Short);
     (BehindNumbers, "json_string::from_json", Doubling(2), 9, 200, Short);

@@ -33,7 +33,7 @@ static BYTE_BY_BYTE: [Change; 3] = table! {
 };
 
 static BYTE_BY_MORE: [Change; 6] = table! {
-    ("a", "bb", ALL); ("a", "éé", ALL); ("a", LONG, ALL); ("a", "bb", 1); ("z", "yy", ALL); ("a", "b", 3);
+    ("a", "bb", ALL); ("a", "éé", ALL); ("a", LONG, 1000); ("a", "bb", 1); ("z", "yy", ALL); ("a", "b", 3);
 };
 
 static BY_LESS: [Change; 10] = table! {
