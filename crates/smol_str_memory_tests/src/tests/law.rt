@@ -57,10 +57,10 @@ fn of_texts(rt: HostRuntime) -> Result<(), Fail> {
 static REPLACEMENTS: [Law<Replace>; 6] = table! {
     (ByteByByte, "StrExt::replace_smolstr", Most(2), 1, 40, Short);
     (ByteByMore, "StrExt::replacen_smolstr", Most(2), 1, 80, Short);
-    (FewByMore, "StrExt::replacen_smolstr", Doubling(2), 4, 40, Short);
-    (ByLess, "StrExt::replacen_smolstr", Most(2), 1, 80, Short);
-    (ByMore, "StrExt::replacen_smolstr", Doubling(2), 4, 40, Short);
-    (Between, "StrExt::replacen_smolstr", Doubling(2), 4, 40, Short);
+    (FewByMore, "StrExt::replacen_smolstr", Doubling(4), 6, 200, Short);
+    (ByLess, "StrExt::replacen_smolstr", Most(3), 2, 200, Short);
+    (ByMore, "StrExt::replacen_smolstr", Doubling(4), 6, 200, Short);
+    (Between, "StrExt::replacen_smolstr", Doubling(4), 6, 200, Short);
 };
 
 #[test]
@@ -165,14 +165,14 @@ fn of_forms(rt: HostRuntime) -> Result<(), Fail> {
 static JSON: [Law<OnJson>; 10] = table! {
     (FromValue, "json_string::from_value", Most(2), 1, 40, Resident);
     (FromPlain, "json_string::from_json", Most(2), 1, 40, Resident);
-    (FromEscape, "json_string::from_json", Most(3), 1, 200, Short);
-    (FromEscapes, "json_string::from_json", Doubling(2), 4, 40, Short);
-    (FromNumbers, "json_string::from_json", Doubling(2), 9, 200, Short);
-    (BehindNumbers, "json_string::from_json", Doubling(2), 9, 200, Short);
-    (Serialize, "SmolStr::serialize", Doubling(2), 4, 128, Never);
-    (Deserialize, "SmolStr::deserialize", Most(2), 1, 48, Never);
-    (DeserializeEscaped, "SmolStr::deserialize", Doubling(3), 8, 200, Never);
-    (DeserializeOwned, "SmolStr::deserialize_owned", Doubling(5), 12, 400, Never);
+    (FromEscape, "json_string::from_json", Most(3), 2, 200, Short);
+    (FromEscapes, "json_string::from_json", Doubling(3), 6, 200, Short);
+    (FromNumbers, "json_string::from_json", Doubling(4), 12, 400, Short);
+    (BehindNumbers, "json_string::from_json", Doubling(4), 12, 400, Short);
+    (Serialize, "SmolStr::serialize", Doubling(6), 12, 400, Never);
+    (Deserialize, "SmolStr::deserialize", Most(4), 3, 200, Never);
+    (DeserializeEscaped, "SmolStr::deserialize", Doubling(8), 16, 400, Never);
+    (DeserializeOwned, "SmolStr::deserialize_owned", Doubling(8), 16, 400, Never);
 };
 
 #[test]

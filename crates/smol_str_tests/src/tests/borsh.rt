@@ -30,7 +30,8 @@ pub static ROWS: [Row; 12] = table! {
 };
 
 pub fn form_of(test: &Test, row: Row) -> Vec<u8> {
-    of_units(test, row.2, row.3, row.1)
+    let (_, times, size, unit, _) = row;
+    of_units(test, size, unit, times)
 }
 
 /// The size, and so many `a`.

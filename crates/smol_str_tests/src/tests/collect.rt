@@ -71,11 +71,11 @@ fn test_from_char_iterator(rt: HostRuntime) -> Result<(), Fail> {
             &test,
             SmolStr::from_chars(test.alloc, text.as_str().chars()),
         );
-        same_value(&test, &value, text.as_str(), place, &parts);
-        same(&test, &value.len(), &len, &parts);
+        same_value(&test, &value, text.as_str(), place, &text.as_str());
+        same(&test, &value.len(), &len, &text.as_str());
         let pieces = strings_of(&test, parts).into_iter();
         let value = ok(&test, SmolStr::from_strings(test.alloc, pieces));
-        same_value(&test, &value, text.as_str(), place, &parts);
+        same_value(&test, &value, text.as_str(), place, &text.as_str());
     }
     test.end()
 }

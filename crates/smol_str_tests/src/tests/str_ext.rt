@@ -95,5 +95,5 @@ fn test_str_ext(rt: HostRuntime) -> Result<(), Fail> {
 
 fn check_answer(test: &Test, call: Call, text: &str, wanted: &str) {
     let value = ok(test, answer(test.alloc, call, text));
-    same_value(test, &value, wanted, place_of(wanted), &(call, text));
+    same_value(test, &value, wanted, place_of(wanted), &text);
 }

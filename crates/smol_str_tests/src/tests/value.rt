@@ -46,9 +46,9 @@ fn places(rt: HostRuntime) -> Result<(), Fail> {
             &test.value(text.as_str()),
             text.as_str(),
             place,
-            &parts,
+            &text.as_str(),
         );
-        same(&test, &place_of(text.as_str()), &place, &parts);
+        same(&test, &place_of(text.as_str()), &place, &text.as_str());
     }
     same(&test, &test.value(""), &SmolStr::default(), &"default");
     test.end()

@@ -40,28 +40,23 @@ fn of_modes(rt: HostRuntime) -> Result<(), Fail> {
 }
 
 impl OnLine {
-    fn words(&self) -> [&'static str; 3] {
+    fn word(&self) -> &'static str {
         match *self {
-            Show => ["show", "", ""],
-            Join => ["join", "", ""],
-            Lower => ["lower", "", ""],
-            Upper => ["upper", "", ""],
-            Tokens => ["tokens", "", ""],
-            Merge => ["merge", "", ""],
-            Replace(from, to) => ["replace", from, to],
+            Show => "show",
+            Join => "join",
+            Lower => "lower",
+            Upper => "upper",
+            Replace(..) => "replace",
+            Tokens => "tokens",
+            Merge => "merge",
         }
     }
 
     fn mode(&self, test: &Test) -> Mode {
-        let words = self.words();
-        mode_by(
-            test,
-            if let Replace(..) = self {
-                &words
-            } else {
-                &words[..1]
-            },
-        )
+        match *self {
+            Replace(from, to) => mode_by(test, &["replace", from, to]),
+            _ => mode_by(test, &[self.word()]),
+        }
     }
 
     /// What becomes of a line, as std has it.
@@ -80,8 +75,16 @@ fn times_of(way: usize) -> usize {
     [1, 3][way / 2 % 2]
 }
 
+/// A count of each number of digits.
+static COUNTS: [u64; 20] = table! {
+    1; 10; 100; 1_000; 10_000; 100_000; 1_000_000; 10_000_000; 100_000_000; 1_000_000_000;
+    10_000_000_000; 100_000_000_000; 1_000_000_000_000; 10_000_000_000_000; 100_000_000_000_000;
+    1_000_000_000_000_000; 10_000_000_000_000_000; 100_000_000_000_000_000; 1_000_000_000_000_000_000;
+    10_000_000_000_000_000_000;
+};
+
 fn count_of(way: usize) -> u64 {
-    10u64.saturating_pow(way as u32 % 20)
+    COUNTS[way % 20]
 }
 
 fn place_word(text: &str) -> &'static str {
@@ -172,8 +175,16 @@ fn of_tallies(rt: HostRuntime) -> Result<(), Fail> {
     check_law(rt, &ADDS)
 }
 
+/// A tally of so many others, and the token.
+#[derive(Drop)]
+struct Filled {
+    tally: Tally,
+    token: SmolStr,
+    others: u64,
+}
+
 impl Call for Add {
-    type Input = (Tally, SmolStr, u64);
+    type Input = Filled;
 
     fn ways(self) -> usize {
         8
@@ -184,7 +195,7 @@ impl Call for Add {
         text.len() > 2
     }
 
-    fn input(self, test: &Test, text: &'static str, way: usize) -> (Tally, SmolStr, u64) {
+    fn input(self, test: &Test, text: &'static str, way: usize) -> Filled {
         let mut tally = Tally::new(test.alloc);
         let others = OTHERS[way % 8];
         for number in 0..others {
@@ -199,16 +210,20 @@ impl Call for Add {
             Add::New => {}
             Add::Again => holds(test, tally.add(test.value(text), 1).is_ok(), &text),
         }
-        (tally, test.value(text), others)
+        Filled {
+            tally,
+            token: test.value(text),
+            others,
+        }
     }
 
     /// A token that comes back is not counted.
-    fn run(
-        self,
-        _alloc: Global,
-        _text: &str,
-        (mut tally, token, others): (Tally, SmolStr, u64),
-    ) -> Result<Thing, Thing> {
+    fn run(self, _alloc: Global, _text: &str, filled: Filled) -> Result<Thing, Thing> {
+        let Filled {
+            mut tally,
+            token,
+            others,
+        } = filled;
         match tally.add(token, 7) {
             Ok(count) => Ok(nothing(count == if let Add::New = self { 7 } else { 8 })),
             Err(AddFault::OutOfMemory(back)) if tally.len() as u64 == others => {
@@ -216,5 +231,9 @@ impl Call for Add {
             }
             Err(_) => Err(Thing::Fault),
         }
+    }
+
+    fn wanted(self, test: &Test, text: &'static str, _way: usize) -> String {
+        test.string(text)
     }
 }

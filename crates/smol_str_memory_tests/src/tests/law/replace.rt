@@ -22,6 +22,9 @@ pub enum Replace {
 /// However often the pattern stands.
 const ALL: usize = usize::MAX;
 
+/// The C library rounds the blocks of results that grow from such a text up to whole pages.
+const MAPPED: usize = 1_000_000;
+
 /// A text of 40 bytes.
 const LONG: &str = "aaaaaaaaaaaaaaaaaaaaaaaaaaaaaaaaaaaaaaaa";
 
@@ -78,8 +81,9 @@ impl Call for Replace {
 
     fn takes(self, text: &str) -> bool {
         match self {
-            ByteByMore => text.len() > INLINE_CAP,
+            ByteByMore => text.len() > INLINE_CAP && text.len() < MAPPED,
             FewByMore => text.len() <= INLINE_CAP,
+            ByMore | Between => text.len() < MAPPED,
             _ => true,
         }
     }
