@@ -169,10 +169,10 @@ static JSON: [Law<OnJson>; 10] = table! {
     (FromEscapes, "json_string::from_json", Doubling(3), 6, 200, Short);
     (FromNumbers, "json_string::from_json", Doubling(4), 12, 400, Short);
     (BehindNumbers, "json_string::from_json", Doubling(4), 12, 400, Short);
-    (Serialize, "SmolStr::serialize", Doubling(6), 12, 400, Never);
+    (Serialize, "SmolStr::serialize", Doubling(6), 16, 1_000, Never);
     (Deserialize, "SmolStr::deserialize", Most(4), 3, 200, Never);
-    (DeserializeEscaped, "SmolStr::deserialize", Doubling(8), 16, 400, Never);
-    (DeserializeOwned, "SmolStr::deserialize_owned", Doubling(8), 16, 400, Never);
+    (DeserializeEscaped, "SmolStr::deserialize", Doubling(8), 32, 1_000, Never);
+    (DeserializeOwned, "SmolStr::deserialize_owned", Doubling(8), 32, 1_000, Never);
 };
 
 #[test]
