@@ -102,13 +102,14 @@ fn of_pieces(rt: HostRuntime) -> Result<(), Fail> {
 }
 
 /// Of a value, also of a pinned one where nothing else is said.
-static VALUES: [Law<OnValue>; 8] = table! {
+static VALUES: [Law<OnValue>; 9] = table! {
     (Cloned, "SmolStr::clone", Most(0), 0, 0, Never);
     (IntoString, "SmolStr::into_string", Most(1), 1, 0, Empty);
     (IntoRcStr, "SmolStr::into_rc_str", Most(2), 1, 40, Never);
     (IntoRcStrOnHeap, "SmolStr::into_rc_str", Most(0), 0, 0, Never);
     (Write, "BorshSerialize::serialize", Most(0), 0, 0, Never);
     (ToValue, "json_string::to_value", Most(1), 1, 0, Empty);
+    (InTree, "ToValue::to_value", Most(1), 1, 0, Empty);
     (ToJson, "json_string::to_json", Most(4), 3, 100, Never);
     (ToJsonPlain, "json_string::to_json", Most(1), 1, 2, Never);
 };

@@ -70,21 +70,19 @@ impl OnLine {
     }
 }
 
-/// How often a line stands; a count of so many digits.
+/// A longer line takes each mode more time than a test has, by single bytes and with each request refused.
+const LONGEST: usize = 100;
+
+/// How often a line occurs; a count of so many digits.
 fn times_of(way: usize) -> usize {
     [1, 3][way / 2 % 2]
 }
 
-/// A count of each number of digits.
-static COUNTS: [u64; 20] = table! {
-    1; 10; 100; 1_000; 10_000; 100_000; 1_000_000; 10_000_000; 100_000_000; 1_000_000_000;
-    10_000_000_000; 100_000_000_000; 1_000_000_000_000; 10_000_000_000_000; 100_000_000_000_000;
-    1_000_000_000_000_000; 10_000_000_000_000_000; 100_000_000_000_000_000; 1_000_000_000_000_000_000;
-    10_000_000_000_000_000_000;
-};
+/// Counts of 1 to 20 digits.
+static COUNTS: [u64; 4] = [1, 1_000, 1_000_000_000, 10_000_000_000_000_000_000];
 
 fn count_of(way: usize) -> u64 {
-    COUNTS[way % 20]
+    COUNTS[way % 4]
 }
 
 fn place_word(text: &str) -> &'static str {
@@ -99,16 +97,13 @@ impl Call for OnLine {
     /// The mode, the input, how many bytes the reader gives a call, and a list with room for the report.
     type Input = (Mode, String, usize, Vec<u8>);
 
-    /// Once and three times, and by single bytes; each number of digits of a count.
+    /// Once and three times, and by single bytes; counts of some digits.
     fn ways(self) -> usize {
-        match self {
-            Merge => 20,
-            _ => 4,
-        }
+        4
     }
 
     fn takes(self, text: &str) -> bool {
-        !text.contains('\n')
+        !text.contains('\n') && text.len() <= LONGEST
     }
 
     fn input(self, test: &Test, text: &'static str, way: usize) -> (Mode, String, usize, Vec<u8>) {

@@ -15,6 +15,8 @@ pub enum OnValue {
     /// To a list that has room.
     Write,
     ToValue,
+    /// As `json!` makes one.
+    InTree,
     ToJson,
     ToJsonPlain,
 }
@@ -65,7 +67,8 @@ impl Call for OnValue {
             IntoString => made(value.into_string(alloc)),
             IntoRcStr | IntoRcStrOnHeap => made(value.into_rc_str(alloc)),
             Write => written(&value, out),
-            ToValue => tree(alloc, &value),
+            ToValue => tree(to_value(alloc, &value)),
+            InTree => tree(serde_json::ToValue::to_value(&value, alloc)),
             ToJson | ToJsonPlain => made(to_json(alloc, &value)),
         }
     }
@@ -99,8 +102,8 @@ fn written(value: &SmolStr, mut out: Vec<u8>) -> Result<Thing, Thing> {
     }
 }
 
-fn tree(alloc: Global, value: &SmolStr) -> Result<Thing, Thing> {
-    match to_value(alloc, value) {
+fn tree(outcome: Result<Value, AllocError>) -> Result<Thing, Thing> {
+    match outcome {
         Ok(Value::String(text)) => Ok(Thing::Owned(text)),
         Ok(_) => Err(Thing::Fault),
         Err(fault) => Err(fault.into_thing()),
