@@ -44,7 +44,7 @@ last_off bs ds c u e =
     let utf8 : IsUtf8 ds = (h.0, (front.0, h.3)) in
     (utf8, cc (parts, chars_from_encodes h.0 ds utf8 h.3))
 
--- ---- std's lemmas in forms that `grind` finds at a caller's goal: no λ stands in what they show but that by which items
+-- ---- std's lemmas in forms that `grind` finds at a caller's goal: no λ is in what they show but that by which items
 -- are seen, and a list that may have computed has a name
 
 weaker_runs : {S A B : Type 0} (steps more : S → Option A → S → Type 0) (v : A → B)
@@ -56,7 +56,7 @@ weaker_runs steps more v f s (y ∷ ys) h = (
   λ x t m. let rest = h.1 x t (f s (Some x) t m) in (rest.0, weaker_runs steps more v f t ys rest.1),
 )
 
--- steps of which other steps follow give the same
+-- steps of which other steps follow give equal items
 pub weaker : {S A B : Type 0} {steps more : S → Option A → S → Type 0} {v : A → B} {s : S} {ys : List B}
     → ((s : S) (o : Option A) (t : S) → more s o t → steps s o t) → YieldsList steps v s ys → YieldsList more v s ys
 weaker f gives = record { runs = weaker_runs _ _ _ f _ _ gives.runs }

@@ -1,7 +1,7 @@
 -- What a value means.
 --     Meaning                  a text, and the place where the value keeps it
 --     IsValueOf t v            the value has the text t, in the place of that text
---     IsPrintOf output v       the same of what was printed, where the type says what it prints
+--     IsPrintOf output v       the value has what was printed as its text, where the type says what it prints
 --     texts values             the texts of values
 --     AreValuesOf ts values    the values have the texts ts, each in the place of its text
 --     pair_texts pairs         the texts of pairs of values, as of keys and what stands at them

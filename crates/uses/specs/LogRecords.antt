@@ -3,7 +3,7 @@
 --     forms records                  the forms one after another
 --     texts record                   its level's and its message's text
 --     AfterRecordFault, AfterNextFault, AfterReadFault
---                                    what stands where a record was not read, or not kept, and where not all were
+--                                    what holds if a record was not read, or not kept, and if not all were
 use Rattle.std.specs.Prelude.{◌≡◌, ℕ, ◌<◌, ◌⊎◌, List, ◌++◌, length, All, Option}
 use Rattle.std.specs.List.{flat_map}
 use Rattle.std.specs.Io.KnownBytes.{Consumes}

@@ -35,7 +35,7 @@ pub fn fields(alloc: Global, line: &str) -> Result<Vec<SmolStr>, AllocError>
         .try_collect(alloc)
 }
 
-/// The same at any separator.
+/// The fields of a line, at any separator.
 #[tactic(auto, using(smol_str::proofs::CallerLemmas::cutting))]
 pub fn values_at(alloc: Global, line: &str, separator: &str) -> Result<Vec<SmolStr>, AllocError>
     requires some { 0 < length separator.now }
@@ -85,7 +85,7 @@ pub fn again(alloc: Global, line: &str, separator: &str) -> Result<SmolStr, Allo
     line_of(alloc, &values, separator)
 }
 
-/// What stands before the first equals sign of a line, and behind it.
+/// The parts of a line before and after its first equals sign.
 #[tactic(auto, using(smol_str::proofs::CallerLemmas::cut_once))]
 pub fn key_and_value(line: &str) -> Option<(&str, &str)>
     ensures whole { IfSome result (λ it. chars line.now ≡ chars it.0.now ++ (61 ∷ chars it.1.now)) }
@@ -156,7 +156,7 @@ pub fn comment(line: &str) -> Option<&str>
     line.strip_prefix("//")
 }
 
-/// What stands before the semicolon that ends a statement.
+/// A statement without the semicolon that ends it.
 #[tactic(auto, using(smol_str::proofs::CallerLemmas::cut_once))]
 pub fn statement(line: &str) -> Option<&str>
     ensures front { IfSome result (λ front. chars line.now ≡ chars front.now ++ (59 ∷ [])) }
@@ -165,7 +165,7 @@ pub fn statement(line: &str) -> Option<&str>
     line.strip_suffix(';')
 }
 
-/// What stands before the first match of a pattern, and behind it.
+/// The parts of a text before and after the first match of a pattern.
 #[tactic(auto, using(smol_str::proofs::CallerLemmas::cut_once))]
 pub fn around<'a>(text: &'a str, pattern: &str) -> Option<(&'a str, &'a str)>
     requires some { 0 < length pattern.now }
@@ -196,7 +196,7 @@ pub fn field(line: &str) -> Option<(&str, &str, &str)>
     Some((name, kind, value))
 }
 
-/// What stands between quotes.
+/// The text between quotes.
 #[tactic(auto, using(smol_str::proofs::CallerLemmas::cut_once))]
 pub fn unquoted(token: &str) -> Option<&str>
     ensures { IfSome result (λ it. chars token.now ≡ 34 ∷ (chars it.now ++ (34 ∷ []))) }
@@ -204,7 +204,7 @@ pub fn unquoted(token: &str) -> Option<&str>
     token.strip_prefix('"')?.strip_suffix('"')
 }
 
-/// What stands between two marks.
+/// The text between two marks.
 #[tactic(auto, using(smol_str::proofs::CallerLemmas::cut_once))]
 pub fn between<'a>(token: &'a str, front: &str, back: &str) -> Option<&'a str>
     ensures { IfSome result (λ it. chars token.now ≡ chars front.now ++ (chars it.now ++ chars back.now)) }
@@ -224,7 +224,7 @@ pub fn tail(alloc: Global, name: &SmolStr, prefix: &str) -> Result<Option<SmolSt
     }
 }
 
-/// What stands before a value's suffix, as a value, if it has it.
+/// A value's text without its suffix, as a value, if it has it.
 #[tactic(auto, using(smol_str::proofs::CallerLemmas::cut_once))]
 pub fn stem(alloc: Global, name: &SmolStr) -> Result<Option<SmolStr>, AllocError>
     ensures front { IfOk result (λ stem. IfSome stem (λ v. name.now.text ≡ v.text ++ chars (codes ".rs"))) }
@@ -271,7 +271,7 @@ pub fn hyphenated(alloc: Global, name: &str) -> Result<SmolStr, AllocError>
     name.replace_smolstr(alloc, "_", "-")
 }
 
-/// A text cut at the first match of a pattern; `None` where the pattern stands nowhere in it.
+/// A text cut at the first match of a pattern; `None` if the pattern does not occur in it.
 pub fn cut_at<'a>(text: &'a str, pattern: &str) -> Option<(&'a str, &'a str)>
     requires some { 0 < length pattern.now }
     ensures whole { IfSome result (λ parts.
@@ -283,7 +283,7 @@ pub fn cut_at<'a>(text: &'a str, pattern: &str) -> Option<(&'a str, &'a str)>
     Some((&text[..found], &text[found + pattern.len()..]))
 }
 
-/// What stands between a byte index and the next match of a pattern, and behind the match.
+/// The text between a byte index and the next match of a pattern, and the text after the match.
 pub fn at_next<'a>(text: &'a str, from: usize, pattern: &str) -> Option<(&'a str, &'a str)>
     requires boundary { IsCharBoundary text.now from }
     requires some { 0 < length pattern.now }

@@ -3,7 +3,7 @@
 //!
 //! Each way ensures `value`, that the value is of exactly the text that is meant and lies in the place of that text; and
 //! `refused`, that memory may be refused only for text that is not resident, or not short where it comes in parts. At the
-//! end stand values that cannot fail, or that lie where the caller knows.
+//! end are values that cannot fail, or whose place the caller knows.
 ghost use Rattle.std.specs.Prelude.{◌≡◌, ◌<◌, ◌≤◌, ◌⊎◌, ◌↔◌, ◌++◌, [], ◌∷◌, length, codes, encode_utf8_all, IfOk, IsOk, OnOk, OnErr, IsTrue, ◌≢◌, ◌-◌, ℕ, List, drop, map, set, take, IfNone, IfSome, MatchBool};
 ghost use Rattle.std.specs.Str.{chars, IsUtf8, IsCharBoundary, trim};
 ghost use Rattle.std.specs.String.{string_bytes};
@@ -43,7 +43,7 @@ pub fn of_text(alloc: Global, text: &str) -> Result<SmolStr, AllocError>
     SmolStr::new(alloc, text)
 }
 
-/// The same by the other name of the call.
+/// A whole text, by the other name of the call.
 pub fn of_str(alloc: Global, text: &str) -> Result<SmolStr, AllocError>
     ensures value { IfOk result (λ v. IsValueOf (chars text.now) v) }
     ensures refused { OnErr result (¬ (IsResident (chars text.now))) }
@@ -100,7 +100,7 @@ pub fn of_bytes(alloc: Global, bytes: &[u8]) -> Result<SmolStr, AllocError>
     SmolStr::from_utf8(alloc, bytes).map_err(|_| AllocError)
 }
 
-/// The same where the bytes are known to be UTF-8.
+/// A whole text in bytes that are known to be UTF-8.
 pub fn of_known_bytes(alloc: Global, bytes: &[u8]) -> Result<SmolStr, AllocError>
     requires { IsUtf8 bytes.now }
     ensures value { IfOk result (λ v. IsValueOf (chars bytes.now) v) }
@@ -125,7 +125,7 @@ pub fn of_string(alloc: Global, text: String) -> Result<SmolStr, AllocError>
     SmolStr::from_string(alloc, text).or(Err(AllocError))
 }
 
-/// The same where the `String` is not wanted back, and the value keeps its memory.
+/// A `String`, handed over: the value keeps its memory, and a refusal drops it.
 pub fn of_owned(text: String) -> Result<SmolStr, AllocError>
     ensures value { IfOk result (λ v. IsValueOf (chars (string_bytes text)) v) }
     ensures refused { OnErr result (¬ (IsResident (chars (string_bytes text)))) }
@@ -292,7 +292,7 @@ pub fn of_builder(builder: SmolStrBuilder) -> Result<SmolStr, AllocError>
     Ok(SmolStr::from_builder(builder)?)
 }
 
-/// The same where the builder is not wanted back, and the value keeps its memory.
+/// A builder, however it was filled: the value keeps its memory, and a refusal drops it.
 pub fn of_own_builder(builder: SmolStrBuilder) -> Result<SmolStr, AllocError>
     ensures value { IfOk result (λ v. IsValueOf builder.text v) }
     ensures refused { OnErr result (¬ (IsResident builder.text)) }
@@ -398,7 +398,7 @@ pub fn lie_alike(left: &SmolStr, right: &SmolStr) -> bool
     left.place() == right.place()
 }
 
-/// Two values of one text, pinned or not, feed a hasher the same.
+/// Two values of one text, pinned or not, hash alike.
 pub fn hash_alike<H: Hasher>(
     left: &SmolStr,
     right: &SmolStr,
@@ -476,7 +476,7 @@ pub fn line_of(alloc: Global, fields: &[SmolStr], separator: &str) -> Result<Smo
     SmolStr::join(alloc, fields, separator)
 }
 
-/// The same of `&str`s, at a comma.
+/// The line of some `&str`s, with a comma between each two.
 #[tactic(auto, using(smol_str::proofs::CallerLemmas::texts))]
 pub fn line_of_strs(alloc: Global, fields: &[&str]) -> Result<SmolStr, AllocError>
     ensures value { IfOk result (λ v. IsValueOf (joined_by (44 ∷ []) (map str_text fields.now)) v) }

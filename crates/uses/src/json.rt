@@ -45,7 +45,7 @@ pub fn of_plain(alloc: Global, json: &str, text: &str) -> Result<SmolStr, AllocE
     }
 }
 
-/// The same of a short text, which never fails.
+/// The value of plain JSON of a short text, which never fails.
 pub fn of_short_plain(alloc: Global, json: &str, text: &str) -> SmolStr
     requires json { IsPlainJson json.now (chars text.now) }
     requires short { IsShort (chars text.now) }
@@ -88,7 +88,7 @@ pub fn as_json_value(alloc: Global, value: &SmolStr) -> Result<SmolStr, JsonFaul
     from_value(alloc, &json)
 }
 
-/// A JSON value that is known to be no string: that is told, whatever the memory.
+/// A JSON value that is known not to be a string: the call returns `NotString`, whatever the memory.
 pub fn told_as_other(alloc: Global, json: &Value) -> JsonFault
     requires { IsOther (view json.now) }
     ensures { result ≡ JsonFault.NotString }

@@ -39,7 +39,7 @@ pub fn sorted_once(mut names: Vec<SmolStr>) -> Result<Vec<SmolStr>, AllocError>
     Ok(names)
 }
 
-/// Where a name stands in names in the order of their texts.
+/// The index of a name in names that are sorted by their texts.
 #[tactic(auto, using(smol_str::proofs::CallerLemmas::sorting))]
 pub fn index_of(names: &[SmolStr], name: &SmolStr) -> Result<usize, usize>
     requires sorted { IsSorted (slice_cmp nat_cmp) (texts names.now) }

@@ -120,7 +120,7 @@ pub fn entry(alloc: Global, key: &str, value: &SmolStr) -> Result<SmolStr, Forma
     print_entry(alloc, key, value)
 }
 
-/// The same, as bytes. A ruleset does not reach into a function that prints, so the print has one of its own.
+/// A key and its value, as bytes. A ruleset does not reach into a function that prints, so the print has its own.
 fn print_entry(alloc: Global, key: &str, value: &SmolStr) -> Result<SmolStr, FormatError>
     ensures text { IfOk result (λ v.
         encode_utf8_all v.text ≡ key.now ++ (codes " = " ++ encode_utf8_all value.now.text)) }

@@ -1,5 +1,5 @@
 //! A value there and back: its wire form written, and read again by both calls. Readers that are read to their end, and
-//! bytes that are no text.
+//! bytes that are not UTF-8.
 ghost use Rattle.std.specs.Prelude.{◌≡◌, ◌<◌, ◌+◌, ◌≤◌, ◌++◌, [], drop, length, take, Some, IfOk, IfErr, IfSome, OnOk, OnErr, ◌∷◌, MatchOption, ◌↔◌, ℕ, List, String, IsTrue, codes, reverse, encode_utf8_all};
 ghost use Rattle.std.specs.Io.KnownBytes.{Keeps};
 ghost use Rattle.smol_str.specs.Stream.{Gave};
@@ -44,7 +44,7 @@ pub fn written(alloc: Global, value: &SmolStr, rest: &[u8]) -> Result<Vec<u8>, E
     Ok(bytes)
 }
 
-/// A value whose text is too long for a wire form: that is told, whatever the writer does, and nothing is written.
+/// A text that is too long for a wire form: the call returns `TooLong`, whatever the writer does, and writes nothing.
 pub fn told_as_too_long<W: Write>(writer: &mut W, value: &SmolStr) -> EncodeFault
     requires long { ¬ (HasWire value.now.text) }
     ensures fault { result ≡ EncodeFault.TooLong }
@@ -77,7 +77,7 @@ pub fn read_from_bytes(
     }
 }
 
-/// The same by a reader, which might fail too; what it has left is `rest`.
+/// The value of such bytes by a reader, which might fail too; it has `rest` left.
 #[tactic(auto, using(smol_str::proofs::CallerLemmas::forms))]
 pub fn read_from_reader<'a>(
     alloc: Global,
@@ -134,7 +134,7 @@ pub fn read_from_peer<R: Read>(
     deserialize_limited(alloc, reader, limit)
 }
 
-/// The same of a form that is known, with `rest` behind it: that it ended early is not told, nor that it is no text.
+/// The value of a known form, with `rest` after it: neither an early end nor bad UTF-8 is reported.
 #[tactic(auto, using(smol_str::proofs::CallerLemmas::forms))]
 pub fn read_known_from_peer(
     alloc: Global,
@@ -184,7 +184,7 @@ pub fn read_behind_early_end<R: Read>(
     }
 }
 
-/// What stands before the first bytes that are no text, and what behind them; `None` where all of them are text.
+/// The bytes before and after the first that are not UTF-8; `None` if all of them are UTF-8.
 pub fn around_invalid(alloc: Global, bytes: &[u8]) -> Option<(&[u8], &[u8])>
     ensures front { IfSome result (λ parts. IsUtf8 parts.0.now) }
     ensures behind { IfSome result (λ parts. parts.1.now
@@ -225,7 +225,7 @@ pub fn next_limited(
     deserialize_limited(alloc, messages, limit)
 }
 
-/// The first message, and the others: whatever the memory, one that is cut short or no text is told as that.
+/// The first message, and the others. One that is cut short or not UTF-8 is reported as such, whatever the memory.
 pub fn split_message(alloc: Global, messages: &[u8]) -> Result<(SmolStr, &[u8]), DecodeFault>
     ensures form { IfOk result (λ first. messages.now ≡ wire first.0.text ++ first.1.now) }
     ensures place { IfOk result (λ first. first.0.place ≡ place_of first.0.text) }

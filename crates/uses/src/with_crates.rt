@@ -43,7 +43,7 @@ pub fn receive<'de, F: Format>(
     SmolStr::deserialize(alloc, from)
 }
 
-/// The same where nothing is borrowed from the input.
+/// A value read from any format, which borrows nothing from the input.
 pub fn receive_owned<F: Format>(
     alloc: Global,
     from: &mut Deserializer<'_, '_, F>,

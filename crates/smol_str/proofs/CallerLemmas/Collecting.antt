@@ -230,7 +230,7 @@ module _ {n : ℕ} where
       → IfOk r (λ y. IsValueOf t y)
   array_strs_collected m r t s is eq one = rw one at (collected items_lent m r is eq (YieldsList-from_array (array_into_iter_items s) refl))
 
--- and the same of a text that is split at another
+-- the pieces of a text that is split at another
 pub split_long : (s : Split (Bor (List ℕ))) → IsUtf8 (split_text s) → IsUtf8 (split_pattern s).now
     → 0 < length (split_pattern s).now → split_has_more s ≡ true
     → Outgrown joined_strs (split_steps (λ n. FindsText n.now) (λ n m. m.now ≡ n.now)) s

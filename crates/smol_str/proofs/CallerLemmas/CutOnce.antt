@@ -12,7 +12,7 @@ use Rattle.smol_str.proofs.Common.{cond, nat_tests}
 use Rattle.smol_str.proofs.PieceLemmas.{bytes_there, found_char, found_parts, found_text}
 use Rattle.smol_str.proofs.TextLemmas.Places.{size-append, size-chars, some_char}
 
--- ---- a character that stands between bytes, in front of them or behind them
+-- ---- a character that occurs between bytes, before them or after them
 module _ (c : ℕ) (bs : List ℕ) (u : IsUtf8 bs) where
   pub char_between : (i j : ℕ) → HasCharAt c bs i j
       → (chars bs ≡ chars (take i bs) ++ (c ∷ chars (drop j bs))) × IsUtf8 (take i bs) × IsUtf8 (drop j bs)

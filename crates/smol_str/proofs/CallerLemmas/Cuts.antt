@@ -70,7 +70,7 @@ pub split_at_literal : {steps : Split (Bor (List ℕ)) → Option (Bor (List ℕ
 split_at_literal xs s t bs nd runs ends f more text is u low some =
     (split_at_text xs s t runs ends f more).1 bs nd text is u (literal-utf8 nd low) some
 
--- the same where `map` and `try_collect` make the values, at a character
+-- the pieces where `map` and `try_collect` make the values, at a character
 pub tried_at_char : {F E : Type 0} (more : Map (Split ℕ) F → Option (Result Meaning E) → Map (Split ℕ) F → Type 0)
     (rs : List (Result Meaning E)) (s t : Map (Split ℕ) F) → Yields more s rs t → ((u : Map (Split ℕ) F) × more t None u)
     → MapsBy (split_steps FindsChar (λ a b. b ≡ a)) (λ bs v. IsValueOf (chars bs) v) more (map_callee s)
@@ -89,7 +89,7 @@ tried_at_char more rs s t run ends by last live all =
       values.place,
     )
 
--- the same where `map` and `try_collect` make the values, at a text
+-- the pieces where `map` and `try_collect` make the values, at a text
 pub tried_at_text : {F E : Type 0} (more : Map (Split (Bor (List ℕ))) F → Option (Result Meaning E) → Map (Split (Bor (List ℕ))) F → Type 0)
     (rs : List (Result Meaning E)) (s t : Map (Split (Bor (List ℕ))) F) → Yields more s rs t → ((u : Map (Split (Bor (List ℕ))) F) × more t None u)
     → MapsBy (split_steps (λ (n : Bor (List ℕ)). FindsText n.now) (λ n m. m.now ≡ n.now)) (λ bs v. IsValueOf (chars bs) v) more (map_callee s)

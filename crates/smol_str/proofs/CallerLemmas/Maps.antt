@@ -33,7 +33,7 @@ text-kept eq check old new keeps others = (refl, λ t apart. others (key_of t) a
 
 pub ruleset updates = (text-kept, same_key-other)
 
--- a `&str` stands for the keys of its text
+-- a `&str` matches the keys of its text
 pub stands_for-text : (bs : List ℕ) (key : Meaning) → IsUtf8 bs → stands_for bs key ≡ bytes_eq (chars bs) key.text
 stands_for-text bs key u = search (rules, arith, encodes-chars, encodes_same)
 

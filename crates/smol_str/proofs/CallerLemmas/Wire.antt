@@ -59,7 +59,7 @@ pub count-apart : (m n : ℕ) (x y : List ℕ) → m < 2 ^ 32 → n < 2 ^ 32
     → to_le_bytes w32 m ++ x ≡ to_le_bytes w32 n ++ y → (m ≡ n) × (x ≡ y)
 count-apart m n x y h k e = search (rules, arith, from_le_bytes-to_le_bytes_4)
 
--- as many forms: of the same items, as far as `key` reads them and one form tells them apart
+-- as many forms: of equal items, as far as `key` reads them and one form determines them
 module _ {X Y : Type 0} (form : X → List ℕ) (P : X → Type 0) (key : X → Y)
     (apart : (x y : X) (s t : List ℕ) → P x → P y → form x ++ s ≡ form y ++ t → (key x ≡ key y) × (s ≡ t)) where
   pub items-apart : (xs ys : List X) (s t : List ℕ) → All P xs → All P ys → length xs ≡ length ys
@@ -71,7 +71,7 @@ module _ {X Y : Type 0} (form : X → List ℕ) (P : X → Type 0) (key : X → 
       (cc (first.0, others.0), others.1)
   items-apart xs ys s t h k l e = absurd (omega arith)
 
--- of the same texts
+-- of equal texts
 pub forms-apart : (ss ts : List (List ℕ)) (x y : List ℕ) → All HasWire ss → All HasWire ts → length ss ≡ length ts
     → flat_map wire ss ++ x ≡ flat_map wire ts ++ y → (ss ≡ ts) × (x ≡ y)
 forms-apart ss ts x y h k l e =

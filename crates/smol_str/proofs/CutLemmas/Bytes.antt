@@ -28,7 +28,7 @@ pub whole-each : (x y : ℕ) (text new rest : List ℕ) (len : ℕ) → new ≡ 
     → take len (new ++ rest) ≡ each_replaced x y text
 whole-each x y text new rest len made long = search (rules, take_at, length-map)
 
--- ---- the same by matches, where the limit is no less than the text is long
+-- ---- each character replaced by matches, where the limit is at least the length of the text
 
 -- w in place of the first n of the characters x
 abbrev swapped : ℕ → List ℕ → List ℕ → ℕ → List ℕ

@@ -59,7 +59,7 @@ same_parts p q q' x y some e f g =
     let rest = append_cancel_left q (p ++ x) (p ++ y) (e ∙ ap (λ l. l ++ (p ++ y)) (sym same)) in
     (same, append_cancel_left p x y rest)
 
--- p that stands in q and p without its last character stands in q followed by p, before q's end
+-- p that occurs in q and p without its last character occurs in q followed by p, before q's end
 pub sooner : (p q r : List ℕ) → 0 < length p → (o : Occurs p (q ++ but_last p))
     → (q ++ (p ++ r) ≡ o.0 ++ (p ++ (o.1 ++ (last_part p ++ r)))) × (length o.0 < length q)
 sooner p q r some (a, s, e) = (
@@ -123,7 +123,7 @@ starts_with-nowhere p s none = false_from_ne_true (starts_with nat_eq s p) (λ y
 too_long : (p : List ℕ) → 0 < length p → ¬ Occurs p (but_last p)
 too_long p some o = omega (arith, length_but_last p, ap length o.2, length-append o.0 (p ++ o.1), length-append p o.1)
 
--- p and what may stand before it
+-- p and what may come before it
 abbrev First : List ℕ → List ℕ → List ℕ × List ℕ → Type 0
 First p t m = (t ≡ m.0 ++ (p ++ m.1)) × (IsFirstAfter p m.0)
 

@@ -14,11 +14,11 @@ pub one_byte : (hay nd : List ℕ) → length nd ≡ 1 → (r : Option ℕ) → 
     → FindsNeedle hay nd 0 r
 one_byte hay nd one r f = grind (arith, common_steps, byte-OccursAt, OccursAt-byte)
 
--- characters that stand have bytes that stand
+-- where characters occur, their bytes do
 chars_stand : (b p a r : List ℕ) → b ≡ a ++ (p ++ r) → OccursAt (encode_utf8_all b) (encode_utf8_all p) (size a)
 chars_stand b p a r e = grind (arith, common_steps, encodes-append, OccursAt-from_part, length-append, drop_at, take_at)
 
--- a pattern that stands in q and all of p but its last character stands in b before q's end
+-- a pattern that occurs in q and all of p but its last character occurs in b before q's end
 pub earlier : (b p q r : List ℕ) → b ≡ q ++ (p ++ r) → 0 < length p → (o : Occurs p (q ++ but_last p))
     → (x : Occurs p b) × (size x.0 < size q)
 earlier b p q r e some o =
@@ -88,18 +88,18 @@ module _ (bs nd : List ℕ) (i : ℕ) (u : IsUtf8 bs) (v : IsUtf8 nd) where
         → (Some (i + k) ≡ None) ↔ (¬ Occurs (chars nd) b)
     some_not_none a b e n = let o = next-occurs a b (chars nd) (i + k) (IsNextMatch-found a b e n) in search rules
 
--- a pattern whose bytes are nowhere in a text's stands nowhere in the text
+-- a pattern whose bytes do not occur in a text's does not occur in the text
 pub not_found : (bs nd : List ℕ) → IsUtf8 bs → IsUtf8 nd → FindsNeedle bs nd 0 None → ¬ Occurs (chars nd) (chars bs)
 not_found bs nd u v f =
     found_none [] (chars bs) (chars nd) 0 (rw (encodes-chars bs u, encodes-chars nd v) f)
 
--- a pattern that stands in the bytes of a text stands at characters
+-- a pattern that occurs in the bytes of a text occurs at char boundaries
 module _ (bs nd : List ℕ) (u : IsUtf8 bs) (v : IsUtf8 nd) (some : 0 < length nd) where
   pub StandsAt-parts : (x y : List ℕ) → bs ≡ x ++ (nd ++ y) → StandsAt (chars nd) (chars bs) (length x)
   StandsAt-parts x y e =
       StandsAt-bytes (chars bs) (chars nd) x y (some_char nd v some) (cc (encodes-chars bs u, encodes-chars nd v))
 
-  -- where it stands, a character begins, and one behind it
+  -- where it occurs, a character begins, and another after it
   boundaries : (x y : List ℕ) → bs ≡ x ++ (nd ++ y) → (i : ℕ) → length x ≡ i
       → IsCharBoundary bs i × IsCharBoundary bs (i + length nd)
   boundaries x y e i long =

@@ -1,5 +1,5 @@
--- For the law of self-synchronisation: where the bytes of a text that is not empty stand in the bytes of a text,
--- its characters stand. It holds of every two lists of numbers.
+-- For the law of self-synchronisation: where the bytes of a text that is not empty occur in the bytes of a text,
+-- its characters occur. It holds of every two lists of numbers.
 use Rattle.smol_str.proofs.Common.{◌≡◌, ℕ, ◌≤◌, ◌<◌, List, [], ◌∷◌, ◌++◌, ◌⊎◌, length, refl, ap, ◌∙◌, arith, append_assoc, encode, encodes, cons_from_encodes, encodes-append, StandsAt, rules}
 use Rattle.smol_str.proofs.TextLemmas.Lists.{head_same, tail_same}
 use Rattle.smol_str.proofs.TextLemmas.Utf8.{form}
@@ -31,14 +31,14 @@ record LeadAndRest (c : ℕ) : Type 0 where
 lead_and_rest : (c : ℕ) → LeadAndRest c
 lead_and_rest c = let forms = form c in search rules
 
--- a byte that leads stands behind those that follow
+-- a byte that leads comes after those that follow
 follows-apart : (s rest u : List ℕ) (b : ℕ) (v : List ℕ) → Follows s → Leads b → s ++ rest ≡ u ++ (b ∷ v) →
     (w : List ℕ) × (u ≡ s ++ w) × (rest ≡ w ++ (b ∷ v))
 follows-apart [] rest u b v f l e = (u, refl, e)
 follows-apart (x ∷ s) rest [] b v f l e = search (rules, arith, head_same)
 follows-apart (x ∷ s) rest (d ∷ u) b v f l e = search (rules, arith, rest, tail_same, head_same, follows-apart s rest u b v f.1 l (tail_same x d (s ++ rest) (u ++ (b ∷ v)) e))
 
--- p stands in t between x and y, as characters and as bytes
+-- p occurs in t between x and y, as characters and as bytes
 abbrev pub StandsBetween : List ℕ → List ℕ → List ℕ → List ℕ → Type 0
 StandsBetween t p x y = (a : List ℕ) × (r : List ℕ) × (t ≡ a ++ (p ++ r)) × (encodes a ≡ x) × (encodes r ≡ y)
 
