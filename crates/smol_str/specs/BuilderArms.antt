@@ -1,11 +1,12 @@
 -- What the private arms of a builder mean.
-use Rattle.std.specs.Prelude.{ℕ, List}
+use Rattle.std.specs.Prelude.{ℕ, List, String}
 use Rattle.std.specs.Str.{chars}
+use Rattle.std.specs.declared.alloc.Global.{Global}
 use Rattle.std.specs.String.{string_bytes}
 use Rattle.smol_str.specs.declared.builder.BuilderRepr.{BuilderRepr}
 use Rattle.smol_str.specs.declared.builder.BuilderRepr.TheVariants.{Inline, Heap}
 use Rattle.smol_str.specs.Text.{IsShort}
-use Rattle.smol_str.specs.Draft.{Kind, InBuffer, OnHeap}
+use Rattle.smol_str.specs.Draft.{Draft, Kind, InBuffer, OnHeap}
 
 -- the text that an arm holds
 abbrev pub builder_text : BuilderRepr → List ℕ
@@ -21,3 +22,7 @@ builder_kind (Heap s) = OnHeap
 abbrev pub IsSoundBuilder : BuilderRepr → Type 0
 IsSoundBuilder (Inline t) = IsShort t
 IsSoundBuilder (Heap s) = Unit {0}
+
+-- a builder that keeps its text in this string
+abbrev pub heap_draft : String Global → Draft
+heap_draft s = record { text = chars (string_bytes s); kind = OnHeap }

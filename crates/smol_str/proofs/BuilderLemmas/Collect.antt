@@ -1,5 +1,5 @@
 -- For collecting, extending and building by steps: items drawn and appended one after another.
-use Rattle.smol_str.proofs.Common.{true, false, false≢true, ◌⊎◌, inr, ◌≡◌, ℕ, ◌<◌, List, [], ◌∷◌, ◌++◌, length, take, drop, map, Option, Some, Result, Ok, Err, IfOk, OnOk, OnErr, refl, ap, ◌∙◌, subst, arith, rules, inl, length-append, length-take, YieldsList, items_from_drains, append-nil, length-map, IsShort, IsResident, but_last, Draft, InBuffer, OnHeap, empty_draft, appended, joined, Meaning, IsValueOf, on_err_weaker, IfOk-weaker}
+use Rattle.smol_str.proofs.Common.{String, Global, string_bytes, chars, true, false, false≢true, ◌⊎◌, inr, ◌≡◌, ℕ, ◌<◌, List, [], ◌∷◌, ◌++◌, length, take, drop, map, Option, Some, Result, Ok, Err, IfOk, OnOk, OnErr, refl, ap, ◌∙◌, subst, arith, rules, inl, length-append, length-take, YieldsList, items_from_drains, append-nil, length-map, IsShort, IsResident, but_last, Draft, InBuffer, OnHeap, empty_draft, appended, joined, Meaning, IsValueOf, on_err_weaker, IfOk-weaker}
 use Rattle.smol_str.proofs.TextLemmas.Lists.{length_but_last}
 use Rattle.std.specs.Iterator.{Yields, YieldsThen, Drains, DrainsIf, ExtendsWithItems}
 use Rattle.std.specs.Iterator.Runs.{Run}
@@ -7,6 +7,7 @@ use Rattle.std.proofs.iter.runs.Lists.{Yields-both}
 use Rattle.std.proofs.iter.runs.Made.{run, took, to_end, to_item}
 use Rattle.std.proofs.lemmas.Grind.{flat_map-append}
 use Rattle.std.proofs.lemmas.Iterator.Consumers.{YieldsList-so_far}
+use Rattle.smol_str.specs.BuilderArms.{heap_draft}
 use Rattle.smol_str.specs.Collect.{AppendedAll, StoppedAt, Collected, Outgrown}
 use Rattle.smol_str.proofs.TextLemmas.Places.{IsShort-front}
 use Rattle.smol_str.proofs.BuilderLemmas.Draft.{appended-twice, OnHeap-long}
@@ -112,6 +113,25 @@ module _ {S : Type 0} (steps : S → Option ℕ → S → Type 0) (s : S) (xs : 
       let joins = appended-twice old xs (x ∷ p.items) in
       let made = run steps s (xs ++ x ∷ p.items) false (_, gave, λ e. absurd (false≢true e)) in
       (made, refl, (omega (arith, length-append {A = ℕ}), rw (but_last-on xs p.items x some) text, cc))
+
+-- a character behind those of xs
+pub pushed-next : (first old new : String Global) (xs : List ℕ) (x : ℕ) → heap_draft old ≡ appended (heap_draft first) xs
+    → chars (string_bytes new) ≡ chars (string_bytes old) ++ x ∷ [] → heap_draft new ≡ appended (heap_draft first) (xs ++ x ∷ [])
+pushed-next first old new xs x is put = cc (is, put, appended-twice (heap_draft first) xs (x ∷ []))
+
+-- characters that came behind x, which was appended before
+module _ {S : Type 0} (steps : S → Option ℕ → S → Type 0) (s : S) (old now new : Draft) (x : ℕ)
+    (is : now ≡ appended old (x ∷ [])) where
+  pub all-next : AppendedAll (λ items. items) steps s now new → AppendedAll (λ items. x ∷ items) steps s old new
+  unfolding AppendedAll
+  all-next (p, from, whole, all) = (p, from, whole, cc (is, all, appended-twice old (x ∷ []) p.items))
+
+  pub stopped-next : StoppedAt (λ items. items) steps s now new → StoppedAt (λ items. x ∷ items) steps s old new
+  unfolding StoppedAt
+  stopped-next (p, from, (some, front, heap)) =
+      let before = appended-twice old (x ∷ []) (but_last p.items) in
+      let all = appended-twice old (x ∷ []) p.items in
+      (p, from, (some, cc (is, front, before), cc (is, heap, all)))
 
 -- `texts` says the text of items, and `whole` that of the list that v sees in them, part by part
 pub record Reads {A B : Type 0} (texts : List A → List ℕ) (whole : List B → List ℕ) (v : A → B) : Type 0 where

@@ -2,6 +2,7 @@
 ghost use Rattle.std.specs.Prelude.{◌≡◌, ◌⊎◌, ℕ, List, [], ◌∷◌, OnSome, OnOk, OnErr};
 ghost use Rattle.std.specs.Iterator.{IsFinite, YieldsThen};
 ghost use Rattle.smol_str.specs.Draft.{OnHeap, appended};
+ghost use Rattle.smol_str.specs.BuilderArms.{heap_draft};
 ghost use Rattle.smol_str.specs.Collect.{AppendedAll, StoppedAt};
 
 use super::{BuilderRepr, SmolStrBuilder};
@@ -63,9 +64,26 @@ impl SmolStrBuilder {
             ⊎ StoppedAt (λ items. first ∷ items) I.next_gives iter self.old self.new) }
     {
         self.push(first)?;
+        if let BuilderRepr::Heap(heap) = &mut self.repr {
+            return extend_heap(heap, iter);
+        }
         for character in iter {
             self.push_next(character)?;
         }
         Ok(())
     }
+}
+
+/// Appends the characters of an iterator to a text on the heap.
+#[inline(always)]
+fn extend_heap<I: Iterator<Item = char>>(heap: &mut String, iter: I) -> Result<(), AllocError>
+    requires can { I.can_next iter }
+    requires ends { IsFinite (I.remaining iter) }
+    ensures ok { OnOk result (AppendedAll (λ items. items) I.next_gives iter (heap_draft heap.old) (heap_draft heap.new)) }
+    ensures stopped { OnErr result (StoppedAt (λ items. items) I.next_gives iter (heap_draft heap.old) (heap_draft heap.new)) }
+{
+    for character in iter {
+        heap.push(character)?;
+    }
+    Ok(())
 }
