@@ -1,8 +1,7 @@
 //! Formatting: `ToSmolStr`, `format_smolstr!`, `fmt::Write`.
 ghost use Rattle.std.specs.Prelude.{◌≡◌, Some, IfOk, OnOk, OnErr};
 ghost use Rattle.std.specs.Str.{chars, IsUtf8};
-ghost use Rattle.smol_str.specs.Text.{IsResident};
-ghost use Rattle.smol_str.specs.Meaning.{IsValueOf, IsPrintOf};
+ghost use Rattle.smol_str.specs.Meaning.{IsPrintOf};
 ghost use Rattle.smol_str.specs.Draft.{OnHeap, appended, AppendsPrintOf};
 ghost use Rattle.smol_str.specs.Messages.{format_message};
 

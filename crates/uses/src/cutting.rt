@@ -1,28 +1,18 @@
 //! Lines cut at a separator, and joined again; what a caller does with an index or a buffer that a call returns.
-ghost use Rattle.std.specs.Str.Lines.{lines};
-ghost use Rattle.std.specs.List.{enumerate_from, prefix_len};
-ghost use Rattle.std.specs.Prelude.{◌≡◌, ◌≢◌, ◌<◌, ◌≤◌, ◌↔◌, ◌++◌, ◌∷◌, ◌-◌, [], ℕ, List, codes, drop, length, map, set, take, IfNone, IfOk, IfSome, IsTrue, MatchBool, OnErr, encode_utf8_all, String, OnOk, reverse, All, Some, ◌==◌};
+ghost use Rattle.std.specs.List.{prefix_len};
+ghost use Rattle.std.specs.Prelude.{◌≡◌, ◌≢◌, ◌<◌, ◌≤◌, ◌↔◌, ◌++◌, ◌∷◌, ◌-◌, [], ℕ, List, codes, drop, length, map, set, take, IfNone, IfOk, IfSome, IsTrue, MatchBool, OnErr, encode_utf8_all, String, All, Some, ◌==◌};
 ghost use Rattle.std.specs.Str.{IsCharBoundary, chars, trim};
 ghost use Rattle.smol_str.specs.Cut.{IsFirstAfter, Occurs, joined_by};
-ghost use Rattle.smol_str.specs.Joined.{str_text, joined, string_text};
 ghost use Rattle.smol_str.specs.Meaning.{AreValuesOf, IsValueOf, texts, ArePairsOf};
 ghost use Rattle.smol_str.specs.Replace.{cut, each_replaced, no_limit};
-ghost use Rattle.smol_str.specs.Text.{IsShort, IsResident, place_of};
-ghost use Rattle.std.specs.Iterator.{Drains, IsFinite};
-ghost use Rattle.std.specs.Rc.{rc_str_bytes};
+ghost use Rattle.smol_str.specs.Text.{IsShort, place_of};
 ghost use Rattle.std.specs.String.{string_bytes};
-ghost use Rattle.serde.specs.Event.{Logs, text};
-ghost use Rattle.smol_str.specs.Collect.{Outgrown, StoppedAt};
-ghost use Rattle.smol_str.specs.Draft.{appended};
-ghost use Rattle.smol_str.specs.Serde.{HasReadText};
+ghost use Rattle.serde.specs.Event.{text};
 
 use crate::headline::line_of;
-use serde::{Deserialize, DeserializeOwned, Deserializer, Format, Serialize, Serializer};
 use smol_str::kernel::{AsciiCase, convert_while_ascii, next_match};
 use smol_str::{INLINE_CAP, SmolStr, SmolStrBuilder, StrExt};
 use std::alloc::{AllocError, Global};
-use std::convert::AsStr;
-use std::rc::RcStr;
 
 /// The fields of a line, which commas separate.
 #[tactic(auto, using(smol_str::proofs::CallerLemmas::cutting))]

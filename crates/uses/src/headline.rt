@@ -4,8 +4,8 @@
 //! Each way ensures `value`, that the value is of exactly the text that is meant and lies in the place of that text; and
 //! `refused`, that memory may be refused only for text that is not resident, or not short where it comes in parts. At the
 //! end are values that cannot fail, or whose place the caller knows.
-ghost use Rattle.std.specs.Prelude.{◌≡◌, ◌<◌, ◌≤◌, ◌⊎◌, ◌↔◌, ◌++◌, [], ◌∷◌, length, codes, encode_utf8_all, IfOk, IsOk, OnOk, OnErr, IsTrue, ◌≢◌, ◌-◌, ℕ, List, drop, map, set, take, IfNone, IfSome, MatchBool};
-ghost use Rattle.std.specs.Str.{chars, IsUtf8, IsCharBoundary, trim};
+ghost use Rattle.std.specs.Prelude.{◌≡◌, ◌<◌, ◌≤◌, ◌⊎◌, ◌↔◌, ◌++◌, [], ◌∷◌, length, codes, encode_utf8_all, IfOk, IsOk, OnOk, OnErr, IsTrue, ◌-◌, map};
+ghost use Rattle.std.specs.Str.{chars, IsUtf8};
 ghost use Rattle.std.specs.String.{string_bytes};
 ghost use Rattle.std.specs.Ordering.{nat_cmp};
 ghost use Rattle.std.specs.Cmp.Lexicographic.{slice_cmp};
@@ -14,19 +14,19 @@ ghost use Rattle.std.specs.Cow.{cow_str_bytes};
 ghost use Rattle.std.specs.Iterator.{IsFinite};
 ghost use Rattle.std.specs.Rc.{rc_str_bytes};
 ghost use Rattle.smol_str.specs.Text.{IsShort, IsResident, blank_run, place_of};
-ghost use Rattle.smol_str.specs.Meaning.{IsValueOf, AreValuesOf, texts};
+ghost use Rattle.smol_str.specs.Meaning.{IsValueOf, texts};
 ghost use Rattle.smol_str.specs.Joined.{joined, joined_strs, joined_strings, joined_string_refs, string_text, str_text};
 ghost use Rattle.smol_str.specs.Collect.{Collected, Outgrown, AppendedAll, StoppedAt};
 ghost use Rattle.smol_str.specs.Steps.{step_text};
 ghost use Rattle.smol_str.specs.Case.{IsAsciiText, lower, upper, lowercased, uppercased, converted};
 ghost use Rattle.smol_str.specs.declared.value.place.Place.TheVariants.{Heap};
-ghost use Rattle.smol_str.specs.Replace.{replaced, replaced_all, cut, each_replaced, no_limit};
-ghost use Rattle.smol_str.specs.Cut.{IsFirstAfter, Occurs, joined_by};
+ghost use Rattle.smol_str.specs.Replace.{replaced, replaced_all};
+ghost use Rattle.smol_str.specs.Cut.{joined_by};
 
-use smol_str::kernel::{AsciiCase, convert_while_ascii, next_match};
+use smol_str::kernel::AsciiCase;
 use smol_str::{
-    BLANK_NEWLINES, BLANK_SPACES, INLINE_CAP, Place, SmolStr, SmolStrBuilder, Step, StrExt,
-    ValueAlloc, build, laws,
+    BLANK_NEWLINES, BLANK_SPACES, INLINE_CAP, Place, SmolStr, SmolStrBuilder, Step, StrExt, ValueAlloc,
+    build, laws,
 };
 use std::alloc::{AllocError, Global};
 use std::borrow::CowStr;

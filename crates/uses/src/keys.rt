@@ -1,11 +1,11 @@
 //! Values sorted, looked up in lists and maps, and in maps one inside another.
 ghost use Rattle.std.specs.Str.{chars};
 ghost use Rattle.std.specs.Map.{lookup};
-ghost use Rattle.std.specs.Prelude.{◌≡◌, ◌↔◌, OnOk, OnErr, IfOk, IsTrue, Some, false, option_copied, slice_get, ◌≢◌, ℕ, List, true, bytes_eq, option_map};
+ghost use Rattle.std.specs.Prelude.{◌≡◌, ◌<◌, IfNone, IfSome, IsSomeAnd, ◌↔◌, OnOk, OnErr, IfOk, IsTrue, Some, false, option_copied, slice_get, ◌≢◌, ℕ, List, true, bytes_eq, option_map};
 ghost use Rattle.std.specs.Ordering.{nat_cmp};
 ghost use Rattle.std.specs.Cmp.Lexicographic.{slice_cmp};
 ghost use Rattle.std.specs.List.Sorted.{IsPermutation, IsSorted, IsStrictlySortedBy};
-ghost use Rattle.smol_str.specs.Keys.{ordered_value_at, value_at, has_text, is_before, innermost, entry_lists, entry_texts, id_of};
+ghost use Rattle.smol_str.specs.Keys.{ordered_value_at, value_at, has_text, is_before, innermost, entry_lists, entry_texts};
 ghost use Rattle.smol_str.specs.Meaning.{texts};
 
 pub mod headers;
@@ -71,6 +71,23 @@ pub fn is_keyword(keywords: &[SmolStr], name: &SmolStr) -> bool
     ensures { result ≡ has_text name.now.text keywords.now }
 {
     keywords.contains(name)
+}
+
+/// Whether a value of a list has a name's text.
+pub fn is_among(names: &[SmolStr], name: &str) -> bool
+    ensures { result ≡ has_text (chars name.now) names.now }
+{
+    names.iter().any(|it| it.eq_str(name))
+}
+
+/// The index of the first value that has a name's text.
+pub fn first_of_name(names: &[SmolStr], name: &str) -> Option<usize>
+    ensures found { IfSome result (λ i. IsSomeAnd (slice_get names.now i) (λ v. v.text ≡ chars name.now)) }
+    ensures first { IfSome result (λ i. (k : ℕ) → k < i →
+        IfSome (slice_get names.now k) (λ v. ¬ (v.text ≡ chars name.now))) }
+    ensures none { IfNone result ((k : ℕ) → IfSome (slice_get names.now k) (λ v. ¬ (v.text ≡ chars name.now))) }
+{
+    names.iter().position(|it| it.eq_str(name))
 }
 
 /// Whether two lists have the same texts, in the same order.

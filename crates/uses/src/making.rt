@@ -1,5 +1,5 @@
 //! Values made piece by piece, by printing, and of what a program has at hand.
-ghost use Rattle.std.specs.Prelude.{◌≡◌, ◌+◌, ◌*◌, ◌≤◌, ◌++◌, ◌∷◌, [], codes, length, IfOk, IsOk, OnErr, OnOk, encode_utf8_all, ◌↔◌, ℕ, List, String, IsTrue, reverse};
+ghost use Rattle.std.specs.Prelude.{◌≡◌, ◌+◌, ◌*◌, ◌≤◌, ◌++◌, ◌∷◌, [], codes, length, IfOk, IsOk, OnErr, OnOk, encode_utf8_all, ◌↔◌, String, IsTrue};
 ghost use Rattle.std.specs.List.{flat_map};
 ghost use Rattle.std.specs.Str.{chars};
 ghost use Rattle.smol_str.specs.Draft.{OnHeap, appended};
@@ -8,26 +8,18 @@ ghost use Rattle.smol_str.specs.Meaning.{IsValueOf, texts};
 ghost use Rattle.std.specs.Fmt.{decimal};
 ghost use Rattle.uses.specs.Widths.{right_aligned};
 ghost use Rattle.uses.specs.Layout.{untabbed, margin, line_text};
-ghost use Rattle.std.specs.Iterator.{Drains, IsFinite};
-ghost use Rattle.std.specs.Rc.{rc_str_bytes};
 ghost use Rattle.std.specs.String.{string_bytes};
-ghost use Rattle.serde.specs.Event.{Logs, text};
-ghost use Rattle.smol_str.specs.Collect.{Outgrown, StoppedAt};
+ghost use Rattle.serde.specs.Event.{text};
 ghost use Rattle.smol_str.specs.Cut.{joined_by};
-ghost use Rattle.smol_str.specs.Joined.{joined, string_text};
-ghost use Rattle.smol_str.specs.Serde.{HasReadText};
+ghost use Rattle.smol_str.specs.Joined.{joined};
 
 pub mod collecting;
 
 use crate::cutting::row;
-use serde::{Deserialize, DeserializeOwned, Deserializer, Format, Serialize, Serializer};
-use smol_str::{
-    FormatError, INLINE_CAP, SmolStr, SmolStrBuilder, StrExt, ToSmolStr, format_smolstr,
-};
+use smol_str::{FormatError, INLINE_CAP, SmolStr, SmolStrBuilder, StrExt, ToSmolStr, format_smolstr};
 use std::alloc::{AllocError, Global};
 use std::convert::AsStr;
 use std::iter;
-use std::rc::RcStr;
 
 /// The texts of values, one after another.
 pub fn joined(alloc: Global, parts: &[SmolStr]) -> Result<SmolStr, AllocError>

@@ -1,37 +1,26 @@
 //! A value there and back: its wire form written, and read again by both calls. Readers that are read to their end, and
 //! bytes that are not UTF-8.
-ghost use Rattle.std.specs.Prelude.{◌≡◌, ◌<◌, ◌+◌, ◌≤◌, ◌++◌, [], drop, length, take, Some, IfOk, IfErr, IfSome, OnOk, OnErr, ◌∷◌, MatchOption, ◌↔◌, ℕ, List, String, IsTrue, codes, reverse, encode_utf8_all};
+ghost use Rattle.std.specs.Prelude.{◌≡◌, ◌<◌, ◌+◌, ◌≤◌, ◌++◌, [], drop, length, take, Some, IfOk, IfErr, IfSome, OnOk, OnErr, IsTrue};
 ghost use Rattle.std.specs.Io.KnownBytes.{Keeps};
 ghost use Rattle.smol_str.specs.Stream.{Gave};
 ghost use Rattle.std.specs.Str.{IsUtf8, chars};
 ghost use Rattle.std.specs.Str.Lossy.{utf8_invalid_len};
 ghost use Rattle.smol_str.specs.Text.{size, IsResident, place_of};
-ghost use Rattle.smol_str.specs.Meaning.{IsValueOf, texts};
+ghost use Rattle.smol_str.specs.Meaning.{IsValueOf};
 ghost use Rattle.smol_str.specs.Wire.{HasWire, body, prefix_size, wire, HasEndedEarly};
-ghost use Rattle.std.specs.Int.{w32, to_le_bytes};
-ghost use Rattle.std.specs.Iterator.{Drains, IsFinite};
-ghost use Rattle.std.specs.Rc.{rc_str_bytes};
-ghost use Rattle.std.specs.String.{string_bytes};
-ghost use Rattle.serde.specs.Event.{Logs, text};
-ghost use Rattle.smol_str.specs.Collect.{Outgrown, StoppedAt};
-ghost use Rattle.smol_str.specs.Cut.{joined_by};
-ghost use Rattle.smol_str.specs.Draft.{appended};
-ghost use Rattle.smol_str.specs.Joined.{joined, string_text};
-ghost use Rattle.smol_str.specs.Serde.{HasReadText};
+ghost use Rattle.serde.specs.Event.{text};
 
 pub mod lists;
 pub mod log_records;
 
 use smol_str::borsh::{
-    BorshDeserialize, BorshSerialize, DecodeFault, EncodeFault, LimitedFault, STACK_BODY,
-    deserialize_limited, from_wire, length_prefix, split_wire,
+    BorshDeserialize, BorshSerialize, DecodeFault, EncodeFault, LimitedFault, deserialize_limited,
+    from_wire, split_wire,
 };
 use smol_str::stream::{ReadFault, read_all};
-use smol_str::{FromUtf8Fault, INLINE_CAP, SmolStr, SmolStrBuilder};
-use std::alloc::{AllocError, AllocFailed, Global};
-use std::convert::AsStr;
+use smol_str::{FromUtf8Fault, INLINE_CAP, SmolStr};
+use std::alloc::{AllocError, Global};
 use std::io::{self, Read, Write};
-use std::rc::RcStr;
 
 /// The wire form of a value, with `rest` after it.
 pub fn written(alloc: Global, value: &SmolStr, rest: &[u8]) -> Result<Vec<u8>, EncodeFault>
@@ -223,6 +212,16 @@ pub fn next_limited(
         messages.new.now ≡ drop 4 messages.old.now) }
 {
     deserialize_limited(alloc, messages, limit)
+}
+
+/// Whether the first message was not UTF-8. Its size and its body were read then, and the next message comes behind.
+pub fn skip_invalid(alloc: Global, messages: &mut &[u8]) -> bool
+    ensures { IsTrue result → messages.new.now ≡ drop (4 + prefix_size messages.old.now) messages.old.now }
+{
+    match SmolStr::deserialize_reader(alloc, messages) {
+        Err(DecodeFault::NotUtf8(_)) => true,
+        Ok(_) | Err(_) => false,
+    }
 }
 
 /// The first message, and the others. One that is cut short or not UTF-8 is reported as such, whatever the memory.

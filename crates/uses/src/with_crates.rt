@@ -1,9 +1,7 @@
 //! Values with other crates of the kit, a few lines each.
-ghost use Rattle.std.specs.Prelude.{◌≡◌, bytes_eq, ◌∷◌, ◌++◌, [], IfOk, IsTrue, OnOk, Some, decimal, map, option_map, encode_utf8_all};
+ghost use Rattle.std.specs.Prelude.{◌≡◌, bytes_eq, ◌∷◌, ◌++◌, [], IfOk, OnOk, decimal, encode_utf8_all};
 ghost use Rattle.std.specs.List.{list_all, list_any};
 ghost use Rattle.std.specs.Str.{chars};
-ghost use Rattle.csv.specs.Writing.{default_writer, row_text};
-ghost use Rattle.itertools.specs.Extremes.{by_cmp, minmax_of};
 ghost use Rattle.regex.specs.Patterns.{find_all_str};
 ghost use Rattle.regex.specs.Strings.{matcher_pattern, with_replaced};
 ghost use Rattle.indexmap.specs.IndexSet.{insert_key};

@@ -1,7 +1,7 @@
 //! ASCII bytes, sixteen at a time: how many there are at the front, and their letters in a case.
 ghost use Rattle.std.specs.Prelude.{◌≡◌, ◌↔◌, ◌<◌, ◌≤◌, ◌+◌, false, IsTrue, length, take, drop, slice_index};
 ghost use Rattle.std.specs.Str.{IsAscii};
-ghost use Rattle.std.specs.Simd.Lanes.{Each1, put_chunk};
+ghost use Rattle.std.specs.Simd.Lanes.{put_chunk};
 ghost use Rattle.smol_str.specs.Case.{converted, IsAsciiFront};
 
 use crate::bytes::words::load;

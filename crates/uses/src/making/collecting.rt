@@ -1,28 +1,21 @@
 //! Texts collected from iterators whose items the caller knows, through adapters of std too.
-ghost use Rattle.std.specs.Prelude.{◌≡◌, ◌<◌, ◌==◌, ◌++◌, ◌∷◌, [], ℕ, String, drop, length, map, not, reverse, take, IfOk, OnOk, OnErr, ◌↔◌, List, IsTrue, codes, encode_utf8_all};
+ghost use Rattle.std.specs.Prelude.{◌≡◌, ◌<◌, ◌==◌, ◌++◌, ◌∷◌, [], ℕ, String, drop, length, map, not, reverse, take, IfOk, OnOk, OnErr, List};
 ghost use Rattle.std.specs.List.{filter, prefix_len, slice_split};
 ghost use Rattle.std.specs.Str.{chars};
 ghost use Rattle.std.specs.Str.Lines.{lines};
-ghost use Rattle.smol_str.specs.Text.{IsShort, IsResident, place_of};
+ghost use Rattle.smol_str.specs.Text.{IsShort};
 ghost use Rattle.smol_str.specs.Meaning.{AreValuesOf, IsValueOf, texts};
 ghost use Rattle.smol_str.specs.Draft.{OnHeap, appended};
 ghost use Rattle.smol_str.specs.Joined.{joined, str_text, string_text};
 ghost use Rattle.smol_str.specs.Case.{upper};
 ghost use Rattle.smol_str.specs.Replace.{replaced_all};
 ghost use Rattle.std.specs.Iterator.{Drains, IsFinite};
-ghost use Rattle.std.specs.Rc.{rc_str_bytes};
-ghost use Rattle.std.specs.String.{string_bytes};
-ghost use Rattle.serde.specs.Event.{Logs, text};
+ghost use Rattle.serde.specs.Event.{text};
 ghost use Rattle.smol_str.specs.Collect.{Outgrown, StoppedAt};
-ghost use Rattle.smol_str.specs.Cut.{joined_by};
-ghost use Rattle.smol_str.specs.Serde.{HasReadText};
 
 use crate::headline::of_any_strs;
-use serde::{Deserialize, DeserializeOwned, Deserializer, Format, Serialize, Serializer};
 use smol_str::{SmolStr, SmolStrBuilder, ValueAlloc};
 use std::alloc::{AllocError, Global};
-use std::convert::AsStr;
-use std::rc::RcStr;
 
 /// The characters of two texts.
 #[tactic(auto, using(smol_str::proofs::CallerLemmas::collecting_chars))]

@@ -1,18 +1,12 @@
 //! Lists of values on the wire, as borsh has a `Vec` of strings.
-ghost use Rattle.std.specs.Prelude.{◌≡◌, ◌+◌, ◌<◌, ◌≤◌, ◌∷◌, [], ◌++◌, drop, length, IfOk, IfErr, IfSome, OnOk, OnErr, MatchOption};
-ghost use Rattle.std.specs.Str.{IsUtf8};
+ghost use Rattle.std.specs.Prelude.{◌≡◌, ◌+◌, ◌<◌, ◌∷◌, [], ◌++◌, length, IfOk, IfSome, OnOk, MatchOption};
 ghost use Rattle.std.specs.Int.{w32, to_le_bytes};
 ghost use Rattle.uses.specs.Lists.{CanBeListed, list_form};
 ghost use Rattle.smol_str.specs.Meaning.{texts};
-ghost use Rattle.smol_str.specs.Text.{place_of};
-ghost use Rattle.smol_str.specs.Wire.{HasEndedEarly, HasWire, body, prefix_size, wire};
 
 use smol_str::SmolStr;
-use smol_str::borsh::{
-    BorshDeserialize, BorshSerialize, DecodeFault, EncodeFault, LimitedFault, STACK_BODY,
-    deserialize_limited, length_prefix, split_wire,
-};
-use std::alloc::{AllocError, AllocFailed, Global};
+use smol_str::borsh::{BorshSerialize, DecodeFault, EncodeFault, length_prefix, split_wire};
+use std::alloc::{AllocFailed, Global};
 use std::io::{self, Write};
 
 /// The form of a list.
