@@ -6,6 +6,7 @@ pub mod Buffer
 pub mod Words
 pub mod Shared
 pub mod ValueArms
+pub mod Needle
 pub mod Faults
 pub mod Draft
 pub mod BuilderArms

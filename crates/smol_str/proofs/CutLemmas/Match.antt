@@ -1,5 +1,8 @@
 -- For `kernel::next_match`: the first place of a pattern's bytes is the first match of its characters.
 use Rattle.smol_str.proofs.Common.{◌≡◌, ◌↔◌, get_or, ℕ, ◌+◌, ◌<◌, List, [], ◌++◌, Option, None, Some, length, take, drop, refl, sym, ap, ◌∙◌, subst, arith, length-append, append_assoc, take-append-drop, length-take-le, IsUtf8, chars, encode_utf8_all, encodes-append, encodes-chars, length-le-encodes, take_at, drop_at, length-drop, take-append-le, size, Occurs, StandsAt, IsCharBoundary, but_last, IsNextMatch, same_Some, ⊎_elim, cases_lt, ◌≤◌, ◌-◌, IsFirstAfter, IsCharBoundary-start, IsUtf8-drop, chars-append, common_steps, rules}
+use Rattle.smol_str.specs.Needle.{needle_bytes, IsSoundNeedle}
+use Rattle.smol_str.specs.declared.bytes.search.Needle.{Needle}
+use Rattle.smol_str.specs.declared.bytes.search.Needle.TheVariants.{One, Two, Long}
 use Rattle.memchr.specs.Find.{OccursAt, FindsNeedle, is_byte, IsFirstByte}
 use Rattle.memchr.proofs.lemmas.FindLemmas.{OccursAt-byte, byte-OccursAt}
 use Rattle.memchr.proofs.lemmas.MatchLemmas.{OccursAt-split, OccursAt-from_part}
@@ -8,6 +11,17 @@ use Rattle.smol_str.proofs.CutLemmas.Cut.{last_part, one_first, sooner}
 use Rattle.smol_str.proofs.CutLemmas.Sync.{StandsAt-bytes}
 use Rattle.smol_str.proofs.TextLemmas.Split.{boundary-parts, drop-parts, chars-take, chars-drop}
 use Rattle.std.proofs.lemmas.Str.{IsUtf8-take}
+
+-- a needle is a text that is not empty
+pub sound-utf8 : (n : Needle) → IsSoundNeedle n → IsUtf8 (needle_bytes n)
+sound-utf8 (One byte) sound = sound
+sound-utf8 (Two bytes) sound = sound.0
+sound-utf8 (Long search) sound = sound.0
+
+pub sound-some : (n : Needle) → IsSoundNeedle n → 0 < length (needle_bytes n)
+sound-some (One byte) sound = omega arith
+sound-some (Two bytes) sound = omega (arith, sound.1)
+sound-some (Long search) sound = sound.1
 
 -- one byte is found as a needle of one byte
 pub one_byte : (hay nd : List ℕ) → length nd ≡ 1 → (r : Option ℕ) → IsFirstByte (is_byte (get_or nd 0 0)) hay r

@@ -1,7 +1,8 @@
 //! Searches for bytes. The needle's first byte is looked for first, since preparing a search for the
 //! whole needle has a cost of its own.
-ghost use Rattle.std.specs.Prelude.{◌≡◌, ◌↔◌, ◌<◌, ◌≤◌, ◌+◌, ℕ, None, length, MatchOption};
+ghost use Rattle.std.specs.Prelude.{◌≡◌, ◌↔◌, ◌<◌, ◌≤◌, ◌+◌, ℕ, None, length};
 ghost use Rattle.std.specs.Int.{bit_at};
+ghost use Rattle.smol_str.specs.Needle.{needle_bytes, IsSoundNeedle};
 ghost use Rattle.memchr.specs.Find.{FindsNeedle, OccursAt, IsFirst, IsFirstByte, Passes, is_byte};
 
 use crate::bytes::words::load;
@@ -105,18 +106,56 @@ pub(crate) fn count_byte(byte: u8, bytes: &[u8]) -> usize
     total.saturating_add(rest.count_ones() as usize)
 }
 
-/// The index of the first match of the needle, by the search that was prepared for it; one or two
-/// bytes need none.
-#[inline(always)]
-pub(crate) fn next_index(bytes: &[u8], needle: &[u8], search: Option<&Finder<'_>>) -> Option<usize>
-    requires some { 0 < length needle.now }
-    requires search { MatchOption search (length needle.now ≤ 2) (λ search. search.now ≡ needle.now) }
-    ensures { FindsNeedle bytes.now needle.now 0 result }
-{
-    match search {
-        Some(search) => search.find(bytes),
-        None if needle.len() == 1 => first_byte(bytes, needle),
-        None => find_two(bytes, needle),
+/// A text that is searched for again and again, and is not empty. More than two bytes have a search that is prepared
+/// once.
+#[derive(Drop)]
+pub(crate) enum Needle<'n> {
+    One(u8),
+    Two(&'n [u8]),
+    Long(Finder<'n>),
+}
+
+impl<'n> Needle<'n> {
+    /// The needle of a text.
+    #[inline(always)]
+    pub(crate) fn new(text: &'n str) -> Needle<'n>
+        requires { 0 < length text.now }
+        ensures bytes { needle_bytes result ≡ text.now }
+        ensures sound { IsSoundNeedle result }
+    {
+        let bytes = text.as_bytes();
+        match bytes.len() {
+            1 => Needle::One(bytes[0]),
+            2 => Needle::Two(bytes),
+            _ => Needle::Long(Finder::new(bytes)),
+        }
+    }
+
+    /// Its length in bytes.
+    #[inline(always)]
+    pub(crate) fn len(&self) -> usize
+        requires { IsSoundNeedle self.now }
+        ensures { result ≡ length (needle_bytes self.now) }
+    {
+        match self {
+            Needle::One(_) => 1,
+            Needle::Two(bytes) => bytes.len(),
+            Needle::Long(search) => search.needle().len(),
+        }
+    }
+
+    /// The index of its first match.
+    #[inline(always)]
+    #[tactic(auto, using(crate::proofs::CutLemmas::Match::one_byte))]
+    pub(crate) fn find(&self, bytes: &[u8]) -> Option<usize>
+        requires { IsSoundNeedle self.now }
+        ensures { FindsNeedle bytes.now (needle_bytes self.now) 0 result }
+    {
+        match self {
+            Needle::One(byte) => first_index(*byte, bytes),
+            Needle::Two(needle) => find_two(bytes, needle),
+            Needle::Long(search) => search.find(bytes),
+        }
     }
 }
 

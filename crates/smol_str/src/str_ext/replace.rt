@@ -1,19 +1,19 @@
 //! Replacement: byte for byte, or by pieces pushed into one builder. Memory is asked for where the result is long: for a
 //! copy in `replace_byte`, else by the builder's appends and `into_value`.
-ghost use Rattle.std.specs.Prelude.{◌≡◌, ◌<◌, ◌≤◌, [], length, IfOk, OnErr, MatchOption};
+ghost use Rattle.std.specs.Prelude.{◌≡◌, ◌<◌, ◌≤◌, [], length, IfOk, OnErr};
 ghost use Rattle.std.specs.Str.{chars};
 ghost use Rattle.smol_str.specs.Text.{IsShort};
 ghost use Rattle.smol_str.specs.Meaning.{IsValueOf};
 ghost use Rattle.smol_str.specs.Draft.{InBuffer, empty_draft};
+ghost use Rattle.smol_str.specs.Needle.{needle_bytes, IsSoundNeedle};
 ghost use Rattle.smol_str.specs.Replace.{each_replaced, replaced};
 ghost use Rattle.smol_str.specs.Replacing.{IsReplacing};
 
 use crate::buffer::INLINE_CAP;
 use crate::builder::SmolStrBuilder;
 use crate::bytes::bytes_from;
-use crate::bytes::search::{LANES, count_byte, first_byte, next_index};
+use crate::bytes::search::{LANES, Needle, count_byte, first_byte};
 use crate::value::SmolStr;
-use memchr::memmem::Finder;
 use std::alloc::{AllocError, Global};
 
 /// The text with the first `count` matches of a pattern replaced. Where the limit leaves none out,
@@ -117,11 +117,7 @@ fn push_replaced(
     if from.is_empty() {
         return push_between(builder, text, to, count);
     }
-    if from.len() <= 2 {
-        return push_matches(builder, text, from, None, to, count);
-    }
-    let search = Finder::new(from.as_bytes());
-    push_matches(builder, text, from, Some(&search), to, count)
+    push_matches(builder, text, &Needle::new(from), to, count)
 }
 
 /// Appends the new text before each of the first `count` characters, and at the end where the limit
@@ -156,25 +152,23 @@ fn push_between(
 fn push_matches(
     builder: &mut SmolStrBuilder,
     text: &str,
-    from: &str,
-    search: Option<&Finder<'_>>,
+    needle: &Needle<'_>,
     to: &str,
     count: usize,
 ) -> Result<usize, AllocError>
-    requires search { MatchOption search (length from.now ≤ 2) (λ search. search.now ≡ from.now) }
-    requires some { 0 < length from.now }
+    requires sound { IsSoundNeedle needle.now }
     requires empty { builder.old ≡ empty_draft InBuffer }
     ensures ok { IfOk result (λ index.
-        IsReplacing (chars text.now) (chars from.now) (chars to.now) count 0 builder.new index) }
+        IsReplacing (chars text.now) (chars (needle_bytes needle.now)) (chars to.now) count 0 builder.new index) }
     ensures refused { OnErr result
-        (¬ (IsShort (replaced (chars text.now) (chars from.now) (chars to.now) count))) }
+        (¬ (IsShort (replaced (chars text.now) (chars (needle_bytes needle.now)) (chars to.now) count))) }
 {
     // A builder that leaves its buffer asks for room for all that is to come.
-    let mut left = text.len().saturating_add(growth(text, from, to, count));
-    let step = from.len().max(to.len());
+    let mut left = text.len().saturating_add(growth(text, needle, to, count));
+    let step = needle.len().max(to.len());
     let mut index = 0;
     for taken in 0..count {
-        let Some(skipped) = next_index(bytes_from(text, index), from.as_bytes(), search) else {
+        let Some(skipped) = needle.find(bytes_from(text, index)) else {
             return Ok(index);
         };
         let found = index + skipped;
@@ -182,19 +176,23 @@ fn push_matches(
         builder.push_piece(&text[index..found], left)?;
         left = left.saturating_sub(step);
         builder.push_piece(to, left)?;
-        index = found + from.len();
+        index = found + needle.len();
     }
     Ok(index)
 }
 
 /// By how much the text grows. It is counted for a pattern of one byte, else a guess.
-fn growth(text: &str, from: &str, to: &str, count: usize) -> usize {
-    if to.len() <= from.len() {
+fn growth(text: &str, needle: &Needle<'_>, to: &str, count: usize) -> usize
+    requires { IsSoundNeedle needle.now }
+{
+    if to.len() <= needle.len() {
         return 0;
     }
-    if from.len() != 1 || text.len() < LANES {
-        return INLINE_CAP;
+    match needle {
+        Needle::One(byte) if text.len() >= LANES => {
+            let matches = count_byte(*byte, text.as_bytes());
+            matches.min(count).saturating_mul(to.len() - 1)
+        }
+        _ => INLINE_CAP,
     }
-    let matches = count_byte(from.as_bytes()[0], text.as_bytes());
-    matches.min(count).saturating_mul(to.len() - 1)
 }

@@ -1,6 +1,7 @@
-use Rattle.smol_str.proofs.Common.{◌+◌, ◌-◌, chars, arith, common_steps}
+use Rattle.smol_str.proofs.Common.{◌+◌, ◌-◌, chars, arith, common_steps, refl}
 use Rattle.smol_str.proofs.TextLemmas.Places.{OnErr-always}
 use Rattle.smol_str.proofs.BuilderLemmas.Push.{appended-heap}
+use Rattle.smol_str.proofs.CutLemmas.Match.{sound-utf8, sound-some}
 use Rattle.smol_str.proofs.CutLemmas.Replacing.{replacing-start, replacing-boundary, replacing-inside, replacing-found, replacing-none, appended-both, second-heap, match-boundary, match-end, match-piece, match-step, match-refused}
 use Rattle.smol_str.proofs.str_ext.replace.push_matches.Goals as goal
 
@@ -12,8 +13,8 @@ bytes_from-requires c = replacing-inside _ _ _ _ _ _ _ c.loop-taken.invariant c.
 
 pub returns-in_default-clause-ok : goal.returns-in_default-clause-ok
 returns-in_default-clause-ok c =
-    replacing-none _ _ _ _ _ _ _ _ _ c.loop-taken.invariant c.utf8.text c.utf8.from c.bytes_from.ensures
-    c.as_bytes.ensures.value c.in_default.ensures
+    replacing-none _ _ _ _ _ _ _ _ _ c.loop-taken.invariant c.utf8.text (sound-utf8 _ c.requires.sound) c.bytes_from.ensures
+    refl c.in_default.ensures
 
 pub overflow_add-found : goal.overflow_add-found
 overflow_add-found c = grind (arith, common_steps, replacing-found, match-end)
@@ -24,15 +25,15 @@ range-requires-clause-start_boundary c = λ _. replacing-boundary _ _ _ _ _ _ _ 
 pub range-requires-clause-end_boundary : goal.range-requires-clause-end_boundary
 range-requires-clause-end_boundary c =
     let h = c.loop-taken.invariant in
-    let k = replacing-found _ _ _ _ _ _ _ _ _ _ h c.utf8.text c.utf8.from c.requires.some c.bytes_from.ensures
-    c.as_bytes.ensures.value c.in-Some.ensures in
+    let k = replacing-found _ _ _ _ _ _ _ _ _ _ h c.utf8.text (sound-utf8 _ c.requires.sound) (sound-some _ c.requires.sound) c.bytes_from.ensures
+    refl c.in-Some.ensures in
     match-boundary _ _ _ _ _ _ _ _ h k c.utf8.text
 
 pub returns-in_err-push_piece-clause-refused : goal.returns-in_err-push_piece-clause-refused
 returns-in_err-push_piece-clause-refused c =
     let h = c.loop-taken.invariant in
-    let k = replacing-found _ _ _ _ _ _ _ _ _ _ h c.utf8.text c.utf8.from c.requires.some c.bytes_from.ensures
-    c.as_bytes.ensures.value c.in-Some.ensures in
+    let k = replacing-found _ _ _ _ _ _ _ _ _ _ h c.utf8.text (sound-utf8 _ c.requires.sound) (sound-some _ c.requires.sound) c.bytes_from.ensures
+    refl c.in-Some.ensures in
     let heap = rw (c.range.ensures.value, match-piece _ _ _ _ _ _ _ _ h k c.utf8.text) at c.in_err-push_piece.ensures.refused in
     OnErr-always c.from_residual.result _
     (match-refused _ _ _ _ _ _ _ _ h k (c.args.count - (c.loop-taken.taken + 1)) (omega arith)
@@ -41,8 +42,8 @@ returns-in_err-push_piece-clause-refused c =
 pub returns-in_err-push_piece-2-clause-refused : goal.returns-in_err-push_piece-2-clause-refused
 returns-in_err-push_piece-2-clause-refused c =
     let h = c.loop-taken.invariant in
-    let k = replacing-found _ _ _ _ _ _ _ _ _ _ h c.utf8.text c.utf8.from c.requires.some c.bytes_from.ensures
-    c.as_bytes.ensures.value c.in-Some.ensures in
+    let k = replacing-found _ _ _ _ _ _ _ _ _ _ h c.utf8.text (sound-utf8 _ c.requires.sound) (sound-some _ c.requires.sound) c.bytes_from.ensures
+    refl c.in-Some.ensures in
     let first = rw (c.range.ensures.value, match-piece _ _ _ _ _ _ _ _ h k c.utf8.text) at c.in_ok-push_piece.ensures.ok in
     OnErr-always c.from_residual-in_err-push_piece-2.result _
     (match-refused _ _ _ _ _ _ _ _ h k (c.args.count - (c.loop-taken.taken + 1)) (omega arith)
@@ -55,8 +56,9 @@ overflow_add-index c = grind (arith, common_steps, replacing-found, match-end)
 pub loop-taken-preserved : goal.loop-taken-preserved
 loop-taken-preserved c =
     let h = c.loop-taken.invariant in
-    let k = replacing-found _ _ _ _ _ _ _ _ _ _ h c.utf8.text c.utf8.from c.requires.some c.bytes_from.ensures
-    c.as_bytes.ensures.value c.in-Some.ensures in
+    let k = replacing-found _ _ _ _ _ _ _ _ _ _ h c.utf8.text (sound-utf8 _ c.requires.sound) (sound-some _ c.requires.sound) c.bytes_from.ensures
+    refl c.in-Some.ensures in
     let first = rw (c.range.ensures.value, match-piece _ _ _ _ _ _ _ _ h k c.utf8.text) at c.in_ok-push_piece.ensures.ok in
-    match-step _ _ _ _ _ _ _ _ h k (c.args.count - (c.loop-taken.taken + 1)) (omega arith)
-    c.utf8.from _ (appended-both _ _ _ _ _ first c.in_ok-push_piece-2.ensures.ok)
+    rw c.len-in-loop-taken.ensures
+    (match-step _ _ _ _ _ _ _ _ h k (c.args.count - (c.loop-taken.taken + 1)) (omega arith)
+    (sound-utf8 _ c.requires.sound) _ (appended-both _ _ _ _ _ first c.in_ok-push_piece-2.ensures.ok))
