@@ -3,6 +3,7 @@
 use Rattle.std.specs.Prelude.{◌≡◌, ℕ, ◌+◌, ◌<◌, ◌≤◌, ◌^◌, List, [], ◌∷◌, ◌++◌, Option, None, Some, codes}
 use Rattle.std.specs.Map.{lookup}
 use Rattle.smol_str.specs.Meaning.{Meaning}
+use Rattle.smol_str.specs.Messages.{out_of_memory_message}
 use Rattle.smol_tokens_core.specs.declared.tally.AddFault.{AddFault}
 use Rattle.smol_tokens_core.specs.declared.tally.Again.{Again}
 use Rattle.smol_tokens_core.specs.declared.tally.Again.TheVariants.{Counted, Full as FullAgain, New}
@@ -23,7 +24,7 @@ given_back (Full token) = token
 
 -- what it prints
 abbrev pub add_fault_message : AddFault → Option (List ℕ)
-add_fault_message (OutOfMemory token) = Some (codes "memory allocation failed")
+add_fault_message (OutOfMemory token) = out_of_memory_message
 add_fault_message (Full token) = Some (codes "the count would exceed 18446744073709551615")
 
 -- the token is let go
