@@ -1,8 +1,8 @@
 /* Refuses memory to a test program, and counts what it asks for, where its tests want that.
 
    Preloaded, this library stands before the C library's malloc, realloc and free. A test sends it messages: requests for
-   sizes that no allocation can have, so that without the library each is refused and the same program runs as it is. Message
-   k is BASE + k * WORD, plus its argument n:
+   sizes that no allocation can have, so that without the library each is refused and the same program runs as it is.
+   crates/test_support/src/memory.rt sends message k as BASE + k * WORD, plus its argument n:
 
        0   the nth request from here on is refused, and no other
        1   the nth request from here on is refused, and each later one
@@ -14,12 +14,11 @@
        7   the same of the blocks that were handed out and not freed
        8   the same of the bytes of these blocks, as the C library has made room for them
 
-   A block that is made smaller is no request: it needs no memory, so it is not counted, and refused by message 2 alone.
-   crates/test_support/src/memory.rt sends these messages. At the end of a process that was refused memory a line goes to
-   the file that REFUSE_LOG names: how many requests were refused. */
+   A block that is made smaller is no request, and refused by message 2 alone. A process that was refused memory makes the
+   file that REFUSE_LOG names. */
+#include <fcntl.h>
 #include <malloc.h>
 #include <stddef.h>
-#include <stdio.h>
 #include <stdlib.h>
 #include <string.h>
 
@@ -87,9 +86,5 @@ void free(void *block) {
 
 __attribute__((destructor)) static void log_refusals(void) {
     const char *name = getenv("REFUSE_LOG");
-    mode = NONE;
-    FILE *log = name != NULL && total > 0 ? fopen(name, "a") : NULL;
-    if (log == NULL) return;
-    fprintf(log, "%zu\n", total);
-    fclose(log);
+    if (name != NULL && total > 0) creat(name, 0600);
 }
