@@ -1,8 +1,6 @@
-//! Builders: what is appended by calls and by lists of steps, large capacities, and empty builders as std makes them.
+//! Builders: what is appended by calls and by lists of steps, and large capacities.
 use Place::{Heap, Inline, Static};
-use smol_str::{INLINE_CAP, Place, SmolStr, SmolStrBuilder, Step, build};
-use std::collections::HashMap;
-use std::mem;
+use smol_str::{INLINE_CAP, Place, SmolStrBuilder, Step, build};
 use test_support::*;
 
 /// Pieces, each a text so many times, and the place of the text that they make.
@@ -62,12 +60,8 @@ fn test_builder_push(rt: HostRuntime) -> Result<(), Fail> {
 /// The builder has the text, and finishes to its value.
 fn check_finished(test: &Test, builder: SmolStrBuilder, text: &str, place: Place) {
     same(test, &builder.as_str(), &text, &"a builder");
-    same(
-        test,
-        &(builder.len(), builder.is_empty()),
-        &(text.len(), text.is_empty()),
-        &text,
-    );
+    let found = (builder.len(), builder.is_empty());
+    same(test, &found, &(text.len(), text.is_empty()), &text);
     match builder.finish() {
         Ok(value) => same_value(test, &value, text, place, &"a builder's value"),
         Err(_) => test.fail(&text),
@@ -121,29 +115,6 @@ fn appends_within_the_capacity(rt: HostRuntime) -> Result<(), Fail> {
     holds(&test, !end_refusals(test.alloc), &"a request");
     same(&test, &builder.as_str(), &text.as_str(), &"push_str");
     test.end()
-}
-
-#[test]
-fn empty_builders(rt: HostRuntime) -> Result<(), Fail> {
-    let test = Test::begin(rt);
-    let mut pages: HashMap<SmolStr, SmolStrBuilder> = HashMap::new(test.alloc);
-    holds(&test, print_at(&mut pages, "ab").is_ok(), &"an entry");
-    holds(&test, print_at(&mut pages, "c").is_ok(), &"the same entry");
-    let page = pages.get(&SmolStr::new_static("page"));
-    let text = page.map_or("none", |page| page.as_str());
-    same(&test, &text, &"abc", &"or_default");
-    let mut builder = test.builder(100, "taken");
-    let taken = ok(&test, mem::try_take(&mut builder));
-    same(&test, &taken.as_str(), &"taken", &"try_take");
-    holds(&test, builder.is_empty(), &"try_take");
-    test.end()
-}
-
-fn print_at(pages: &mut HashMap<SmolStr, SmolStrBuilder>, text: &str) -> Result<(), AllocError> {
-    pages
-        .entry(SmolStr::new_static("page"))?
-        .or_default()
-        .push_str(text)
 }
 
 // By text, whatever their kind.

@@ -1,5 +1,5 @@
 //! JSON strings: texts, and what is none. serde's traits refuse it as they refuse it to a `String`.
-use serde_json::{Error, Value, json};
+use serde_json::{Error, Value};
 use smol_str::SmolStr;
 use smol_str::json_string::{JsonFault, from_json, to_json};
 use test_support::*;
@@ -47,17 +47,6 @@ fn check_read(test: &Test, json: &str, text: &str) {
         Ok(value) => same_value(test, &value, text, place_of(text), &json),
         Err(_) => test.fail(&("no value of", json)),
     }
-}
-
-#[test]
-fn in_a_tree(rt: HostRuntime) -> Result<(), Fail> {
-    let test = Test::begin(rt);
-    let name = test.value("a\"b");
-    match json!(in test.alloc; [&name, "ab"]) {
-        Ok(list) => holds(&test, list[0].as_str() == Some("a\"b"), &"a value"),
-        Err(error) => test.fail(&error),
-    }
-    test.end()
 }
 
 /// JSON values that are no strings, and texts that are no JSON.

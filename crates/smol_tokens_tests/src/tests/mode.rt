@@ -34,11 +34,9 @@ static MODES: [(&[&str], &str); 9] = table! {
     (&["replace", "ba", ""], "Replace(\"ba\", \"\")");
 };
 
-static WRONG: [&[&str]; 21] = table! {
-    &["Show"]; &[""]; &["show", "x"]; &["show", "show"]; &["x", "show"]; &["show "]; &["join", "x"]; &["show", "join"];
-    &["lower", "x"]; &["upper", "x", "y"]; &["Lower"]; &["tokens", "x"]; &["tokens", "x", "y"]; &["token"]; &["merge", "x"];
-    &["replace"]; &["replace", "x"]; &["replace", "x", "y", "z"]; &["Replace", "x", "y"]; &["x", "replace", "y"];
-    &["replace", "replace"];
+static WRONG: [&[&str]; 9] = table! {
+    &["Show"]; &[""]; &["show", "x"]; &["x", "show"]; &["show "]; &["tokens", "x", "y"];
+    &["replace"]; &["replace", "x"]; &["replace", "x", "y", "z"];
 };
 
 #[test]

