@@ -3,7 +3,6 @@
 mod borsh;
 mod builder;
 mod collect;
-mod dropped;
 mod format;
 mod json_string;
 mod kernel;
