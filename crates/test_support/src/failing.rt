@@ -183,16 +183,12 @@ pub fn fails_at_each_read<C: Reading>(
                 fails_at_read(test, call, bytes, (step, fails_at));
             }
         }
-        // a failure after the last read is not met
-        let after = trickle_of(bytes, step, calls.saturating_add(1));
-        let row = (call.name(), bytes.len(), step, calls);
-        same(test, &count_reads(test, call, after, wanted), &calls, &row);
     }
 }
 
 /// How often the call reads: by single bytes once a byte, and once more where only the reader says that it has ended.
 fn count_reads<C: Reading>(test: &Test, call: &C, mut reader: Trickle<'_>, wanted: &[u8]) -> usize {
-    let row = (call.name(), reader.rest.len(), reader.step, reader.fails_at);
+    let row = (call.name(), reader.rest.len(), reader.step, 0);
     start_counts(test.alloc);
     match call.read(test, &mut reader) {
         Ok(made) => holds(test, made.as_slice() == wanted, &row),
@@ -246,24 +242,20 @@ pub trait Writing {
 /// fails; what was taken is then a beginning.
 pub fn fails_at_each_write<C: Writing>(test: &Test, chunk: usize, call: &C, bytes: &[u8]) {
     for step in steps_about(chunk) {
-        let calls = count_writes(test, call, bytes, (step, 0));
+        let calls = count_writes(test, call, bytes, step);
         for fails_at in 1..calls.saturating_add(1) {
             if is_tried(fails_at.saturating_mul(step), bytes.len(), chunk) {
                 fails_at_write(test, call, bytes, (step, fails_at));
             }
         }
-        // a failure after the last write is not met
-        let after = count_writes(test, call, bytes, (step, calls.saturating_add(1)));
-        let row = (call.name(), bytes.len(), step, calls);
-        same(test, &after, &calls, &row);
     }
 }
 
 /// How often the call writes: by single bytes once a byte.
-fn count_writes<C: Writing>(test: &Test, call: &C, bytes: &[u8], (step, fails_at): At) -> usize {
-    let row = (call.name(), bytes.len(), step, fails_at);
+fn count_writes<C: Writing>(test: &Test, call: &C, bytes: &[u8], step: usize) -> usize {
+    let row = (call.name(), bytes.len(), step, 0);
     start_counts(test.alloc);
-    let mut writer = empty_drip(test.alloc, step, fails_at, None);
+    let mut writer = empty_drip(test.alloc, step, 0, None);
     same(test, &call.write(test, &mut writer), &None, &row);
     holds(test, writer.taken.as_slice() == bytes, &row);
     if step == 1 {

@@ -19,11 +19,9 @@ pub use memory::{
     start_counts,
 };
 pub use memory_law::{Call, Free, Law, Requests, check_law};
-pub use sampling::{leaked, samples};
+pub use sampling::samples;
 pub use std::alloc::{AllocError, Global};
 pub use std::test::Fail;
 pub use test::{Test, holds, no_blocks, ok, same};
 pub use things::{IntoThing, Thing, changed, made, nothing};
-pub use values::{
-    ABOVE_BUFFERS, full_text, long_blank, long_text, place_of, same_place, same_value,
-};
+pub use values::{ABOVE_BUFFERS, long_blank, long_text, place_of, same_place, same_value};

@@ -95,11 +95,8 @@ fn push_marked(test: &Test, texts: &mut Vec<&'static str>, mark: &str, len: usiz
     }
 }
 
+/// The text stays for as long as the process lives.
 fn push_text(test: &Test, texts: &mut Vec<&'static str>, text: String) {
-    test.push(texts, leaked(text));
-}
-
-/// A text that stays for as long as the process lives.
-pub fn leaked(text: String) -> &'static str {
-    str::from_utf8(text.into_bytes().leak()).unwrap_or("")
+    let bytes = text.into_bytes().leak();
+    test.push(texts, str::from_utf8(bytes).unwrap_or(""));
 }

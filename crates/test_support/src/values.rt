@@ -20,11 +20,6 @@ impl Test {
 /// Byte lengths above each buffer that a call reads or writes by, and one far above.
 pub const ABOVE_BUFFERS: [usize; 3] = [4_097, 65_537, 5_000_000];
 
-/// `a` as often as a buffer has room for.
-pub fn full_text() -> &'static str {
-    text_of(&[b'a'; INLINE_CAP])
-}
-
 /// `a` once more than a buffer has room for: no blank run.
 pub fn long_text() -> &'static str {
     text_of(&[b'a'; INLINE_CAP + 1])

@@ -4,44 +4,37 @@ use smol_str::kernel::{AsciiCase, convert_while_ascii, next_match};
 use smol_str::{INLINE_CAP, InlineBuffer};
 use test_support::*;
 
-/// Short texts, a case, the ASCII front in that case, and how many zeros are behind it.
-static FRONTS: &[(&str, AsciiCase, &str, usize)] = &table! {
-    ("ABCDEFGHIJéKLMNOPQ", Lower, "abcdefghij", 29);
-    ("@AZ[", Lower, "@az[", 35);
-    ("", Upper, "", 39);
-    ("aaaaaaaaaaaaaaaaaaaaaaa", Upper, "AAAAAAAAAAAAAAAAAAAAAAA", 16);
-    ("QQQQQQQQQQQQQQQQ", Lower, "qqqqqqqqqqqqqqqq", 23);
-    ("QQQQQQQQQQQQQQQQé", Lower, "qqqqqqqqqqqqqqqq", 23);
-    ("QQQQQQQQQQQQQQQé", Lower, "qqqqqqqqqqqqqqq", 24);
-    ("éQQQQQQQQQQQQQQQQQQQQ", Lower, "", 39);
-    ("QQQQQQQQQQQQQQQQQQQQQQQQQQQQQQQQé", Lower, "qqqqqqqqqqqqqqqqqqqqqqqqqqqqqqqq", 7);
-    ("QQQQQQQQQQQQQQQQQQQQQQQQQQQQQQQé", Lower, "qqqqqqqqqqqqqqqqqqqqqqqqqqqqqqq", 8);
-    ("aaaaaaaaaaaaaaaaaaaaaaaaaaaaaaaaaaaaaaa", Upper, "AAAAAAAAAAAAAAAAAAAAAAAAAAAAAAAAAAAAAAA", 0);
-    ("QQQQQQQQQQQQQQQQéQQQQQQQQQQQQQQQQQQQQQ", Lower, "qqqqqqqqqqqqqqqq", 23);
+/// Short texts, a case, and the ASCII front in that case; the zeros behind it fill the buffer.
+static FRONTS: &[(&str, AsciiCase, &str)] = &table! {
+    ("ABCDEFGHIJéKLMNOPQ", Lower, "abcdefghij");
+    ("@AZ[", Lower, "@az[");
+    ("", Upper, "");
+    ("aaaaaaaaaaaaaaaaaaaaaaa", Upper, "AAAAAAAAAAAAAAAAAAAAAAA");
+    ("QQQQQQQQQQQQQQQQ", Lower, "qqqqqqqqqqqqqqqq");
+    ("QQQQQQQQQQQQQQQQé", Lower, "qqqqqqqqqqqqqqqq");
+    ("QQQQQQQQQQQQQQQé", Lower, "qqqqqqqqqqqqqqq");
+    ("éQQQQQQQQQQQQQQQQQQQQ", Lower, "");
+    ("QQQQQQQQQQQQQQQQQQQQQQQQQQQQQQQQé", Lower, "qqqqqqqqqqqqqqqqqqqqqqqqqqqqqqqq");
+    ("QQQQQQQQQQQQQQQQQQQQQQQQQQQQQQQé", Lower, "qqqqqqqqqqqqqqqqqqqqqqqqqqqqqqq");
+    ("aaaaaaaaaaaaaaaaaaaaaaaaaaaaaaaaaaaaaaa", Upper, "AAAAAAAAAAAAAAAAAAAAAAAAAAAAAAAAAAAAAAA");
+    ("QQQQQQQQQQQQQQQQéQQQQQQQQQQQQQQQQQQQQQ", Lower, "qqqqqqqqqqqqqqqq");
 };
 
 #[test]
 fn fronts(rt: HostRuntime) -> Result<(), Fail> {
     let test = Test::begin(rt);
-    for &(text, case, front, zeros) in FRONTS {
-        assert_front(&test, text, case, front, zeros);
+    for &(text, case, front) in FRONTS {
+        assert_front(&test, text, case, front);
     }
     test.end()
 }
 
-fn assert_front(test: &Test, text: &str, case: AsciiCase, front: &str, zeros: usize) {
+fn assert_front(test: &Test, text: &str, case: AsciiCase, front: &str) {
     if text.len() > INLINE_CAP {
         return test.fail(&(text, "is too long"));
     }
-    let wanted = padded(front.as_bytes());
-    let found = convert_while_ascii(text, case);
-    same(test, &found, &(wanted, front.len()), &text);
-    same(
-        test,
-        &wanted.len().saturating_sub(front.len()),
-        &zeros,
-        &text,
-    );
+    let wanted = (padded(front.as_bytes()), front.len());
+    same(test, &convert_while_ascii(text, case), &wanted, &text);
 }
 
 /// The bytes, and then zeros.
