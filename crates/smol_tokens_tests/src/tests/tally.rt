@@ -1,4 +1,4 @@
-//! Tallies: rows, and many tokens.
+//! Tallies, by rows.
 use smol_str::{Place, SmolStr};
 use smol_tokens_core::tally::{AddFault, Tally};
 use test_support::*;
@@ -45,27 +45,4 @@ fn check_at(test: &Test, tally: &Tally, index: usize, text: &str, count: u64) {
         .at(index)
         .map(|(token, count)| (token.as_str(), count));
     same(test, &found, &Some((text, count)), &index);
-}
-
-const MANY: u64 = 200_000;
-
-/// A token of the number.
-fn token(test: &Test, number: u64) -> SmolStr {
-    let text = ok(test, format!(in test.alloc; "token {number}"));
-    test.value(text.as_str())
-}
-
-#[test]
-fn many_different_tokens(rt: HostRuntime) -> Result<(), Fail> {
-    let test = Test::begin(rt);
-    let mut tally = Tally::new(test.alloc);
-    for number in 0..MANY {
-        let added = tally.add(token(&test, number), number).ok();
-        same(&test, &added, &Some(number), &number);
-    }
-    same(&test, &tally.len(), &200_000, &"many");
-    check_at(&test, &tally, 123_456, "token 123456", 123_456);
-    let last = tally.count(&token(&test, 199_999));
-    same(&test, &last, &Some(199_999), &"the last");
-    test.end()
 }
