@@ -66,12 +66,8 @@ fn rows(rt: HostRuntime) -> Result<(), Fail> {
         check_row(&test, *row);
     }
     // what is read is not pinned
-    check_read(
-        &test,
-        written(&test, &SmolStr::new_static("ab")),
-        "ab",
-        Inline,
-    );
+    let bytes = written(&test, &SmolStr::new_static("ab"));
+    check_read(&test, bytes, "ab", Inline);
     test.end()
 }
 
@@ -79,11 +75,7 @@ fn rows(rt: HostRuntime) -> Result<(), Fail> {
 fn check_row(test: &Test, row: Row) {
     let (text, form) = (test.repeated(row.0, row.1), form_of(test, row));
     let bytes = written(test, &test.value(text.as_str()));
-    holds(
-        test,
-        bytes.as_slice() == form.as_slice(),
-        &(row, "is written"),
-    );
+    same(test, &bytes.as_slice(), &form.as_slice(), &"is written");
     check_read(test, bytes, text.as_str(), row.4)
 }
 

@@ -66,16 +66,14 @@ static ROWS: &[(&[(&str, usize)], usize, Place)] = &table! {
 fn test_from_char_iterator(rt: HostRuntime) -> Result<(), Fail> {
     let test = Test::begin(rt);
     for &(parts, len, place) in ROWS {
-        let text = test.text(parts);
-        let value = ok(
-            &test,
-            SmolStr::from_chars(test.alloc, text.as_str().chars()),
-        );
-        same_value(&test, &value, text.as_str(), place, &text.as_str());
-        same(&test, &value.len(), &len, &text.as_str());
+        let string = test.text(parts);
+        let text = string.as_str();
+        let value = ok(&test, SmolStr::from_chars(test.alloc, text.chars()));
+        same_value(&test, &value, text, place, &text);
+        same(&test, &value.len(), &len, &text);
         let pieces = strings_of(&test, parts).into_iter();
         let value = ok(&test, SmolStr::from_strings(test.alloc, pieces));
-        same_value(&test, &value, text.as_str(), place, &text.as_str());
+        same_value(&test, &value, text, place, &text);
     }
     test.end()
 }
@@ -168,32 +166,23 @@ fn check_hint(test: &Test, text: &str, lower: usize) {
     let strings = strings_of(test, &[("", 1), (text, 1)]);
     let refs = with_hint(refs_of(test, &strings), lower);
     check_made(test, SmolStr::from_string_refs(alloc, refs), text);
-    check_made(
-        test,
-        SmolStr::from_strings(alloc, with_hint(strings, lower)),
-        text,
-    );
+    let strings = with_hint(strings, lower);
+    check_made(test, SmolStr::from_strings(alloc, strings), text);
     check_extending_hint(test, text, lower);
 }
 
 fn check_extending_hint(test: &Test, text: &str, lower: usize) {
     let mut builder = test.builder(0, "");
-    ok(
-        test,
-        builder.extend_chars(with_hint(chars_of(test, text), lower)),
-    );
+    let chars = with_hint(chars_of(test, text), lower);
+    ok(test, builder.extend_chars(chars));
     check_made(test, builder.into_value(), text);
     let mut builder = test.builder(0, "");
-    ok(
-        test,
-        builder.extend_strs(with_hint(strs_of(test, text), lower)),
-    );
+    let strs = with_hint(strs_of(test, text), lower);
+    ok(test, builder.extend_strs(strs));
     check_made(test, builder.into_value(), text);
     let (strings, mut builder) = (strings_of(test, &[(text, 1)]), test.builder(0, ""));
-    ok(
-        test,
-        builder.extend_strings(with_hint(refs_of(test, &strings), lower)),
-    );
+    let refs = with_hint(refs_of(test, &strings), lower);
+    ok(test, builder.extend_strings(refs));
     check_made(test, builder.into_value(), text);
 }
 

@@ -145,12 +145,8 @@ fn interrupted(rt: HostRuntime) -> Result<(), Fail> {
     let mut writer = empty_drip(test.alloc, 1, 2, Some(interruption));
     let found = serialized(&test.value("ab"), &mut writer);
     same(&test, &found, &Some(wanted), &"a writer");
-    same(
-        &test,
-        &writer.taken.as_slice(),
-        &b"\x02".as_slice(),
-        &"a writer",
-    );
+    let taken = writer.taken.as_slice();
+    same(&test, &taken, &b"\x02".as_slice(), &"a writer");
     test.end()
 }
 
