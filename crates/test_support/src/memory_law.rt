@@ -2,7 +2,7 @@
 use crate::memory::{
     Count, Refusals, can_refuse, counted, end_refusals, is_at_most, refuse, start_counts,
 };
-use crate::sampling::samples;
+use crate::sampling::{leaked, samples};
 use crate::test::{Test, holds};
 use crate::things::Thing;
 use crate::values::place_of;
@@ -65,14 +65,13 @@ pub trait Call: Copy {
 /// Holds each call of a table to its row, on each text, in each way. Each call that may ask for memory is refused it.
 pub fn check_law<C: Call>(rt: HostRuntime, table: &[Law<C>]) -> Result<(), Fail> {
     let test = Test::begin(rt);
-    let texts = samples(&test);
+    let mut texts = samples(&test);
+    // lengths between those of the samples
+    for len in [310, 350, 450, 700, 900, 1_500, 3_000, 5_000] {
+        test.push(&mut texts, leaked(test.repeated_and("ab", len / 2, "é")));
+    }
     for &(call, name, requests, times, more, free) in table {
-        let most = Most {
-            requests,
-            times,
-            more,
-            free,
-        };
+        let most = (requests, times, more, free);
         let was_refused = check_texts(&test, call, name, most, &texts);
         let is_asking = !matches!(requests, Requests::Most(0)) && can_refuse(test.alloc);
         holds(&test, was_refused == is_asking, &(name, "is refused"));
@@ -109,13 +108,7 @@ fn check_texts<C: Call>(
 }
 
 /// The limits of a row.
-#[derive(Clone, Copy)]
-struct Most {
-    requests: Requests,
-    times: usize,
-    more: usize,
-    free: Free,
-}
+type Most = (Requests, usize, usize, Free);
 
 /// A call on a text, in a way, and the text that it makes.
 #[derive(Drop)]
@@ -176,23 +169,15 @@ fn run<C: Call>(test: &Test, on: &On<C>, refusals: Refusals) -> bool {
             check(test, on, was_refused, "gives up unrefused");
         }
     }
-    check(
-        test,
-        on,
-        is_at_most(alloc, Count::Blocks, 0) || !can_refuse(alloc),
-        "leaks",
-    );
+    let is_freed = is_at_most(alloc, Count::Blocks, 0) || !can_refuse(alloc);
+    check(test, on, is_freed, "leaks");
     was_refused
 }
 
 /// The call made what is wanted, and asked for no more than its row says.
 fn check_made<C: Call>(test: &Test, on: &On<C>, thing: &Thing, was_refused: bool) {
-    check(
-        test,
-        on,
-        thing.reads(on.wanted.as_bytes()),
-        "makes something else",
-    );
+    let is_wanted = thing.reads(on.wanted.as_bytes());
+    check(test, on, is_wanted, "makes something else");
     check(test, on, !was_refused, "hides a refusal");
     if can_refuse(test.alloc) {
         let requests = on.most_requests();
@@ -213,38 +198,30 @@ fn check_held<C: Call>(test: &Test, on: &On<C>, thing: &Thing) {
 fn check_count<C: Call>(test: &Test, on: &On<C>, count: Count, most: usize) {
     if !is_at_most(test.alloc, count, u32::try_from(most).unwrap_or(u32::MAX)) {
         let found = counted(test.alloc, count);
-        test.fail(&(
-            on.name,
-            on.way,
-            on.text.len(),
-            start_of(on.text),
-            (count, found, most),
-        ));
+        test.fail(&(on.told(), count, found, most));
     }
 }
 
 fn check<C: Call>(test: &Test, on: &On<C>, is_so: bool, what: &str) {
-    holds(
-        test,
-        is_so,
-        &(on.name, on.way, on.text.len(), start_of(on.text), what),
-    );
-}
-
-/// Some characters of a text, for a message.
-fn start_of(text: &str) -> &str {
-    text.get(..8).unwrap_or("")
+    holds(test, is_so, &(on.told(), what));
 }
 
 impl<C: Call> On<C> {
+    /// What a message says of it: also the first bytes of the text.
+    fn told(&self) -> (&'static str, usize, usize, &'static str) {
+        let start = self.text.get(..8).unwrap_or("");
+        (self.name, self.way, self.text.len(), start)
+    }
+
     fn most_requests(&self) -> u32 {
-        let is_free = match self.most.free {
+        let (requests, _, _, free) = self.most;
+        let is_free = match free {
             Free::Resident => place_of(self.wanted.as_str()) != Place::Heap,
             Free::Short => self.wanted.len() <= INLINE_CAP,
             Free::Empty => self.wanted.is_empty(),
             Free::Never => false,
         };
-        match self.most.requests {
+        match requests {
             _ if is_free => 0,
             Requests::Most(most) => most,
             Requests::Doubling(most) => {
@@ -255,9 +232,8 @@ impl<C: Call> On<C> {
     }
 
     fn most_bytes(&self) -> usize {
-        self.size()
-            .saturating_mul(self.most.times)
-            .saturating_add(self.most.more)
+        let (_, times, more, _) = self.most;
+        self.size().saturating_mul(times).saturating_add(more)
     }
 
     /// The longer of the text and the result.

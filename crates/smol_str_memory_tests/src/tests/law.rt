@@ -24,7 +24,7 @@ use test_support::*;
 use texts::OnText::{self, *};
 use values::OnValue::{self, *};
 
-/// Of a text.
+/// Of a text. A value on the heap is two blocks: its text, and 40 bytes with its count. A text that grows doubles its block.
 static TEXTS: [Law<OnText>; 20] = table! {
     (New, "SmolStr::new", Most(2), 1, 40, Resident);
     (FromStr, "SmolStr::from_str", Most(2), 1, 40, Resident);
@@ -54,13 +54,12 @@ fn of_texts(rt: HostRuntime) -> Result<(), Fail> {
 }
 
 /// Of a pattern and a new text.
-static REPLACEMENTS: [Law<Replace>; 6] = table! {
+static REPLACEMENTS: [Law<Replace>; 5] = table! {
     (ByteByByte, "StrExt::replace_smolstr", Most(2), 1, 40, Short);
-    (ByteByMore, "StrExt::replacen_smolstr", Most(2), 1, 80, Short);
-    (FewByMore, "StrExt::replacen_smolstr", Doubling(4), 6, 200, Short);
-    (ByLess, "StrExt::replacen_smolstr", Most(3), 2, 200, Short);
-    (ByMore, "StrExt::replacen_smolstr", Doubling(4), 6, 200, Short);
-    (Between, "StrExt::replacen_smolstr", Doubling(4), 6, 200, Short);
+    (ByteByMore, "StrExt::replacen_smolstr", Most(2), 1, 40, Short);
+    (ByLess, "StrExt::replacen_smolstr", Most(2), 1, 40, Short);
+    (ByMore, "StrExt::replacen_smolstr", Doubling(3), 4, 40, Short);
+    (Between, "StrExt::replacen_smolstr", Doubling(2), 4, 40, Short);
 };
 
 #[test]
@@ -102,7 +101,7 @@ fn of_pieces(rt: HostRuntime) -> Result<(), Fail> {
 }
 
 /// Of a value, also of a pinned one where nothing else is said.
-static VALUES: [Law<OnValue>; 9] = table! {
+static VALUES: [Law<OnValue>; 10] = table! {
     (Cloned, "SmolStr::clone", Most(0), 0, 0, Never);
     (IntoString, "SmolStr::into_string", Most(1), 1, 0, Empty);
     (IntoRcStr, "SmolStr::into_rc_str", Most(2), 1, 40, Never);
@@ -110,7 +109,8 @@ static VALUES: [Law<OnValue>; 9] = table! {
     (Write, "BorshSerialize::serialize", Most(0), 0, 0, Never);
     (ToValue, "json_string::to_value", Most(1), 1, 0, Empty);
     (InTree, "ToValue::to_value", Most(1), 1, 0, Empty);
-    (ToJson, "json_string::to_json", Most(4), 3, 100, Never);
+    (ToJson, "json_string::to_json", Most(4), 3, 80, Never);
+    (ToJsonOneEscape, "json_string::to_json", Most(1), 1, 8, Never);
     (ToJsonPlain, "json_string::to_json", Most(1), 1, 2, Never);
 };
 
@@ -146,15 +146,18 @@ fn of_builders(rt: HostRuntime) -> Result<(), Fail> {
 }
 
 /// Of bytes: a wire form of the text, or the text itself.
-static FORMS: [Law<OnForm>; 8] = table! {
+static FORMS: [Law<OnForm>; 11] = table! {
     (FromWire, "borsh::from_wire", Most(2), 1, 40, Resident);
     (SplitWire, "borsh::split_wire", Most(2), 1, 40, Resident);
-    (ReadForm, "BorshDeserialize::deserialize_reader", Doubling(2), 5, 40, Short);
+    (ReadChunk, "BorshDeserialize::deserialize_reader", Most(3), 2, 40, Short);
+    (ReadForm, "BorshDeserialize::deserialize_reader", Doubling(0), 5, 40, Short);
     (ReadLimited, "borsh::deserialize_limited", Doubling(2), 5, 40, Short);
     (ReadUpTo, "stream::read_up_to", Doubling(1), 4, 8, Empty);
     (ReadAll, "stream::read_all", Doubling(1), 4, 8, Empty);
     (Fill, "stream::fill", Most(0), 0, 0, Never);
     (WriteSteps, "stream::write_steps", Most(0), 0, 0, Never);
+    (NotUtf8, "SmolStr::from_utf8", Most(0), 0, 0, Never);
+    (EndsEarly, "BorshDeserialize::deserialize_reader", Doubling(1), 4, 8, Short);
 };
 
 #[test]
@@ -162,18 +165,19 @@ fn of_forms(rt: HostRuntime) -> Result<(), Fail> {
     check_law(rt, &FORMS)
 }
 
-/// Of JSON: the text in quotes, with white space around, or a tree.
-static JSON: [Law<OnJson>; 10] = table! {
+/// Of JSON: the text in quotes, with white space around, or a tree. serde's reader copies the JSON, of up to six bytes for one.
+static JSON: [Law<OnJson>; 11] = table! {
     (FromValue, "json_string::from_value", Most(2), 1, 40, Resident);
     (FromPlain, "json_string::from_json", Most(2), 1, 40, Resident);
-    (FromEscape, "json_string::from_json", Most(3), 2, 200, Short);
-    (FromEscapes, "json_string::from_json", Doubling(3), 6, 200, Short);
-    (FromNumbers, "json_string::from_json", Doubling(4), 12, 400, Short);
-    (BehindNumbers, "json_string::from_json", Doubling(4), 12, 400, Short);
-    (Serialize, "SmolStr::serialize", Doubling(6), 16, 1_000, Never);
-    (Deserialize, "SmolStr::deserialize", Most(4), 3, 200, Never);
-    (DeserializeEscaped, "SmolStr::deserialize", Doubling(8), 32, 1_000, Never);
-    (DeserializeOwned, "SmolStr::deserialize_owned", Doubling(8), 32, 1_000, Never);
+    (FromEscape, "json_string::from_json", Most(3), 3, 40, Short);
+    (FromEscapes, "json_string::from_json", Doubling(2), 4, 40, Short);
+    (BehindNumbers, "json_string::from_json", Doubling(2), 4, 40, Short);
+    (NotString, "json_string::from_json", Most(3), 2, 140, Never);
+    (NotClosed, "json_string::from_json", Most(2), 2, 8, Never);
+    (Serialize, "SmolStr::serialize", Doubling(1), 4, 120, Never);
+    (Deserialize, "SmolStr::deserialize", Most(3), 2, 48, Never);
+    (DeserializeEscaped, "SmolStr::deserialize", Most(3), 7, 48, Never);
+    (DeserializeOwned, "SmolStr::deserialize_owned", Doubling(4), 4, 180, Never);
 };
 
 #[test]

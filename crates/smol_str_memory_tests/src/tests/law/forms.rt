@@ -2,7 +2,7 @@
 use OnForm::*;
 use smol_str::SmolStr;
 use smol_str::borsh::{BorshDeserialize, DecodeFault, deserialize_limited, from_wire, split_wire};
-use smol_str::stream::{fill, read_all, read_up_to, write_steps};
+use smol_str::stream::{CHUNK, fill, read_all, read_up_to, write_steps};
 use std::io::Read;
 use test_support::*;
 
@@ -10,12 +10,18 @@ use test_support::*;
 pub enum OnForm {
     FromWire,
     SplitWire,
+    /// Of a body that fits in a chunk, and of a longer one.
+    ReadChunk,
     ReadForm,
     ReadLimited,
     ReadUpTo,
     ReadAll,
     Fill,
     WriteSteps,
+    /// A byte behind the text that begins no character.
+    NotUtf8,
+    /// The size is one more than the text's.
+    EndsEarly,
 }
 
 impl Call for OnForm {
@@ -25,21 +31,31 @@ impl Call for OnForm {
     /// From a slice, and from readers that give one byte a call, some, and all.
     fn ways(self) -> usize {
         match self {
-            ReadForm | ReadLimited | ReadUpTo | ReadAll | Fill => 3,
-            _ => 1,
+            FromWire | SplitWire | WriteSteps | NotUtf8 => 1,
+            _ => 3,
+        }
+    }
+
+    fn takes(self, text: &str) -> bool {
+        match self {
+            ReadChunk => text.len() <= CHUNK,
+            ReadForm => text.len() > CHUNK,
+            _ => true,
         }
     }
 
     fn input(self, test: &Test, text: &'static str, way: usize) -> (Vec<u8>, Vec<u8>, usize) {
         let mut form = Vec::new(test.alloc);
-        if let FromWire | SplitWire | ReadForm | ReadLimited = self {
-            let size = u32::try_from(text.len()).unwrap_or(0).to_le_bytes();
-            ok(test, form.extend_from_slice(&size));
+        if !matches!(self, ReadUpTo | ReadAll | Fill | WriteSteps | NotUtf8) {
+            let more = usize::from(matches!(self, EndsEarly));
+            let size = u32::try_from(text.len().saturating_add(more)).unwrap_or(0);
+            ok(test, form.extend_from_slice(&size.to_le_bytes()));
         }
         ok(test, form.extend_from_slice(text.as_bytes()));
         let mut room = Vec::new(test.alloc);
         match self {
             Fill => ok(test, room.resize(text.len(), 0)),
+            NotUtf8 => test.push(&mut form, 0xff),
             WriteSteps => room = ok(test, Vec::with_capacity(test.alloc, text.len())),
             _ => {}
         }
@@ -56,26 +72,30 @@ impl Call for OnForm {
         let mut reader = trickle_of(bytes, step, 0);
         match self {
             FromWire => found(from_wire(alloc, bytes)),
-            SplitWire => split(alloc, bytes),
-            ReadForm => made(SmolStr::deserialize_reader(alloc, &mut reader)),
+            SplitWire => found(split_wire(alloc, bytes)),
+            EndsEarly => faulty(made(SmolStr::deserialize_reader(alloc, &mut reader))),
+            NotUtf8 => faulty(made(SmolStr::from_utf8(alloc, bytes))),
             ReadLimited => made(deserialize_limited(alloc, &mut reader, text.len())),
             ReadUpTo => made(read_up_to(alloc, &mut reader, text.len())),
             ReadAll => made(read_all(alloc, &mut reader)),
             Fill => filled(&mut reader, room),
             WriteSteps => written(bytes, room),
+            _ => made(SmolStr::deserialize_reader(alloc, &mut reader)),
         }
     }
 }
 
-fn found(outcome: Result<(SmolStr, usize), DecodeFault>) -> Result<Thing, Thing> {
+/// What a call returned that is to end with a fault of its own, which does not speak of memory.
+pub fn faulty(outcome: Result<Thing, Thing>) -> Result<Thing, Thing> {
     match outcome {
-        Ok((value, _)) => Ok(Thing::Value(value)),
-        Err(fault) => Err(fault.into_thing()),
+        Ok(_) => Err(Thing::Fault),
+        Err(Thing::Fault) => Ok(Thing::Nothing),
+        Err(left) => Err(left),
     }
 }
 
-fn split(alloc: Global, bytes: &[u8]) -> Result<Thing, Thing> {
-    match split_wire(alloc, bytes) {
+fn found<R: Drop>(outcome: Result<(SmolStr, R), DecodeFault>) -> Result<Thing, Thing> {
+    match outcome {
         Ok((value, _)) => Ok(Thing::Value(value)),
         Err(fault) => Err(fault.into_thing()),
     }

@@ -1,5 +1,6 @@
 //! JSON, by calls and by serde's traits.
-use super::values::{is_plain, is_plain_byte, json_of};
+use super::forms::faulty;
+use super::values::{escapes, is_plain, json_of};
 use OnJson::*;
 use serde_json::Value;
 use smol_str::SmolStr;
@@ -12,12 +13,14 @@ pub enum OnJson {
     FromPlain,
     /// Of two bytes, of which there is one.
     FromEscape,
-    /// Of two bytes.
+    /// Others.
     FromEscapes,
-    /// Of which one is a number.
-    FromNumbers,
     /// Behind characters by their numbers, of which one needs two.
     BehindNumbers,
+    /// A list of the text.
+    NotString,
+    /// Without the quote behind it.
+    NotClosed,
     Serialize,
     Deserialize,
     DeserializeEscaped,
@@ -46,17 +49,16 @@ impl Call for OnJson {
 
     fn ways(self) -> usize {
         match self {
-            FromPlain | FromEscape | FromEscapes | FromNumbers | BehindNumbers => 4,
+            FromPlain | FromEscape | FromEscapes | BehindNumbers => 4,
             _ => 1,
         }
     }
 
     fn takes(self, text: &str) -> bool {
         match self {
-            FromPlain | Deserialize => is_plain(text),
+            FromPlain | NotString | NotClosed | Deserialize | DeserializeOwned => is_plain(text),
             FromEscape => escapes(text) == 1 && !has_numbers(text),
-            FromEscapes => escapes(text) > 1 && !has_numbers(text),
-            FromNumbers => has_numbers(text),
+            FromEscapes => escapes(text) > 1 || has_numbers(text),
             DeserializeEscaped => !is_plain(text),
             _ => true,
         }
@@ -66,6 +68,8 @@ impl Call for OnJson {
         match self {
             FromValue | DeserializeOwned => Input::Tree(Value::String(test.string(text))),
             Serialize => Input::Value(test.value(text)),
+            NotString => Input::Json(test.joined("[\"", test.joined(text, "\"]").as_str())),
+            NotClosed => Input::Json(test.joined("\"", text)),
             _ => {
                 let (front, end) = AROUND[way % 4];
                 let rest = test.joined(json_of(test, text).as_str().get(1..).unwrap_or(""), end);
@@ -91,6 +95,7 @@ impl Call for OnJson {
                 Deserialize | DeserializeEscaped => {
                     by_serde::<SmolStr>(serde_json::from_str(alloc, json.as_str()))
                 }
+                NotString | NotClosed => faulty(made(from_json(alloc, json.as_str()))),
                 _ => made(from_json(alloc, json.as_str())),
             },
         }
@@ -103,11 +108,6 @@ impl Call for OnJson {
             _ => test.string(text),
         }
     }
-}
-
-/// How many bytes of a text JSON does not have as they are.
-fn escapes(text: &str) -> usize {
-    text.bytes().filter(|byte| !is_plain_byte(*byte)).count()
 }
 
 /// Whether JSON has a character of the text by its number.

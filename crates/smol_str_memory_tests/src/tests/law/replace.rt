@@ -9,11 +9,9 @@ pub enum Replace {
     ByteByByte,
     /// A byte by more, in a text that is not short.
     ByteByMore,
-    /// A byte by more, in a short text.
-    FewByMore,
-    /// Two bytes and more by as many or fewer.
+    /// By as many bytes or fewer.
     ByLess,
-    /// Two bytes and more by more.
+    /// By more.
     ByMore,
     /// No bytes: a new text in front of each character and at the end.
     Between,
@@ -36,17 +34,19 @@ static BYTE_BY_BYTE: [Change; 3] = table! {
 };
 
 static BYTE_BY_MORE: [Change; 6] = table! {
-    ("a", "bb", ALL); ("a", "éé", ALL); ("a", LONG, 1000); ("a", "bb", 1); ("z", "yy", ALL); ("a", "b", 3);
+    ("a", "bb", ALL); ("a", "éé", ALL); ("a", LONG, 1000); ("a", "bb", 2); ("z", "yy", ALL); ("a", "bb", 0);
 };
 
-static BY_LESS: [Change; 10] = table! {
+static BY_LESS: [Change; 12] = table! {
     ("a", "", ALL); ("aa", "", ALL); ("aa", "b", ALL); ("aa", "bb", ALL); ("aaa", "b", ALL); ("aab", "bbb", ALL);
     ("ab", "c", ALL); (LONG, "bbb", ALL); ("aa", "b", 1); ("aac", "b", ALL);
+    ("a", "b", 3); ("ab", "c", 0);
 };
 
-static BY_MORE: [Change; 8] = table! {
+static BY_MORE: [Change; 9] = table! {
     ("aa", "bbb", ALL); ("aaa", "bbbb", ALL); ("ab", "abc", ALL); ("aab", LONG, ALL); ("aa", LONG, ALL);
-    (LONG, "bbbbbbbbbbbbbbbbbbbbbbbbbbbbbbbbbbbbbbbbbbb", ALL); ("aa", LONG, 1); ("aac", LONG, ALL);
+    (LONG, "bbbbbbbbbbbbbbbbbbbbbbbbbbbbbbbbbbbbbbbbbbb", ALL); ("aa", LONG, 2); ("aac", LONG, ALL);
+    ("a", LONG, 1);
 };
 
 static BETWEEN: [Change; 4] = table! {
@@ -57,7 +57,7 @@ impl Replace {
     fn changes(self) -> &'static [Change] {
         match self {
             ByteByByte => &BYTE_BY_BYTE,
-            ByteByMore | FewByMore => &BYTE_BY_MORE,
+            ByteByMore => &BYTE_BY_MORE,
             ByLess => &BY_LESS,
             ByMore => &BY_MORE,
             Between => &BETWEEN,
@@ -82,7 +82,6 @@ impl Call for Replace {
     fn takes(self, text: &str) -> bool {
         match self {
             ByteByMore => text.len() > INLINE_CAP && text.len() < MAPPED,
-            FewByMore => text.len() <= INLINE_CAP,
             ByMore | Between => text.len() < MAPPED,
             _ => true,
         }

@@ -33,14 +33,8 @@ impl Call for OnString {
                 return Err(shared);
             }
         }
-        let room = text
-            .len()
-            .saturating_mul(way)
-            .saturating_add(5000usize.saturating_mul(way));
-        let mut string = ok(
-            test,
-            String::with_capacity(test.alloc, text.len().max(room)),
-        );
+        let room = text.len().saturating_add(way.saturating_mul(5_000));
+        let mut string = ok(test, String::with_capacity(test.alloc, room));
         ok(test, string.push_str(text));
         Ok(string)
     }

@@ -18,6 +18,7 @@ pub enum OnValue {
     /// As `json!` makes one.
     InTree,
     ToJson,
+    ToJsonOneEscape,
     ToJsonPlain,
 }
 
@@ -37,7 +38,8 @@ impl Call for OnValue {
         match self {
             IntoRcStr => place_of(text) != Place::Heap,
             IntoRcStrOnHeap => place_of(text) == Place::Heap,
-            ToJson => !is_plain(text),
+            ToJson => escapes(text) > 1,
+            ToJsonOneEscape => escapes(text) == 1,
             ToJsonPlain => is_plain(text),
             _ => true,
         }
@@ -69,13 +71,13 @@ impl Call for OnValue {
             Write => written(&value, out),
             ToValue => tree(to_value(alloc, &value)),
             InTree => tree(serde_json::ToValue::to_value(&value, alloc)),
-            ToJson | ToJsonPlain => made(to_json(alloc, &value)),
+            ToJson | ToJsonOneEscape | ToJsonPlain => made(to_json(alloc, &value)),
         }
     }
 
     fn wanted(self, test: &Test, text: &'static str, _way: usize) -> String {
         match self {
-            ToJson | ToJsonPlain => json_of(test, text),
+            ToJson | ToJsonOneEscape | ToJsonPlain => json_of(test, text),
             _ => test.string(text),
         }
     }
@@ -83,10 +85,15 @@ impl Call for OnValue {
 
 /// Whether JSON has the text as it is.
 pub fn is_plain(text: &str) -> bool {
-    text.bytes().all(|byte| is_plain_byte(byte))
+    escapes(text) == 0
 }
 
-pub fn is_plain_byte(byte: u8) -> bool {
+/// How many bytes of a text JSON does not have as they are.
+pub fn escapes(text: &str) -> usize {
+    text.bytes().filter(|byte| !is_plain_byte(*byte)).count()
+}
+
+fn is_plain_byte(byte: u8) -> bool {
     byte >= b' ' && byte != b'"' && byte != b'\\'
 }
 
