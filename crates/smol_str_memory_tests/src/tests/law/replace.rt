@@ -43,10 +43,10 @@ static BY_LESS: [Change; 12] = table! {
     ("a", "b", 3); ("ab", "c", 0);
 };
 
-static BY_MORE: [Change; 9] = table! {
+static BY_MORE: [Change; 12] = table! {
     ("aa", "bbb", ALL); ("aaa", "bbbb", ALL); ("ab", "abc", ALL); ("aab", LONG, ALL); ("aa", LONG, ALL);
     (LONG, "bbbbbbbbbbbbbbbbbbbbbbbbbbbbbbbbbbbbbbbbbbb", ALL); ("aa", LONG, 2); ("aac", LONG, ALL);
-    ("a", LONG, 1);
+    ("a", LONG, 1); ("a", "bb", ALL); ("a", "éé", ALL); ("a", LONG, 1000);
 };
 
 static BETWEEN: [Change; 4] = table! {
