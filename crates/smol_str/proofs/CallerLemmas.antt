@@ -25,7 +25,7 @@
 --                    the same of std's `collect` and `extend`
 --     sorting        `IsSorted (slice_cmp nat_cmp) (texts names.items)` after `sort`; `dedup`, `binary_search`, `==`
 --     listed         `slice_get names i ≡ Some (chars result.now)` of what `values[i].as_str()` lends
---     lookups        `option_map (λ v. v.now.text) result ≡ lookup (bytes_eq (chars key.now)) (entry_texts .. )` of `get`
+--     lookups        `option_copied result ≡ value_at (chars key.now) map.now` of `get`; the same of texts, by `entry_texts`
 --     inserts        `texts set.new.keys ≡ insert_key bytes_eq (texts set.old.keys) v.text`; `contains`; the same of a map
 --     updates        `value_at other map.new ≡ value_at other map.old` for each other text, after a change at one
 --     scopes         `innermost t (entry_lists scopes.now)`, of maps one inside another, the last of them changed

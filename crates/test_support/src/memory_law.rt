@@ -2,7 +2,7 @@
 use crate::memory::{
     Count, Refusals, can_refuse, counted, end_refusals, is_at_most, refuse, start_counts,
 };
-use crate::sampling::{leaked, samples};
+use crate::sampling::{push_text, samples};
 use crate::test::{Test, holds};
 use crate::things::Thing;
 use crate::values::place_of;
@@ -19,21 +19,28 @@ pub enum Requests {
     Doubling(u32),
 }
 
-/// Where a call makes no request.
+/// For how many bytes in all: so many times the longer of its text and its result ..
 #[derive(Clone, Copy)]
-pub enum Free {
-    /// Where its result is short, or a blank run.
-    Resident,
-    /// Where its result is short.
-    Short,
-    /// Where its result is empty.
-    Empty,
-    Never,
+pub struct Texts(pub usize);
+
+/// .. and so many bytes more.
+#[derive(Clone, Copy)]
+pub struct Plus(pub usize);
+
+/// Of which texts a call may make a request.
+#[derive(Clone, Copy)]
+pub enum Asks {
+    /// Of any but those whose result is short, or a blank run.
+    UnlessResident,
+    /// Of any but those whose result is short.
+    UnlessShort,
+    /// Of any but those whose result is empty.
+    UnlessEmpty,
+    ForAny,
 }
 
-/// A call, its name as the library's documentation has it, how many requests it may make, for how many bytes in all (so many
-/// times the longer of its text and its result, and so many more), and where it makes none.
-pub type Law<C> = (C, &'static str, Requests, usize, usize, Free);
+/// A call, its name as the library's documentation has it, and what it may ask for.
+pub type Law<C> = (C, &'static str, Requests, Texts, Plus, Asks);
 
 /// How a call is made.
 pub trait Call: Copy {
@@ -68,10 +75,10 @@ pub fn check_law<C: Call>(rt: HostRuntime, table: &[Law<C>]) -> Result<(), Fail>
     let mut texts = samples(&test);
     // lengths between those of the samples
     for len in [310, 350, 450, 700, 900, 1_500, 3_000, 5_000] {
-        test.push(&mut texts, leaked(test.repeated_and("ab", len / 2, "é")));
+        push_text(&test, &mut texts, test.repeated_and("ab", len / 2, "é"));
     }
-    for &(call, name, requests, times, more, free) in table {
-        let most = (requests, times, more, free);
+    for &(call, name, requests, times, plus, asks) in table {
+        let most = (requests, times, plus, asks);
         let was_refused = check_texts(&test, call, name, most, &texts);
         let is_asking = !matches!(requests, Requests::Most(0)) && can_refuse(test.alloc);
         holds(&test, was_refused == is_asking, &(name, "is refused"));
@@ -108,7 +115,7 @@ fn check_texts<C: Call>(
 }
 
 /// The limits of a row.
-type Most = (Requests, usize, usize, Free);
+type Most = (Requests, Texts, Plus, Asks);
 
 /// A call on a text, in a way, and the text that it makes.
 #[derive(Drop)]
@@ -214,12 +221,12 @@ impl<C: Call> On<C> {
     }
 
     fn most_requests(&self) -> u32 {
-        let (requests, _, _, free) = self.most;
-        let is_free = match free {
-            Free::Resident => place_of(self.wanted.as_str()) != Place::Heap,
-            Free::Short => self.wanted.len() <= INLINE_CAP,
-            Free::Empty => self.wanted.is_empty(),
-            Free::Never => false,
+        let (requests, _, _, asks) = self.most;
+        let is_free = match asks {
+            Asks::UnlessResident => place_of(self.wanted.as_str()) != Place::Heap,
+            Asks::UnlessShort => self.wanted.len() <= INLINE_CAP,
+            Asks::UnlessEmpty => self.wanted.is_empty(),
+            Asks::ForAny => false,
         };
         match requests {
             _ if is_free => 0,
@@ -232,8 +239,8 @@ impl<C: Call> On<C> {
     }
 
     fn most_bytes(&self) -> usize {
-        let (_, times, more, _) = self.most;
-        self.size().saturating_mul(times).saturating_add(more)
+        let (_, Texts(times), Plus(plus), _) = self.most;
+        self.size().saturating_mul(times).saturating_add(plus)
     }
 
     /// The longer of the text and the result.

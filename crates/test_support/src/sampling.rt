@@ -96,7 +96,7 @@ fn push_marked(test: &Test, texts: &mut Vec<&'static str>, mark: &str, len: usiz
 }
 
 /// The text stays for as long as the process lives.
-fn push_text(test: &Test, texts: &mut Vec<&'static str>, text: String) {
+pub(crate) fn push_text(test: &Test, texts: &mut Vec<&'static str>, text: String) {
     let bytes = text.into_bytes().leak();
     test.push(texts, str::from_utf8(bytes).unwrap_or(""));
 }

@@ -66,6 +66,14 @@ pub fn number_of<'a, S: BuildHasher>(
     numbers.get(name)
 }
 
+/// What a map of `indexmap` has at a name.
+#[tactic(auto, using(smol_str::proofs::CallerLemmas::lookups))]
+pub fn id_by_text<'a>(ids: &'a IndexMap<SmolStr, u64>, name: &str) -> Option<&'a u64>
+    ensures { option_copied result ≡ value_at (chars name.now) ids.now }
+{
+    ids.get(name)
+}
+
 /// Whether a list of keywords has a name.
 pub fn is_keyword(keywords: &[SmolStr], name: &SmolStr) -> bool
     ensures { result ≡ has_text name.now.text keywords.now }

@@ -3,7 +3,7 @@ use Rattle.smol_str.proofs.Common.{◌≡◌, ◌+◌, ◌≤◌, ◌++◌, ◌�
 use Rattle.std.proofs.Common.{set}
 use Rattle.std.proofs.lemmas.List.{take_more_set, take-map, take-set-le}
 use Rattle.std.specs.HashMap.{HashMap}
-use Rattle.indexmap.specs.IndexMap.{insert_entry}
+use Rattle.indexmap.specs.IndexMap.{IndexMap, insert_entry}
 use Rattle.std.specs.List.{list_any}
 use Rattle.smol_str.specs.Meaning.{texts}
 use Rattle.smol_str.proofs.CallerLemmas.Values.{texts-push}
@@ -70,7 +70,17 @@ value-keyed r key es found =
     let copied : option_map (λ v. v.now.text) r ≡ option_map (λ (v : Meaning). v.text) (option_copied r) = search rules in
     cc (copied, found, lookup-keyed (λ (v : Meaning). v.text) key es)
 
-pub ruleset lookups = (value-lent, value-keyed, lookup-stands_for)
+-- a look-up by a `&str`, as what the map has at its text
+value_at-over : {V : Type 0} (bs : List ℕ) (es : List (Meaning × V)) → IsUtf8 bs
+    → lookup (stands_for bs) es ≡ lookup (λ key. bytes_eq (chars bs) key.text) es
+value_at-over bs [] u = refl
+value_at-over bs (e ∷ es) u = grind (arith, value_at-over bs es u, stands_for-text bs e.0 u)
+
+pub value_at-asked : {V S : Type 0} (r : Option (Bor V)) (bs : List ℕ) (m : IndexMap Meaning V S) → IsUtf8 bs
+    → option_copied r ≡ lookup (stands_for bs) m.entries → option_copied r ≡ value_at (chars bs) m
+value_at-asked r bs m u found = found ∙ value_at-over bs m.entries u
+
+pub ruleset lookups = (value-lent, value-keyed, lookup-stands_for, value_at-asked)
 
 -- an insert into a map of `indexmap`, and into a set: its entries and its keys seen as texts
 module _ (eq : Meaning → Meaning → Bool) where

@@ -1,8 +1,7 @@
 //! The law of memory, on one page: what each call may ask the heap for. Below its table is the test that tries its calls on
 //! each text of `samples`, with ample memory and with each request refused.
 //!
-//! A row reads: the call; its name; how many requests it makes at most; for how many bytes in all, so many times the longer of
-//! its text and its result and so many more; and where it makes none.
+//! `SmolStr::new` makes at most two requests, of one text and 40 bytes more in all, unless the text is resident.
 mod builders;
 mod forms;
 mod json;
@@ -12,7 +11,7 @@ mod strings;
 mod texts;
 mod values;
 
-use Free::{Empty, Never, Resident, Short};
+use Asks::{ForAny, UnlessEmpty, UnlessResident, UnlessShort};
 use Requests::{Doubling, Most};
 use builders::OnBuilder::{self, *};
 use forms::OnForm::{self, *};
@@ -26,26 +25,26 @@ use values::OnValue::{self, *};
 
 /// Of a text. A value on the heap is two blocks: its text, and 40 bytes with its count. A text that grows doubles its block.
 static TEXTS: [Law<OnText>; 20] = table! {
-    (New, "SmolStr::new", Most(2), 1, 40, Resident);
-    (FromStr, "SmolStr::from_str", Most(2), 1, 40, Resident);
-    (FromUtf8, "SmolStr::from_utf8", Most(2), 1, 40, Resident);
-    (FromUtf8Unchecked, "SmolStr::from_utf8_unchecked", Most(2), 1, 40, Resident);
-    (FromBorrowed, "SmolStr::from_cow_str", Most(2), 1, 40, Resident);
-    (FromChars, "SmolStr::from_chars", Doubling(2), 4, 40, Short);
-    (CollectChars, "SmolStr::from_iter", Doubling(2), 4, 40, Short);
-    (Print, "ToSmolStr::to_smolstr", Most(2), 1, 80, Short);
-    (PrintByParts, "ToSmolStr::to_smolstr", Doubling(2), 4, 40, Short);
-    (Format, "format_smolstr!", Most(2), 1, 80, Short);
-    (FormatParts, "format_smolstr!", Doubling(2), 4, 40, Short);
-    (WithCapacity, "SmolStrBuilder::with_capacity", Most(1), 1, 0, Short);
-    (ToBuild, "build", Most(3), 2, 80, Short);
-    (ToBuildAtOnce, "build", Most(3), 2, 40, Short);
-    (AsciiLower, "StrExt::to_ascii_lowercase_smolstr", Most(2), 1, 40, Short);
-    (AsciiUpper, "StrExt::to_ascii_uppercase_smolstr", Most(2), 1, 40, Short);
-    (LowerOfAscii, "StrExt::to_lowercase_smolstr", Most(2), 1, 40, Short);
-    (UpperOfAscii, "StrExt::to_uppercase_smolstr", Most(2), 1, 40, Short);
-    (Lower, "StrExt::to_lowercase_smolstr", Doubling(2), 4, 40, Short);
-    (Upper, "StrExt::to_uppercase_smolstr", Doubling(2), 4, 40, Short);
+    (New, "SmolStr::new", Most(2), Texts(1), Plus(40), UnlessResident);
+    (FromStr, "SmolStr::from_str", Most(2), Texts(1), Plus(40), UnlessResident);
+    (FromUtf8, "SmolStr::from_utf8", Most(2), Texts(1), Plus(40), UnlessResident);
+    (FromUtf8Unchecked, "SmolStr::from_utf8_unchecked", Most(2), Texts(1), Plus(40), UnlessResident);
+    (FromBorrowed, "SmolStr::from_cow_str", Most(2), Texts(1), Plus(40), UnlessResident);
+    (FromChars, "SmolStr::from_chars", Doubling(2), Texts(4), Plus(40), UnlessShort);
+    (CollectChars, "SmolStr::from_iter", Doubling(2), Texts(4), Plus(40), UnlessShort);
+    (Print, "ToSmolStr::to_smolstr", Most(2), Texts(1), Plus(80), UnlessShort);
+    (PrintByParts, "ToSmolStr::to_smolstr", Doubling(2), Texts(4), Plus(40), UnlessShort);
+    (Format, "format_smolstr!", Most(2), Texts(1), Plus(80), UnlessShort);
+    (FormatParts, "format_smolstr!", Doubling(2), Texts(4), Plus(40), UnlessShort);
+    (WithCapacity, "SmolStrBuilder::with_capacity", Most(1), Texts(1), Plus(0), UnlessShort);
+    (ToBuild, "build", Most(3), Texts(2), Plus(80), UnlessShort);
+    (ToBuildAtOnce, "build", Most(3), Texts(2), Plus(40), UnlessShort);
+    (AsciiLower, "StrExt::to_ascii_lowercase_smolstr", Most(2), Texts(1), Plus(40), UnlessShort);
+    (AsciiUpper, "StrExt::to_ascii_uppercase_smolstr", Most(2), Texts(1), Plus(40), UnlessShort);
+    (LowerOfAscii, "StrExt::to_lowercase_smolstr", Most(2), Texts(1), Plus(40), UnlessShort);
+    (UpperOfAscii, "StrExt::to_uppercase_smolstr", Most(2), Texts(1), Plus(40), UnlessShort);
+    (Lower, "StrExt::to_lowercase_smolstr", Doubling(2), Texts(4), Plus(40), UnlessShort);
+    (Upper, "StrExt::to_uppercase_smolstr", Doubling(2), Texts(4), Plus(40), UnlessShort);
 };
 
 #[test]
@@ -55,11 +54,11 @@ fn of_texts(rt: HostRuntime) -> Result<(), Fail> {
 
 /// Of a pattern and a new text.
 static REPLACEMENTS: [Law<Replace>; 5] = table! {
-    (ByteByByte, "StrExt::replace_smolstr", Most(2), 1, 40, Short);
-    (ByteByMore, "StrExt::replacen_smolstr", Most(2), 1, 40, Short);
-    (ByLess, "StrExt::replacen_smolstr", Most(2), 1, 40, Short);
-    (ByMore, "StrExt::replacen_smolstr", Doubling(3), 4, 40, Short);
-    (Between, "StrExt::replacen_smolstr", Doubling(2), 4, 40, Short);
+    (ByteByByte, "StrExt::replace_smolstr", Most(2), Texts(1), Plus(40), UnlessShort);
+    (ByteByMore, "StrExt::replacen_smolstr", Most(2), Texts(1), Plus(40), UnlessShort);
+    (ByLess, "StrExt::replacen_smolstr", Most(2), Texts(1), Plus(40), UnlessShort);
+    (ByMore, "StrExt::replacen_smolstr", Doubling(3), Texts(4), Plus(40), UnlessShort);
+    (Between, "StrExt::replacen_smolstr", Doubling(2), Texts(4), Plus(40), UnlessShort);
 };
 
 #[test]
@@ -69,12 +68,12 @@ fn of_replacements(rt: HostRuntime) -> Result<(), Fail> {
 
 /// Of a `String`, with room and without, and of what is made of one.
 static STRINGS: [Law<OnString>; 6] = table! {
-    (FromStringRef, "SmolStr::from_string_ref", Most(2), 1, 40, Resident);
-    (FromString, "SmolStr::from_string", Most(2), 1, 40, Resident);
-    (FromOwned, "SmolStr::from_owned", Most(1), 0, 40, Resident);
-    (FromCow, "SmolStr::from_cow_str", Most(2), 1, 40, Resident);
-    (FromBoxed, "SmolStr::from_boxed_str", Most(2), 1, 40, Resident);
-    (FromShared, "SmolStr::from_rc_str", Most(0), 0, 0, Never);
+    (FromStringRef, "SmolStr::from_string_ref", Most(2), Texts(1), Plus(40), UnlessResident);
+    (FromString, "SmolStr::from_string", Most(2), Texts(1), Plus(40), UnlessResident);
+    (FromOwned, "SmolStr::from_owned", Most(1), Texts(0), Plus(40), UnlessResident);
+    (FromCow, "SmolStr::from_cow_str", Most(2), Texts(1), Plus(40), UnlessResident);
+    (FromBoxed, "SmolStr::from_boxed_str", Most(2), Texts(1), Plus(40), UnlessResident);
+    (FromShared, "SmolStr::from_rc_str", Most(0), Texts(0), Plus(0), ForAny);
 };
 
 #[test]
@@ -84,15 +83,15 @@ fn of_strings(rt: HostRuntime) -> Result<(), Fail> {
 
 /// Of pieces: texts, strings and values.
 static PIECES: [Law<OnPieces>; 9] = table! {
-    (FromStrs, "SmolStr::from_strs", Doubling(2), 4, 40, Short);
-    (FromStrings, "SmolStr::from_strings", Doubling(2), 4, 40, Short);
-    (FromStringRefs, "SmolStr::from_string_refs", Doubling(2), 4, 40, Short);
-    (Collect, "SmolStr::from_iter", Doubling(2), 4, 40, Short);
-    (Join, "SmolStr::join", Doubling(2), 4, 40, Short);
-    (ExtendStrs, "SmolStrBuilder::extend_strs", Doubling(2), 4, 40, Short);
-    (ExtendStrings, "SmolStrBuilder::extend_strings", Doubling(2), 4, 40, Short);
-    (Extend, "SmolStrBuilder::extend", Doubling(2), 4, 40, Short);
-    (Append, "Piece::append_to", Doubling(2), 4, 40, Short);
+    (FromStrs, "SmolStr::from_strs", Doubling(2), Texts(4), Plus(40), UnlessShort);
+    (FromStrings, "SmolStr::from_strings", Doubling(2), Texts(4), Plus(40), UnlessShort);
+    (FromStringRefs, "SmolStr::from_string_refs", Doubling(2), Texts(4), Plus(40), UnlessShort);
+    (Collect, "SmolStr::from_iter", Doubling(2), Texts(4), Plus(40), UnlessShort);
+    (Join, "SmolStr::join", Doubling(2), Texts(4), Plus(40), UnlessShort);
+    (ExtendStrs, "SmolStrBuilder::extend_strs", Doubling(2), Texts(4), Plus(40), UnlessShort);
+    (ExtendStrings, "SmolStrBuilder::extend_strings", Doubling(2), Texts(4), Plus(40), UnlessShort);
+    (Extend, "SmolStrBuilder::extend", Doubling(2), Texts(4), Plus(40), UnlessShort);
+    (Append, "Piece::append_to", Doubling(2), Texts(4), Plus(40), UnlessShort);
 };
 
 #[test]
@@ -102,16 +101,16 @@ fn of_pieces(rt: HostRuntime) -> Result<(), Fail> {
 
 /// Of a value, also of a pinned one where nothing else is said.
 static VALUES: [Law<OnValue>; 10] = table! {
-    (Cloned, "SmolStr::clone", Most(0), 0, 0, Never);
-    (IntoString, "SmolStr::into_string", Most(1), 1, 0, Empty);
-    (IntoRcStr, "SmolStr::into_rc_str", Most(2), 1, 40, Never);
-    (IntoRcStrOnHeap, "SmolStr::into_rc_str", Most(0), 0, 0, Never);
-    (Write, "BorshSerialize::serialize", Most(0), 0, 0, Never);
-    (ToValue, "json_string::to_value", Most(1), 1, 0, Empty);
-    (InTree, "ToValue::to_value", Most(1), 1, 0, Empty);
-    (ToJson, "json_string::to_json", Most(4), 3, 80, Never);
-    (ToJsonOneEscape, "json_string::to_json", Most(1), 1, 8, Never);
-    (ToJsonPlain, "json_string::to_json", Most(1), 1, 2, Never);
+    (Cloned, "SmolStr::clone", Most(0), Texts(0), Plus(0), ForAny);
+    (IntoString, "SmolStr::into_string", Most(1), Texts(1), Plus(0), UnlessEmpty);
+    (IntoRcStr, "SmolStr::into_rc_str", Most(2), Texts(1), Plus(40), ForAny);
+    (IntoRcStrOnHeap, "SmolStr::into_rc_str", Most(0), Texts(0), Plus(0), ForAny);
+    (Write, "BorshSerialize::serialize", Most(0), Texts(0), Plus(0), ForAny);
+    (ToValue, "json_string::to_value", Most(1), Texts(1), Plus(0), UnlessEmpty);
+    (InTree, "ToValue::to_value", Most(1), Texts(1), Plus(0), UnlessEmpty);
+    (ToJson, "json_string::to_json", Most(4), Texts(3), Plus(80), ForAny);
+    (ToJsonOneEscape, "json_string::to_json", Most(1), Texts(1), Plus(8), ForAny);
+    (ToJsonPlain, "json_string::to_json", Most(1), Texts(1), Plus(2), ForAny);
 };
 
 #[test]
@@ -121,23 +120,23 @@ fn of_values(rt: HostRuntime) -> Result<(), Fail> {
 
 /// Of a builder.
 static BUILDERS: [Law<OnBuilder>; 17] = table! {
-    (CloneSmall, "SmolStrBuilder::clone", Most(1), 1, 0, Short);
-    (CloneLarge, "SmolStrBuilder::clone", Most(1), 1, 0, Never);
-    (Emptied, "SmolStrBuilder::emptied", Most(0), 0, 0, Never);
-    (Finish, "SmolStrBuilder::finish", Most(2), 1, 40, Resident);
-    (FromBuilder, "SmolStr::from_builder", Most(2), 1, 40, Resident);
-    (IntoValue, "SmolStrBuilder::into_value", Most(1), 0, 40, Resident);
-    (ValueOf, "ValueAlloc::value_of", Most(1), 0, 40, Resident);
-    (Push, "SmolStrBuilder::push", Most(1), 2, 0, Short);
-    (PushWide, "SmolStrBuilder::push", Most(1), 2, 0, Short);
-    (PushWithin, "SmolStrBuilder::push", Most(0), 0, 0, Never);
-    (PushStr, "SmolStrBuilder::push_str", Most(1), 2, 0, Short);
-    (PushStrWithin, "SmolStrBuilder::push_str", Most(0), 0, 0, Never);
-    (PushWithSpare, "SmolStrBuilder::push_with_spare", Most(1), 2, 0, Short);
-    (PushBlank, "SmolStrBuilder::push_blank", Most(1), 2, 0, Short);
-    (WriteStr, "SmolStrBuilder::write_str", Most(1), 2, 0, Short);
-    (WriteFmt, "SmolStrBuilder::write_fmt", Most(1), 2, 0, Short);
-    (ExtendChars, "SmolStrBuilder::extend_chars", Doubling(2), 4, 40, Short);
+    (CloneSmall, "SmolStrBuilder::clone", Most(1), Texts(1), Plus(0), UnlessShort);
+    (CloneLarge, "SmolStrBuilder::clone", Most(1), Texts(1), Plus(0), ForAny);
+    (Emptied, "SmolStrBuilder::emptied", Most(0), Texts(0), Plus(0), ForAny);
+    (Finish, "SmolStrBuilder::finish", Most(2), Texts(1), Plus(40), UnlessResident);
+    (FromBuilder, "SmolStr::from_builder", Most(2), Texts(1), Plus(40), UnlessResident);
+    (IntoValue, "SmolStrBuilder::into_value", Most(1), Texts(0), Plus(40), UnlessResident);
+    (ValueOf, "ValueAlloc::value_of", Most(1), Texts(0), Plus(40), UnlessResident);
+    (Push, "SmolStrBuilder::push", Most(1), Texts(2), Plus(0), UnlessShort);
+    (PushWide, "SmolStrBuilder::push", Most(1), Texts(2), Plus(0), UnlessShort);
+    (PushWithin, "SmolStrBuilder::push", Most(0), Texts(0), Plus(0), ForAny);
+    (PushStr, "SmolStrBuilder::push_str", Most(1), Texts(2), Plus(0), UnlessShort);
+    (PushStrWithin, "SmolStrBuilder::push_str", Most(0), Texts(0), Plus(0), ForAny);
+    (PushWithSpare, "SmolStrBuilder::push_with_spare", Most(1), Texts(2), Plus(0), UnlessShort);
+    (PushBlank, "SmolStrBuilder::push_blank", Most(1), Texts(2), Plus(0), UnlessShort);
+    (WriteStr, "SmolStrBuilder::write_str", Most(1), Texts(2), Plus(0), UnlessShort);
+    (WriteFmt, "SmolStrBuilder::write_fmt", Most(1), Texts(2), Plus(0), UnlessShort);
+    (ExtendChars, "SmolStrBuilder::extend_chars", Doubling(2), Texts(4), Plus(40), UnlessShort);
 };
 
 #[test]
@@ -147,17 +146,17 @@ fn of_builders(rt: HostRuntime) -> Result<(), Fail> {
 
 /// Of bytes: a wire form of the text, or the text itself.
 static FORMS: [Law<OnForm>; 11] = table! {
-    (FromWire, "borsh::from_wire", Most(2), 1, 40, Resident);
-    (SplitWire, "borsh::split_wire", Most(2), 1, 40, Resident);
-    (ReadChunk, "BorshDeserialize::deserialize_reader", Most(3), 2, 40, Short);
-    (ReadForm, "BorshDeserialize::deserialize_reader", Doubling(0), 5, 40, Short);
-    (ReadLimited, "borsh::deserialize_limited", Doubling(2), 5, 40, Short);
-    (ReadUpTo, "stream::read_up_to", Doubling(1), 4, 8, Empty);
-    (ReadAll, "stream::read_all", Doubling(1), 4, 8, Empty);
-    (Fill, "stream::fill", Most(0), 0, 0, Never);
-    (WriteSteps, "stream::write_steps", Most(0), 0, 0, Never);
-    (NotUtf8, "SmolStr::from_utf8", Most(0), 0, 0, Never);
-    (EndsEarly, "BorshDeserialize::deserialize_reader", Doubling(1), 4, 8, Short);
+    (FromWire, "borsh::from_wire", Most(2), Texts(1), Plus(40), UnlessResident);
+    (SplitWire, "borsh::split_wire", Most(2), Texts(1), Plus(40), UnlessResident);
+    (ReadChunk, "BorshDeserialize::deserialize_reader", Most(3), Texts(2), Plus(40), UnlessShort);
+    (ReadForm, "BorshDeserialize::deserialize_reader", Doubling(0), Texts(5), Plus(40), UnlessShort);
+    (ReadLimited, "borsh::deserialize_limited", Doubling(2), Texts(5), Plus(40), UnlessShort);
+    (ReadUpTo, "stream::read_up_to", Doubling(1), Texts(4), Plus(8), UnlessEmpty);
+    (ReadAll, "stream::read_all", Doubling(1), Texts(4), Plus(8), UnlessEmpty);
+    (Fill, "stream::fill", Most(0), Texts(0), Plus(0), ForAny);
+    (WriteSteps, "stream::write_steps", Most(0), Texts(0), Plus(0), ForAny);
+    (NotUtf8, "SmolStr::from_utf8", Most(0), Texts(0), Plus(0), ForAny);
+    (EndsEarly, "BorshDeserialize::deserialize_reader", Doubling(1), Texts(4), Plus(8), UnlessShort);
 };
 
 #[test]
@@ -167,17 +166,17 @@ fn of_forms(rt: HostRuntime) -> Result<(), Fail> {
 
 /// Of JSON: the text in quotes, with white space around, or a tree. serde's reader copies the JSON, of up to six bytes for one.
 static JSON: [Law<OnJson>; 11] = table! {
-    (FromValue, "json_string::from_value", Most(2), 1, 40, Resident);
-    (FromPlain, "json_string::from_json", Most(2), 1, 40, Resident);
-    (FromEscape, "json_string::from_json", Most(3), 3, 40, Short);
-    (FromEscapes, "json_string::from_json", Doubling(2), 4, 40, Short);
-    (BehindNumbers, "json_string::from_json", Doubling(2), 4, 40, Short);
-    (NotString, "json_string::from_json", Most(3), 2, 140, Never);
-    (NotClosed, "json_string::from_json", Most(2), 2, 8, Never);
-    (Serialize, "SmolStr::serialize", Doubling(1), 4, 120, Never);
-    (Deserialize, "SmolStr::deserialize", Most(3), 2, 48, Never);
-    (DeserializeEscaped, "SmolStr::deserialize", Most(3), 7, 48, Never);
-    (DeserializeOwned, "SmolStr::deserialize_owned", Doubling(4), 4, 180, Never);
+    (FromValue, "json_string::from_value", Most(2), Texts(1), Plus(40), UnlessResident);
+    (FromPlain, "json_string::from_json", Most(2), Texts(1), Plus(40), UnlessResident);
+    (FromEscape, "json_string::from_json", Most(3), Texts(3), Plus(40), UnlessShort);
+    (FromEscapes, "json_string::from_json", Doubling(2), Texts(4), Plus(40), UnlessShort);
+    (BehindNumbers, "json_string::from_json", Doubling(2), Texts(4), Plus(40), UnlessShort);
+    (NotString, "json_string::from_json", Most(3), Texts(2), Plus(140), ForAny);
+    (NotClosed, "json_string::from_json", Most(2), Texts(2), Plus(8), ForAny);
+    (Serialize, "SmolStr::serialize", Doubling(1), Texts(4), Plus(120), ForAny);
+    (Deserialize, "SmolStr::deserialize", Most(3), Texts(2), Plus(48), ForAny);
+    (DeserializeEscaped, "SmolStr::deserialize", Most(3), Texts(7), Plus(48), ForAny);
+    (DeserializeOwned, "SmolStr::deserialize_owned", Doubling(4), Texts(4), Plus(180), ForAny);
 };
 
 #[test]

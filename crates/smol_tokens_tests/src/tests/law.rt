@@ -1,7 +1,7 @@
 //! The law of memory for the program: each mode on each line, and a token added to tallies of some.
 use super::mode::mode_by;
 use super::run::{fixed_state, kind_of};
-use Free::Never;
+use Asks::ForAny;
 use OnLine::*;
 use Requests::{Doubling, Most};
 use smol_str::{Place, SmolStr};
@@ -27,16 +27,16 @@ enum OnLine {
 }
 
 static MODES: [Law<OnLine>; 10] = table! {
-    (Show, "run::run, show", Doubling(10), 8, 0, Never);
-    (Join, "run::run, join", Doubling(6), 8, 0, Never);
-    (Lower, "run::run, lower", Doubling(10), 8, 0, Never);
-    (Upper, "run::run, upper", Doubling(10), 8, 0, Never);
-    (Replace("a", "é"), "run::run, replace", Doubling(10), 8, 0, Never);
-    (Replace("aa", "bbb"), "run::run, replace", Doubling(11), 8, 0, Never);
-    (Replace("", "-"), "run::run, replace", Doubling(26), 10, 0, Never);
-    (Tokens, "run::run, tokens", Doubling(10), 12, 640, Never);
-    (Merge, "run::run, merge", Doubling(11), 8, 640, Never);
-    (NoSum, "run::run, merge", Doubling(11), 12, 760, Never);
+    (Show, "run::run, show", Doubling(10), Texts(8), Plus(0), ForAny);
+    (Join, "run::run, join", Doubling(6), Texts(8), Plus(0), ForAny);
+    (Lower, "run::run, lower", Doubling(10), Texts(8), Plus(0), ForAny);
+    (Upper, "run::run, upper", Doubling(10), Texts(8), Plus(0), ForAny);
+    (Replace("a", "é"), "run::run, replace", Doubling(10), Texts(8), Plus(0), ForAny);
+    (Replace("aa", "bbb"), "run::run, replace", Doubling(11), Texts(8), Plus(0), ForAny);
+    (Replace("", "-"), "run::run, replace", Doubling(26), Texts(10), Plus(0), ForAny);
+    (Tokens, "run::run, tokens", Doubling(10), Texts(12), Plus(640), ForAny);
+    (Merge, "run::run, merge", Doubling(11), Texts(8), Plus(640), ForAny);
+    (NoSum, "run::run, merge", Doubling(11), Texts(12), Plus(760), ForAny);
 };
 
 #[test]
@@ -163,8 +163,8 @@ enum Add {
 }
 
 static ADDS: [Law<Add>; 2] = table! {
-    (Add::New, "Tally::add", Most(4), 0, 640, Never);
-    (Add::Again, "Tally::add", Most(0), 0, 0, Never);
+    (Add::New, "Tally::add", Most(4), Texts(0), Plus(640), ForAny);
+    (Add::Again, "Tally::add", Most(0), Texts(0), Plus(0), ForAny);
 };
 
 static OTHERS: [u64; 8] = [0, 1, 3, 4, 7, 8, 14, 28];
