@@ -19,9 +19,8 @@ use Rattle.std.specs.declared.slice.Iter.{Iter}
 use Rattle.std.specs.declared.iter.Rev.{Rev}
 use Rattle.std.specs.declared.iter.Copied.{Copied}
 use Rattle.std.proofs.lemmas.Iterator.{YieldsList, YieldsList-from_slice, YieldsList-from_chars, YieldsList-from_take, YieldsList-from_map_by}
-use Rattle.std.proofs.lemmas.Iterator.Adapters.{YieldsList-from_repeat_n, YieldsList-from_vec, YieldsList-from_skip, YieldsList-from_skip_while, YieldsList-from_flat_map}
-use Rattle.std.proofs.lemmas.Iterator.Consumers.{YieldsList-from_shown, YieldsList-at, YieldsList-from_chain, YieldsList-from_copied, YieldsList-from_filter}
-use Rattle.std.proofs.lemmas.Iterator.Search.{YieldsList-from_take_while}
+use Rattle.std.proofs.lemmas.Iterator.Adapters.{YieldsList-from_skip, YieldsList-from_flat_map}
+use Rattle.std.proofs.lemmas.Iterator.Consumers.{YieldsList-from_shown, YieldsList-at, YieldsList-from_copied}
 use Rattle.std.proofs.lemmas.Iterator.Splits.{YieldsList-from_shown_while, YieldsList-from_lines, YieldsList-from_str_split}
 use Rattle.std.proofs.lemmas.List.{reverse-append, length-reverse, nil_from_length}
 use Rattle.smol_str.proofs.TextLemmas.Split.{scalars_parts}

@@ -1,6 +1,5 @@
 -- Wire forms in bytes.
 use Rattle.smol_str.proofs.Common.{◌≡◌, ◌∷◌, ℕ, ◌+◌, ◌<◌, ◌≤◌, ◌^◌, All, List, [], ◌++◌, append_assoc, map, map-id, Option, length, drop, refl, sym, ap, ◌∙◌, subst, inl, inr, IsTrue, arith, flat_map, to_le_bytes, from_le_bytes-to_le_bytes_4, w32, chars, all_scalars, IsUtf8, take-append-le, chars-encodes, length-append, All-head, All-tail, size, HasWire, wire, Holds, HasEndedEarly, body, common_steps, rules, append-nil, length-take, Result, OnErr, Appends, get_or, Meaning, map-append, length-map, scalars-chars}
-use Rattle.smol_str.specs.Wire.{prefix_size}
 use Rattle.smol_str.specs.Stream.{AppendsBeginning}
 use Rattle.smol_str.specs.WireFaults.{AfterEncodeFault}
 use Rattle.smol_str.specs.declared.borsh.fault.EncodeFault.{EncodeFault}
@@ -10,7 +9,7 @@ use Rattle.std.proofs.lemmas.List.{flat_map_more, get_or-map, get_or_append_left
 use Rattle.std.proofs.lemmas.List.Elements.{All-push}
 use Rattle.smol_str.proofs.TextLemmas.Places.{OnErr-always}
 use Rattle.smol_str.proofs.WireLemmas.Stream.{beginning-of_first, beginning-of_second}
-use Rattle.smol_str.proofs.WireLemmas.Wire.{length-wire, prefix_size-wire, wire-apart, Holds-one, Holds-whole, body-Holds, Holds-written, wire-held, length-Holds}
+use Rattle.smol_str.proofs.WireLemmas.Wire.{length-wire, wire-apart, Holds-one, Holds-whole, body-Holds, Holds-written}
 
 -- ---- wire forms
 
