@@ -174,6 +174,20 @@ impl SmolStrBuilder {
         self.push(character)
     }
 
+    /// Like [`SmolStrBuilder::push`], without a call on the heap: for loops over the characters of a text of any length.
+    #[inline(always)]
+    pub(crate) fn push_any(&mut self, character: char) -> Result<(), AllocError>
+        ensures ok { OnOk result (self.new ≡ appended self.old (character ∷ [])) }
+        ensures unchanged { OnErr result (self.new ≡ self.old) }
+        ensures refused { OnErr result ((appended self.old (character ∷ [])).kind ≡ OnHeap) }
+    {
+        let code = character as u32;
+        if code < 0x80 && self.push_short(ascii_text(&[code as u8])) {
+            return Ok(());
+        }
+        self.push_next(character)
+    }
+
     /// Appends a text.
     ///
     /// It is refused with [`AllocError`] where the heap has no room, and the builder is as before.
