@@ -143,6 +143,20 @@ fn faults_of_merges(rt: HostRuntime) -> Result<(), Fail> {
     test.end()
 }
 
+// Behind many lines too, where memory is there.
+#[test]
+fn late_faults_of_merges(rt: HostRuntime) -> Result<(), Fail> {
+    let test = Test::begin(rt);
+    for lines in 0..300 {
+        let front = test.repeated("1 b\n", lines);
+        let input = test.joined(front.as_str(), "x\n");
+        check_merge(&test, input.as_bytes(), Kind::NotCounts(lines + 1));
+        let input = test.joined("18446744073709551615 a\n1 a\n", front.as_str());
+        check_merge(&test, input.as_bytes(), Kind::Full);
+    }
+    test.end()
+}
+
 fn check_merge(test: &Test, input: &[u8], kind: Kind) {
     let (mut reader, mut out) = (input, Vec::new(test.alloc));
     let ended = run_by(test, &["merge"], &mut reader, &mut out);
