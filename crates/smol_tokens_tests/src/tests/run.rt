@@ -143,6 +143,30 @@ fn faults_of_merges(rt: HostRuntime) -> Result<(), Fail> {
     test.end()
 }
 
+// Many tokens, and faults behind many lines.
+static MANY: [(&str, &str); 4] = table! {
+    ("tokens", "a\nb\nc\nd\ne\nf\ng\nh\ni\nj\nk\nl\n");
+    ("merge", "1 a\n1 b\n1 c\n1 d\n1 e\n1 f\n1 g\n1 h\n1 i\n1 j\n1 k\n1 l\n");
+    ("merge", "1 a\n1 b\n1 c\n1 d\n1 e\n1 f\n1 g\n1 h\n1 i\n1 j\n1 k\nl\n");
+    ("merge", "1 a\n1 b\n1 c\n1 d\n1 e\n1 f\n1 g\n1 h\n1 i\n1 j\n18446744073709551615 a\n");
+};
+
+#[test]
+fn many_tokens_leave_no_blocks(rt: HostRuntime) -> Result<(), Fail> {
+    let test = Test::begin(rt);
+    for &(mode, input) in &MANY {
+        start_counts(test.alloc);
+        run_once(&test, mode, input.as_bytes());
+        no_blocks(&test, &(mode, input));
+    }
+    test.end()
+}
+
+fn run_once(test: &Test, mode: &str, input: &[u8]) {
+    let (mut reader, mut out) = (input, Vec::new(test.alloc));
+    let _ended = run_by(test, &[mode], &mut reader, &mut out);
+}
+
 // Behind many lines too, where memory is there.
 #[test]
 fn late_faults_of_merges(rt: HostRuntime) -> Result<(), Fail> {
