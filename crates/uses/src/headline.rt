@@ -25,8 +25,8 @@ ghost use Rattle.smol_str.specs.Cut.{joined_by};
 
 use smol_str::kernel::AsciiCase;
 use smol_str::{
-    BLANK_NEWLINES, BLANK_SPACES, INLINE_CAP, Place, SmolStr, SmolStrBuilder, Step, StrExt, ValueAlloc,
-    build, laws,
+    BLANK_NEWLINES, BLANK_SPACES, INLINE_CAP, Place, SmolStr, SmolStrBuilder, Step, StrExt,
+    ValueAlloc, build, laws,
 };
 use std::alloc::{AllocError, Global};
 use std::borrow::CowStr;

@@ -16,7 +16,9 @@ ghost use Rattle.smol_str.specs.Joined.{joined};
 pub mod collecting;
 
 use crate::cutting::row;
-use smol_str::{FormatError, INLINE_CAP, SmolStr, SmolStrBuilder, StrExt, ToSmolStr, format_smolstr};
+use smol_str::{
+    FormatError, INLINE_CAP, SmolStr, SmolStrBuilder, StrExt, ToSmolStr, format_smolstr,
+};
 use std::alloc::{AllocError, Global};
 use std::convert::AsStr;
 use std::iter;
