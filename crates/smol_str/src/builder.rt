@@ -174,9 +174,10 @@ impl SmolStrBuilder {
         self.push(character)
     }
 
-    /// Like [`SmolStrBuilder::push`], without a call on the heap: for loops over the characters of a text of any length.
+    /// Like [`SmolStrBuilder::push`], with the path on the heap inlined too: for loops over the characters of a text of
+    /// any length.
     #[inline(always)]
-    pub(crate) fn push_any(&mut self, character: char) -> Result<(), AllocError>
+    pub(crate) fn push_inlined(&mut self, character: char) -> Result<(), AllocError>
         ensures ok { OnOk result (self.new ≡ appended self.old (character ∷ [])) }
         ensures unchanged { OnErr result (self.new ≡ self.old) }
         ensures refused { OnErr result ((appended self.old (character ∷ [])).kind ≡ OnHeap) }

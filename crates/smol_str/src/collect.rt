@@ -48,7 +48,7 @@ impl Piece for char {
 
     #[inline(always)]
     fn append_to(&self, builder: &mut SmolStrBuilder) -> Result<(), AllocError> {
-        builder.push_any(*self)
+        builder.push_inlined(*self)
     }
 }
 

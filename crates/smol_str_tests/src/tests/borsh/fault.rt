@@ -1,10 +1,10 @@
-//! Bytes that hold no wire form.
-use super::letters;
-use smol_str::SmolStr;
+//! Bytes that hold no wire form, or state a size above the limit of `deserialize_limited`.
+use super::{letters, of_units};
 use smol_str::borsh::{
     BorshDeserialize, DecodeFault, LimitedFault, deserialize_limited, from_wire, split_wire,
 };
 use smol_str::stream::CHUNK;
+use smol_str::{INLINE_CAP, SmolStr};
 use test_support::*;
 
 pub fn kind_of(fault: &DecodeFault) -> Kind {
@@ -51,12 +51,16 @@ fn refused(rt: HostRuntime) -> Result<(), Fail> {
     test.end()
 }
 
-// Bodies that are read by pieces: the last byte is not there, or the last or the first is no character.
+// Bodies of each size: the last byte is not there, or the last or the first is no character.
 #[test]
 fn borsh_non_utf8_heap(rt: HostRuntime) -> Result<(), Fail> {
     let test = Test::begin(rt);
-    for size in [300, 4_097, 65_537, 5_000_000] {
+    for size in 1..=300u32 {
         check_bodies(&test, size);
+        check_bodies(&test, size.saturating_mul(13));
+    }
+    for size in ABOVE_BUFFERS {
+        check_bodies(&test, size as u32);
     }
     test.end()
 }
@@ -128,4 +132,30 @@ fn check_largest(test: &Test, count: u32, most: u32) {
     holds(test, is_little || !can_refuse(test.alloc), &count);
     same_fault(test, read.err(), Kind::Ended, (bytes.len(), 0));
     holds(test, reader.rest.is_empty(), &count);
+}
+
+/// A size, a limit, and whether the size is above it.
+static LIMITS: [(u32, usize, bool); 4] = table! {
+    (5, 5, false);
+    (6, 5, true);
+    (u32::MAX, INLINE_CAP, true);
+    (u32::MAX, u32::MAX as usize - 1, true);
+};
+
+// A size above the limit is refused before memory is asked for, and nothing behind it is read.
+#[test]
+fn sizes_about_the_limit(rt: HostRuntime) -> Result<(), Fail> {
+    let test = Test::begin(rt);
+    for &(size, limit, is_above) in &LIMITS {
+        let bytes = of_units(&test, &size.to_le_bytes(), b"abcdef", 1);
+        let mut reader = trickle_of(bytes.as_slice(), usize::MAX, 0);
+        refuse_all(test.alloc);
+        let read = deserialize_limited(test.alloc, &mut reader, limit);
+        holds(&test, !end_refusals(test.alloc), &(size, limit));
+        let is_too_long = matches!(read, Err(LimitedFault::TooLong));
+        same(&test, &is_too_long, &is_above, &(size, limit));
+        let left = if is_above { 6 } else { 1 };
+        same(&test, &reader.rest.len(), &left, &(size, limit));
+    }
+    test.end()
 }
