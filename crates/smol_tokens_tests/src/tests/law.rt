@@ -75,7 +75,7 @@ impl OnLine {
     }
 }
 
-/// Each line up to this length is tried. All longer ones would take more time than a test has.
+/// Each line up to this length is tried, and a few longer ones: all would take more time than a test has.
 const LONGEST: usize = 100;
 
 /// How often a line occurs.
