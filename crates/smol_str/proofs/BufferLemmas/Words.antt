@@ -1,5 +1,5 @@
 -- For `bytes::words` and `buffer::packing`: bytes as words, read, packed and overwritten.
-use Rattle.smol_str.proofs.Common.{◌≡◌, ℕ, zero, suc, ◌+◌, ◌-◌, ◌*◌, ◌^◌, ◌/◌, ◌<◌, ◌≤◌, List, [], ◌∷◌, ◌++◌, length, take, drop, get_or, replicate, ◌∙◌, ap, arith, refl, length-take, length-drop, nat_eq, ◌&&◌, Bool, true, set, length-append, w64, w32, to_le_bytes, from_le_bytes, pointwise, bytes_decides, take-add, take-append-add, drop-append-add, le_bytes_8, pow-add, cases_lt, Decides-and, Decides-like, Decides-eqb, same_from_decides, take_at, drop_at, take_all, take-take, drop-take, drop-drop, take-append-le, take-append-drop, append_assoc, length-take-le, get_or-drop, get_or-take, get_or_past, set_at, length-replicate, drop-replicate, INLINE_CAP, packed, padded, put_at, encode, replicate_more, common_steps, rules}
+use Rattle.smol_str.proofs.Common.{◌≡◌, ℕ, zero, suc, ◌+◌, ◌-◌, ◌*◌, ◌^◌, ◌/◌, ◌<◌, ◌≤◌, List, [], ◌∷◌, ◌++◌, length, take, drop, get_or, replicate, ◌∙◌, ap, arith, refl, length-take, length-drop, nat_eq, ◌&&◌, Bool, true, set, length-append, w64, w32, to_le_bytes, from_le_bytes, pointwise, bytes_decides, take-add, take-append-add, drop-append-add, le_bytes_8, pow-add, cases_lt, Decides-and, Decides-like, Decides-eqb, same_from_decides, take_at, drop_at, take_all, take-take, drop-take, drop-drop, take-append-le, take-append-drop, append_assoc, length-take-le, get_or-drop, get_or-take, get_or_past, set_at, length-replicate, drop-replicate, INLINE_CAP, packed, padded, put_at, encode, replicate_more, common_steps, rules, ⊎_elim, PACKED_LEN}
 use Rattle.std.proofs.Math.Nat.{div-div-eq-div-mul, pow-succ', mul-le-mul_left}
 use Rattle.smol_str.specs.Words.{word}
 use Rattle.smol_str.proofs.BufferLemmas.Packed.{length-padded}
@@ -202,3 +202,15 @@ pub copy-step : (new old bytes : List ℕ) (at k : ℕ) → at + k ≤ length by
     take at old ≡ take at bytes → new ≡ put_at old at (take k (drop at bytes)) →
     take (at + k) new ≡ take (at + k) bytes
 copy-step new old bytes at k within long front put = search (rules, length-part, take-end, length-take-le, take-add)
+
+-- a block more, or all is there
+pub block-step : (new old bytes : List ℕ) (at : ℕ) → length bytes ≡ PACKED_LEN → length old ≡ PACKED_LEN → take at old ≡ take at bytes
+    → (at + 16 ≤ PACKED_LEN → new ≡ put_at old at (take 16 (drop at bytes))) → (PACKED_LEN < at + 16 → new ≡ old)
+    → (PACKED_LEN < at + 16 → PACKED_LEN ≤ at) → take (at + 16) new ≡ take (at + 16) bytes
+block-step new old bytes at long same front within past all = ⊎_elim
+    (λ g. let more = all g in
+    let had = take_all at old (omega (arith, same)) in
+    let has = take_all at bytes (omega (arith, long)) in
+    cc (past g, take_all (at + 16) old (omega (arith, same)), take_all (at + 16) bytes (omega (arith, long)), front, had, has))
+    (λ l. copy-step new old bytes at 16 (omega (arith, long)) (omega (arith, same)) front (within l))
+    (cases_lt PACKED_LEN (at + 16))

@@ -14,7 +14,7 @@
 //! So two texts are equal where their words are, and the first words that differ order them: if one
 //! text is a prefix of the other, zeros follow it and then a smaller length, so it sorts first. A text
 //! is written by words too, since loading a word just after byte stores stalls.
-ghost use Rattle.std.specs.Prelude.{◌≡◌, ◌+◌, ◌≤◌, ℕ, List, length, take, drop, nat_eq, OnSome, encode_utf8};
+ghost use Rattle.std.specs.Prelude.{◌≡◌, ◌+◌, ◌<◌, ◌≤◌, ℕ, List, length, take, drop, nat_eq, OnSome, encode_utf8};
 ghost use Rattle.std.specs.Iterator.{IsFinite, YieldsThen};
 ghost use Rattle.std.specs.Str.{IsAscii};
 ghost use Rattle.std.specs.Ordering.{nat_cmp};
@@ -54,19 +54,19 @@ pub(super) fn pack(bytes: &[u8]) -> Packed
     buf
 }
 
-/// Copies 40 bytes as 8+16+16, one load and one store each. `*packed` would stay in memory and be loaded again;
-/// `copy_from_slice` adds a test for overlap.
+/// Copies eight bytes and then blocks of sixteen, one load and one store each. `*packed` would stay in memory and be loaded
+/// again; `copy_from_slice` adds a test for overlap. A loop would keep `buf` in memory.
 #[inline(always)]
 pub(super) fn copy_packed(packed: &Packed) -> Packed
     ensures { result ≡ packed.now }
 {
-    if PACKED_LEN != 40 {
-        return *packed;
-    }
     let mut buf = [0; PACKED_LEN];
+    let first = PACKED_LEN % 16;
     copy_at::<8>(&mut buf, packed, 0);
-    copy_at::<16>(&mut buf, packed, 8);
-    copy_at::<16>(&mut buf, packed, 24);
+    copy_block(&mut buf, packed, first);
+    copy_block(&mut buf, packed, first + 16);
+    copy_block(&mut buf, packed, first + 32);
+    copy_block(&mut buf, packed, first + 48);
     buf
 }
 
@@ -90,6 +90,18 @@ fn put_word(buf: &mut Packed, start: usize, word: u64)
     ensures { buf.new ≡ put_at buf.old start (to_le_bytes w64 word) }
 {
     buf[start..start + 8].copy_from_slice(&word.to_le_bytes());
+}
+
+/// Copies sixteen bytes, if the text has them: a test of constants.
+#[inline(always)]
+fn copy_block(buf: &mut Packed, packed: &Packed, at: usize)
+    requires { at ≤ 64 }
+    ensures within { at + 16 ≤ PACKED_LEN → buf.new ≡ put_at buf.old at (take 16 (drop at packed.now)) }
+    ensures past { PACKED_LEN < at + 16 → buf.new ≡ buf.old }
+{
+    if at + 16 <= PACKED_LEN {
+        copy_at::<16>(buf, packed, at);
+    }
 }
 
 /// Copies `N` bytes by one load and one store.
