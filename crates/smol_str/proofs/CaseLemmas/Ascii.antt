@@ -61,7 +61,7 @@ ascii-told b bytes told ascii = search rules
 begins_past : (t : List ℕ) → (0 < length (encode_utf8_all t) → 128 ≤ get_or (encode_utf8_all t) 0 0) → BeginsPastAscii t
 begins_past t h = search (rules, form, length-le-encodes)
 
-from_start : (xs : List ℕ) (n : ℕ) → slice_range xs 0 n ≡ take n xs
+pub from_start : (xs : List ℕ) (n : ℕ) → slice_range xs 0 n ≡ take n xs
 from_start xs n = search rules
 
 -- the first bytes are the front, where what follows begins past ASCII

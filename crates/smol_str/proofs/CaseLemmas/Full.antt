@@ -1,10 +1,10 @@
 -- For `str_ext::ascii_case` and `str_ext::full_case`: the ASCII front of a text and the rest of it, in a case.
-use Rattle.smol_str.proofs.Common.{◌≡◌, ℕ, List, [], ◌++◌, length, take, drop, sym, ap, ◌∙◌, arith, append_assoc, length-append, IsUtf8, IsAscii, IsCharBoundary, chars, encode_utf8_all, take_at, IsUtf8-from_ascii, chars-IsAscii, encodes-IsAscii, IsAscii-from_all, AsciiCase, Lower, Upper, size, IsShort, padded, front, converted, Draft, InBuffer, OnHeap, empty_draft, appended, common_steps, rules, suc, ◌<◌, ◌∷◌, Bool, false, Option, None, flat_map, refl, append-nil, ne_eqb, to_ascii_lowercase, chars-encodes, INLINE_CAP, Occurs, lower, upper, lowercased, uppercased, IsAsciiText, HasSigma, letter, letters, full_case, mapped, IsMappedAlone, length-map, nat_tests, lowercase_is, uppercase_is}
+use Rattle.smol_str.proofs.Common.{◌≡◌, ℕ, List, [], ◌++◌, length, take, drop, sym, ap, ◌∙◌, arith, append_assoc, length-append, IsUtf8, IsAscii, IsCharBoundary, chars, encode_utf8_all, take_at, IsUtf8-from_ascii, chars-IsAscii, encodes-IsAscii, IsAscii-from_all, AsciiCase, Lower, Upper, size, IsShort, padded, front, converted, Draft, InBuffer, OnHeap, empty_draft, appended, common_steps, rules, suc, ◌<◌, ◌∷◌, Bool, false, Option, None, flat_map, refl, append-nil, ne_eqb, to_ascii_lowercase, chars-encodes, INLINE_CAP, Occurs, lower, upper, lowercased, uppercased, IsAsciiText, HasSigma, letter, letters, full_case, mapped, IsMappedAlone, length-map, nat_tests, lowercase_is, uppercase_is, map-append, get_or, IsTrue, all_scalars, IsAsciiFront, ◌≤◌}
 use Rattle.smol_str.proofs.TextLemmas.Lists.{not_later}
 use Rattle.smol_str.proofs.CaseLemmas.Letters.{lowercase_moves, uppercase_moves}
-use Rattle.smol_str.proofs.CaseLemmas.Ascii.{front-parts, size-converted, front-append, IsAscii-converted, IsAscii-chars, ascii-converted}
+use Rattle.smol_str.proofs.CaseLemmas.Ascii.{front-parts, front-length, size-converted, front-append, IsAscii-converted, IsAscii-chars, ascii-converted}
 use Rattle.smol_str.proofs.BuilderLemmas.Push.{appended-heap}
-use Rattle.smol_str.proofs.TextLemmas.Split.{boundary-parts, chars-drop}
+use Rattle.smol_str.proofs.TextLemmas.Split.{boundary-parts, chars-drop, chars-take}
 use Rattle.std.specs.Option.{is_some}
 use Rattle.std.specs.Char.Unicode.ToLowercase.{to_lowercase}
 use Rattle.std.specs.StrCase.Lower.{lowercase_chars, is_in_word_after}
@@ -18,26 +18,34 @@ IsAscii-front t = IsAscii-from_all (front t) (front-parts t).2
 pub size-front : (t : List ℕ) → size (front t) ≡ length (front t)
 size-front t = ap length (encodes-IsAscii (front t) (IsAscii-front t))
 
--- the bytes of the front, taken from the buffer
-module _ (case : AsciiCase) (t buffer : List ℕ) (len : ℕ) (is : buffer
-    ≡ padded (encode_utf8_all (converted case (front t)))) (long : len ≡ length (front t)) where
-  pub take-front : take len buffer ≡ converted case (front t)
-  take-front = grind (arith, common_steps, encodes-IsAscii, IsAscii-converted, IsAscii-front, length-map, take_at)
+-- a text, and the text in a case, cut where the ASCII front of the text ends
+module _ (case : AsciiCase) (text bs w : List ℕ) (len : ℕ) (u : IsUtf8 text) (v : IsUtf8 bs) (f : IsAsciiFront text len)
+    (stops : len < length text → 128 ≤ get_or text len 0) (bytes : bs ≡ encode_utf8_all w) (scalars : IsTrue (all_scalars w))
+    (is : w ≡ converted case (chars text)) where
+  abbrev a : List ℕ
+  a = front (chars text)
 
-  pub IsUtf8-front : IsUtf8 (take len buffer)
-  IsUtf8-front = search (rules, take-front, IsUtf8-from_ascii, IsAscii-converted, IsAscii-front)
+  long : length a ≡ len
+  long = sym (front-length text len u f stops)
 
-  pub chars-front : chars (take len buffer) ≡ converted case (front t)
-  chars-front = search (rules, take-front, chars-IsAscii, IsAscii-converted, IsAscii-front)
+  in_case : chars bs ≡ converted case a ++ converted case (front-parts (chars text)).0
+  in_case =
+      let h = front-parts (chars text) in
+      ap chars bytes ∙ chars-encodes w scalars ∙ is ∙ ap (converted case) h.1 ∙ map-append (letter case) a h.0
 
--- where the rest of a text begins
-module _ (bs : List ℕ) (index : ℕ) (u : IsUtf8 bs) (e : index ≡ length (front (chars bs))) where
-  pub front-boundary : IsCharBoundary bs index
-  front-boundary = let h = front-parts (chars bs) in
-      boundary-parts bs (front (chars bs)) h.0 index u h.1 (size-front (chars bs) ∙ sym e)
+  at : size (converted case a) ≡ len
+  at = size-converted case a ∙ size-front (chars text) ∙ long
 
-  pub front-rest : front (chars bs) ++ chars (drop index bs) ≡ chars bs
-  front-rest = let h = front-parts (chars bs) in grind (arith, common_steps, h.1, chars-drop, size-front)
+  pub split-front : IsCharBoundary bs len × (chars (take len bs) ≡ converted case a)
+      × IsCharBoundary text len × (a ++ chars (drop len text) ≡ chars text)
+  split-front =
+      let h = front-parts (chars text) in
+      let end = size-front (chars text) ∙ long in (
+        boundary-parts bs (converted case a) _ len v in_case at,
+        chars-take bs (converted case a) _ len v in_case at,
+        boundary-parts text a h.0 len u h.1 end,
+        ap (λ r. a ++ r) (chars-drop text a h.0 len u h.1 end) ∙ sym h.1,
+      )
 
 -- std maps an ASCII character as its case of ASCII does
 letters_ascii : (case : AsciiCase) (c : ℕ) → c < 128 → letters case c ≡ letter case c ∷ []
@@ -139,8 +147,6 @@ module _ (case : AsciiCase) (t r : List ℕ) (e : front t ++ r ≡ t) (alone : I
   short-refused heap = search (rules, OnHeap-long, appended-full_case)
 
 pub ruleset whole_texts = (OnErr-always, full-refused, full-alone)
-
-pub ruleset fronts = (IsUtf8-front, chars-front, front-boundary, front-rest, OnErr-always)
 
 pub ruleset ascii_texts = (IsAscii-chars, OnErr-always, full-ascii, ascii-refused)
 

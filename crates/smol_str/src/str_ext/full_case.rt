@@ -13,7 +13,8 @@ use super::case_ranges::letter_of;
 use super::sigma::push_lowercase;
 use crate::buffer::INLINE_CAP;
 use crate::builder::SmolStrBuilder;
-use crate::kernel::{AsciiCase, convert_while_ascii, next_match};
+use crate::bytes::ascii::front_len;
+use crate::kernel::{AsciiCase, next_match};
 use crate::value::SmolStr;
 use std::alloc::{AllocError, Global};
 
@@ -35,7 +36,7 @@ pub(super) fn to_full_case(
     if short.is_ascii() {
         return Ok(short);
     }
-    short_full_case(alloc, text, case)
+    short_full_case(alloc, short, text, case)
 }
 
 /// A long text in a case. Slow path, kept out of line so that the fast path inlines.
@@ -52,16 +53,21 @@ fn long_full_case(alloc: Global, text: &str, case: AsciiCase) -> Result<SmolStr,
     by_characters(alloc, text, case)
 }
 
-/// A short text in a case.
+/// A short text in a case; `in_case` is the text with its ASCII letters in that case.
 #[inline(never)]
 #[tactic(auto, using(crate::proofs::CaseLemmas::Full::short_fronts))]
-fn short_full_case(alloc: Global, text: &str, case: AsciiCase) -> Result<SmolStr, AllocError>
-    requires { length text.now ≤ INLINE_CAP }
+fn short_full_case(
+    alloc: Global,
+    in_case: SmolStr,
+    text: &str,
+    case: AsciiCase,
+) -> Result<SmolStr, AllocError>
+    requires { in_case.text ≡ converted case (chars text.now) }
     ensures ok { IfOk result (λ v. IsValueOf (full_case case (chars text.now)) v) }
     ensures refused { OnErr result (¬ (IsShort (full_case case (chars text.now)))) }
 {
     let mut builder = SmolStrBuilder::new(alloc);
-    let rest = push_front(&mut builder, text, case)?;
+    let rest = push_front(&mut builder, &in_case, text, case)?;
     if has_context(rest, case) {
         return by_context(alloc, text);
     }
@@ -69,23 +75,22 @@ fn short_full_case(alloc: Global, text: &str, case: AsciiCase) -> Result<SmolStr
     builder.into_value()
 }
 
-/// Appends the ASCII front of a short text in a case; returns the rest of the text.
-#[tactic(auto, using(crate::proofs::CaseLemmas::Full::fronts))]
+/// Appends the ASCII front of a text in a case, and returns the rest of the text.
 fn push_front<'a>(
     builder: &mut SmolStrBuilder,
+    in_case: &SmolStr,
     text: &'a str,
     case: AsciiCase,
 ) -> Result<&'a str, AllocError>
-    requires { length text.now ≤ INLINE_CAP }
+    requires { in_case.now.text ≡ converted case (chars text.now) }
     ensures ok { IfOk result (λ rest.
         builder.new ≡ appended builder.old (converted case (front (chars text.now)))) }
     ensures rest { IfOk result (λ rest. front (chars text.now) ++ chars rest.now ≡ chars text.now) }
     ensures refused { OnErr result
         ((appended builder.old (converted case (front (chars text.now)))).kind ≡ OnHeap) }
 {
-    let (buffer, len) = convert_while_ascii(text, case);
-    let front = unsafe { str::from_utf8_unchecked(&buffer[..len]) };
-    builder.push_str(front)?;
+    let len = front_len(text.as_bytes());
+    builder.push_str(&in_case.as_str()[..len])?;
     Ok(&text[len..])
 }
 
@@ -103,7 +108,7 @@ fn by_characters(alloc: Global, text: &str, case: AsciiCase) -> Result<SmolStr, 
     builder.into_value()
 }
 
-/// The text in lower case, each capital sigma by what stands around it.
+/// The text in lower case, each capital sigma by the characters around it.
 #[tactic(auto, using(crate::proofs::CaseLemmas::Full::whole_texts))]
 fn by_context(alloc: Global, text: &str) -> Result<SmolStr, AllocError>
     ensures ok { IfOk result (λ v. IsValueOf (lowercased (chars text.now)) v) }
