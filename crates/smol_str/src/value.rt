@@ -89,7 +89,7 @@ impl SmolStr {
             Some(run) => Ok(SmolStr {
                 repr: Repr::Static(run),
             }),
-            None => Ok(SmolStr::from_heap(shared(alloc, text)?)),
+            None => Ok(SmolStr::from_heap(heap_text(alloc, text)?)),
         }
     }
 
@@ -319,7 +319,7 @@ impl Clone for SmolStr {
 /// Slow path of `new`, out of line. Returns the pointer: a returned `SmolStr` would make `new` clear 48 bytes on the fast
 /// path.
 #[inline(never)]
-fn shared(alloc: Global, text: &str) -> Result<SharedText, AllocError>
+fn heap_text(alloc: Global, text: &str) -> Result<SharedText, AllocError>
     ensures { IfOk result (λ heap. shared_bytes heap ≡ text.now) }
 {
     SharedText::from_str(alloc, text)

@@ -8,6 +8,6 @@ returns-in-Some-clause-ok c = search (rules, size-chars, place_of-blank, IsBlank
 pub from_heap-requires : goal.from_heap-requires
 from_heap-requires c = search (rules, not_resident)
 
-pub returns-in_err-shared-in-None-clause-refused : goal.returns-in_err-shared-in-None-clause-refused
-returns-in_err-shared-in-None-clause-refused c =
+pub returns-in_err-heap_text-in-None-clause-refused : goal.returns-in_err-heap_text-in-None-clause-refused
+returns-in_err-heap_text-in-None-clause-refused c =
     OnErr-always _ _ (not_resident _ c.utf8.text (omega (arith, c.if-text-le-INLINE_CAP.false)) c.in-None.ensures.run)
