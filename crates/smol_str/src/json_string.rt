@@ -27,6 +27,7 @@ use crate::builder::SmolStrBuilder;
 use crate::bytes::plain::{
     is_all_plain, is_all_spaces, plain_len, split_ascii, split_plain, strip_ascii, without_spaces,
 };
+use crate::stream::ReadFault;
 use crate::value::SmolStr;
 use serde_json::{ToValue, Value};
 use std::alloc::{AllocError, AllocFailed, Global};
@@ -73,7 +74,7 @@ impl Display for JsonFault {
         match self {
             JsonFault::NotString => f.write_str("the JSON value is not a string"),
             JsonFault::Json(error) => Display::fmt(error, f),
-            JsonFault::OutOfMemory => f.write_str("memory allocation failed"),
+            JsonFault::OutOfMemory => Display::fmt(&ReadFault::OutOfMemory, f),
         }
     }
 }
@@ -440,7 +441,7 @@ fn escaped_by(letter: u8) -> Option<char>
     }
 }
 
-/// The character whose number stands behind `\u`, and what comes after it. A character above U+FFFF has two numbers, the
+/// The character whose number follows `\u`, and what comes after it. A character above U+FFFF has two numbers, the
 /// surrogates of its UTF-16, each in an escape of its own.
 #[inline(never)]
 #[tactic(auto, using(crate::proofs::JsonLemmas::Unescaped::units))]

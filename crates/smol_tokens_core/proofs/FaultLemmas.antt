@@ -2,7 +2,8 @@
 use Rattle.std.proofs.Common.{◌≡◌, ℕ, List, Option, Result, IsUtf8, arith, rules}
 use Rattle.std.specs.Result.{IsErrAnd, IfErr, OnErr}
 use Rattle.std.specs.Str.{chars}
-use Rattle.std.specs.Io.KnownBytes.{Consumes, IsAtEnd, Keeps}
+use Rattle.std.specs.Io.KnownBytes.{Consumes, IsAtEnd}
+use Rattle.std.proofs.KnownBytes.{Keeps-refl}
 use Rattle.std.proofs.lemmas.Option.{IfSome_then}
 use Rattle.std.proofs.lemmas.Result.{err_from_is_err_and}
 use Rattle.smol_tokens_core.specs.Faults.{AfterFault}
@@ -11,14 +12,11 @@ use Rattle.smol_tokens_core.specs.declared.mode.Mode.{Mode}
 use Rattle.smol_tokens_core.specs.declared.fault.RunFault.{RunFault}
 use Rattle.smol_tokens_core.specs.declared.fault.RunFault.TheVariants.{OutOfMemory}
 
-pub Keeps-itself : (known : Option (List ℕ)) → Keeps known known
-Keeps-itself known = search rules
-
 -- the whole input came, is a text, and there is no report on it: nothing was written
 pub after-no_report : (mode : Mode) (input left held : Option (List ℕ)) (bytes : List ℕ) (fault : RunFault)
     → Consumes input left bytes → IsAtEnd left → IsUtf8 bytes → HasNoReport mode (chars bytes) fault
     → AfterFault mode (record { input = input; left = left; held = held; holds = held }) fault
-after-no_report mode input left held bytes fault came end utf8 none = search (rules, Keeps-itself, IfSome_then)
+after-no_report mode input left held bytes fault came end utf8 none = search (rules, Keeps-refl, IfSome_then)
 
 -- memory was refused
 pub no_report-refused : {T : Type 0} (r : Result T RunFault) (mode : Mode) (t : List ℕ)

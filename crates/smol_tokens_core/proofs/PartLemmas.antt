@@ -1,12 +1,12 @@
 -- For the laws of parts: the lines, the tally and the report of a text by those of its parts, and merges of merges.
-use Rattle.std.proofs.Common.{◌≡◌, ℕ, ◌<◌, ◌≤◌, ◌==◌, ◌^◌, List, [], ◌∷◌, ◌++◌, Bool, cond, length, get_or, refl, sym, ◌∙◌, arith, rules, inl, inr}
+use Rattle.std.proofs.Common.{◌≡◌, ℕ, ◌<◌, ◌≤◌, ◌==◌, ◌^◌, List, [], ◌∷◌, ◌++◌, Bool, cond, length, get_or, refl, sym, ◌∙◌, arith, rules, inl, inr, bytes_eq}
 use Rattle.std.specs.Prelude.{All, count_by, ◌↔◌}
 use Rattle.std.specs.List.{flat_map, onto_first}
 use Rattle.std.proofs.lemmas.List.{map-append}
 use Rattle.std.proofs.lemmas.List.Elements.{All-nil, All-cons, All-head, All-tail, All-filter, All-map}
 use Rattle.std.proofs.lemmas.List.Sums.{sum_by-append}
 use Rattle.smol_tokens_core.specs.Lines.{newline, lines, HasNoNewline}
-use Rattle.smol_tokens_core.specs.Tally.{is_same, tokens, times_of, first_sights, tally, seen_once}
+use Rattle.smol_tokens_core.specs.Tally.{tokens, times_of, first_sights, tally, seen_once}
 use Rattle.smol_tokens_core.specs.Report.{tokens_report}
 use Rattle.smol_tokens_core.specs.ReportFaults.{HasALineTooOften}
 use Rattle.smol_tokens_core.specs.Counts.{count_line, IsEntry, IsCounts, IsMerge, IsWhole, HasATokenTooOften}
@@ -54,7 +54,7 @@ tally-lines a b whole =
 
 -- the times in the tallies of two parts are how often a line occurs in both
 times-parts : (a b t : List ℕ) → IsWhole a
-    → times_of t (tally (seen_once (lines a)) ++ tally (seen_once (lines b))) ≡ count_by (is_same t) (lines (a ++ b))
+    → times_of t (tally (seen_once (lines a)) ++ tally (seen_once (lines b))) ≡ count_by (bytes_eq t) (lines (a ++ b))
 times-parts a b t whole = grind (arith, tally-lines a b whole, times_of-tally, times_of-seen_once)
 
 pub full-parts : (a b : List ℕ) → IsWhole a
@@ -85,7 +85,7 @@ reports-read t fits = (
 pub reports-both : (a b : List ℕ) → IsWhole a → ¬ HasALineTooOften (a ++ b)
     → IsCounts (tokens_report a ++ tokens_report b) (tally (seen_once (lines a)) ++ tally (seen_once (lines b)))
 reports-both a b whole fits =
-    let sum = λ (line : List ℕ). sum_by-append (λ u. cond (is_same line u) 1 0) (lines a) (lines b) in
+    let sum = λ (line : List ℕ). sum_by-append (λ u. cond (bytes_eq line u) 1 0) (lines a) (lines b) in
     IsCounts-append (tokens_report a) (tokens_report b) (tally (seen_once (lines a))) (tally (seen_once (lines b)))
     (reports-read a (λ h. fits (h.0, rw (lines-parts a b whole) (omega (arith, h.1, sum h.0)))))
     (reports-read b (λ h. fits (h.0, rw (lines-parts a b whole) (omega (arith, h.1, sum h.0)))))

@@ -1,14 +1,14 @@
 -- For mode merge: count lines read and summed one after another, and what follows the last of them.
-use Rattle.std.proofs.Common.{◌≡◌, ℕ, ◌+◌, ◌<◌, ◌≤◌, ◌^◌, List, [], ◌∷◌, ◌++◌, Bool, true, false, MatchBool, cond, length, ap, ◌∙◌, arith, rules, append_assoc, append-nil, length-append}
+use Rattle.std.proofs.Common.{◌≡◌, ℕ, ◌+◌, ◌<◌, ◌≤◌, ◌^◌, List, [], ◌∷◌, ◌++◌, Bool, true, false, MatchBool, cond, length, ap, ◌∙◌, arith, rules, append_assoc, append-nil, length-append, bytes_eq}
 use Rattle.std.specs.List.{flat_map}
 use Rattle.std.specs.Str.{chars}
 use Rattle.std.proofs.lemmas.Str.{chars-nil}
 use Rattle.std.proofs.lemmas.List.Concat.{flat_map-append}
 use Rattle.std.proofs.lemmas.List.Elements.{All-append}
 use Rattle.std.proofs.lemmas.List.Sums.{sum_by-append}
-use Rattle.smol_tokens_core.specs.Tally.{is_same, times_of, tally}
+use Rattle.smol_tokens_core.specs.Tally.{times_of, tally}
 use Rattle.smol_tokens_core.specs.Counts.{count_line, IsEntry, IsCounts, IsMerge, BeginsWith, HasATokenTooOften}
-use Rattle.smol_tokens_core.proofs.TallyLemmas.{same_from, is_same_itself, by_same, times-cons}
+use Rattle.smol_tokens_core.proofs.TallyLemmas.{same_from, bytes_eq_itself, by_same, times-cons}
 use Rattle.smol_tokens_core.proofs.TableLemmas.{tally-again, times_of-tally}
 use Rattle.smol_tokens_core.proofs.PartLemmas.{IsMerge-read}
 use Rattle.smol_tokens_core.proofs.CountLemmas.{head, nothing, counts-begin}
@@ -27,7 +27,7 @@ begins-more t rest after es e h k =
     (cc (h.0, k.0, flat_map-append count_line es (e ∷ []), whole), All-append IsEntry es (e ∷ []) h.1 k.1)
 
 times-more : (u token : List ℕ) (n : ℕ) (es : List (List ℕ × ℕ))
-    → times_of u (es ++ (token, n) ∷ []) ≡ times_of u es + cond (is_same u token) n 0
+    → times_of u (es ++ (token, n) ∷ []) ≡ times_of u es + cond (bytes_eq u token) n 0
 times-more u token n es = search (rules, arith, sum_by-append, times-cons)
 
 fits-more : (es : List (List ℕ × ℕ)) (token : List ℕ) (n : ℕ) → ¬ HasATokenTooOften es → times_of token es + n < 2 ^ 64
@@ -58,7 +58,7 @@ module _ (t rest after token : List ℕ) (n count : ℕ) (line : BeginsWith rest
         is ∙ ap (λ s. tally (s ++ (token, count) ∷ [])) h.3.1 ∙ tally-again h.0 ((token, count) ∷ []),
       )
   summed-more sums new false h full =
-      let own = ap (λ b. cond b count 0) (is_same_itself token) in
+      let own = ap (λ b. cond b count 0) (bytes_eq_itself token) in
       let above : 2 ^ 64 ≤ times_of token h.0 + count = rw (h.3.1, times_of-tally token h.0) at full in
       more false new h.0 h.1 h.2 (token, omega (arith, above, times-more token token count h.0, own))
 

@@ -1,13 +1,13 @@
 -- For the laws of tallies by steps: a list in which no token occurs twice is its tally, and takes one more entry.
-use Rattle.std.proofs.Common.{◌≡◌, ◌≢◌, ℕ, ◌+◌, suc, List, [], ◌∷◌, ◌++◌, false, unwrap_or, refl, arith, rules, append_assoc, append-nil}
+use Rattle.std.proofs.Common.{◌≡◌, ◌≢◌, ℕ, ◌+◌, suc, List, [], ◌∷◌, ◌++◌, false, unwrap_or, refl, arith, rules, append_assoc, append-nil, bytes_eq}
 use Rattle.std.specs.Prelude.{All}
 use Rattle.std.specs.List.{AllPairs}
 use Rattle.std.specs.Map.{lookup}
 use Rattle.indexmap.specs.IndexMap.{insert_entry}
 use Rattle.std.proofs.lemmas.List.Sums.{sum_by-append}
 use Rattle.std.proofs.lemmas.List.Elements.{All-head, All-tail}
-use Rattle.smol_tokens_core.specs.Tally.{is_same, tokens, times_of, tally}
-use Rattle.smol_tokens_core.proofs.TallyLemmas.{same_from, is_same_itself, by_same, other_from, other_way, times-cons, without_token, tally-cons, once-tally}
+use Rattle.smol_tokens_core.specs.Tally.{tokens, times_of, tally}
+use Rattle.smol_tokens_core.proofs.TallyLemmas.{same_from, bytes_eq_itself, by_same, other_from, other_way, times-cons, without_token, tally-cons, once-tally}
 
 -- a token without an entry
 new : (t : List ℕ) (es : List (List ℕ × ℕ)) → All (λ u. t ≢ u) (tokens es)
@@ -24,25 +24,25 @@ tally-table (e ∷ es) h =
     search (rules, tally-cons, first, rest)
 
 -- the entry of a token is found, and put, whether or not those of others are there
-lookup-others : (t k : List ℕ) (es : List (List ℕ × ℕ)) → is_same t k ≡ false
-    → lookup (is_same t) (without_token k es) ≡ lookup (is_same t) es
+lookup-others : (t k : List ℕ) (es : List (List ℕ × ℕ)) → bytes_eq t k ≡ false
+    → lookup (bytes_eq t) (without_token k es) ≡ lookup (bytes_eq t) es
 lookup-others t k [] h = refl
 lookup-others t k (e ∷ es) h = search (rules, by_same, same_from, lookup-others t k es h)
 
-put-others : (t k : List ℕ) (es : List (List ℕ × ℕ)) (v : ℕ) → is_same k t ≡ false
-    → without_token k (insert_entry is_same es t v) ≡ insert_entry is_same (without_token k es) t v
+put-others : (t k : List ℕ) (es : List (List ℕ × ℕ)) (v : ℕ) → bytes_eq k t ≡ false
+    → without_token k (insert_entry bytes_eq es t v) ≡ insert_entry bytes_eq (without_token k es) t v
 put-others t k [] v h = search rules
 put-others t k (e ∷ es) v h = search (rules, by_same, same_from, other_way, put-others t k es v h)
 
 put-same : (t : List ℕ) (es : List (List ℕ × ℕ)) (v : ℕ)
-    → without_token t (insert_entry is_same es t v) ≡ without_token t es
-put-same t [] v = search (rules, is_same_itself)
+    → without_token t (insert_entry bytes_eq es t v) ≡ without_token t es
+put-same t [] v = search (rules, bytes_eq_itself)
 put-same t (e ∷ es) v = search (rules, by_same, put-same t es v)
 
 -- how often a token occurs, by whether the first entry is its own
 ruleset times = (by_same, same_from, tally-cons, times-cons)
 
-pub lookup-tally : (es : List (List ℕ × ℕ)) (t : List ℕ) → unwrap_or (lookup (is_same t) (tally es)) 0 ≡ times_of t es
+pub lookup-tally : (es : List (List ℕ × ℕ)) (t : List ℕ) → unwrap_or (lookup (bytes_eq t) (tally es)) 0 ≡ times_of t es
 lookup-tally [] t = refl
 lookup-tally (e ∷ es) t = search (rules, arith, times, lookup-others, lookup-tally es t)
 
@@ -51,8 +51,8 @@ pub times_of-tally : (t : List ℕ) (es : List (List ℕ × ℕ)) → times_of t
 times_of-tally t es = cc (tally-table (tally es) (once-tally es), lookup-tally (tally es) t, lookup-tally es t)
 
 pub tally-added : (es : List (List ℕ × ℕ)) (t : List ℕ) (n : ℕ)
-    → tally (es ++ (t, n) ∷ []) ≡ insert_entry is_same (tally es) t (times_of t es + n)
-tally-added [] t n = search (rules, times-cons, is_same_itself)
+    → tally (es ++ (t, n) ∷ []) ≡ insert_entry bytes_eq (tally es) t (times_of t es + n)
+tally-added [] t n = search (rules, times-cons, bytes_eq_itself)
 tally-added (e ∷ es) t n =
     search (rules, arith, times, sum_by-append, other_way, put-same, put-others, tally-added es t n)
 

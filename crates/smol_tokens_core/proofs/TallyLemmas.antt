@@ -1,5 +1,5 @@
 -- For the laws of tallies: whether two texts are one, each text once, and a tally with one entry more in front.
-use Rattle.std.proofs.Common.{◌≡◌, ◌≢◌, ℕ, ◌+◌, List, [], ◌∷◌, ◌++◌, true, false, cond, map, refl, ap, ⊎_elim, arith, rules}
+use Rattle.std.proofs.Common.{◌≡◌, ◌≢◌, ℕ, ◌+◌, List, [], ◌∷◌, ◌++◌, true, false, cond, map, refl, ap, ⊎_elim, arith, rules, bytes_eq}
 use Rattle.std.specs.Prelude.{not, filter, All}
 use Rattle.std.specs.List.{AllPairs}
 use Rattle.std.proofs.lemmas.Bool.{cases_Bool, false_from_ne_true, false≢true, not-true}
@@ -8,25 +8,25 @@ use Rattle.std.proofs.lemmas.List.{map-append}
 use Rattle.std.proofs.lemmas.List.Sums.{sum_by-cons}
 use Rattle.std.proofs.lemmas.List.Elements.{filter-append, filter_passes, All-map, All-weaker}
 use Rattle.std.proofs.lemmas.List.Kept.{AllPairs-cons, AllPairs-filter}
-use Rattle.smol_tokens_core.specs.Tally.{is_same, tokens, times_of, without, first_sights, tally}
+use Rattle.smol_tokens_core.specs.Tally.{tokens, times_of, without, first_sights, tally}
 
-pub same_from : (s t : List ℕ) → is_same s t ≡ true → s ≡ t
+pub same_from : (s t : List ℕ) → bytes_eq s t ≡ true → s ≡ t
 same_from s t e = (bytes_eq-Decides s t).0 e
 
-pub is_same_itself : (t : List ℕ) → is_same t t ≡ true
-is_same_itself t = (bytes_eq-Decides t t).1 refl
+pub bytes_eq_itself : (t : List ℕ) → bytes_eq t t ≡ true
+bytes_eq_itself t = (bytes_eq-Decides t t).1 refl
 
 -- by whether two texts are one
-pub by_same : {P : Type 0} (s t : List ℕ) → (is_same s t ≡ true → P) → (is_same s t ≡ false → P) → P
-by_same s t same other = ⊎_elim same other (cases_Bool (is_same s t))
+pub by_same : {P : Type 0} (s t : List ℕ) → (bytes_eq s t ≡ true → P) → (bytes_eq s t ≡ false → P) → P
+by_same s t same other = ⊎_elim same other (cases_Bool (bytes_eq s t))
 
-pub other_from : (s t : List ℕ) → s ≢ t → is_same s t ≡ false
+pub other_from : (s t : List ℕ) → s ≢ t → bytes_eq s t ≡ false
 other_from s t ne = search (rules, false_from_ne_true, same_from)
 
-differ : (s t : List ℕ) → is_same s t ≡ false → s ≢ t
+differ : (s t : List ℕ) → bytes_eq s t ≡ false → s ≢ t
 differ s t e same = search (rules, bytes_eq-Decides, false≢true)
 
-pub other_way : (s t : List ℕ) → is_same s t ≡ false → is_same t s ≡ false
+pub other_way : (s t : List ℕ) → bytes_eq s t ≡ false → bytes_eq t s ≡ false
 other_way s t e = search (rules, other_from, differ)
 
 -- no text occurs twice
@@ -35,7 +35,7 @@ sights_once [] = search (rules, arith)
 sights_once (t ∷ ts) =
     AllPairs-cons (λ s u. s ≢ u) t (without t (first_sights ts))
     (search (rules, arith, All-weaker, filter_passes, not-true, differ))
-    (AllPairs-filter (λ s u. s ≢ u) (λ u. not (is_same t u)) (first_sights ts) (sights_once ts))
+    (AllPairs-filter (λ s u. s ≢ u) (λ u. not (bytes_eq t u)) (first_sights ts) (sights_once ts))
 
 -- the first sights of a list come first, in their order, in those of a longer one
 sights-longer : (ts us : List (List ℕ))
@@ -46,12 +46,12 @@ sights-longer (t ∷ ts) us =
 
 -- what a pair adds to the times of a text
 pub times-cons : (t : List ℕ) (e : List ℕ × ℕ) (es : List (List ℕ × ℕ))
-    → times_of t (e ∷ es) ≡ cond (is_same t e.0) e.1 0 + times_of t es
-times-cons t e es = sum_by-cons (λ e. cond (is_same t e.0) e.1 0) e es
+    → times_of t (e ∷ es) ≡ cond (bytes_eq t e.0) e.1 0 + times_of t es
+times-cons t e es = sum_by-cons (λ e. cond (bytes_eq t e.0) e.1 0) e es
 
 -- the entries of other tokens
 abbrev pub without_token : List ℕ → List (List ℕ × ℕ) → List (List ℕ × ℕ)
-without_token t es = filter (λ e. not (is_same t e.0)) es
+without_token t es = filter (λ e. not (bytes_eq t e.0)) es
 
 -- the first token has its entry, and the others those of the rest
 others_counted : (e : List ℕ × ℕ) (es : List (List ℕ × ℕ)) (us : List (List ℕ))
@@ -61,7 +61,7 @@ others_counted e es (u ∷ us) = search (rules, arith, by_same, times-cons, othe
 
 pub tally-cons : (e : List ℕ × ℕ) (es : List (List ℕ × ℕ))
     → tally (e ∷ es) ≡ (e.0, e.1 + times_of e.0 es) ∷ without_token e.0 (tally es)
-tally-cons e es = search (rules, times-cons, is_same_itself, others_counted)
+tally-cons e es = search (rules, times-cons, bytes_eq_itself, others_counted)
 
 pub counts-tally : (es : List (List ℕ × ℕ)) → All (λ e. e.1 ≡ times_of e.0 es) (tally es)
 counts-tally es =

@@ -3,9 +3,8 @@
 --     WantsMemory mode t             some report is to be written: always in mode join, else on each text but the empty one
 --     CountsTooFar mode t            a count of the report would pass `u64::MAX`: in the modes that count
 --     HasNoReport mode t             what is known after each fault of making the report
-use Rattle.std.specs.Prelude.{◌≡◌, ◌⊎◌, ℕ, ◌<◌, ◌≤◌, ◌^◌, List, length, count_by}
+use Rattle.std.specs.Prelude.{◌≡◌, ◌⊎◌, ℕ, ◌<◌, ◌≤◌, ◌^◌, List, length, count_by, bytes_eq}
 use Rattle.smol_tokens_core.specs.Lines.{lines}
-use Rattle.smol_tokens_core.specs.Tally.{is_same}
 use Rattle.smol_tokens_core.specs.Counts.{IsCounts, HasATokenTooOften, IsFirstOther}
 use Rattle.smol_tokens_core.specs.declared.mode.Mode.{Mode}
 use Rattle.smol_tokens_core.specs.declared.mode.Mode.TheVariants.{Join, Tokens, Merge}
@@ -13,7 +12,7 @@ use Rattle.smol_tokens_core.specs.declared.fault.RunFault.{RunFault}
 use Rattle.smol_tokens_core.specs.declared.fault.RunFault.TheVariants.{NotUtf8, OutOfMemory, NotCounts, Full, Io}
 
 abbrev pub HasALineTooOften : List ℕ → Type 0
-HasALineTooOften t = (line : List ℕ) × (2 ^ 64 ≤ count_by (is_same line) (lines t))
+HasALineTooOften t = (line : List ℕ) × (2 ^ 64 ≤ count_by (bytes_eq line) (lines t))
 
 -- a report of nothing takes no memory
 abbrev pub WantsMemory : Mode → List ℕ → Type 0

@@ -1,5 +1,4 @@
 -- How often each text of a list of pairs (text, times) occurs in it.
---     is_same s t            s and t are one text
 --     tokens pairs           the texts of the pairs
 --     times_of t pairs       the sum of the times of t
 --     first_sights texts     each text once, in the order in which they first occur
@@ -7,13 +6,8 @@
 --     seen_once texts        the texts, each with times 1
 --     HasEachOnce pairs      no text is in two of the pairs
 --     by_text entries        the entries of a table by values, each by its value's text
-use Rattle.std.specs.Prelude.{◌≢◌, ℕ, List, [], ◌∷◌, Bool, not, map, filter, sum_by, nat_eq, AllPairs, if◌then◌else◌}
-use Rattle.std.specs.Cmp.Lexicographic.{pointwise}
+use Rattle.std.specs.Prelude.{◌≢◌, ℕ, List, [], ◌∷◌, Bool, not, map, filter, sum_by, bytes_eq, AllPairs, if◌then◌else◌}
 use Rattle.smol_str.specs.Meaning.{Meaning}
-
--- the test that two texts are equal
-abbrev pub is_same : List ℕ → List ℕ → Bool
-is_same s t = pointwise nat_eq s t
 
 -- the first of each pair
 abbrev pub tokens : List (List ℕ × ℕ) → List (List ℕ)
@@ -21,11 +15,11 @@ tokens pairs = map (λ pair. pair.0) pairs
 
 -- a pair of another text adds nothing
 abbrev pub times_of : List ℕ → List (List ℕ × ℕ) → ℕ
-times_of t pairs = sum_by (λ pair. if is_same t pair.0 then pair.1 else 0) pairs
+times_of t pairs = sum_by (λ pair. if bytes_eq t pair.0 then pair.1 else 0) pairs
 
 -- the texts other than t
 abbrev pub without : List ℕ → List (List ℕ) → List (List ℕ)
-without t texts = filter (λ u. not (is_same t u)) texts
+without t texts = filter (λ u. not (bytes_eq t u)) texts
 
 -- the first text, and the others after it
 abbrev pub first_sights : List (List ℕ) → List (List ℕ)

@@ -1,6 +1,6 @@
 //! What the definitions in `specs/` mean: laws over every text and every list of pairs, each the
 //! contract of a function that does nothing.
-ghost use Rattle.std.specs.Prelude.{◌≡◌, ◌≢◌, ◌⊎◌, ◌↔◌, ◌+◌, ◌<◌, ◌^◌, ℕ, List, [], ◌∷◌, ◌++◌, All, AllPairs, unwrap_or, count_by};
+ghost use Rattle.std.specs.Prelude.{◌≡◌, ◌≢◌, ◌⊎◌, ◌↔◌, ◌+◌, ◌<◌, ◌^◌, ℕ, List, [], ◌∷◌, ◌++◌, All, AllPairs, unwrap_or, count_by, bytes_eq};
 ghost use Rattle.std.specs.List.{flat_map, onto_first, slice_split};
 ghost use Rattle.std.specs.Map.{lookup};
 ghost use Rattle.indexmap.specs.IndexMap.{insert_entry};
@@ -10,7 +10,7 @@ ghost use Rattle.smol_tokens_core.specs.Counts.{count_line, IsCounts, IsMerge, I
 ghost use Rattle.smol_tokens_core.specs.Lines.{is_newline, newline, lines, without_empty_last, HasNoNewline, ended};
 ghost use Rattle.smol_tokens_core.specs.Report.{tokens_report};
 ghost use Rattle.smol_tokens_core.specs.ReportFaults.{HasALineTooOften};
-ghost use Rattle.smol_tokens_core.specs.Tally.{is_same, tokens, times_of, tally, seen_once};
+ghost use Rattle.smol_tokens_core.specs.Tally.{tokens, times_of, tally, seen_once};
 
 /// The lines of a text are the pieces between newlines that std's `split` of a slice gives, without
 /// a last piece that is empty.
@@ -52,7 +52,7 @@ pub fn tallies()
         times_of t (tally pairs) ≡ times_of t pairs }
     ensures once { (pairs : List (List ℕ × ℕ)) → AllPairs (λ s t. s ≢ t) (tokens (tally pairs)) }
     ensures of_texts { (t : List ℕ) (texts : List (List ℕ)) →
-        times_of t (seen_once texts) ≡ count_by (is_same t) texts }
+        times_of t (seen_once texts) ≡ count_by (bytes_eq t) texts }
     ensures old_tokens_first { (pairs more : List (List ℕ × ℕ)) →
         (new : List (List ℕ)) × (tokens (tally (pairs ++ more)) ≡ tokens (tally pairs) ++ new) }
 {}
@@ -62,9 +62,9 @@ pub fn tallies()
 /// Only a list without repeats is a tally: that of two pairs of one token has one entry.
 pub fn tally_by_steps()
     ensures added { (pairs : List (List ℕ × ℕ)) (t : List ℕ) (times : ℕ) →
-        tally (pairs ++ (t, times) ∷ []) ≡ insert_entry is_same (tally pairs) t (times_of t pairs + times) }
+        tally (pairs ++ (t, times) ∷ []) ≡ insert_entry bytes_eq (tally pairs) t (times_of t pairs + times) }
     ensures found { (pairs : List (List ℕ × ℕ)) (t : List ℕ) →
-        unwrap_or (lookup (is_same t) (tally pairs)) 0 ≡ times_of t pairs }
+        unwrap_or (lookup (bytes_eq t) (tally pairs)) 0 ≡ times_of t pairs }
     ensures without_repeats { (pairs : List (List ℕ × ℕ)) →
         AllPairs (λ s t. s ≢ t) (tokens pairs) → tally pairs ≡ pairs }
 {}

@@ -1,12 +1,14 @@
 //! How often each token was seen.
-ghost use Rattle.std.specs.Prelude.{◌≡◌, ◌<◌, ◌≤◌, ◌+◌, ◌^◌, [], ◌∷◌, ◌++◌, Some, None, IfOk, IfErr, OnOk, OnErr, MatchBool, length, slice_get, option_map};
+ghost use Rattle.std.specs.Prelude.{◌≡◌, ◌<◌, ◌≤◌, ◌+◌, ◌^◌, [], ◌∷◌, ◌++◌, Some, None, IfOk, IfErr, OnOk, OnErr, MatchBool, length, slice_get, option_map, bytes_eq};
 ghost use Rattle.std.specs.Map.{lookup};
 ghost use Rattle.std.specs.Str.{chars};
-ghost use Rattle.smol_tokens_core.specs.Tally.{is_same, times_of, tally, HasEachOnce};
+ghost use Rattle.smol_tokens_core.specs.Tally.{by_text, times_of, tally, HasEachOnce};
 ghost use Rattle.smol_tokens_core.specs.TallyFaults.{AfterAddFault, AfterAgain, given_back, add_fault_message};
 
 use indexmap::IndexMap;
+use indexmap::map::Iter;
 use smol_str::SmolStr;
+use smol_str::stream::ReadFault;
 use std::alloc::{AllocError, Global};
 use std::error::Error;
 use std::fmt;
@@ -29,7 +31,7 @@ impl Display for AddFault {
 
     fn fmt<W: Write>(&self, f: &mut Formatter<W>) -> fmt::Result {
         match self {
-            AddFault::OutOfMemory(_token) => f.write_str("memory allocation failed"),
+            AddFault::OutOfMemory(_token) => Display::fmt(&ReadFault::OutOfMemory, f),
             AddFault::Full(_token) => f.write_str("the count would exceed 18446744073709551615"),
         }
     }
@@ -105,7 +107,7 @@ impl<S: BuildHasher> Tally<S> {
     #[tactic(auto, using(smol_str::proofs::CallerLemmas::texts))]
     pub fn add(&mut self, token: SmolStr, times: u64) -> Result<u64, AddFault>
         ensures ok { OnOk result (self.new ≡ tally (self.old ++ (token.text, times) ∷ [])) }
-        ensures count { IfOk result (λ count. lookup (is_same token.text) self.new ≡ Some count) }
+        ensures count { IfOk result (λ count. lookup (bytes_eq token.text) self.new ≡ Some count) }
         ensures fits { OnOk result (times_of token.text self.old + times < 2 ^ 64) }
 
         ensures fault { IfErr result (AfterAddFault self.old token.text times) }
@@ -140,9 +142,9 @@ impl<S: BuildHasher> Tally<S> {
     /// Takes a token in that is not in the tally; where memory is refused it comes back.
     #[inline(always)]
     pub(crate) fn add_new(&mut self, token: SmolStr, times: u64) -> Result<(), SmolStr>
-        requires new { lookup (is_same token.text) self.old ≡ None }
+        requires new { lookup (bytes_eq token.text) self.old ≡ None }
         ensures ok { OnOk result (self.new ≡ tally (self.old ++ (token.text, times) ∷ [])) }
-        ensures count { OnOk result (lookup (is_same token.text) self.new ≡ Some times) }
+        ensures count { OnOk result (lookup (bytes_eq token.text) self.new ≡ Some times) }
         ensures back { IfErr result (λ back. back ≡ token) }
         ensures unchanged { OnErr result (self.new ≡ self.old) }
     {
@@ -179,7 +181,7 @@ impl<S: BuildHasher> Tally<S> {
 
     /// The count of a token, by its text; `None` where it was never added.
     pub fn count(&self, token: &SmolStr) -> Option<u64>
-        ensures { result ≡ lookup (is_same token.now.text) self.now }
+        ensures { result ≡ lookup (bytes_eq token.now.text) self.now }
     {
         self.counts.get(token).copied()
     }
@@ -190,6 +192,21 @@ impl<S: BuildHasher> Tally<S> {
         ensures once { HasEachOnce self.now }
     {
         self.counts.len()
+    }
+
+    /// The tokens in order of first sight, each with its count.
+    ///
+    /// ```
+    /// let mut seen = Tally::new(alloc);
+    /// seen.add(SmolStr::new_inline("if"), 2)?;
+    /// for (token, count) in seen.iter() {
+    ///     assert_eq!(rt; (token.as_str(), *count), ("if", 2));
+    /// }
+    /// ```
+    pub fn iter(&self) -> Iter<'_, SmolStr, u64>
+        ensures { by_text result ≡ self.now }
+    {
+        self.counts.iter()
     }
 
     /// The token at a position, from 0 in order of first sight, and its count.

@@ -59,10 +59,8 @@ pub(crate) fn write_counts<S: BuildHasher>(
     ensures refused { OnErr result (0 < length tally.now) }
 {
     let mut out = String::new(alloc);
-    for index in 0..tally.len() {
-        if let Some((token, count)) = tally.at(index) {
-            push_count(&mut out, token, count)?;
-        }
+    for (token, count) in tally.iter() {
+        push_count(&mut out, token, *count)?;
     }
     Ok(out)
 }

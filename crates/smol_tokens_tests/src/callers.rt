@@ -1,11 +1,11 @@
 //! Callers of the program's core: the report on some bytes, behind what a `Vec` has, and words counted.
-ghost use Rattle.std.specs.Prelude.{◌≡◌, ◌≢◌, ◌<◌, ◌⊎◌, ◌+◌, ◌^◌, ℕ, List, [], ◌++◌, length, Some, None, IsOk, OnOk, OnErr, IfErr, IfSome, encode_utf8_all};
+ghost use Rattle.std.specs.Prelude.{◌≡◌, ◌≢◌, ◌<◌, ◌⊎◌, ◌+◌, ◌^◌, ℕ, List, [], ◌++◌, length, Some, None, IsOk, OnOk, OnErr, IfErr, IfSome, encode_utf8_all, bytes_eq};
 ghost use Rattle.std.specs.Map.{lookup};
 ghost use Rattle.std.specs.Str.{chars, IsUtf8};
 ghost use Rattle.smol_tokens_core.specs.Counts.{IsWhole, IsFirstOther};
 ghost use Rattle.smol_tokens_core.specs.Report.{IsReport, tokens_report};
 ghost use Rattle.smol_tokens_core.specs.ReportFaults.{HasALineTooOften, CountsTooFar};
-ghost use Rattle.smol_tokens_core.specs.Tally.{is_same, times_of};
+ghost use Rattle.smol_tokens_core.specs.Tally.{times_of};
 ghost use Rattle.smol_tokens_core.specs.declared.mode.Mode.TheVariants.{Join, Merge};
 
 use smol_str::SmolStr;
@@ -137,7 +137,7 @@ pub fn counted(mut words: Tally, word: SmolStr) -> anyhow::Result<Tally> {
 
 /// A word once more that is counted already, and not too often: it is never refused.
 pub fn count_again<S: BuildHasher>(words: &mut Tally<S>, word: SmolStr) -> Result<u64, AddFault>
-    requires there { ¬ (lookup (is_same word.text) words.old ≡ None) }
+    requires there { ¬ (lookup (bytes_eq word.text) words.old ≡ None) }
     requires few { times_of word.text words.old + 1 < 2 ^ 64 }
     ensures { IsOk result }
 {

@@ -155,7 +155,7 @@ impl Display for DecodeFault {
         match self {
             DecodeFault::Ended => f.write_str("the bytes end before the text does"),
             DecodeFault::NotUtf8(error) => Display::fmt(error, f),
-            DecodeFault::OutOfMemory => f.write_str("memory allocation failed"),
+            DecodeFault::OutOfMemory => Display::fmt(&ReadFault::OutOfMemory, f),
             DecodeFault::Io(error) => Display::fmt(error, f),
         }
     }

@@ -1,14 +1,15 @@
 use Rattle.std.proofs.Common.{rules}
 use Rattle.std.proofs.lemmas.Option.{IfSome_then}
 use Rattle.std.proofs.lemmas.Result.{err_from_is_err_and}
-use Rattle.smol_tokens_core.proofs.FaultLemmas.{Keeps-itself, after-no_report}
+use Rattle.std.proofs.KnownBytes.{Keeps-refl}
+use Rattle.smol_tokens_core.proofs.FaultLemmas.{after-no_report}
 use Rattle.smol_tokens_core.proofs.run.run.Goals as goal
 
 pub returns-in_err-input-clause-fault : goal.returns-in_err-input-clause-fault
-returns-in_err-input-clause-fault g c = search (rules, err_from_is_err_and, Keeps-itself)
+returns-in_err-input-clause-fault g c = search (rules, err_from_is_err_and, Keeps-refl)
 
 pub returns-in_default-clause-fault : goal.returns-in_default-clause-fault
-returns-in_default-clause-fault g c = search (rules, IfSome_then, Keeps-itself)
+returns-in_default-clause-fault g c = search (rules, IfSome_then, Keeps-refl)
 
 pub returns-in_err-report-clause-fault : goal.returns-in_err-report-clause-fault
 returns-in_err-report-clause-fault g c =
