@@ -14,7 +14,7 @@ LETTERS = "abcdefghijklmnopqrstuvwxyz"
 WITH_CASE = ("ΣσςİıßẞŉǰΐΰևﬀﬁﬂﬃﬄﬅﬆﬓǄǅǆǇǈǉKÅΩᾳᾼᾀᾈῳῼẖẗẘéÉÿŸµſᲐაᎠꭰᏰᏸȺⱥȾⱦ𐐀𐐨𞤀𞤢ＡａⒶⓐⅧⅷ\u0307\u0345\u0301'’.:·\xadΔδАаёЁ\u212a\u2126")
 # The ends of the ranges of two, three and four bytes, and characters between them.
 WIDE = "éß\x80\u07ff€\u0800\ufffd\uffff\ud7ff\ue000🦀\U00010000\U0010ffff中"
-# Characters that stand in another order by their code units of 16 bits.
+# Characters whose order by code units of 16 bits is another.
 ORDERED = "é中\ue000\uffff\U00010000🦀"
 QUOTED = '"\\/\n\r\t\b\f\0\1\x0b\x0e\x10\x1a\x1f\x7f\u2028\xad\u0300aé'
 ALPHABETS = [LETTERS, LETTERS, WITH_CASE, WITH_CASE, WIDE, "abAZz@[`{\x7f0", "\u212aẞ\u2126ﬃ", "aaZ Σ", "abé€", "aab",
@@ -164,7 +164,7 @@ class Draw(random.Random):
         return json[:-1] if turn == 0 else json + self.choice(BEHIND_JSON) if turn == 1 else json
 
     def replaced(self):
-        """A text, a pattern that often stands in it, and what comes in its place."""
+        """A text, a pattern that often occurs in it, and what comes in its place."""
         unit = self.characters(1 + self.below(4), "abé€🦀 ")
         text = self.choice([self.text, lambda: unit * self.below(30), lambda: self.characters(self.length(), "aab")])()
         at, turn = self.below(len(text) + 1), self.below(8)

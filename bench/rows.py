@@ -93,7 +93,7 @@ def text(draw, row, pool):
         "both cases": lambda: letters(draw, size, "aZ"),
         "few letters": lambda: letters(draw, size, "abcde"),
         "no match": lambda: letters(draw, size, LETTERS[1:]),
-        # as a lexer has them: words of which each stands some times, and one in eight is a keyword
+        # as a lexer has them: words, each of which occurs some times, and one in eight is a keyword
         "lexemes": lambda: draw.choice(["if", "else", "while", "return"]) if draw.random() < 1 / 8 else draw.choice(pool),
     }.get(row.what, lambda: letters(draw, size))()
 

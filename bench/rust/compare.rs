@@ -339,7 +339,7 @@ fn json_of(m: &mut Machine, it: &Call) {
         ("to_json", 1) => return m.show(serde_json::to_string(&SmolStr::new(text)).unwrap()),
         ("to_json", _) => return m.show(serde_json::to_value(value).unwrap().as_str().unwrap()),
         ("from_json", _) => match serde_json::from_str(text) {
-            // "a value that is no string is the deserializer's error, where it stands"
+            // "a JSON value that is not a string is the deserializer's error, with its position"
             Err(_) if serde_json::from_str::<Value>(text).is_ok() => return write!(m.out, " not a string").unwrap(),
             made => made.ok(),
         },

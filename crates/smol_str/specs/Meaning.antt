@@ -4,7 +4,7 @@
 --     IsPrintOf output v       the value has what was printed as its text, where the type says what it prints
 --     texts values             the texts of values
 --     AreValuesOf ts values    the values have the texts ts, each in the place of its text
---     pair_texts pairs         the texts of pairs of values, as of keys and what stands at them
+--     pair_texts pairs         the texts of pairs of values, as of keys and their values
 --     ArePairsOf ts pairs      the same of pairs
 use Rattle.std.specs.Prelude.{◌≡◌, ℕ, List, map, All, Option, IfSome, encode_utf8_all}
 use Rattle.std.specs.Str.{chars}

@@ -1,4 +1,4 @@
-//! Tests of memory: the law of what each call may ask for, and what stands where memory is refused.
+//! Tests of memory: the law of what each call may ask for, and what a refusal leaves.
 #![tactic(auto)]
 
 #[cfg(test)]

@@ -1,4 +1,4 @@
-//! The law of memory: what a call may ask the heap for, and what stands where that is refused.
+//! The law of memory: what a call may ask the heap for, and what a refusal leaves.
 use crate::memory::{
     Count, Refusals, can_refuse, counted, end_refusals, is_at_most, refuse, start_counts,
 };
@@ -169,7 +169,7 @@ fn run<C: Call>(test: &Test, on: &On<C>, refusals: Refusals) -> bool {
             }
         }
         Err(left) => {
-            let is_left = left.stands_after(on.text, on.wanted.as_bytes());
+            let is_left = left.may_be_left_by(on.text, on.wanted.as_bytes());
             check(test, on, is_left, "leaves something else");
             let has_room = left.is_none() || counted(alloc, Count::Held) >= before;
             check(test, on, has_room, "leaves less room");

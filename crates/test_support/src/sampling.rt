@@ -9,7 +9,7 @@ static UNITS: [&str; 12] = table! {
     "a"; "AΣé€🦀"; "aab"; "\u{2126}"; "ab "; " "; "\u{7ff}"; "\u{ffff}"; "\u{10ffff}"; "\""; "\n"; "\u{1}";
 };
 
-/// What stands in front, in the middle and at the end of letters: characters about each length, those whose case has another
+/// What comes in front, in the middle and at the end of letters: characters about each length, those whose case has another
 /// length or depends on its neighbours, and each kind of escape of JSON.
 static MARKS: [&str; 23] = table! {
     "B"; "\u{7f}"; "\u{80}"; "\u{7ff}"; "\u{800}"; "\u{ffff}"; "\u{10000}";

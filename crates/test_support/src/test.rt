@@ -10,7 +10,7 @@ use std::default::MadeWith;
 use std::fmt::{Debug, InlineText};
 use std::test::Fail;
 
-/// So many bytes of a wrong row are told.
+/// A message shows so many bytes of a wrong row.
 const TOLD: usize = 480;
 
 /// A running test. It cannot be dropped: what it ends with is the test's result. It has the memory that its rows ask for, so
@@ -127,7 +127,7 @@ pub fn no_blocks(test: &Test, row: &impl Debug) {
     holds(test, is_freed || !can_refuse(test.alloc), &(row, "leaks"));
 }
 
-/// What a call returns; a fault fails the test, and an empty thing stands in its place.
+/// What a call returns; a fault fails the test, and an empty thing takes its place.
 pub fn ok<T: MadeWith<Global>, E: Debug + Drop>(test: &Test, outcome: Result<T, E>) -> T {
     match outcome {
         Ok(value) => value,

@@ -61,9 +61,9 @@ impl Thing {
         matches!(self, Thing::Nothing | Thing::Fault)
     }
 
-    /// Whether it may stand after a refusal of a call on the text: nothing, the text, or a builder that has a front of what
-    /// was to be made.
-    pub fn stands_after(&self, text: &str, wanted: &[u8]) -> bool {
+    /// Whether a refused call on the text may leave it: nothing, the text, or a builder that has a front of what was to be
+    /// made.
+    pub fn may_be_left_by(&self, text: &str, wanted: &[u8]) -> bool {
         match self {
             Thing::Nothing => true,
             Thing::Fault => false,

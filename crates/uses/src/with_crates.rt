@@ -134,7 +134,7 @@ pub fn numbered(alloc: Global, number: u64) -> Result<SmolStr, AllocError>
     SmolStr::new(alloc, Buffer::new().format(number))
 }
 
-/// Whether a name could stand inside an identifier.
+/// Whether each character of a name may continue an identifier.
 pub fn goes_on(name: &SmolStr) -> bool
     ensures { result ≡ list_all is_xid_continue (chars (encode_utf8_all name.now.text)) }
 {

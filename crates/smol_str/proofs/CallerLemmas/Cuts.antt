@@ -113,7 +113,7 @@ tried_at_text more rs s t run ends by last live all =
 pub joined-cut : (p t : List ℕ) (n : ℕ) → joined_by p (cut t p n) ≡ t
 joined-cut p t n = replaced-itself t p n
 
--- in no piece stands what the text was cut at
+-- what the text was cut at occurs in no piece
 pub first-lacks : (p q : List ℕ) → IsFirstAfter p q → ¬ Occurs p q
 first-lacks p q first (a, r, e) = first (
   a,

@@ -50,7 +50,7 @@ earlier b p q r e some o =
 match-bytes : (hay nd : List ℕ) (k : ℕ) → OccursAt hay nd k → hay ≡ take k hay ++ (nd ++ drop (k + length nd) hay)
 match-bytes hay nd k h = cc (take-append-drop k hay, OccursAt-split hay nd k h)
 
--- the answer of a search in the bytes of b, with i bytes before them
+-- what a search in the bytes of b returns, with i bytes before them
 module _ (a b p : List ℕ) (i : ℕ) where
   found_none : FindsNeedle (encode_utf8_all b) (encode_utf8_all p) 0 None → ¬ Occurs p b
   found_none f o = let at = chars_stand b p o.0 o.1 o.2 in f (size o.0) (omega arith) (omega arith) at

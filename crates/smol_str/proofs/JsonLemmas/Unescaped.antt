@@ -35,7 +35,7 @@ lex-inside : (x : ℕ) (r : List ℕ) → (x ≡ 34 → ⊥) → (x ≡ 92 → �
 unfolding lex
 lex-inside x r not_quote not_backslash = grind (arith, common_steps, nat_tests)
 
--- plain bytes stand for themselves
+-- plain bytes are read as they are
 pub Unescapes-plain : (s rest : List ℕ) → list_all is_plain s ≡ true → Unescapes (s ++ rest) s rest
 unfolding content
 Unescapes-plain [] rest h = Unescapes-nothing rest

@@ -15,7 +15,7 @@ enum Call {
     Replacen(&'static str, &'static str, usize),
 }
 
-fn answer(alloc: Global, call: Call, text: &str) -> Result<SmolStr, AllocError> {
+fn result_of(alloc: Global, call: Call, text: &str) -> Result<SmolStr, AllocError> {
     match call {
         AsciiLower => text.to_ascii_lowercase_smolstr(alloc),
         AsciiUpper => text.to_ascii_uppercase_smolstr(alloc),
@@ -94,6 +94,6 @@ fn test_str_ext(rt: HostRuntime) -> Result<(), Fail> {
 }
 
 fn check_answer(test: &Test, call: Call, text: &str, wanted: &str) {
-    let value = ok(test, answer(test.alloc, call, text));
+    let value = ok(test, result_of(test.alloc, call, text));
     same_value(test, &value, wanted, place_of(wanted), &text);
 }

@@ -38,7 +38,7 @@ pub enum Input {
 /// A quote, and `é🦀` by numbers.
 const NUMBERS: &str = "\"\\u00e9\\ud83e\\udd80";
 
-/// What stands before a text and behind it.
+/// What comes before a text and after it.
 static AROUND: [(&str, &str); 4] = [("", ""), (" \t", "\r\n"), ("", "\n"), (BLANKS, " ")];
 
 const BLANKS: &str =

@@ -17,7 +17,7 @@ pub enum Replace {
     Between,
 }
 
-/// However often the pattern stands.
+/// However often the pattern occurs.
 const ALL: usize = usize::MAX;
 
 /// The C library rounds the blocks of results that grow from such a text up to whole pages.

@@ -28,7 +28,7 @@ fn bytes(rt: HostRuntime) -> Result<(), Fail> {
     test.end()
 }
 
-/// The value of a shared text. None is made without memory, so the empty value stands for it.
+/// The value of a shared text. None is made without memory, so the empty value takes its place.
 fn of_shared(test: &Test, text: &str) -> SmolStr {
     match RcStr::from_str(test.alloc, text) {
         Ok(shared) => shared.into(),
