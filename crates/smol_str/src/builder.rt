@@ -399,7 +399,7 @@ impl SmolStr {
     }
 }
 
-/// For `?` in a function that returns [`AllocError`], where the builder is not wanted back.
+/// For `?` in a function that returns [`AllocError`]; the builder is dropped.
 impl From<SmolStrBuilder> for AllocError {
     fn from(_builder: SmolStrBuilder) -> AllocError {
         AllocError

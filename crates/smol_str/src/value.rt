@@ -291,8 +291,7 @@ impl SmolStr {
     }
 }
 
-/// For `?` in a function that returns [`AllocError`], where the value that a refused conversion gives
-/// back is not wanted.
+/// For `?` in a function that returns [`AllocError`]; the value that a refused conversion gives back is dropped.
 impl From<SmolStr> for AllocError {
     fn from(_value: SmolStr) -> AllocError {
         AllocError

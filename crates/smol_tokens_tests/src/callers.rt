@@ -102,7 +102,7 @@ pub fn rest_after_run<S: BuildHasher + Drop, R: Read, W: Write>(
     }
 }
 
-/// The same where the run came to the end of the text: nothing.
+/// What is left of the input where the run came to its end: nothing.
 pub fn nothing_after_text<S: BuildHasher + Drop, R: Read, W: Write>(
     alloc: Global,
     state: S,

@@ -139,7 +139,7 @@ pub enum Kind {
     NotUtf8,
     OutOfMemory,
     TooLong,
-    /// A merge: the number of the first line that is no count line.
+    /// A merge: the number of the first malformed line.
     NotCounts(usize),
     Full,
     Io(Cause),

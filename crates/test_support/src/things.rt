@@ -144,7 +144,7 @@ impl IntoThing for RcStr {
     }
 }
 
-/// A borrowed text that was handed in is no thing.
+/// A borrowed text that was handed in is nothing that a call made.
 impl IntoThing for CowStr<'_> {
     fn into_thing(self) -> Thing {
         match self {

@@ -383,7 +383,7 @@ pub fn is_same(text: &str, other: &str) -> bool
     text == other
 }
 
-/// Values of pairs of texts, as of names and what they stand for.
+/// Values of pairs of texts, as of names and their values.
 #[tactic(auto, using(smol_str::proofs::CallerLemmas::items))]
 pub fn pairs_of(
     alloc: Global,

@@ -1,4 +1,4 @@
-//! Values of what is printed: the texts, and prints that give up.
+//! Formatting: the printed texts, and prints that give up.
 use smol_str::{FormatError, INLINE_CAP, SmolStr, SmolStrBuilder, ToSmolStr, format_smolstr};
 use std::fmt::{self, Display, Formatter, Write};
 use test_support::*;

@@ -1,4 +1,4 @@
-//! JSON strings: texts, and what is none. serde's traits refuse it as they refuse it to a `String`.
+//! JSON strings, and JSON that is not a string, which serde's traits refuse as for a `String`.
 use serde_json::{Error, Value};
 use smol_str::SmolStr;
 use smol_str::json_string::{JsonFault, from_json, to_json};
@@ -49,7 +49,7 @@ fn check_read(test: &Test, json: &str, text: &str) {
     }
 }
 
-/// JSON values that are no strings, and texts that are no JSON.
+/// JSON values that are not strings, and texts that are not JSON.
 static NOT_READ: [&str; 44] = table! {
     "12"; "1.5"; "-7"; "-0"; "1e2"; "-1.5E-3"; "18446744073709551616"; "null"; "true"; "false";
     "[\"ab\"]"; "[\"ab\", []]"; "{\"ab\": \"ab\"}"; "{\"a\": 1, \"b\": {}}";

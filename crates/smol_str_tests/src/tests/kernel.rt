@@ -63,7 +63,7 @@ fn matches(rt: HostRuntime) -> Result<(), Fail> {
     let test = Test::begin(rt);
     for &(text, from, pattern, wanted) in &MATCHES {
         if pattern.is_empty() || !text.is_char_boundary(from) {
-            test.fail(&(text, "is no row of these calls"));
+            test.fail(&(text, "is not a row of these calls"));
         } else {
             let found = next_match(text, from, pattern);
             same(&test, &found, &wanted, &(text, from, pattern));

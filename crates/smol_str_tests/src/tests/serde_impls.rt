@@ -41,7 +41,7 @@ fn check_row(test: &Test, row: &Row) {
     same(test, &json.as_str(), &JSON, &"written");
 }
 
-/// Rows of which a field is no text.
+/// Rows of which a field is not a text.
 static NOT_READ: [&str; 4] = table! {
     r#"{"name":1,"cells":[]}"#;
     r#"{"name":"a","cells":[{}]}"#;

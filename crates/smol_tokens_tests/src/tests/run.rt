@@ -1,4 +1,4 @@
-//! `run` in every mode, over readers and writers of every step, which fail at each call, and over what is no count lines.
+//! `run` in every mode, over readers and writers of every step, which fail at each call, and over malformed count lines.
 use super::mode::mode_by;
 use super::report::{Row, all_rows};
 use smol_str::stream::CHUNK;
@@ -129,7 +129,7 @@ static FAULTS: &[(&[u8], Kind)] = &[
     (b"1 a\n1 b\n1 a\n1 c\nx y\n1 d\n", Kind::NotCounts(5)),
     (b"18446744073709551615 a\n1 a\n", Kind::Full),
     (b"18446744073709551615 a\n1 a\n1 b\n", Kind::Full),
-    // a line that is no count line comes before a sum that is too large
+    // a malformed line is reported before an overflow
     (b"18446744073709551615 a\n1 a\n+1 b\n", Kind::NotCounts(3)),
     (b"1 \xff\n", Kind::NotUtf8),
 ];

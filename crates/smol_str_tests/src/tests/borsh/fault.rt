@@ -51,7 +51,7 @@ fn refused(rt: HostRuntime) -> Result<(), Fail> {
     test.end()
 }
 
-// Bodies of each size: the last byte is not there, or the last or the first is no character.
+// Bodies of each size: the last byte is missing, or the last or the first is not UTF-8.
 #[test]
 fn borsh_non_utf8_heap(rt: HostRuntime) -> Result<(), Fail> {
     let test = Test::begin(rt);
