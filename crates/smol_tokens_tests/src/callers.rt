@@ -1,5 +1,5 @@
 //! Callers of the program's core: the report on some bytes, behind what a `Vec` has, and words counted.
-ghost use Rattle.std.specs.Prelude.{◌≡◌, ◌≢◌, ◌<◌, ◌⊎◌, ◌+◌, ◌^◌, ℕ, List, [], ◌++◌, length, Some, None, IsOk, OnOk, OnErr, IfErr, IfSome, encode_utf8_all, bytes_eq};
+ghost use Rattle.std.specs.Prelude.{◌≡◌, ◌≢◌, ◌<◌, ◌⊎◌, ◌+◌, ◌^◌, ℕ, List, [], ◌++◌, length, Some, None, IsOk, OnOk, OnErr, IfErr, IfSome, encode_utf8_all, bytes_eq, option_map, slice_get};
 ghost use Rattle.std.specs.Map.{lookup};
 ghost use Rattle.std.specs.Str.{chars, IsUtf8};
 ghost use Rattle.smol_tokens_core.specs.Counts.{IsWhole, IsFirstOther};
@@ -142,4 +142,11 @@ pub fn count_again<S: BuildHasher>(words: &mut Tally<S>, word: SmolStr) -> Resul
     ensures { IsOk result }
 {
     words.add(word, 1)
+}
+
+/// The word that was seen first, and its count.
+pub fn first_seen<S: BuildHasher>(words: &Tally<S>) -> Option<(&SmolStr, &u64)>
+    ensures { option_map (λ word. (word.0.now.text, word.1.now)) result ≡ slice_get words.now 0 }
+{
+    words.iter().next()
 }
