@@ -1,13 +1,13 @@
 //! Reads text from standard input and writes, for each line, where a `SmolStr` would keep it; or how often each line occurs.
 //!
-//! `main` gathers the words, calls [`run`] and reports the fault; the promise of the whole program is
-//! the contract of `run`.
+//! `main` gathers the words, calls [`run`] or [`run_with_hasher`] and reports the fault. The promise of the whole program is
+//! their contract.
 #![tactic(auto)]
 
 use smol_tokens_core::fault::RunFault;
 use smol_tokens_core::mode::{Mode, mode_of};
-use smol_tokens_core::run::run;
-use std::hash::{BuildHasher, BuildHasherDefault, FoldHasher, RandomState};
+use smol_tokens_core::run::{run, run_with_hasher};
+use std::hash::RandomState;
 use std::process::ExitCode;
 use std::{env, io};
 
@@ -19,15 +19,6 @@ fn words(rt: &HostRuntime) -> Result<Vec<String>, RunFault> {
         Err(e) => return Err(RunFault::Io(e)),
     };
     Ok(args.skip(1).collect(rt.alloc())?)
-}
-
-/// The run from standard input to standard output.
-fn run_on_standard<S: BuildHasher + Drop>(
-    rt: &HostRuntime,
-    state: S,
-    mode: Mode,
-) -> Result<(), RunFault> {
-    run(rt.alloc(), state, mode, &mut rt.stdin(), &mut rt.stdout())
 }
 
 /// Reports a fault in one line, and returns the status of a failed run.
@@ -45,14 +36,15 @@ fn main(rt: HostRuntime) -> ExitCode {
         let _ = rt.eprintln("usage");
         return ExitCode::from(2);
     };
+    let (mut input, mut output) = (rt.stdin(), rt.stdout());
     let ended = if matches!(&mode, Mode::Tokens | Mode::Merge) {
-        // A seed of the system: whoever writes the input cannot pick lines that all have one hash.
+        // Keys of the system: whoever writes the input cannot pick lines that all have one hash.
         match RandomState::new(&rt) {
-            Ok(state) => run_on_standard(&rt, state, mode),
+            Ok(state) => run_with_hasher(rt.alloc(), state, mode, &mut input, &mut output),
             Err(error) => Err(RunFault::Io(error)),
         }
     } else {
-        run_on_standard(&rt, BuildHasherDefault::<FoldHasher>::new(), mode)
+        run(rt.alloc(), mode, &mut input, &mut output)
     };
     match ended {
         Ok(()) => ExitCode::SUCCESS,

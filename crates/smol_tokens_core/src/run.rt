@@ -8,7 +8,7 @@ use crate::report::make_report;
 use simdutf8::compat::from_utf8;
 use smol_str::stream::{read_all, write_steps};
 use std::alloc::Global;
-use std::hash::BuildHasher;
+use std::hash::{BuildHasher, BuildHasherDefault, FoldHasher};
 use std::io::{Read, Write};
 
 /// Reads to the end, tests UTF-8, puts the report together, and writes it.
@@ -16,9 +16,27 @@ use std::io::{Read, Write};
 /// This is the promise of the program. After `Ok` the reader is at its end, its bytes are the UTF-8
 /// of some text, and exactly the report on that text was written. Nothing is written before the
 /// whole report is there. So after [`RunFault::Io`] nothing was written, or a beginning of the report, and after every
-/// other fault nothing. All this holds for every `state`, by which modes tokens and merge hash. Of a reader or writer
-/// whose bytes are not known nothing is claimed.
-pub fn run<S: BuildHasher + Drop, R: Read, W: Write>(
+/// other fault nothing. Of a reader or writer whose bytes are not known nothing is claimed.
+///
+/// Modes tokens and merge hash by a fixed seed, so whoever picks the input can make them take quadratic time. For input of a
+/// stranger call [`run_with_hasher`].
+pub fn run<R: Read, W: Write>(
+    alloc: Global,
+    mode: Mode,
+    reader: &mut R,
+    writer: &mut W,
+) -> Result<(), RunFault>
+    ensures ok { OnOk result
+        (WroteReport mode (streams R.remaining reader.old reader.new W.contents writer.old writer.new)) }
+    ensures fault { IfErr result
+        (AfterFault mode (streams R.remaining reader.old reader.new W.contents writer.old writer.new)) }
+{
+    let state = BuildHasherDefault::<FoldHasher>::new();
+    run_with_hasher(alloc, state, mode, reader, writer)
+}
+
+/// [`run`], where modes tokens and merge hash by `state`. The promise holds for every state.
+pub fn run_with_hasher<S: BuildHasher + Drop, R: Read, W: Write>(
     alloc: Global,
     state: S,
     mode: Mode,

@@ -13,7 +13,7 @@ use smol_str::stream::read_all;
 use smol_tokens_core::fault::RunFault;
 use smol_tokens_core::laws;
 use smol_tokens_core::mode::Mode;
-use smol_tokens_core::run::run;
+use smol_tokens_core::run::run_with_hasher;
 use smol_tokens_core::tally::{AddFault, Tally};
 use std::alloc::Global;
 use std::hash::{BuildHasher, BuildHasherDefault, FoldHasher};
@@ -48,7 +48,7 @@ pub fn append_report<S: BuildHasher + Drop>(
         × ((front : List ℕ) × (rest : List ℕ) × (encode_utf8_all report ≡ front ++ rest)
         × (0 < length rest) × (out.new.items ≡ out.old.items ++ front))))) }
 {
-    run(alloc, state, mode, bytes, out)
+    run_with_hasher(alloc, state, mode, bytes, out)
 }
 
 /// Appends the report of mode tokens.
@@ -61,7 +61,7 @@ pub fn append_counts<S: BuildHasher + Drop>(
     ensures report { OnOk result (out.new.items ≡ out.old.items ++ encode_utf8_all (tokens_report (chars bytes.old.now))) }
     ensures full { IfErr result (λ fault. fault ≡ RunFault.Full → HasALineTooOften (chars bytes.old.now)) }
 {
-    run(alloc, state, Mode::Tokens, bytes, out)
+    run_with_hasher(alloc, state, Mode::Tokens, bytes, out)
 }
 
 /// Merges the reports of mode tokens on two parts of a text, cut at a line end: that is the report on the whole text.
@@ -80,7 +80,7 @@ pub fn append_merge<S: BuildHasher + Drop>(
 {
     laws::counted_by_parts();
     laws::counts_read_back();
-    run(alloc, state, Mode::Merge, reports, out)
+    run_with_hasher(alloc, state, Mode::Merge, reports, out)
 }
 
 /// What a reader gives after a run that was refused memory, or in which it failed or the writer did: those of its bytes
@@ -96,7 +96,7 @@ pub fn rest_after_run<S: BuildHasher + Drop, R: Read, W: Write>(
     requires known { R.remaining reader.old ≡ Some bytes.now }
     ensures { IfSome result (λ rest. (front : List ℕ) × (bytes.now ≡ front ++ rest.items)) }
 {
-    match run(alloc, state, mode, reader, writer) {
+    match run_with_hasher(alloc, state, mode, reader, writer) {
         Err(RunFault::OutOfMemory | RunFault::Io(_)) => read_all(alloc, reader).ok(),
         _ => None,
     }
@@ -114,7 +114,7 @@ pub fn nothing_after_text<S: BuildHasher + Drop, R: Read, W: Write>(
     requires known { R.remaining reader.old ≡ Some bytes.now }
     ensures { IfSome result (λ rest. rest.items ≡ []) }
 {
-    match run(alloc, state, mode, reader, writer) {
+    match run_with_hasher(alloc, state, mode, reader, writer) {
         Ok(()) | Err(RunFault::NotUtf8 | RunFault::NotCounts(_) | RunFault::Full) => read_all(
             alloc, reader,
         ).ok(),

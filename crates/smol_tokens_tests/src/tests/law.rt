@@ -1,14 +1,15 @@
 //! The law of memory for the program: each mode on each line, and a token added to tallies of some.
 use super::mode::mode_by;
-use super::run::{fixed_state, kind_of};
+use super::run::kind_of;
 use Asks::ForAny;
 use OnLine::*;
 use Requests::{Doubling, Most};
 use smol_str::{Place, SmolStr};
 use smol_tokens_core::fault::RunFault;
 use smol_tokens_core::mode::Mode;
-use smol_tokens_core::run::run;
+use smol_tokens_core::run::{run, run_with_hasher};
 use smol_tokens_core::tally::{AddFault, Tally};
+use std::hash::{BuildHasherDefault, FoldHasher};
 use test_support::*;
 
 /// A mode. A row reads as those of the library: three lines make three times their call's requests, and the input and the
@@ -34,9 +35,9 @@ static MODES: [Law<OnLine>; 10] = table! {
     (Replace("a", "é"), "run::run, replace", Doubling(10), Texts(8), Plus(0), ForAny);
     (Replace("aa", "bbb"), "run::run, replace", Doubling(11), Texts(8), Plus(0), ForAny);
     (Replace("", "-"), "run::run, replace", Doubling(26), Texts(10), Plus(0), ForAny);
-    (Tokens, "run::run, tokens", Doubling(10), Texts(12), Plus(640), ForAny);
-    (Merge, "run::run, merge", Doubling(11), Texts(8), Plus(640), ForAny);
-    (NoSum, "run::run, merge", Doubling(11), Texts(12), Plus(760), ForAny);
+    (Tokens, "run::run_with_hasher, tokens", Doubling(10), Texts(12), Plus(640), ForAny);
+    (Merge, "run::run_with_hasher, merge", Doubling(11), Texts(8), Plus(640), ForAny);
+    (NoSum, "run::run_with_hasher, merge", Doubling(11), Texts(12), Plus(760), ForAny);
 };
 
 #[test]
@@ -128,7 +129,12 @@ impl Call for OnLine {
         (mode, input, step, mut out): (Mode, String, usize, Vec<u8>),
     ) -> Result<Thing, Thing> {
         let mut reader = trickle_of(input.as_bytes(), step, 0);
-        match run(alloc, fixed_state(), mode, &mut reader, &mut out) {
+        let state = BuildHasherDefault::<FoldHasher>::new();
+        let returned = match self {
+            Tokens | Merge | NoSum => run_with_hasher(alloc, state, mode, &mut reader, &mut out),
+            _ => run(alloc, mode, &mut reader, &mut out),
+        };
+        match returned {
             Ok(()) | Err(RunFault::NotCounts(_) | RunFault::Full) => Ok(Thing::Bytes(out)),
             Err(fault) => Err(nothing(kind_of(&fault) == Kind::OutOfMemory && out.is_empty())),
         }

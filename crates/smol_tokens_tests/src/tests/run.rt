@@ -4,17 +4,11 @@ use super::report::{Row, all_rows};
 use smol_str::stream::CHUNK;
 use smol_tokens_core::fault::RunFault;
 use smol_tokens_core::run::run;
-use std::hash::{BuildHasherDefault, FoldHasher};
 use std::io::{Read, Write};
 use test_support::*;
 
 /// The words of a mode.
 pub type Words = &'static [&'static str];
-
-/// A state of the hasher that is the same in each run.
-pub fn fixed_state() -> BuildHasherDefault<FoldHasher> {
-    BuildHasherDefault::new()
-}
 
 /// Runs in the mode of these words; `None` where the run ends well.
 pub fn run_by<R: Read, W: Write>(
@@ -24,7 +18,7 @@ pub fn run_by<R: Read, W: Write>(
     writer: &mut W,
 ) -> Option<Kind> {
     let mode = mode_by(test, words);
-    match run(test.alloc, fixed_state(), mode, reader, writer) {
+    match run(test.alloc, mode, reader, writer) {
         Ok(()) => None,
         Err(fault) => Some(kind_of(&fault)),
     }

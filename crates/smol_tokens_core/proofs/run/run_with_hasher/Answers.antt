@@ -3,7 +3,7 @@ use Rattle.std.proofs.lemmas.Option.{IfSome_then}
 use Rattle.std.proofs.lemmas.Result.{err_from_is_err_and}
 use Rattle.std.proofs.KnownBytes.{Keeps-refl}
 use Rattle.smol_tokens_core.proofs.FaultLemmas.{after-no_report}
-use Rattle.smol_tokens_core.proofs.run.run.Goals as goal
+use Rattle.smol_tokens_core.proofs.run.run_with_hasher.Goals as goal
 
 pub returns-in_err-input-clause-fault : goal.returns-in_err-input-clause-fault
 returns-in_err-input-clause-fault g c = search (rules, err_from_is_err_and, Keeps-refl)
