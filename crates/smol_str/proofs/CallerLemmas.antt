@@ -13,7 +13,8 @@
 --     cut_once       `chars line.now ≡ chars key.now ++ (61 ∷ chars value.now)` after `split_once('=')`; `strip_prefix` ..
 --     cut_at_texts   the same after `split_once("->")` and then `split_once("=>")`
 --     cut_alike      `key ≡ other_key` where `key ++ (61 ∷ value) ≡ other_key ++ (61 ∷ other)`, cut at their first `=`
---     trimmed        `chars rest.now ≡ drop (prefix_len (λ c. c == 32) t) t` after `trim_start_matches(' ')`, t its text
+--     trimmed        `chars rest.now ≡ drop (prefix_len (λ c. c == 32) t) t` after `trim_start_matches(' ')`, t its text;
+--                    `chars rest.now ≡ drop_trailing_whitespace (skip_leading_whitespace t)` after `trim()`
 --     cutting        `texts values ≡ cut (chars line.now) (44 ∷ []) (no_limit (chars line.now))`, of each piece of `split(',')`
 --     pieces_lack    `¬ Occurs (44 ∷ []) v.text` for each of these values
 --     joining        `IsValueOf (chars line.now) v` of such values joined again; some of them; by std's `join`
@@ -26,7 +27,8 @@
 --     sorting        `IsSorted (slice_cmp nat_cmp) (texts names.items)` after `sort`; `dedup`, `binary_search`, `==`
 --     listed         `slice_get names i ≡ Some (chars result.now)` of what `values[i].as_str()` lends
 --     lookups        `option_copied result ≡ value_at (chars key.now) map.now` of `get`; the same of texts, by `entry_texts`
---     inserts        `texts set.new.keys ≡ insert_key bytes_eq (texts set.old.keys) v.text`; `contains`; the same of a map
+--     inserts        `texts set.new.keys ≡ insert_key bytes_eq (texts set.old.keys) v.text`; `contains`; the same of a map;
+--                    `list_any (bytes_eq t) (texts set.new.keys) ≡ (list_any (bytes_eq t) (texts set.old.keys) || bytes_eq t v.text)`
 --     updates        `value_at other map.new ≡ value_at other map.old` for each other text, after a change at one
 --     scopes         `innermost t (entry_lists scopes.now)`, of maps one inside another, the last of them changed
 --     interning      `id_of t self.new ≡ Some id` of a list of names and a map of their ids

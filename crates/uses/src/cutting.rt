@@ -1,7 +1,7 @@
 //! Lines cut at a separator, and joined again; what a caller does with an index or a buffer that a call returns.
 ghost use Rattle.std.specs.List.{prefix_len};
 ghost use Rattle.std.specs.Prelude.{◌≡◌, ◌≢◌, ◌<◌, ◌≤◌, ◌↔◌, ◌++◌, ◌∷◌, ◌-◌, [], ℕ, List, codes, drop, length, map, set, take, IfNone, IfOk, IfSome, IsTrue, MatchBool, OnErr, encode_utf8_all, String, All, Some, ◌==◌};
-ghost use Rattle.std.specs.Str.{IsCharBoundary, chars, trim};
+ghost use Rattle.std.specs.Str.{IsCharBoundary, chars, skip_leading_whitespace, drop_trailing_whitespace};
 ghost use Rattle.smol_str.specs.Cut.{IsFirstAfter, Occurs, joined_by};
 ghost use Rattle.smol_str.specs.Meaning.{AreValuesOf, IsValueOf, texts, ArePairsOf};
 ghost use Rattle.smol_str.specs.Replace.{cut, each_replaced, no_limit};
@@ -227,9 +227,10 @@ pub fn stem(alloc: Global, name: &SmolStr) -> Result<Option<SmolStr>, AllocError
 }
 
 /// A name without the white space around it.
-#[tactic(auto, using(smol_str::proofs::CallerLemmas::texts))]
+#[tactic(auto, using(smol_str::proofs::CallerLemmas::trimmed))]
 pub fn trimmed(alloc: Global, name: &SmolStr) -> Result<SmolStr, AllocError>
-    ensures { IfOk result (λ v. IsValueOf (chars (trim (encode_utf8_all name.now.text))) v) }
+    ensures { IfOk result (λ v.
+        IsValueOf (drop_trailing_whitespace (skip_leading_whitespace name.now.text)) v) }
 {
     SmolStr::new(alloc, name.trim())
 }

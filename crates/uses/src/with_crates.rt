@@ -1,5 +1,5 @@
 //! Values with other crates of the kit, a few lines each.
-ghost use Rattle.std.specs.Prelude.{◌≡◌, bytes_eq, ◌∷◌, ◌++◌, [], IfOk, OnOk, decimal, encode_utf8_all};
+ghost use Rattle.std.specs.Prelude.{◌≡◌, ◌||◌, ℕ, List, bytes_eq, ◌∷◌, ◌++◌, [], IfOk, OnOk, decimal, encode_utf8_all};
 ghost use Rattle.std.specs.List.{list_all, list_any};
 ghost use Rattle.std.specs.Str.{chars};
 ghost use Rattle.regex.specs.Patterns.{find_all_str};
@@ -81,7 +81,9 @@ pub fn has_name(names: &IndexSet<SmolStr>, name: &str) -> bool
 /// Adds a name to a set, last where it is new.
 #[tactic(auto, using(smol_str::proofs::CallerLemmas::inserts))]
 pub fn add_name(names: &mut IndexSet<SmolStr>, name: SmolStr) -> Result<(), AllocError>
-    ensures { OnOk result (texts names.new.keys ≡ insert_key bytes_eq (texts names.old.keys) name.text) }
+    ensures names { OnOk result (texts names.new.keys ≡ insert_key bytes_eq (texts names.old.keys) name.text) }
+    ensures has { OnOk result ((t : List ℕ) → list_any (bytes_eq t) (texts names.new.keys)
+        ≡ (list_any (bytes_eq t) (texts names.old.keys) || bytes_eq t name.text)) }
 {
     names.insert(name)?;
     Ok(())

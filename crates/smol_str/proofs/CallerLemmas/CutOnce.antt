@@ -1,14 +1,14 @@
 -- Texts that std searches and cuts once: `split_once`, `strip_prefix`, `strip_suffix`, `starts_with`, `ends_with` and `contains`.
 use Rattle.smol_str.proofs.Common.{arith, zero, suc, ◌≡◌, ℕ, ◌+◌, ◌-◌, ◌<◌, ◌≤◌, Bool, true, false, List, [], ◌∷◌, ◌++◌, ◌==◌, length, take, drop, All, Bor, Option, Some, None, MatchOption, refl, sym, ap, ◌∙◌, subst, IsTrue, all_scalars, IsUtf8, chars, chars-nil, chars-append, chars-encodes, chars_from_encodes, encode_utf8, encode_utf8_all, encodes-append, encodes-chars, append-nil, size, Occurs, IsFirstAfter, IfSome, replicate, length-append, length-replicate, len_utf8_bounds}
 use Rattle.std.proofs.Common.{◌≢◌, MatchBool}
-use Rattle.std.specs.Str.{IsCharBoundary, NonePass}
+use Rattle.std.specs.Str.{IsCharBoundary, NonePass, trim, trim_start, trim_end, skip_leading_whitespace, drop_trailing_whitespace}
 use Rattle.std.specs.Str.Pattern.{CutsPrefixes, FindsCharPrefix, FindsChar, FindsText, FindsTextPrefix, FindsTextSuffix, HasCharAt, HasMatch, HasPrefixMatch, HasSuffixMatch, HasTextAt, LacksTextAt}
 use Rattle.std.proofs.Math.Seq.{drop-length}
 use Rattle.std.proofs.lemmas.Str.{IsUtf8-drop, IsUtf8-from_ascii, IsUtf8-take}
 use Rattle.smol_str.proofs.CallerLemmas.Texts.{encodes-literal, literal-utf8}
 use Rattle.smol_str.proofs.CutLemmas.Cut.{same_parts}
 use Rattle.std.specs.List.{prefix_len}
-use Rattle.smol_str.proofs.Common.{cond, nat_tests}
+use Rattle.smol_str.proofs.Common.{cond, nat_tests, common_steps, and_parts, scalars-chars}
 use Rattle.smol_str.proofs.PieceLemmas.{bytes_there, found_char, found_parts, found_text}
 use Rattle.smol_str.proofs.TextLemmas.Places.{size-append, size-chars, some_char}
 
@@ -83,7 +83,36 @@ module _ (c : ℕ) where
       let h = cut_off ns s r u cuts in
       rw h.1 (sym (past_repeated (length ns) c (chars r) (none_left r o h.0 found least)))
 
-pub ruleset trimmed = (char_trimmed)
+-- and `trim`, in its own words on characters: those of a text, and of its bytes
+scalars-skip : (t : List ℕ) → IsTrue (all_scalars t) → IsTrue (all_scalars (skip_leading_whitespace t))
+scalars-skip [] scalars = scalars
+scalars-skip (c ∷ t) scalars = grind (arith, common_steps, and_parts, scalars-skip t)
+
+scalars-drop_trailing : (t : List ℕ) → IsTrue (all_scalars t) → IsTrue (all_scalars (drop_trailing_whitespace t))
+scalars-drop_trailing [] scalars = scalars
+scalars-drop_trailing (c ∷ t) scalars = grind (arith, common_steps, and_parts, scalars-drop_trailing t)
+
+module _ (t : List ℕ) (scalars : IsTrue (all_scalars t)) where
+  trim_start-text : trim_start (encode_utf8_all t) ≡ encode_utf8_all (skip_leading_whitespace t)
+  unfolding trim_start
+  trim_start-text = ap (λ t. encode_utf8_all (skip_leading_whitespace t)) (chars-encodes t scalars)
+
+  trim_end-text : trim_end (encode_utf8_all t) ≡ encode_utf8_all (drop_trailing_whitespace t)
+  unfolding trim_end
+  trim_end-text = ap (λ t. encode_utf8_all (drop_trailing_whitespace t)) (chars-encodes t scalars)
+
+module _ (t : List ℕ) (scalars : IsTrue (all_scalars t)) where
+  pub trim-text : trim (encode_utf8_all t) ≡ encode_utf8_all (drop_trailing_whitespace (skip_leading_whitespace t))
+  trim-text = ap trim_end (trim_start-text t scalars) ∙ trim_end-text (skip_leading_whitespace t) (scalars-skip t scalars)
+
+  pub chars-trim_text : chars (trim (encode_utf8_all t)) ≡ drop_trailing_whitespace (skip_leading_whitespace t)
+  chars-trim_text =
+      ap chars trim-text ∙ chars-encodes _ (scalars-drop_trailing (skip_leading_whitespace t) (scalars-skip t scalars))
+
+pub chars-trim : (bs : List ℕ) → IsUtf8 bs → chars (trim bs) ≡ drop_trailing_whitespace (skip_leading_whitespace (chars bs))
+chars-trim bs u = rw (encodes-chars bs u) at (chars-trim_text (chars bs) (scalars-chars bs u))
+
+pub ruleset trimmed = (char_trimmed, chars-trim, chars-trim_text)
 
 -- ---- and a text, which may be a literal of ASCII
 module _ (nd bs : List ℕ) (u : IsUtf8 bs) where

@@ -1,6 +1,6 @@
 -- Maps with values as keys, at texts.
 use Rattle.smol_str.proofs.Common.{◌≡◌, ◌+◌, ◌≤◌, ◌++◌, ◌∙◌, ℕ, Bor, Option, None, Some, List, [], ◌∷◌, length, length-map, map, take, get_or, Bool, true, false, cond, false≢true, refl, sym, ap, arith, common_steps, IsUtf8, bytes_eq, chars, encodes-chars, encodes_same, false_from_ne_true, option_map, if◌then◌else◌, Meaning, rules}
-use Rattle.std.proofs.Common.{set}
+use Rattle.std.proofs.Common.{set, ◌||◌}
 use Rattle.std.proofs.lemmas.List.{take_more_set, take-map, take-set-le}
 use Rattle.std.specs.HashMap.{HashMap}
 use Rattle.indexmap.specs.IndexMap.{IndexMap, insert_entry}
@@ -114,7 +114,14 @@ pub among-lent : (bs : List ℕ) (ks : List Meaning) → IsUtf8 bs → list_any 
 among-lent bs [] u = refl
 among-lent bs (k ∷ ks) u = search (rules, stands_for-text, among-lent bs ks u)
 
-pub ruleset inserts = (values-inserted, entries-inserted, texts-kept, among-keyed, among-lent)
+-- a set with one more, as std's and `indexmap`'s say it
+pub has-added : (old new : List Meaning) (k : Meaning)
+    → ((q : Meaning) → list_any (same_key q) new ≡ cond (same_key k q) true (list_any (same_key q) old))
+    → (t : List ℕ) → list_any (bytes_eq t) (texts new) ≡ (list_any (bytes_eq t) (texts old) || bytes_eq t k.text)
+has-added old new k added t =
+    grind (arith, added (key_of t), among-keyed (key_of t) new, among-keyed (key_of t) old, bytes_eq-Decides)
+
+pub ruleset inserts = (values-inserted, entries-inserted, texts-kept, among-keyed, among-lent, has-added)
 
 -- an entry that is set is found at its text, and leaves what is found at others
 module _ {V : Type 0} (key t : List ℕ) (v : V) where
