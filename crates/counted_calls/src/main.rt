@@ -1,8 +1,8 @@
-//! Ten calls of the library, whose instructions `bench/program --check` counts: `counted_calls NAME ROUNDS` makes one so many
+//! Calls of the library, whose instructions `bench/program --check` counts: `counted_calls NAME ROUNDS` makes one so many
 //! times of the text of standard input, and prints a sum.
 #![tactic(auto)]
 
-use smol_str::borsh::BorshSerialize;
+use smol_str::borsh::{BorshSerialize, split_wire};
 use smol_str::json_string::{from_json, to_json};
 use smol_str::stream::read_all;
 use smol_str::{SmolStr, StrExt};
@@ -31,13 +31,14 @@ fn run(rt: &HostRuntime) -> Option<u64> {
         SmolStr::new(alloc, text).ok()?,
         SmolStr::new(alloc, text).ok()?,
     );
-    let json = to_json(alloc, &left).ok()?;
+    let (json, form) = (to_json(alloc, &left).ok()?, wire_form(alloc, &left)?);
     let mut sum = 0u64;
     for _ in 0..u64::from_str_radix(rounds, 10).ok()? {
         let size = match name.as_str() {
             "eq" => usize::from(left == right),
             "hash" => hash(&left),
-            "serialize" => wire_size(alloc, &left)?,
+            "serialize" => wire_form(alloc, &left)?.len(),
+            "split_wire" => split_wire(alloc, &form).ok()?.0.len(),
             "to_json" => to_json(alloc, &left).ok()?.len(),
             "from_json" => from_json(alloc, &json).ok()?.len(),
             _ => made(alloc, name, text)?.len(),
@@ -64,8 +65,8 @@ fn hash(value: &SmolStr) -> usize {
     usize::from(hasher.finish() > 0)
 }
 
-fn wire_size(alloc: Global, value: &SmolStr) -> Option<usize> {
+fn wire_form(alloc: Global, value: &SmolStr) -> Option<Vec<u8>> {
     let mut form = Vec::new(alloc);
     value.serialize(&mut form).ok()?;
-    Some(form.len())
+    Some(form)
 }
