@@ -12,7 +12,7 @@ use std::io::{ErrorKind, Read, Write};
 /// How many bytes a call the readers and writers give and take at most, where the calls under test take a chunk at a time.
 pub fn steps_about(chunk: usize) -> [usize; 7] {
     let (below, above) = (chunk.saturating_sub(1), chunk.saturating_add(1));
-    [1, 2, 3, below, chunk, above, usize::MAX]
+    [1, 2, 7, below, chunk, above, usize::MAX]
 }
 
 /// What a stream does where it fails, another thing at each place: it returns an error of its own, or EINTR, EIO, EAGAIN,
@@ -134,7 +134,7 @@ pub fn empty_drip(alloc: Global, step: usize, fails_at: usize, failure: Option<i
 
 /// Why a call under test made nothing, without what an error says of itself.
 #[derive(Clone, Copy, PartialEq, Eq, Debug)]
-pub enum Kind {
+pub enum Reason {
     Ended,
     NotUtf8,
     OutOfMemory,
@@ -164,7 +164,7 @@ pub trait Reading {
     fn reads_the_end(&self) -> bool;
 
     /// The bytes that it makes of the reader's.
-    fn read(&self, test: &Test, reader: &mut Trickle<'_>) -> Result<Vec<u8>, Kind>;
+    fn read(&self, test: &Test, reader: &mut Trickle<'_>) -> Result<Vec<u8>, Reason>;
 }
 
 /// The call makes `wanted` of the bytes by readers of every step, and gives up with the reader's own error at each call at
@@ -192,7 +192,7 @@ fn count_reads<C: Reading>(test: &Test, call: &C, mut reader: Trickle<'_>, wante
     start_counts(test.alloc);
     match call.read(test, &mut reader) {
         Ok(made) => holds(test, made.as_slice() == wanted, &row),
-        Err(kind) => test.fail(&(row, kind)),
+        Err(reason) => test.fail(&(row, reason)),
     }
     has_read(test, call, &reader, &row);
     if row.2 == 1 {
@@ -216,9 +216,9 @@ fn fails_at_read<C: Reading>(test: &Test, call: &C, bytes: &[u8], (step, fails_a
     if let Some(error) = failure_at(place_of(row)) {
         reader.failure = error;
     }
-    let wanted = Kind::Io(cause_of(&reader.failure));
-    let kind = call.read(test, &mut reader).err();
-    same(test, &kind, &Some(wanted), &row);
+    let wanted = Reason::Io(cause_of(&reader.failure));
+    let reason = call.read(test, &mut reader).err();
+    same(test, &reason, &Some(wanted), &row);
     same(test, &reader.calls, &fails_at, &row);
     has_read(test, call, &reader, &row);
     no_blocks(test, &row);
@@ -235,7 +235,7 @@ pub trait Writing {
     fn name(&self) -> &str;
 
     /// Why not all was written, where that is so.
-    fn write(&self, test: &Test, writer: &mut Drip) -> Option<Kind>;
+    fn write(&self, test: &Test, writer: &mut Drip) -> Option<Reason>;
 }
 
 /// The call writes the bytes to writers of every step, and gives up with the writer's own error at each call at which that
@@ -274,8 +274,8 @@ fn fails_at_write<C: Writing>(test: &Test, call: &C, bytes: &[u8], (step, fails_
     let wanted = failure.unwrap_or(io::Error::from(ErrorKind::WriteZero));
     start_counts(test.alloc);
     let mut writer = empty_drip(test.alloc, step, fails_at, failure);
-    let kind = call.write(test, &mut writer);
-    same(test, &kind, &Some(Kind::Io(cause_of(&wanted))), &row);
+    let reason = call.write(test, &mut writer);
+    same(test, &reason, &Some(Reason::Io(cause_of(&wanted))), &row);
     same(test, &writer.calls, &fails_at, &row);
     let taken = writer.taken.as_slice();
     let is_as_long = step != 1 || taken.len() == fails_at.saturating_sub(1);

@@ -11,7 +11,7 @@ mod things;
 mod values;
 
 pub use failing::{
-    Cause, Drip, Kind, Reading, Trickle, Writing, cause_of, empty_drip, fails_at_each_read,
+    Cause, Drip, Reading, Reason, Trickle, Writing, cause_of, empty_drip, fails_at_each_read,
     fails_at_each_write, steps_about, trickle_of,
 };
 pub use memory::{

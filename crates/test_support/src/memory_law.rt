@@ -17,6 +17,8 @@ pub enum Requests {
     Most(u32),
     /// So many, and one more each time that its text is twice as long, from a full buffer on.
     Doubling(u32),
+    /// Those of so many calls, each as `Doubling` has it.
+    Doublings(u32, u32),
 }
 
 /// For how many bytes in all: so many times the longer of its text and its result ..
@@ -69,13 +71,18 @@ pub trait Call: Copy {
     }
 }
 
+/// Lengths between those of the samples, each about a quarter more.
+static BETWEEN: [usize; 22] = [
+    310, 390, 450, 600, 700, 880, 1_200, 1_350, 1_700, 2_400, 3_000, 3_500, 4_600, 5_800, 7_200,
+    10_000, 12_500, 20_000, 25_000, 40_000, 50_000, 60_000,
+];
+
 /// Holds each call of a table to its row, on each text, in each way. Each call that may ask for memory is refused it.
 pub fn check_law<C: Call>(rt: HostRuntime, table: &[Law<C>]) -> Result<(), Fail> {
     let test = Test::begin(rt);
     let mut texts = samples(&test);
-    // lengths between those of the samples
-    for len in [310, 350, 450, 700, 900, 1_500, 3_000, 5_000] {
-        push_text(&test, &mut texts, test.repeated_and("ab", len / 2, "é"));
+    if can_refuse(test.alloc) {
+        push_between(&test, &mut texts);
     }
     for &(call, name, requests, times, plus, asks) in table {
         let most = (requests, times, plus, asks);
@@ -84,6 +91,13 @@ pub fn check_law<C: Call>(rt: HostRuntime, table: &[Law<C>]) -> Result<(), Fail>
         holds(&test, was_refused == is_asking, &(name, "is refused"));
     }
     test.end()
+}
+
+fn push_between(test: &Test, texts: &mut Vec<&'static str>) {
+    for (index, &len) in BETWEEN.iter().enumerate() {
+        let end = ["é", "b", "\"", "\u{1}"][index % 4];
+        push_text(test, texts, test.repeated_and("ab", len / 2, end));
+    }
 }
 
 /// Whether a request of the call was refused.
@@ -231,11 +245,14 @@ impl<C: Call> On<C> {
         match requests {
             _ if is_free => 0,
             Requests::Most(most) => most,
-            Requests::Doubling(most) => {
-                let buffers = self.size() / INLINE_CAP;
-                most.saturating_add(buffers.checked_ilog2().unwrap_or(0))
-            }
+            Requests::Doubling(most) => self.most_doubling(most),
+            Requests::Doublings(calls, most) => self.most_doubling(most).saturating_mul(calls),
         }
+    }
+
+    fn most_doubling(&self, most: u32) -> u32 {
+        let buffers = self.size() / INLINE_CAP;
+        most.saturating_add(buffers.checked_ilog2().unwrap_or(0))
     }
 
     fn most_bytes(&self) -> usize {

@@ -9,8 +9,8 @@ static UNITS: [&str; 12] = table! {
     "a"; "AΣé€🦀"; "aab"; "\u{2126}"; "ab "; " "; "\u{7ff}"; "\u{ffff}"; "\u{10ffff}"; "\""; "\n"; "\u{1}";
 };
 
-/// What comes in front, in the middle and at the end of letters: characters about each length, those whose case has another
-/// length or depends on its neighbours, and each kind of escape of JSON.
+/// What comes in front of letters, near their start, in the middle and at their end: characters about each length, those
+/// whose case has another length or depends on its neighbours, and each kind of escape of JSON.
 static MARKS: [&str; 23] = table! {
     "B"; "\u{7f}"; "\u{80}"; "\u{7ff}"; "\u{800}"; "\u{ffff}"; "\u{10000}";
     "ß"; "İ"; "ŉ"; "ǅ"; "ΐ"; "ﬃ"; "\u{2126}"; "Σ";
@@ -84,12 +84,12 @@ fn blank_and(test: &Test, len: usize) -> String {
     test.repeated_and(" ", len.saturating_sub(1), "a")
 }
 
-/// A mark in front of letters, among them and behind them.
+/// A mark in front of letters, among them at two places and behind them.
 fn push_marked(test: &Test, texts: &mut Vec<&'static str>, mark: &str, len: usize) {
     let Some(letters) = len.checked_sub(mark.len()) else {
         return;
     };
-    for front in [0, letters / 2, letters] {
+    for front in [0, letters.min(1 + len % 7), letters / 2, letters] {
         let rest = test.repeated_and(mark, 1, test.repeated("a", letters - front).as_str());
         push_text(test, texts, test.repeated_and("a", front, rest.as_str()));
     }

@@ -168,7 +168,7 @@ fn of_forms(rt: HostRuntime) -> Result<(), Fail> {
 static JSON: [Law<OnJson>; 11] = table! {
     (FromValue, "json_string::from_value", Most(2), Texts(1), Plus(40), UnlessResident);
     (FromPlain, "json_string::from_json", Most(2), Texts(1), Plus(40), UnlessResident);
-    (FromEscape, "json_string::from_json", Most(3), Texts(3), Plus(40), UnlessShort);
+    (FromEscape, "json_string::from_json", Most(3), Texts(1), Plus(200), UnlessShort);
     (FromEscapes, "json_string::from_json", Doubling(2), Texts(4), Plus(40), UnlessShort);
     (BehindNumbers, "json_string::from_json", Doubling(2), Texts(4), Plus(40), UnlessShort);
     (NotString, "json_string::from_json", Most(3), Texts(2), Plus(140), ForAny);

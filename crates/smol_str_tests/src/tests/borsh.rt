@@ -15,17 +15,11 @@ pub const LETTERS: &[u8] = b"a\xc3\x9f\xce\x94Ca\xc3\x9f\xce\xb4c";
 
 // Those of upstream's borsh_serialize_stack and borsh_serialize_heap are the fourth and the fifth.
 pub static ROWS: [Row; 12] = table! {
-    ("", 0, b"\0\0\0\0", b"", Inline);
-    ("ab", 1, b"\x02\0\0\0", b"ab", Inline);
-    ("🦀", 1, b"\x04\0\0\0", b"\xf0\x9f\xa6\x80", Inline);
-    ("aßΔCaßδc", 1, b"\x0c\0\0\0", LETTERS, Inline);
-    ("aßΔCaßδc", 11, b"\x84\0\0\0", LETTERS, Heap);
-    ("a", 23, b"\x17\0\0\0", b"a", Inline);
-    ("a", 24, b"\x18\0\0\0", b"a", Inline);
-    (" ", 24, b"\x18\0\0\0", b" ", Inline);
-    ("a", 39, b"\x27\0\0\0", b"a", Inline);
-    ("a", 40, b"\x28\0\0\0", b"a", Heap);
-    (" ", 40, b"\x28\0\0\0", b" ", Static);
+    ("", 0, b"\0\0\0\0", b"", Inline); ("ab", 1, b"\x02\0\0\0", b"ab", Inline);
+    ("🦀", 1, b"\x04\0\0\0", b"\xf0\x9f\xa6\x80", Inline); ("aßΔCaßδc", 1, b"\x0c\0\0\0", LETTERS, Inline);
+    ("aßΔCaßδc", 11, b"\x84\0\0\0", LETTERS, Heap); ("a", 23, b"\x17\0\0\0", b"a", Inline);
+    ("a", 24, b"\x18\0\0\0", b"a", Inline); (" ", 24, b"\x18\0\0\0", b" ", Inline);
+    ("a", 39, b"\x27\0\0\0", b"a", Inline); ("a", 40, b"\x28\0\0\0", b"a", Heap); (" ", 40, b"\x28\0\0\0", b" ", Static);
     ("a", 5000, b"\x88\x13\0\0", b"a", Heap);
 };
 

@@ -56,7 +56,7 @@ static NOT_READ: [&str; 44] = table! {
     ""; "\""; "\"\"\""; "\"\\\""; "\"abcdefg\\\""; "\"abcdefghijk\u{1f}lmnop\""; "\"abcdefghijklmnopqrst\"uvwxyz\"";
     "\"abcdefghijklmnopqrstuvwxyz\tabcdefghijklmnopqrstuvwxyz\""; "[1"; "\"ab"; "\"ab\" 1"; "\"ab\"\"cd\""; "ab"; "'ab'";
     "01"; "1e999"; "\"\\x41\""; "\"a\\n\\x\""; "\"a\\n\\"; "\"a\nb\""; "\"\\ud800\""; "\"\\udc00x\""; "\"\\ud800\\u0041\"";
-    "  x"; "\tx"; "\rx"; " \t x"; "\t\n\t[1"; "\n\n[1"; "\"ab\"\n x";
+    "  x"; "\tx"; "\rx"; " \t x"; "\t\n\t[1"; "\n\n[1, 2"; "\"ab\"\n x";
 };
 
 #[test]

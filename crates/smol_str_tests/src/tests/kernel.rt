@@ -47,15 +47,9 @@ fn padded(bytes: &[u8]) -> InlineBuffer {
 
 /// A text, a place in it, a pattern, and where that is found.
 static MATCHES: [(&str, usize, &str, Option<usize>); 9] = table! {
-    ("foo_bar_baz", 4, "ba", Some(4));
-    ("foo_bar_baz", 5, "ba", Some(8));
-    ("foo_bar_baz", 9, "ba", None);
-    ("foo_bar_baz", 11, "ba", None);
-    ("é©", 0, "©", Some(2));
-    ("é", 0, "©", None);
-    ("ééé", 2, "éé", Some(2));
-    ("abc", 3, "c", None);
-    ("", 0, "c", None);
+    ("foo_bar_baz", 4, "ba", Some(4)); ("foo_bar_baz", 5, "ba", Some(8)); ("foo_bar_baz", 9, "ba", None);
+    ("foo_bar_baz", 11, "ba", None); ("é©", 0, "©", Some(2)); ("é", 0, "©", None); ("ééé", 2, "éé", Some(2));
+    ("abc", 3, "c", None); ("", 0, "c", None);
 };
 
 #[test]

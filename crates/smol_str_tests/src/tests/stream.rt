@@ -1,5 +1,5 @@
 //! Each call that reads or writes, over readers and writers of every step, which end after each byte and fail at each call.
-use super::borsh::fault::{kind_of, kind_of_limited};
+use super::borsh::fault::{reason_of, reason_of_limited};
 use super::borsh::{LETTERS, ROWS, form_of, of_units, ok_found};
 use Call::*;
 use smol_str::borsh::{
@@ -53,7 +53,7 @@ impl Reading for Reads {
     }
 
     /// Of a value, its wire form.
-    fn read(&self, test: &Test, reader: &mut Trickle<'_>) -> Result<Vec<u8>, Kind> {
+    fn read(&self, test: &Test, reader: &mut Trickle<'_>) -> Result<Vec<u8>, Reason> {
         let alloc = test.alloc;
         match self.call {
             Fill => filled(alloc, reader, self.size),
@@ -65,47 +65,47 @@ impl Reading for Reads {
     }
 }
 
-fn all_read(read: Result<Vec<u8>, ReadFault>) -> Result<Vec<u8>, Kind> {
+fn all_read(read: Result<Vec<u8>, ReadFault>) -> Result<Vec<u8>, Reason> {
     match read {
         Ok(all) => Ok(all),
-        Err(ReadFault::OutOfMemory) => Err(Kind::OutOfMemory),
-        Err(ReadFault::Io(error)) => Err(Kind::Io(cause_of(&error))),
+        Err(ReadFault::OutOfMemory) => Err(Reason::OutOfMemory),
+        Err(ReadFault::Io(error)) => Err(Reason::Io(cause_of(&error))),
     }
 }
 
-fn filled(alloc: Global, reader: &mut Trickle<'_>, size: usize) -> Result<Vec<u8>, Kind> {
+fn filled(alloc: Global, reader: &mut Trickle<'_>, size: usize) -> Result<Vec<u8>, Reason> {
     let Ok(mut room) = vec![in alloc; 0u8; size] else {
-        return Err(Kind::OutOfMemory);
+        return Err(Reason::OutOfMemory);
     };
     match fill(reader, room.as_mut_slice()) {
         Ok(count) => {
             room.truncate(count);
             Ok(room)
         }
-        Err(error) => Err(Kind::Io(cause_of(&error))),
+        Err(error) => Err(Reason::Io(cause_of(&error))),
     }
 }
 
-fn written_again(alloc: Global, reader: &mut Trickle<'_>) -> Result<Vec<u8>, Kind> {
+fn written_again(alloc: Global, reader: &mut Trickle<'_>) -> Result<Vec<u8>, Reason> {
     match SmolStr::deserialize_reader(alloc, reader) {
         Ok(value) => written(alloc, &value),
-        Err(fault) => Err(kind_of(&fault)),
+        Err(fault) => Err(reason_of(&fault)),
     }
 }
 
-fn limited_again(alloc: Global, reader: &mut Trickle<'_>, limit: usize) -> Result<Vec<u8>, Kind> {
+fn limited_again(alloc: Global, reader: &mut Trickle<'_>, limit: usize) -> Result<Vec<u8>, Reason> {
     match deserialize_limited(alloc, reader, limit) {
         Ok(value) => written(alloc, &value),
-        Err(fault) => Err(kind_of_limited(&fault)),
+        Err(fault) => Err(reason_of_limited(&fault)),
     }
 }
 
 /// Only memory could be refused.
-fn written(alloc: Global, value: &SmolStr) -> Result<Vec<u8>, Kind> {
+fn written(alloc: Global, value: &SmolStr) -> Result<Vec<u8>, Reason> {
     let mut form = Vec::new(alloc);
     match value.serialize(&mut form) {
         Ok(()) => Ok(form),
-        Err(_) => Err(Kind::OutOfMemory),
+        Err(_) => Err(Reason::OutOfMemory),
     }
 }
 
@@ -137,7 +137,7 @@ fn fails_at_each_read_call(rt: HostRuntime) -> Result<(), Fail> {
 fn interrupted(rt: HostRuntime) -> Result<(), Fail> {
     let test = Test::begin(rt);
     let interruption = io::Error::from_raw_os_error(4);
-    let wanted = Kind::Io(cause_of(&interruption));
+    let wanted = Reason::Io(cause_of(&interruption));
     let mut reader = trickle_of(b"\x02\0\0\0ab", 1, 1);
     let (call, size) = (WireForm, 6);
     let found = Reads { call, size }.read(&test, &mut reader).err();
@@ -179,7 +179,7 @@ impl Writing for Writes<'_> {
         }
     }
 
-    fn write(&self, _test: &Test, writer: &mut Drip) -> Option<Kind> {
+    fn write(&self, _test: &Test, writer: &mut Drip) -> Option<Reason> {
         match self {
             Writes::Serialize(value) => serialized(value, writer),
             Writes::WriteSteps(form) => steps_written(form, writer),
@@ -187,18 +187,18 @@ impl Writing for Writes<'_> {
     }
 }
 
-fn steps_written(form: &[u8], writer: &mut Drip) -> Option<Kind> {
+fn steps_written(form: &[u8], writer: &mut Drip) -> Option<Reason> {
     match write_steps(writer, form) {
         Ok(()) => None,
-        Err(error) => Some(Kind::Io(cause_of(&error))),
+        Err(error) => Some(Reason::Io(cause_of(&error))),
     }
 }
 
-fn serialized(value: &SmolStr, writer: &mut Drip) -> Option<Kind> {
+fn serialized(value: &SmolStr, writer: &mut Drip) -> Option<Reason> {
     match value.serialize(writer) {
         Ok(()) => None,
-        Err(EncodeFault::Io(error)) => Some(Kind::Io(cause_of(&error))),
-        Err(EncodeFault::TooLong) => Some(Kind::TooLong),
+        Err(EncodeFault::Io(error)) => Some(Reason::Io(cause_of(&error))),
+        Err(EncodeFault::TooLong) => Some(Reason::TooLong),
     }
 }
 

@@ -8,27 +8,14 @@ use test_support::*;
 
 /// Texts so many times, one after the other, and the place of the value.
 static PLACES: &[(&[(&str, usize)], Place)] = &table! {
-    (&[], Inline);
-    (&[("a", INLINE_CAP)], Inline);
-    (&[("a", INLINE_CAP + 1)], Heap);
-    (&[("a", INLINE_CAP - 2), ("é", 1)], Inline);
-    (&[("a", INLINE_CAP - 1), ("é", 1)], Heap);
-    (&[("a", 23)], Inline);
-    (&[("a", 24)], Inline);
-    (&[("\n", BLANK_NEWLINES), (" ", BLANK_SPACES)], Static);
-    (&[(" ", BLANK_SPACES + 1)], Heap);
-    (&[("\n", BLANK_NEWLINES + 1)], Heap);
-    (&[(" ", INLINE_CAP), ("\n", 1)], Heap);
-    (&[("\n", 1), (" ", INLINE_CAP - 1)], Inline);
-    (&[("\n", BLANK_NEWLINES)], Static);
-    (&[("\n", BLANK_NEWLINES), (" ", 1), ("\n", 1)], Heap);
-    (&[(" ", INLINE_CAP + 1)], Static);
-    (&[("\n", 32), (" ", 128)], Static);
-    (&[(" ", 129)], Static);
-    (&[("\n", 33)], Inline);
-    (&[(" ", 23), ("\n", 1)], Inline);
-    (&[("\n", 32), (" ", 1), ("\n", 1)], Inline);
-    (&[(" ", 24)], Inline);
+    (&[], Inline); (&[("a", INLINE_CAP)], Inline); (&[("a", INLINE_CAP + 1)], Heap);
+    (&[("a", INLINE_CAP - 2), ("é", 1)], Inline); (&[("a", INLINE_CAP - 1), ("é", 1)], Heap); (&[("a", 23)], Inline);
+    (&[("a", 24)], Inline); (&[("\n", BLANK_NEWLINES), (" ", BLANK_SPACES)], Static); (&[(" ", BLANK_SPACES + 1)], Heap);
+    (&[("\n", BLANK_NEWLINES + 1)], Heap); (&[(" ", INLINE_CAP), ("\n", 1)], Heap);
+    (&[("\n", 1), (" ", INLINE_CAP - 1)], Inline); (&[("\n", BLANK_NEWLINES)], Static);
+    (&[("\n", BLANK_NEWLINES), (" ", 1), ("\n", 1)], Heap); (&[(" ", INLINE_CAP + 1)], Static);
+    (&[("\n", 32), (" ", 128)], Static); (&[(" ", 129)], Static); (&[("\n", 33)], Inline);
+    (&[(" ", 23), ("\n", 1)], Inline); (&[("\n", 32), (" ", 1), ("\n", 1)], Inline); (&[(" ", 24)], Inline);
 };
 
 #[test]

@@ -1,9 +1,9 @@
 //! The law of memory for the program: each mode on each line, and a token added to tallies of some.
 use super::mode::mode_by;
-use super::run::kind_of;
+use super::run::reason_of;
 use Asks::ForAny;
 use OnLine::*;
-use Requests::{Doubling, Most};
+use Requests::{Doubling, Doublings, Most};
 use smol_str::{Place, SmolStr};
 use smol_tokens_core::fault::RunFault;
 use smol_tokens_core::mode::Mode;
@@ -34,7 +34,7 @@ static MODES: [Law<OnLine>; 10] = table! {
     (Upper, "run::run, upper", Doubling(10), Texts(8), Plus(0), ForAny);
     (Replace("a", "é"), "run::run, replace", Doubling(10), Texts(8), Plus(0), ForAny);
     (Replace("aa", "bbb"), "run::run, replace", Doubling(11), Texts(8), Plus(0), ForAny);
-    (Replace("", "-"), "run::run, replace", Doubling(26), Texts(10), Plus(0), ForAny);
+    (Replace("", "-"), "run::run, replace", Doublings(3, 4), Texts(10), Plus(0), ForAny);
     (Tokens, "run::run_with_hasher, tokens", Doubling(10), Texts(12), Plus(640), ForAny);
     (Merge, "run::run_with_hasher, merge", Doubling(11), Texts(8), Plus(640), ForAny);
     (NoSum, "run::run_with_hasher, merge", Doubling(11), Texts(12), Plus(760), ForAny);
@@ -74,10 +74,23 @@ impl OnLine {
             _ => test.string(line),
         }
     }
+
+    /// The report on a line that occurs so often.
+    fn report(self, test: &Test, line: &str, times: usize) -> String {
+        let made = self.mapped(test, line);
+        let (place, size) = (place_word(made.as_str()), made.len());
+        if let Tokens = self {
+            return ok(test, format!(in test.alloc; "{times} {made}\n"));
+        }
+        let once = ok(test, format!(in test.alloc; "{place} {size} {made}\n"));
+        test.repeated(once.as_str(), times)
+    }
 }
 
-/// Each line up to this length is tried, and a few longer ones: all would take more time than a test has.
+/// Each line up to this length is tried, and some longer ones: all would take more time than a test has.
 const LONGEST: usize = 100;
+
+static LONGER: [usize; 10] = [111, 150, 200, 250, 290, 450, 512, 1_200, 3_000, 4_096];
 
 /// How often a line occurs.
 static TIMES: [usize; 4] = [1, 1, 3, 3];
@@ -100,23 +113,24 @@ impl Call for OnLine {
     /// The mode, the input, how many bytes the reader gives a call, and a list with room for the report.
     type Input = (Mode, String, usize, Vec<u8>);
 
-    /// Once and three times, and by single bytes; counts of some digits.
+    /// Once, and three times behind another line; by single bytes and by all; counts of some digits.
     fn ways(self) -> usize {
         4
     }
 
     fn takes(self, text: &str) -> bool {
-        !text.contains('\n') && (text.len() <= LONGEST || [111, 512, 4_096].contains(&text.len()))
+        !text.contains('\n') && (text.len() <= LONGEST || LONGER.contains(&text.len()))
     }
 
     fn input(self, test: &Test, text: &'static str, way: usize) -> (Mode, String, usize, Vec<u8>) {
-        let line = match self {
-            Merge => ok(test, format!(in test.alloc; "{} {text}\n", COUNTS[way % 4])),
-            NoSum => test.joined(NO_SUMS[way / 2 % 2], test.joined(text, "\n").as_str()),
-            _ => test.joined(text, "\n"),
+        let input = match self {
+            Merge => self.wanted(test, text, way),
+            NoSum => test.text(&[(NO_SUMS[way / 2 % 2], 1), (text, 1), ("\n", 1)]),
+            _ => {
+                let lines = test.repeated(test.joined(text, "\n").as_str(), TIMES[way % 4]);
+                test.joined(if way < 2 { "" } else { "b\n" }, lines.as_str())
+            }
         };
-        let times = if let Merge = self { 1 } else { TIMES[way % 4] };
-        let input = test.repeated(line.as_str(), times);
         let room = self.wanted(test, text, way).len();
         let out = ok(test, Vec::with_capacity(test.alloc, room));
         (self.mode(test), input, [1, usize::MAX][way % 2], out)
@@ -136,27 +150,30 @@ impl Call for OnLine {
         };
         match returned {
             Ok(()) | Err(RunFault::NotCounts(_) | RunFault::Full) => Ok(Thing::Bytes(out)),
-            Err(fault) => Err(nothing(kind_of(&fault) == Kind::OutOfMemory && out.is_empty())),
+            Err(fault) => Err(nothing(reason_of(&fault) == Reason::OutOfMemory && out.is_empty())),
         }
     }
 
     fn wanted(self, test: &Test, text: &'static str, way: usize) -> String {
-        let times = TIMES[way % 4];
-        let made = self.mapped(test, text);
-        let made = match self {
-            Join => test.repeated(text, times),
-            _ => made,
-        };
-        let (place, size) = (place_word(made.as_str()), made.len());
-        let report = match self {
-            Tokens => format!(in test.alloc; "{times} {made}\n"),
-            Merge => format!(in test.alloc; "{} {made}\n", COUNTS[way % 4]),
-            _ => format!(in test.alloc; "{place} {size} {made}\n"),
-        };
+        let (times, is_behind) = (TIMES[way % 4], way >= 2);
         match self {
-            Join | Tokens | Merge => ok(test, report),
+            Join => {
+                let all = test.text(&[("b", usize::from(is_behind)), (text, times)]);
+                self.report(test, all.as_str(), 1)
+            }
+            Merge => {
+                let front = if is_behind { "1 b\n2 c\n" } else { "" };
+                ok(
+                    test,
+                    format!(in test.alloc; "{front}{} {text}\n", COUNTS[way % 4]),
+                )
+            }
             NoSum => test.string(""),
-            _ => test.repeated(ok(test, report).as_str(), times),
+            _ if is_behind => {
+                let back = self.report(test, text, times);
+                test.joined(self.report(test, "b", 1).as_str(), back.as_str())
+            }
+            _ => self.report(test, text, times),
         }
     }
 }

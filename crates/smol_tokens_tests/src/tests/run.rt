@@ -1,6 +1,7 @@
 //! `run` in every mode, over readers and writers of every step, which fail at each call, and over malformed count lines.
 use super::mode::mode_by;
 use super::report::{Row, all_rows};
+use Reason::{Full, NotCounts, NotUtf8};
 use smol_str::stream::CHUNK;
 use smol_tokens_core::fault::RunFault;
 use smol_tokens_core::run::run;
@@ -16,21 +17,21 @@ pub fn run_by<R: Read, W: Write>(
     words: &[&str],
     reader: &mut R,
     writer: &mut W,
-) -> Option<Kind> {
+) -> Option<Reason> {
     let mode = mode_by(test, words);
     match run(test.alloc, mode, reader, writer) {
         Ok(()) => None,
-        Err(fault) => Some(kind_of(&fault)),
+        Err(fault) => Some(reason_of(&fault)),
     }
 }
 
-pub fn kind_of(fault: &RunFault) -> Kind {
+pub fn reason_of(fault: &RunFault) -> Reason {
     match fault {
-        RunFault::NotUtf8 => Kind::NotUtf8,
-        RunFault::OutOfMemory => Kind::OutOfMemory,
-        RunFault::NotCounts(line) => Kind::NotCounts(*line),
-        RunFault::Full => Kind::Full,
-        RunFault::Io(error) => Kind::Io(cause_of(error)),
+        RunFault::NotUtf8 => Reason::NotUtf8,
+        RunFault::OutOfMemory => Reason::OutOfMemory,
+        RunFault::NotCounts(line) => Reason::NotCounts(*line),
+        RunFault::Full => Reason::Full,
+        RunFault::Io(error) => Reason::Io(cause_of(error)),
     }
 }
 
@@ -55,13 +56,13 @@ impl Reading for Runs<'_> {
     }
 
     /// What was written; nothing is, where the run has a fault.
-    fn read(&self, test: &Test, reader: &mut Trickle<'_>) -> Result<Vec<u8>, Kind> {
+    fn read(&self, test: &Test, reader: &mut Trickle<'_>) -> Result<Vec<u8>, Reason> {
         let mut writer = empty_drip(test.alloc, usize::MAX, 0, None);
         match run_by(test, self.words, reader, &mut writer) {
             None => Ok(writer.taken),
-            Some(kind) => {
-                holds(test, writer.taken.is_empty(), &(self.words, kind));
-                Err(kind)
+            Some(reason) => {
+                holds(test, writer.taken.is_empty(), &(self.words, reason));
+                Err(reason)
             }
         }
     }
@@ -72,7 +73,7 @@ impl Writing for Runs<'_> {
         self.words.first().copied().unwrap_or("no words")
     }
 
-    fn write(&self, test: &Test, writer: &mut Drip) -> Option<Kind> {
+    fn write(&self, test: &Test, writer: &mut Drip) -> Option<Reason> {
         let mut reader = self.input;
         run_by(test, self.words, &mut reader, writer)
     }
@@ -105,37 +106,28 @@ fn runs_on(row: &Row) -> Runs<'_> {
 }
 
 /// An input, and how its merge ends.
-static FAULTS: &[(&[u8], Kind)] = &[
-    (b"\n", Kind::NotCounts(1)),
-    (b"a\n", Kind::NotCounts(1)),
-    (b"12\n", Kind::NotCounts(1)),
-    (b"+1 a\n", Kind::NotCounts(1)),
-    (b"01 a\n", Kind::NotCounts(1)),
-    (b"1\ta\n", Kind::NotCounts(1)),
-    (b" 1 a\n", Kind::NotCounts(1)),
-    (b"1a a\n", Kind::NotCounts(1)),
-    (b"\xd9\xa1 a\n", Kind::NotCounts(1)),
-    (b"\xef\xbb\xbf1 a\n", Kind::NotCounts(1)),
-    (b"18446744073709551616 a\n", Kind::NotCounts(1)),
-    (b"2 a\n1 b", Kind::NotCounts(2)),
-    (b"1 a\n\n", Kind::NotCounts(2)),
-    (b"1 a\n\n1 a\nx\n", Kind::NotCounts(2)),
-    (b"1 a\n1 b\n1 a\n1 c\nx y\n1 d\n", Kind::NotCounts(5)),
-    (b"18446744073709551615 a\n1 a\n", Kind::Full),
-    (b"18446744073709551615 a\n1 a\n1 b\n", Kind::Full),
+static FAULTS: [(&[u8], Reason); 19] = table! {
+    (b"\n", NotCounts(1)); (b"a\n", NotCounts(1)); (b"12\n", NotCounts(1)); (b"+1 a\n", NotCounts(1));
+    (b"01 a\n", NotCounts(1)); (b"1\ta\n", NotCounts(1)); (b" 1 a\n", NotCounts(1)); (b"1a a\n", NotCounts(1));
+    (b"\xd9\xa1 a\n", NotCounts(1)); (b"\xef\xbb\xbf1 a\n", NotCounts(1)); (b"18446744073709551616 a\n", NotCounts(1));
+    (b"2 a\n1 b", NotCounts(2)); (b"1 a\n\n", NotCounts(2)); (b"1 a\n\n1 a\nx\n", NotCounts(2));
+    (b"1 a\n1 b\n1 a\n1 c\nx y\n1 d\n", NotCounts(5)); (b"18446744073709551615 a\n1 a\n", Full);
+    (b"18446744073709551615 a\n1 a\n1 b\n", Full);
     // a malformed line is reported before an overflow
-    (b"18446744073709551615 a\n1 a\n+1 b\n", Kind::NotCounts(3)),
-    (b"1 \xff\n", Kind::NotUtf8),
-];
+    (b"18446744073709551615 a\n1 a\n+1 b\n", NotCounts(3)); (b"1 \xff\n", NotUtf8);
+};
 
 #[test]
 fn faults_of_merges(rt: HostRuntime) -> Result<(), Fail> {
     let test = Test::begin(rt);
-    for &(input, kind) in FAULTS {
-        check_merge(&test, input, kind);
+    for &(input, reason) in &FAULTS {
+        check_merge(&test, input, reason);
     }
     test.end()
 }
+
+/// The most bytes that may be asked for to count twelve tokens.
+const MOST_BYTES: u32 = 3_000;
 
 // Many tokens, and faults behind many lines.
 static MANY: [(&str, &str); 4] = table! {
@@ -146,11 +138,15 @@ static MANY: [(&str, &str); 4] = table! {
 };
 
 #[test]
-fn many_tokens_leave_no_blocks(rt: HostRuntime) -> Result<(), Fail> {
+fn many_tokens(rt: HostRuntime) -> Result<(), Fail> {
     let test = Test::begin(rt);
     for &(mode, input) in &MANY {
         start_counts(test.alloc);
+        refuse(test.alloc, Refusals::One(0));
         run_once(&test, mode, input.as_bytes());
+        end_refusals(test.alloc);
+        let is_little = is_at_most(test.alloc, Count::Bytes, MOST_BYTES) || !can_refuse(test.alloc);
+        holds(&test, is_little, &(mode, input, "asks for more bytes"));
         no_blocks(&test, &(mode, input));
     }
     test.end()
@@ -168,16 +164,16 @@ fn late_faults_of_merges(rt: HostRuntime) -> Result<(), Fail> {
     for lines in 0..300 {
         let front = test.repeated("1 b\n", lines);
         let input = test.joined(front.as_str(), "x\n");
-        check_merge(&test, input.as_bytes(), Kind::NotCounts(lines + 1));
+        check_merge(&test, input.as_bytes(), NotCounts(lines + 1));
         let input = test.joined("18446744073709551615 a\n1 a\n", front.as_str());
-        check_merge(&test, input.as_bytes(), Kind::Full);
+        check_merge(&test, input.as_bytes(), Full);
     }
     test.end()
 }
 
-fn check_merge(test: &Test, input: &[u8], kind: Kind) {
+fn check_merge(test: &Test, input: &[u8], reason: Reason) {
     let (mut reader, mut out) = (input, Vec::new(test.alloc));
     let ended = run_by(test, &["merge"], &mut reader, &mut out);
-    same(test, &ended, &Some(kind), &(input, kind));
-    holds(test, out.is_empty(), &(input, kind));
+    same(test, &ended, &Some(reason), &(input, reason));
+    holds(test, out.is_empty(), &(input, reason));
 }

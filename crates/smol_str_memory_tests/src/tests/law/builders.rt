@@ -1,6 +1,6 @@
 //! Calls on a builder.
 use OnBuilder::*;
-use smol_str::{SmolStr, SmolStrBuilder, ValueAlloc};
+use smol_str::{BLANK_NEWLINES, BLANK_SPACES, SmolStr, SmolStrBuilder, ValueAlloc};
 use std::default;
 use std::fmt::Write;
 use test_support::*;
@@ -22,6 +22,7 @@ pub enum OnBuilder {
     PushStr,
     PushStrWithin,
     PushWithSpare,
+    /// As many newlines and spaces as the text has bytes, up to the most.
     PushBlank,
     WriteStr,
     WriteFmt,
@@ -66,7 +67,11 @@ impl Call for OnBuilder {
             Emptied => test.string(""),
             Push => test.joined(text, "b"),
             PushWide | PushWithin => test.joined(text, "€"),
-            PushBlank => test.joined(text, "\n  "),
+            PushBlank => {
+                let newlines = text.len().min(BLANK_NEWLINES);
+                let spaces = text.len().min(BLANK_SPACES);
+                test.text(&[(text, 1), ("\n", newlines), (" ", spaces)])
+            }
             PushStr | PushStrWithin | PushWithSpare | WriteStr | WriteFmt | ExtendChars => {
                 test.joined(text, text)
             }
@@ -81,7 +86,11 @@ impl OnBuilder {
             Push => changed(builder.push('b'), builder),
             PushWide | PushWithin => changed(builder.push('€'), builder),
             PushWithSpare => changed(builder.push_with_spare(text, 0), builder),
-            PushBlank => changed(builder.push_blank(1, 2), builder),
+            PushBlank => {
+                let newlines = text.len().min(BLANK_NEWLINES);
+                let spaces = text.len().min(BLANK_SPACES);
+                changed(builder.push_blank(newlines, spaces), builder)
+            }
             WriteStr => changed(builder.write_str(text), builder),
             WriteFmt => changed(builder.write_fmt(text), builder),
             ExtendChars => changed(builder.extend_chars(text.chars()), builder),

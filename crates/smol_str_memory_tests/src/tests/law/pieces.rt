@@ -25,8 +25,10 @@ pub enum Pieces {
     Values(Vec<SmolStr>),
 }
 
-/// How many pieces a text is cut in; an empty one follows.
-static COUNTS: [usize; 3] = [1, 2, 7];
+/// How many pieces a text is cut in: one, two, or from three to twenty-two. An empty one follows.
+fn count_of(text: &str, way: usize) -> usize {
+    [1, 2, 3 + text.len() % 20][way % 3]
+}
 
 static SEPARATORS: [&str; 5] = [
     "",
@@ -48,7 +50,7 @@ impl Call for OnPieces {
     }
 
     fn input(self, test: &Test, text: &'static str, way: usize) -> (Pieces, &'static str) {
-        let strs = cut(test, text, COUNTS[way % 3]);
+        let strs = cut(test, text, count_of(text, way));
         let pieces = match self {
             FromStrs | ExtendStrs => Pieces::Strs(strs),
             FromStrings | FromStringRefs | ExtendStrings => Pieces::Strings(strings(test, &strs)),
@@ -87,7 +89,7 @@ impl Call for OnPieces {
     fn wanted(self, test: &Test, text: &'static str, way: usize) -> String {
         match self {
             Join => {
-                let strs = cut(test, text, COUNTS[way % 3]);
+                let strs = cut(test, text, count_of(text, way));
                 ok(test, strs.as_slice().join(test.alloc, SEPARATORS[way % 5]))
             }
             _ => test.string(text),

@@ -20,6 +20,9 @@ pub enum Replace {
 /// However often the pattern occurs.
 const ALL: usize = usize::MAX;
 
+/// From none to eight times, by the length of the text.
+const FEW: usize = usize::MAX - 1;
+
 /// The C library rounds the blocks of results that grow from such a text up to whole pages.
 const MAPPED: usize = 1_000_000;
 
@@ -33,20 +36,20 @@ static BYTE_BY_BYTE: [Change; 3] = table! {
     ("a", "b", ALL); ("a", " ", ALL); ("z", "y", ALL);
 };
 
-static BYTE_BY_MORE: [Change; 6] = table! {
-    ("a", "bb", ALL); ("a", "éé", ALL); ("a", LONG, 1000); ("a", "bb", 2); ("z", "yy", ALL); ("a", "bb", 0);
+static BYTE_BY_MORE: [Change; 5] = table! {
+    ("a", "bb", ALL); ("a", "éé", ALL); ("a", LONG, 1000); ("a", "bb", FEW); ("z", "yy", ALL);
 };
 
-static BY_LESS: [Change; 12] = table! {
+static BY_LESS: [Change; 11] = table! {
     ("a", "", ALL); ("aa", "", ALL); ("aa", "b", ALL); ("aa", "bb", ALL); ("aaa", "b", ALL); ("aab", "bbb", ALL);
-    ("ab", "c", ALL); (LONG, "bbb", ALL); ("aa", "b", 1); ("aac", "b", ALL);
-    ("a", "b", 3); ("ab", "c", 0);
+    ("ab", "c", ALL); (LONG, "bbb", ALL); ("aa", "b", FEW); ("aac", "b", ALL);
+    ("a", "b", FEW);
 };
 
 static BY_MORE: [Change; 12] = table! {
     ("aa", "bbb", ALL); ("aaa", "bbbb", ALL); ("ab", "abc", ALL); ("aab", LONG, ALL); ("aa", LONG, ALL);
-    (LONG, "bbbbbbbbbbbbbbbbbbbbbbbbbbbbbbbbbbbbbbbbbbb", ALL); ("aa", LONG, 2); ("aac", LONG, ALL);
-    ("a", LONG, 1); ("a", "bb", ALL); ("a", "éé", ALL); ("a", LONG, 1000);
+    (LONG, "bbbbbbbbbbbbbbbbbbbbbbbbbbbbbbbbbbbbbbbbbbb", ALL); ("aa", LONG, FEW); ("aac", LONG, ALL);
+    ("a", LONG, FEW); ("a", "bb", ALL); ("a", "éé", ALL); ("a", LONG, 1000);
 };
 
 static BETWEEN: [Change; 4] = table! {
@@ -64,8 +67,9 @@ impl Replace {
         }
     }
 
-    fn change(self, way: usize) -> Change {
+    fn change(self, text: &str, way: usize) -> Change {
         match self.changes().get(way) {
+            Some(&(from, to, FEW)) => (from, to, text.len() % 9),
             Some(change) => *change,
             None => ("a", "b", ALL),
         }
@@ -87,8 +91,8 @@ impl Call for Replace {
         }
     }
 
-    fn input(self, _test: &Test, _text: &'static str, way: usize) -> Change {
-        self.change(way)
+    fn input(self, _test: &Test, text: &'static str, way: usize) -> Change {
+        self.change(text, way)
     }
 
     fn run(self, alloc: Global, text: &str, (from, to, count): Change) -> Result<Thing, Thing> {
@@ -100,7 +104,7 @@ impl Call for Replace {
 
     /// As std replaces.
     fn wanted(self, test: &Test, text: &'static str, way: usize) -> String {
-        let (from, to, count) = self.change(way);
+        let (from, to, count) = self.change(text, way);
         ok(test, text.replacen(test.alloc, from, to, count))
     }
 }

@@ -7,19 +7,19 @@ use smol_str::stream::CHUNK;
 use smol_str::{INLINE_CAP, SmolStr};
 use test_support::*;
 
-pub fn kind_of(fault: &DecodeFault) -> Kind {
+pub fn reason_of(fault: &DecodeFault) -> Reason {
     match fault {
-        DecodeFault::Ended => Kind::Ended,
-        DecodeFault::NotUtf8(_) => Kind::NotUtf8,
-        DecodeFault::OutOfMemory => Kind::OutOfMemory,
-        DecodeFault::Io(error) => Kind::Io(cause_of(error)),
+        DecodeFault::Ended => Reason::Ended,
+        DecodeFault::NotUtf8(_) => Reason::NotUtf8,
+        DecodeFault::OutOfMemory => Reason::OutOfMemory,
+        DecodeFault::Io(error) => Reason::Io(cause_of(error)),
     }
 }
 
-pub fn kind_of_limited(fault: &LimitedFault) -> Kind {
+pub fn reason_of_limited(fault: &LimitedFault) -> Reason {
     match fault {
-        LimitedFault::TooLong => Kind::TooLong,
-        LimitedFault::Decode(fault) => kind_of(fault),
+        LimitedFault::TooLong => Reason::TooLong,
+        LimitedFault::Decode(fault) => reason_of(fault),
     }
 }
 
@@ -31,22 +31,17 @@ const NOISE: &[u8] = b"\x1e\0\0\0\xc1\x8a\x5f\xe2\x3a\x9e\x3b\xaa\x01\x08\x6f\x2
 \x9a\x2f\x4a\x3f\x25\x0d\x8a\x2a\x19\x11\xf0\x7f\x0e\x80";
 
 /// Bytes, the fault, and how many of them a reader has left.
-static REFUSED: [(&[u8], Kind, usize); 8] = [
-    (b"", Kind::Ended, 0),
-    (b"\0\0\0", Kind::Ended, 0),
-    (b"\x05\0\0\0\xff", Kind::Ended, 0),
-    (b"\xff\xff\xff\xffabc", Kind::Ended, 0),
-    (b"\x18\0\0\0aaaaaaaaaaaaaaaaaaaaaaa", Kind::Ended, 0),
-    (CUT, Kind::NotUtf8, 0),
-    (b"\x01\0\0\0\xc3\xa9", Kind::NotUtf8, 1),
-    (NOISE, Kind::NotUtf8, 0),
-];
+static REFUSED: [(&[u8], Reason, usize); 8] = table! {
+    (b"", Reason::Ended, 0); (b"\0\0\0", Reason::Ended, 0); (b"\x05\0\0\0\xff", Reason::Ended, 0);
+    (b"\xff\xff\xff\xffabc", Reason::Ended, 0); (b"\x18\0\0\0aaaaaaaaaaaaaaaaaaaaaaa", Reason::Ended, 0);
+    (CUT, Reason::NotUtf8, 0); (b"\x01\0\0\0\xc3\xa9", Reason::NotUtf8, 1); (NOISE, Reason::NotUtf8, 0);
+};
 
 #[test]
 fn refused(rt: HostRuntime) -> Result<(), Fail> {
     let test = Test::begin(rt);
-    for (bytes, kind, left) in &REFUSED {
-        assert_refused(&test, bytes, *kind, *left);
+    for (bytes, reason, left) in &REFUSED {
+        assert_refused(&test, bytes, *reason, *left);
     }
     test.end()
 }
@@ -67,44 +62,44 @@ fn borsh_non_utf8_heap(rt: HostRuntime) -> Result<(), Fail> {
 
 fn check_bodies(test: &Test, size: u32) {
     let mut bytes = letters(test, size, size.saturating_sub(1));
-    assert_refused_by(test, bytes.as_slice(), usize::MAX, (Kind::Ended, 0));
+    assert_refused_by(test, bytes.as_slice(), usize::MAX, (Reason::Ended, 0));
     test.push(&mut bytes, 0xc3);
-    assert_refused_by(test, bytes.as_slice(), usize::MAX, (Kind::NotUtf8, 0));
+    assert_refused_by(test, bytes.as_slice(), usize::MAX, (Reason::NotUtf8, 0));
     if let Some(first) = bytes.get_mut(4) {
         *first = 0xff;
     }
-    assert_refused_by(test, bytes.as_slice(), usize::MAX, (Kind::NotUtf8, 0));
+    assert_refused_by(test, bytes.as_slice(), usize::MAX, (Reason::NotUtf8, 0));
 }
 
 /// Each call returns this fault, whatever the reader's steps.
-fn assert_refused(test: &Test, bytes: &[u8], kind: Kind, left: usize) {
+fn assert_refused(test: &Test, bytes: &[u8], reason: Reason, left: usize) {
     for step in steps_about(CHUNK) {
-        assert_refused_by(test, bytes, step, (kind, left));
+        assert_refused_by(test, bytes, step, (reason, left));
     }
 }
 
 /// Each call returns this fault, and a reader of this step has so many bytes left. No size is above the limit.
-fn assert_refused_by(test: &Test, bytes: &[u8], step: usize, (kind, left): (Kind, usize)) {
+fn assert_refused_by(test: &Test, bytes: &[u8], step: usize, (reason, left): (Reason, usize)) {
     let row = (bytes.len(), step);
     start_counts(test.alloc);
-    same_fault(test, from_wire(test.alloc, bytes).err(), kind, row);
-    same_fault(test, split_wire(test.alloc, bytes).err(), kind, row);
+    same_fault(test, from_wire(test.alloc, bytes).err(), reason, row);
+    same_fault(test, split_wire(test.alloc, bytes).err(), reason, row);
     let mut reader = trickle_of(bytes, step, 0);
     let read = SmolStr::deserialize_reader(test.alloc, &mut reader);
-    same_fault(test, read.err(), kind, row);
+    same_fault(test, read.err(), reason, row);
     same(test, &reader.rest.len(), &left, &row);
     let mut reader = trickle_of(bytes, step, 0);
     match deserialize_limited(test.alloc, &mut reader, usize::MAX) {
-        Err(LimitedFault::Decode(fault)) => same_fault(test, Some(fault), kind, row),
+        Err(LimitedFault::Decode(fault)) => same_fault(test, Some(fault), reason, row),
         _ => test.fail(&row),
     }
     same(test, &reader.rest.len(), &left, &row);
     no_blocks(test, &row);
 }
 
-fn same_fault(test: &Test, found: Option<DecodeFault>, kind: Kind, row: (usize, usize)) {
+fn same_fault(test: &Test, found: Option<DecodeFault>, reason: Reason, row: (usize, usize)) {
     match found {
-        Some(fault) => same(test, &kind_of(&fault), &kind, &row),
+        Some(fault) => same(test, &reason_of(&fault), &reason, &row),
         None => test.fail(&row),
     }
 }
@@ -130,7 +125,7 @@ fn check_largest(test: &Test, count: u32, most: u32) {
     end_refusals(test.alloc);
     let is_little = is_at_most(test.alloc, Count::Bytes, most);
     holds(test, is_little || !can_refuse(test.alloc), &count);
-    same_fault(test, read.err(), Kind::Ended, (bytes.len(), 0));
+    same_fault(test, read.err(), Reason::Ended, (bytes.len(), 0));
     holds(test, reader.rest.is_empty(), &count);
 }
 
