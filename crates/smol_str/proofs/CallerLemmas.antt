@@ -18,7 +18,8 @@
 --     cutting        `texts values ≡ cut (chars line.now) (44 ∷ []) (no_limit (chars line.now))`, of each piece of `split(',')`
 --     pieces_lack    `¬ Occurs (44 ∷ []) v.text` for each of these values
 --     joining        `IsValueOf (chars line.now) v` of such values joined again; some of them; by std's `join`
---     by_line        `map w values ≡ map h (lines text.now)`, of a loop over `lines`, or `map` and `try_collect`
+--     by_line        `map w values ≡ map h (lines text.now)`, of a loop over `lines`, or `map` and `try_collect`; the same of
+--                    `enumerate_from 0 (lines text.now)`, of a loop over `lines().enumerate()`
 --     by_item        `texts values.items ≡ map h items.now`, of `map` and `try_collect` over a slice
 --     collecting_chars, collecting_strs, collecting_pieces, collecting_strings
 --                    `IsValueOf (take 3 (chars text.now)) v` of `from_chars(alloc, text.chars().take(3))`, and the like

@@ -1,7 +1,8 @@
 //! Lines cut at a separator, and joined again; what a caller does with an index or a buffer that a call returns.
-ghost use Rattle.std.specs.List.{prefix_len};
-ghost use Rattle.std.specs.Prelude.{◌≡◌, ◌≢◌, ◌<◌, ◌≤◌, ◌↔◌, ◌++◌, ◌∷◌, ◌-◌, [], ℕ, List, codes, drop, length, map, set, take, IfNone, IfOk, IfSome, IsTrue, MatchBool, OnErr, encode_utf8_all, String, All, Some, ◌==◌};
+ghost use Rattle.std.specs.List.{enumerate_from, prefix_len};
+ghost use Rattle.std.specs.Prelude.{◌≡◌, ◌≢◌, ◌<◌, ◌≤◌, ◌↔◌, ◌+◌, ◌++◌, ◌∷◌, ◌-◌, [], ℕ, List, codes, drop, length, map, set, take, IfNone, IfOk, IfSome, IsTrue, MatchBool, OnErr, encode_utf8_all, String, All, Some, ◌==◌};
 ghost use Rattle.std.specs.Str.{IsCharBoundary, chars, skip_leading_whitespace, drop_trailing_whitespace};
+ghost use Rattle.std.specs.Str.Lines.{lines};
 ghost use Rattle.smol_str.specs.Cut.{IsFirstAfter, Occurs, joined_by};
 ghost use Rattle.smol_str.specs.Meaning.{AreValuesOf, IsValueOf, texts, ArePairsOf};
 ghost use Rattle.smol_str.specs.Replace.{cut, each_replaced, no_limit};
@@ -119,22 +120,15 @@ pub fn ends(line: &str, suffix: &str) -> (bool, bool, bool)
     )
 }
 
-/// Whether a text has another within it.
+/// Whether a text has another within it, whether a colon, and whether an arrow.
 #[tactic(auto, using(smol_str::proofs::CallerLemmas::cut_once))]
-pub fn has(text: &str, part: &str) -> bool
+pub fn has(text: &str, part: &str) -> (bool, bool, bool)
     requires some { 0 < length part.now }
-    ensures { MatchBool result (Occurs (chars part.now) (chars text.now)) (¬ Occurs (chars part.now) (chars text.now)) }
+    ensures part { MatchBool result.0 (Occurs (chars part.now) (chars text.now)) (¬ Occurs (chars part.now) (chars text.now)) }
+    ensures colon { MatchBool result.1 (Occurs (58 ∷ []) (chars text.now)) (¬ Occurs (58 ∷ []) (chars text.now)) }
+    ensures arrow { IsTrue result.2 ↔ Occurs (chars (codes "->")) (chars text.now) }
 {
-    text.contains(part)
-}
-
-/// Whether a rule has a colon, and whether an arrow.
-#[tactic(auto, using(smol_str::proofs::CallerLemmas::cut_once))]
-pub fn has_marks(rule: &str) -> (bool, bool)
-    ensures colon { MatchBool result.0 (Occurs (58 ∷ []) (chars rule.now)) (¬ Occurs (58 ∷ []) (chars rule.now)) }
-    ensures arrow { IsTrue result.1 ↔ Occurs (chars (codes "->")) (chars rule.now) }
-{
-    (rule.contains(':'), rule.contains("->"))
+    (text.contains(part), text.contains(':'), text.contains("->"))
 }
 
 /// What a comment says, if the line is one.
@@ -319,17 +313,11 @@ pub fn row(alloc: Global, tokens: &[SmolStr]) -> Result<String, AllocError>
     tokens.join(alloc, " ")
 }
 
-/// The fields of a line, none of which has a comma.
+/// The fields of a line, none of which has a comma, and each of which lies in the place of its text.
 #[tactic(auto, using(smol_str::proofs::CallerLemmas::pieces_lack))]
 pub fn plain_fields(alloc: Global, line: &str) -> Result<Vec<SmolStr>, AllocError>
-    ensures { IfOk result (λ fields. All (λ v. ¬ Occurs (44 ∷ []) v.text) fields.items) }
-{
-    fields(alloc, line)
-}
-
-/// The fields of a line, each in the place of its text.
-pub fn placed_fields(alloc: Global, line: &str) -> Result<Vec<SmolStr>, AllocError>
-    ensures { IfOk result (λ fields. All (λ v. v.place ≡ place_of v.text) fields.items) }
+    ensures plain { IfOk result (λ fields. All (λ v. ¬ Occurs (44 ∷ []) v.text) fields.items) }
+    ensures placed { IfOk result (λ fields. All (λ v. v.place ≡ place_of v.text) fields.items) }
 {
     fields(alloc, line)
 }
@@ -412,4 +400,17 @@ pub fn halves(text: &str, at: usize) -> Option<(&str, &str)>
     ensures { IfSome result (λ it. chars text.now ≡ chars it.0.now ++ chars it.1.now) }
 {
     text.split_at_checked(at)
+}
+
+/// The lines of a text with their numbers, from 1.
+#[tactic(auto, using(smol_str::proofs::CallerLemmas::by_line))]
+pub fn numbered_lines(alloc: Global, text: &str) -> Result<Vec<(usize, SmolStr)>, AllocError>
+    ensures { IfOk result (λ rows. map {B = ℕ × List ℕ} (λ row. (row.0, row.1.text)) rows.items
+        ≡ map {B = ℕ × List ℕ} (λ line. (line.0 + 1, chars line.1)) (enumerate_from 0 (lines text.now))) }
+{
+    let mut rows = Vec::new(alloc);
+    for (number, line) in text.lines().enumerate() {
+        rows.push((number + 1, SmolStr::new(alloc, line)?))?;
+    }
+    Ok(rows)
 }

@@ -1,13 +1,15 @@
 -- Loops over what std's iterators lend, and what `map` and `try_collect` make of it.
-use Rattle.smol_str.proofs.Common.{Ok, Err, IfOk, refl, sym, map, ◌≡◌, ℕ, List, [], ◌∷◌, ◌++◌, length, Some, None, ap, ◌∙◌, arith, length-append, Meaning, Result, encode_utf8_all, append-nil, append_assoc, Option, IsValueOf, place_of, chars, str_text, Bor, items_from_drains, FoldsTo, All-nil, All-cons, IsUtf8, YieldsList-from_chars, encode_utf8, map-id, size, ◌≤◌, All, YieldsList, YieldsList-from_slice}
+use Rattle.smol_str.proofs.Common.{◌+◌, subst, Ok, Err, IfOk, refl, sym, map, ◌≡◌, ℕ, List, [], ◌∷◌, ◌++◌, length, Some, None, ap, ◌∙◌, arith, length-append, Meaning, Result, encode_utf8_all, append-nil, append_assoc, Option, IsValueOf, place_of, chars, str_text, Bor, items_from_drains, FoldsTo, All-nil, All-cons, IsUtf8, YieldsList-from_chars, encode_utf8, map-id, size, ◌≤◌, All, YieldsList, YieldsList-from_slice}
 use Rattle.smol_str.proofs.CallerLemmas.Builders.{size-cons}
 use Rattle.smol_str.proofs.BuilderLemmas.Draft.{appended-twice, OnHeap-long}
 use Rattle.smol_str.specs.Meaning.{AreValuesOf}
 use Rattle.std.specs.Prelude.{Vec}
 use Rattle.std.specs.Vec.{vec_items}
 use Rattle.std.specs.List.{AllZip}
-use Rattle.std.specs.Iterator.{Yields}
-use Rattle.std.specs.Iterator.Adapters.{map_source, map_callee}
+use Rattle.std.specs.Iterator.{Yields, AlwaysYields}
+use Rattle.std.specs.Iterator.Adapters.{map_source, map_callee, enumerate_source, enumerate_count, enumerate_steps}
+use Rattle.std.specs.declared.iter.Enumerate.{Enumerate}
+use Rattle.std.specs.List.{enumerate_from}
 use Rattle.std.specs.Str.Iter.{chars_rest, chars_steps, lines_rest, lines_steps}
 use Rattle.std.specs.declared.str.Chars.{Chars}
 use Rattle.smol_str.proofs.TextLemmas.Places.{size-append, size-chars}
@@ -123,8 +125,53 @@ pub lines_tried : {F C D E : Type 0} (more : Map Lines F → Option (Result C E)
 lines_tried more rs s t w h =
     let rest = lines_rest (map_source s) in tried lines_steps (lines rest) more rs s t w h (YieldsList-from_lines rest refl)
 
+-- and with their numbers, by `enumerate`. The type of an item is written differently in each function, and `grind` compares
+-- types as they are written: so it is a variable, and g reads an item
+abbrev pub as_lent : Enumerate Lines → List ℕ → Bor (List ℕ)
+as_lent s line = record { ref_ptr = s.iter.rest.ref_ptr; now = line }
+
+-- a step from s to t gave the number and the line p
+abbrev pub IsNumbered : Enumerate Lines → ℕ × List ℕ → Enumerate Lines → Type 0
+IsNumbered s p t =
+    (p.0 ≡ enumerate_count s) × (enumerate_count t ≡ enumerate_count s + 1)
+    × lines_steps (enumerate_source s) (Some (as_lent s p.1)) (enumerate_source t)
+
+module _ {A : Type 0} (steps : Enumerate Lines → Option A → Enumerate Lines → Type 0)
+    (last : (s t : Enumerate Lines) → steps s None t → lines_steps (enumerate_source s) None (enumerate_source t))
+    (g : A → ℕ × List ℕ)
+    (by : (s : Enumerate Lines) (x : A) (t : Enumerate Lines) → steps s (Some x) t → IsNumbered s (g x) t) where
+  number_each : (s : Enumerate Lines) (ys : List (List ℕ)) → AlwaysYields lines_steps (λ x. x.now) (enumerate_source s) ys
+      → AlwaysYields steps g s (enumerate_from (enumerate_count s) ys)
+  number_each s [] h = λ x t step. h (as_lent s (g x).1) (enumerate_source t) (by s x t step).2
+  number_each s (y ∷ ys) h = (
+    λ t step. h.0 (enumerate_source t) (last s t step),
+    λ x t step.
+        let this = by s x t step in
+        let rest = h.1 (as_lent s (g x).1) (enumerate_source t) this.2 in (
+          λ i. (this.0 i, rest.0 i),
+          subst (λ n. AlwaysYields steps g t (enumerate_from n ys)) this.1 (number_each t ys rest.1),
+        ),
+  )
+
+  all_numbered : (s : Enumerate Lines) → enumerate_count s ≡ 0
+      → YieldsList steps g s (enumerate_from 0 (lines (lines_rest (enumerate_source s))))
+  all_numbered s first =
+      let rest = lines_rest (enumerate_source s) in
+      subst (λ n. YieldsList steps g s (enumerate_from n (lines rest))) first
+      (record { runs = number_each s (lines rest) (YieldsList-from_lines rest refl).runs })
+
+pub lines_numbered : {A : Type 0} (steps : Enumerate Lines → Option A → Enumerate Lines → Type 0) (xs : List A)
+    (s t : Enumerate Lines) → Yields steps s xs t → ((u : Enumerate Lines) × steps t None u) → enumerate_count s ≡ 0
+    → (Yields steps s xs t ≡ Yields steps s xs t)
+    × ((g : A → ℕ × List ℕ)
+    → ((s t : Enumerate Lines) → steps s None t → lines_steps (enumerate_source s) None (enumerate_source t))
+    → ((s : Enumerate Lines) (x : A) (t : Enumerate Lines) → steps s (Some x) t → IsNumbered s (g x) t)
+    → map g xs ≡ enumerate_from 0 (lines (lines_rest (enumerate_source s))))
+lines_numbered steps xs s t run ends first =
+    (refl, λ g last by. items_from_drains xs (t, run, λ _. ends) (all_numbered steps last g by s first))
+
 -- a loop whose invariant folds or maps what was yielded goes on by `fold-append` and `map-append`
-pub ruleset by_line = (lines_yielded, lines_tried, collected_oks, map-append, fold-append)
+pub ruleset by_line = (lines_yielded, lines_tried, lines_numbered, collected_oks, map-append, fold-append)
 
 -- a loop over the characters of a text: all of them at its end, and in it no more than all
 module _ {steps : Chars → Option ℕ → Chars → Type 0} (xs : List ℕ) (s t : Chars) (run : Yields steps s xs t)

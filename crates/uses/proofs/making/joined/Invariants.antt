@@ -1,4 +1,3 @@
--- The texts of the values so far.
 use Rattle.std.proofs.Common.{◌≡◌, take}
 use Rattle.std.specs.List.{flat_map}
 use Rattle.smol_str.specs.Draft.{appended}
