@@ -2,7 +2,7 @@
 use crate::memory::{
     Count, Refusals, can_refuse, counted, end_refusals, is_at_most, refuse, start_counts,
 };
-use crate::sampling::{push_text, samples};
+use crate::sampling::samples;
 use crate::test::{Test, holds};
 use crate::things::Thing;
 use crate::values::place_of;
@@ -71,19 +71,10 @@ pub trait Call: Copy {
     }
 }
 
-/// Lengths between those of the samples, each about a quarter more.
-static BETWEEN: [usize; 22] = [
-    310, 390, 450, 600, 700, 880, 1_200, 1_350, 1_700, 2_400, 3_000, 3_500, 4_600, 5_800, 7_200,
-    10_000, 12_500, 20_000, 25_000, 40_000, 50_000, 60_000,
-];
-
 /// Holds each call of a table to its row, on each text, in each way. Each call that may ask for memory is refused it.
 pub fn check_law<C: Call>(rt: HostRuntime, table: &[Law<C>]) -> Result<(), Fail> {
     let test = Test::begin(rt);
-    let mut texts = samples(&test);
-    if can_refuse(test.alloc) {
-        push_between(&test, &mut texts);
-    }
+    let texts = samples(&test);
     for &(call, name, requests, times, plus, asks) in table {
         let most = (requests, times, plus, asks);
         let was_refused = check_texts(&test, call, name, most, &texts);
@@ -91,13 +82,6 @@ pub fn check_law<C: Call>(rt: HostRuntime, table: &[Law<C>]) -> Result<(), Fail>
         holds(&test, was_refused == is_asking, &(name, "is refused"));
     }
     test.end()
-}
-
-fn push_between(test: &Test, texts: &mut Vec<&'static str>) {
-    for (index, &len) in BETWEEN.iter().enumerate() {
-        let end = ["é", "b", "\"", "\u{1}"][index % 4];
-        push_text(test, texts, test.repeated_and("ab", len / 2, end));
-    }
 }
 
 /// Whether a request of the call was refused.
@@ -150,7 +134,7 @@ fn check_requests<C: Call>(test: &Test, on: &On<C>) -> bool {
         return false;
     }
     run(test, on, Refusals::Smaller);
-    for nth in 1..TRIED {
+    for nth in 1..1000 {
         let was_refused = run(test, on, Refusals::One(nth));
         if run(test, on, Refusals::From(nth)) != was_refused || !was_refused {
             return nth > 1;
@@ -159,9 +143,6 @@ fn check_requests<C: Call>(test: &Test, on: &On<C>) -> bool {
     test.fail(&(on.name, "makes too many requests"));
     true
 }
-
-/// More requests than a call under test makes.
-const TRIED: u32 = 1000;
 
 /// One run with these requests refused. Returns whether one was.
 fn run<C: Call>(test: &Test, on: &On<C>, refusals: Refusals) -> bool {

@@ -4,9 +4,9 @@ use crate::table;
 use crate::test::Test;
 use smol_str::{BLANK_NEWLINES, INLINE_CAP};
 
-/// Texts that repeat: letters of one to four bytes, mixed ones, one whose case is shorter, blanks, and what JSON escapes.
-static UNITS: [&str; 12] = table! {
-    "a"; "AΣé€🦀"; "aab"; "\u{2126}"; "ab "; " "; "\u{7ff}"; "\u{ffff}"; "\u{10ffff}"; "\""; "\n"; "\u{1}";
+/// Texts that repeat: letters of one to four bytes, mixed ones, one whose case is shorter, blanks, digits, and what JSON escapes.
+static UNITS: [&str; 13] = table! {
+    "a"; "AΣé€🦀"; "aab"; "\u{2126}"; "ab "; " "; "\u{7ff}"; "\u{ffff}"; "\u{10ffff}"; "\""; "\n"; "\u{1}"; "0123456789";
 };
 
 /// What comes in front of letters, near their start, in the middle and at their end: characters about each length, those
@@ -17,8 +17,8 @@ static MARKS: [&str; 23] = table! {
     "\""; "\\"; "\u{8}"; "\t"; "\n"; "\u{c}"; "\r"; "\u{1}";
 };
 
-/// Texts of each length from 0 to 300, about the powers of two up to 70,000, and of more than a megabyte. Where memory can't
-/// be refused, some.
+/// Texts of each length from 0 to 300, about the powers of two up to 70,000, some between those, and of more than a megabyte.
+/// Where memory can't be refused, some.
 pub fn samples(test: &Test) -> Vec<&'static str> {
     let mut texts = Vec::new(test.alloc);
     if !can_refuse(test.alloc) {
@@ -37,13 +37,14 @@ pub fn samples(test: &Test) -> Vec<&'static str> {
     }
     push_samples(test, &mut texts, 70_000);
     push_samples(test, &mut texts, 1_300_003);
+    push_between(test, &mut texts);
     texts
 }
 
 /// The texts of a length: all that are short or about that, and of others each mark at one length; few that are long.
 fn push_samples(test: &Test, texts: &mut Vec<&'static str>, len: usize) {
     let units = match len {
-        0..=1_000 => 12,
+        0..=1_000 => 13,
         1_001..=100_000 => 4,
         _ => 2,
     };
@@ -58,6 +59,16 @@ fn push_samples(test: &Test, texts: &mut Vec<&'static str>, len: usize) {
         if len <= 2 * INLINE_CAP + 2 || units > 2 && len.wrapping_add(index) % MARKS.len() == 0 {
             push_marked(test, texts, mark, len);
         }
+    }
+}
+
+/// Texts of lengths from 300 to 64,000, each about a thirtieth more than the one before it.
+fn push_between(test: &Test, texts: &mut Vec<&'static str>) {
+    let mut len = 300usize;
+    for index in 0..165 {
+        let end = ["é", "bb", "\"", "\u{1}"][index % 4];
+        push_text(test, texts, test.repeated_and("ab", len / 2, end));
+        len = len.saturating_add(len / 30);
     }
 }
 
@@ -96,7 +107,7 @@ fn push_marked(test: &Test, texts: &mut Vec<&'static str>, mark: &str, len: usiz
 }
 
 /// The text stays for as long as the process lives.
-pub(crate) fn push_text(test: &Test, texts: &mut Vec<&'static str>, text: String) {
+fn push_text(test: &Test, texts: &mut Vec<&'static str>, text: String) {
     let bytes = text.into_bytes().leak();
     test.push(texts, str::from_utf8(bytes).unwrap_or(""));
 }

@@ -24,7 +24,7 @@ use texts::OnText::{self, *};
 use values::OnValue::{self, *};
 
 /// Of a text. A value on the heap is two blocks: its text, and 40 bytes with its count. A text that grows doubles its block.
-static TEXTS: [Law<OnText>; 20] = table! {
+static TEXTS: [Law<OnText>; 21] = table! {
     (New, "SmolStr::new", Most(2), Texts(1), Plus(40), UnlessResident);
     (FromStr, "SmolStr::from_str", Most(2), Texts(1), Plus(40), UnlessResident);
     (FromUtf8, "SmolStr::from_utf8", Most(2), Texts(1), Plus(40), UnlessResident);
@@ -34,6 +34,7 @@ static TEXTS: [Law<OnText>; 20] = table! {
     (CollectChars, "SmolStr::from_iter", Doubling(2), Texts(4), Plus(40), UnlessShort);
     (Print, "ToSmolStr::to_smolstr", Most(2), Texts(1), Plus(80), UnlessShort);
     (PrintByParts, "ToSmolStr::to_smolstr", Doubling(2), Texts(4), Plus(40), UnlessShort);
+    (PrintNumber, "ToSmolStr::to_smolstr", Most(2), Texts(1), Plus(80), UnlessShort);
     (Format, "format_smolstr!", Most(2), Texts(1), Plus(80), UnlessShort);
     (FormatParts, "format_smolstr!", Doubling(2), Texts(4), Plus(40), UnlessShort);
     (WithCapacity, "SmolStrBuilder::with_capacity", Most(1), Texts(1), Plus(0), UnlessShort);
@@ -170,9 +171,9 @@ static JSON: [Law<OnJson>; 11] = table! {
     (FromPlain, "json_string::from_json", Most(2), Texts(1), Plus(40), UnlessResident);
     (FromEscape, "json_string::from_json", Most(3), Texts(1), Plus(200), UnlessShort);
     (FromEscapes, "json_string::from_json", Doubling(2), Texts(4), Plus(40), UnlessShort);
-    (BehindNumbers, "json_string::from_json", Doubling(2), Texts(4), Plus(40), UnlessShort);
-    (NotString, "json_string::from_json", Most(3), Texts(2), Plus(140), ForAny);
-    (NotClosed, "json_string::from_json", Most(2), Texts(2), Plus(8), ForAny);
+    (BehindNumbers, "json_string::from_json", Most(2), Texts(1), Plus(140), UnlessShort);
+    (NumbersAndMore, "json_string::from_json", Most(2), Texts(2), Plus(140), UnlessShort);
+    (NotString, "json_string::from_json", Most(5), Texts(3), Plus(880), ForAny);
     (Serialize, "SmolStr::serialize", Doubling(1), Texts(4), Plus(120), ForAny);
     (Deserialize, "SmolStr::deserialize", Most(3), Texts(2), Plus(48), ForAny);
     (DeserializeEscaped, "SmolStr::deserialize", Most(3), Texts(7), Plus(48), ForAny);

@@ -90,7 +90,7 @@ impl OnLine {
 /// Each line up to this length is tried, and some longer ones: all would take more time than a test has.
 const LONGEST: usize = 100;
 
-static LONGER: [usize; 10] = [111, 150, 200, 250, 290, 450, 512, 1_200, 3_000, 4_096];
+static LONGER: [usize; 10] = [111, 150, 200, 250, 290, 454, 512, 1_228, 3_052, 4_096];
 
 /// How often a line occurs.
 static TIMES: [usize; 4] = [1, 1, 3, 3];

@@ -21,8 +21,9 @@ pub enum OnBuilder {
     PushWithin,
     PushStr,
     PushStrWithin,
+    /// With room for twice as many bytes more.
     PushWithSpare,
-    /// As many newlines and spaces as the text has bytes, up to the most.
+    /// As many spaces as the text has bytes, up to the most, and as many newlines or none.
     PushBlank,
     WriteStr,
     WriteFmt,
@@ -52,7 +53,7 @@ impl Call for OnBuilder {
 
     fn run(self, _alloc: Global, text: &str, builder: SmolStrBuilder) -> Result<Thing, Thing> {
         match self {
-            CloneSmall | CloneLarge => cloned(builder),
+            CloneSmall | CloneLarge => made(builder.clone()),
             Emptied => made(<SmolStrBuilder as default::Emptied>::emptied(&builder)),
             Finish => made(builder.finish()),
             FromBuilder => made(SmolStr::from_builder(builder)),
@@ -68,7 +69,7 @@ impl Call for OnBuilder {
             Push => test.joined(text, "b"),
             PushWide | PushWithin => test.joined(text, "€"),
             PushBlank => {
-                let newlines = text.len().min(BLANK_NEWLINES);
+                let newlines = text.len().min(text.len() % 2 * BLANK_NEWLINES);
                 let spaces = text.len().min(BLANK_SPACES);
                 test.text(&[(text, 1), ("\n", newlines), (" ", spaces)])
             }
@@ -85,9 +86,9 @@ impl OnBuilder {
         match self {
             Push => changed(builder.push('b'), builder),
             PushWide | PushWithin => changed(builder.push('€'), builder),
-            PushWithSpare => changed(builder.push_with_spare(text, 0), builder),
+            PushWithSpare => changed(builder.push_with_spare(text, 2 * text.len()), builder),
             PushBlank => {
-                let newlines = text.len().min(BLANK_NEWLINES);
+                let newlines = text.len().min(text.len() % 2 * BLANK_NEWLINES);
                 let spaces = text.len().min(BLANK_SPACES);
                 changed(builder.push_blank(newlines, spaces), builder)
             }
@@ -97,8 +98,4 @@ impl OnBuilder {
             _ => changed(builder.push_str(text), builder),
         }
     }
-}
-
-fn cloned(builder: SmolStrBuilder) -> Result<Thing, Thing> {
-    made(builder.clone())
 }

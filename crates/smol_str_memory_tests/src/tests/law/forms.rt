@@ -8,11 +8,13 @@ use test_support::*;
 
 #[derive(Clone, Copy)]
 pub enum OnForm {
+    /// With more bytes behind the form, as `ReadLimited`.
     FromWire,
     SplitWire,
     /// Of a body that fits in a chunk, and of a longer one.
     ReadChunk,
     ReadForm,
+    /// By a limit of the text's size, a greater and the greatest.
     ReadLimited,
     ReadUpTo,
     ReadAll,
@@ -55,6 +57,7 @@ impl Call for OnForm {
         let mut room = Vec::new(test.alloc);
         match self {
             Fill => ok(test, room.resize(text.len(), 0)),
+            FromWire | ReadLimited => ok(test, form.extend_from_slice(text.as_bytes())),
             NotUtf8 => test.push(&mut form, 0xff),
             WriteSteps => room = ok(test, Vec::with_capacity(test.alloc, text.len())),
             _ => {}
@@ -70,13 +73,14 @@ impl Call for OnForm {
     ) -> Result<Thing, Thing> {
         let bytes = form.as_slice();
         let mut reader = trickle_of(bytes, step, 0);
+        let limit = text.len().saturating_add(step.saturating_sub(1));
         match self {
             FromWire => found(from_wire(alloc, bytes)),
             SplitWire => found(split_wire(alloc, bytes)),
             EndsEarly => faulty(made(SmolStr::deserialize_reader(alloc, &mut reader))),
             NotUtf8 => faulty(made(SmolStr::from_utf8(alloc, bytes))),
-            ReadLimited => made(deserialize_limited(alloc, &mut reader, text.len())),
-            ReadUpTo => made(read_up_to(alloc, &mut reader, text.len())),
+            ReadLimited => made(deserialize_limited(alloc, &mut reader, limit)),
+            ReadUpTo => made(read_up_to(alloc, &mut reader, limit)),
             ReadAll => made(read_all(alloc, &mut reader)),
             Fill => filled(&mut reader, room),
             WriteSteps => written(bytes, room),

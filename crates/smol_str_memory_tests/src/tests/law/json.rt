@@ -3,24 +3,24 @@ use super::forms::faulty;
 use super::values::{escapes, is_plain, json_of};
 use OnJson::*;
 use serde_json::Value;
-use smol_str::SmolStr;
 use smol_str::json_string::{from_json, from_value};
+use smol_str::{INLINE_CAP, SmolStr};
 use test_support::*;
 
 #[derive(Clone, Copy)]
 pub enum OnJson {
     FromValue,
     FromPlain,
-    /// Of two bytes, of which there is one.
+    /// Of which there is one.
     FromEscape,
-    /// Others.
+    /// Others, also behind numbers.
     FromEscapes,
     /// Behind characters by their numbers, of which one needs two.
     BehindNumbers,
-    /// A list of the text.
+    /// The same, and others behind a long plain front.
+    NumbersAndMore,
+    /// A list or an object of it, a number, or what is no JSON.
     NotString,
-    /// Without the quote behind it.
-    NotClosed,
     Serialize,
     Deserialize,
     DeserializeEscaped,
@@ -41,6 +41,10 @@ const NUMBERS: &str = "\"\\u00e9\\ud83e\\udd80";
 /// What comes before a text and after it.
 static AROUND: [(&str, &str); 4] = [("", ""), (" \t", "\r\n"), ("", "\n"), (BLANKS, " ")];
 
+static NO_STRINGS: [(&str, &str); 6] = table! {
+    ("[\"", "\"]"); ("{\"", "\":[]}"); ("1", ""); ("null", " "); ("\"", ""); ("\"", "\\x");
+};
+
 const BLANKS: &str =
     "                                                                                ";
 
@@ -49,18 +53,20 @@ impl Call for OnJson {
 
     fn ways(self) -> usize {
         match self {
-            FromPlain | FromEscape | FromEscapes | BehindNumbers => 4,
+            FromPlain | FromEscape | FromEscapes | BehindNumbers | NumbersAndMore => 4,
+            NotString => 6,
             _ => 1,
         }
     }
 
     fn takes(self, text: &str) -> bool {
         match self {
-            FromPlain | NotString | NotClosed | Deserialize | DeserializeOwned => is_plain(text),
-            FromEscape => escapes(text) == 1 && !has_numbers(text),
-            FromEscapes => escapes(text) > 1 || has_numbers(text),
+            FromValue | Serialize => true,
+            FromEscape => escapes(text) == 1,
+            FromEscapes => escapes(text) > 1,
+            NumbersAndMore => !is_plain(text) && text.get(..INLINE_CAP).is_some_and(is_plain),
             DeserializeEscaped => !is_plain(text),
-            _ => true,
+            _ => is_plain(text),
         }
     }
 
@@ -68,16 +74,14 @@ impl Call for OnJson {
         match self {
             FromValue | DeserializeOwned => Input::Tree(Value::String(test.string(text))),
             Serialize => Input::Value(test.value(text)),
-            NotString => Input::Json(test.joined("[\"", test.joined(text, "\"]").as_str())),
-            NotClosed => Input::Json(test.joined("\"", text)),
+            NotString => {
+                let (front, end) = NO_STRINGS[way % 6];
+                Input::Json(test.joined(front, test.joined(text, end).as_str()))
+            }
             _ => {
                 let (front, end) = AROUND[way % 4];
                 let rest = test.joined(json_of(test, text).as_str().get(1..).unwrap_or(""), end);
-                let quote = if let BehindNumbers = self {
-                    NUMBERS
-                } else {
-                    "\""
-                };
+                let quote = if self.has_numbers(way) { NUMBERS } else { "\"" };
                 let json = test.joined(quote, rest.as_str());
                 Input::Json(test.joined(front, json.as_str()))
             }
@@ -95,24 +99,25 @@ impl Call for OnJson {
                 Deserialize | DeserializeEscaped => {
                     by_serde::<SmolStr>(serde_json::from_str(alloc, json.as_str()))
                 }
-                NotString | NotClosed => faulty(made(from_json(alloc, json.as_str()))),
+                NotString => faulty(made(from_json(alloc, json.as_str()))),
                 _ => made(from_json(alloc, json.as_str())),
             },
         }
     }
 
-    fn wanted(self, test: &Test, text: &'static str, _way: usize) -> String {
+    fn wanted(self, test: &Test, text: &'static str, way: usize) -> String {
         match self {
             Serialize => json_of(test, text),
-            BehindNumbers => test.joined("é🦀", text),
+            _ if self.has_numbers(way) => test.joined("é🦀", text),
             _ => test.string(text),
         }
     }
 }
 
-/// Whether JSON has a character of the text by its number.
-fn has_numbers(text: &str) -> bool {
-    text.chars().any(|it| it < ' ' && !['\u{8}', '\t', '\n', '\u{c}', '\r'].contains(&it))
+impl OnJson {
+    fn has_numbers(self, way: usize) -> bool {
+        matches!(self, BehindNumbers | NumbersAndMore) || matches!(self, FromEscapes) && way >= 2
+    }
 }
 
 fn by_serde<M: IntoThing>(outcome: Result<M, serde_json::Error>) -> Result<Thing, Thing> {

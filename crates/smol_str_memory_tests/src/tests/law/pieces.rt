@@ -8,7 +8,7 @@ pub enum OnPieces {
     FromStrs,
     FromStrings,
     FromStringRefs,
-    /// Texts, strings or values, as those below but for the calls that name theirs.
+    /// Texts, strings, values or, where nothing is joined, characters, as those below but for the calls that name theirs.
     Collect,
     Join,
     ExtendStrs,
@@ -23,11 +23,12 @@ pub enum Pieces {
     Strs(Vec<&'static str>),
     Strings(Vec<String>),
     Values(Vec<SmolStr>),
+    Chars(Vec<char>),
 }
 
-/// How many pieces a text is cut in: one, two, or from three to twenty-two. An empty one follows.
+/// How many pieces a text is cut in: one, or none of no text; two, or from three to twenty-two. An empty one follows two.
 fn count_of(text: &str, way: usize) -> usize {
-    [1, 2, 3 + text.len() % 20][way % 3]
+    [text.len().min(1), 2, 3 + text.len() % 20][way % 3]
 }
 
 static SEPARATORS: [&str; 5] = [
@@ -39,17 +40,18 @@ static SEPARATORS: [&str; 5] = [
 ];
 
 impl Call for OnPieces {
-    type Input = (Pieces, &'static str);
+    /// The builder is for calls that extend one.
+    type Input = (Pieces, SmolStrBuilder, &'static str);
 
     fn ways(self) -> usize {
         match self {
-            Collect | Extend | Append => 9,
+            Collect | Extend | Append => 10,
             Join => 15,
             _ => 3,
         }
     }
 
-    fn input(self, test: &Test, text: &'static str, way: usize) -> (Pieces, &'static str) {
+    fn input(self, test: &Test, text: &'static str, way: usize) -> Self::Input {
         let strs = cut(test, text, count_of(text, way));
         let pieces = match self {
             FromStrs | ExtendStrs => Pieces::Strs(strs),
@@ -57,31 +59,34 @@ impl Call for OnPieces {
             _ => match self.kind(way) {
                 0 => Pieces::Strs(strs),
                 1 => Pieces::Strings(strings(test, &strs)),
-                _ => Pieces::Values(values(test, &strs)),
+                2 => Pieces::Values(values(test, &strs)),
+                _ => Pieces::Chars(ok(test, text.chars().collect(test.alloc))),
             },
         };
-        (pieces, SEPARATORS[way % 5])
+        let builder = test.builder(0, self.front(text));
+        (pieces, builder, SEPARATORS[way % 5])
     }
 
     fn run(
         self,
         alloc: Global,
         _text: &str,
-        (pieces, separator): (Pieces, &'static str),
+        (pieces, mut builder, separator): Self::Input,
     ) -> Result<Thing, Thing> {
         match pieces {
             Pieces::Strs(strs) => match self {
                 FromStrs => made(SmolStr::from_strs(alloc, strs.into_iter())),
-                ExtendStrs => extended_by_strs(alloc, strs),
-                _ => self.of_each(alloc, strs, separator),
+                ExtendStrs => gathered(builder.extend_strs(strs.into_iter()), builder),
+                _ => self.of_each(alloc, strs, builder, separator),
             },
             Pieces::Strings(strings) => match self {
                 FromStrings => made(SmolStr::from_strings(alloc, strings.into_iter())),
                 FromStringRefs => made(SmolStr::from_string_refs(alloc, strings.iter())),
-                ExtendStrings => extended_by_strings(alloc, strings),
-                _ => self.of_each(alloc, strings, separator),
+                ExtendStrings => gathered(builder.extend_strings(strings.iter()), builder),
+                _ => self.of_each(alloc, strings, builder, separator),
             },
-            Pieces::Values(values) => self.of_each(alloc, values, separator),
+            Pieces::Values(values) => self.of_each(alloc, values, builder, separator),
+            Pieces::Chars(chars) => self.of_each(alloc, chars, builder, separator),
         }
     }
 
@@ -92,12 +97,20 @@ impl Call for OnPieces {
                 let strs = cut(test, text, count_of(text, way));
                 ok(test, strs.as_slice().join(test.alloc, SEPARATORS[way % 5]))
             }
-            _ => test.string(text),
+            _ => test.joined(self.front(text), text),
         }
     }
 }
 
 impl OnPieces {
+    /// What a builder has that is extended: nothing, or a text on the heap.
+    fn front(self, text: &str) -> &'static str {
+        match self {
+            ExtendStrs | ExtendStrings | Extend | Append if text.len() % 2 == 0 => SEPARATORS[4],
+            _ => "",
+        }
+    }
+
     /// Texts are joined by each separator in each number of pieces.
     fn kind(self, way: usize) -> usize {
         way / if let Join = self { 5 } else { 3 }
@@ -107,33 +120,24 @@ impl OnPieces {
         self,
         alloc: Global,
         pieces: Vec<P>,
+        mut builder: SmolStrBuilder,
         separator: &str,
     ) -> Result<Thing, Thing> {
         match self {
             Join => made(SmolStr::join(alloc, pieces.as_slice(), separator)),
-            Extend => extended(alloc, pieces),
-            Append => appended(alloc, pieces),
+            Extend => gathered(builder.extend(pieces), builder),
+            Append => gathered(append_all(&mut builder, pieces), builder),
             _ => made(SmolStr::from_iter(alloc, pieces)),
         }
     }
 }
 
-/// A builder of all pieces; what is left of others, the contracts say.
+/// A builder that has all pieces; what is left of others, the contracts say.
 fn gathered(outcome: Result<(), AllocError>, builder: SmolStrBuilder) -> Result<Thing, Thing> {
     match outcome {
         Ok(()) => Ok(Thing::Builder(builder)),
         Err(fault) => Err(fault.into_thing()),
     }
-}
-
-fn extended<P: Piece>(alloc: Global, pieces: Vec<P>) -> Result<Thing, Thing> {
-    let mut builder = SmolStrBuilder::new(alloc);
-    gathered(builder.extend(pieces), builder)
-}
-
-fn appended<P: Piece>(alloc: Global, pieces: Vec<P>) -> Result<Thing, Thing> {
-    let mut builder = SmolStrBuilder::new(alloc);
-    gathered(append_all(&mut builder, pieces), builder)
 }
 
 fn append_all<P: Piece>(builder: &mut SmolStrBuilder, pieces: Vec<P>) -> Result<(), AllocError> {
@@ -143,17 +147,7 @@ fn append_all<P: Piece>(builder: &mut SmolStrBuilder, pieces: Vec<P>) -> Result<
     Ok(())
 }
 
-fn extended_by_strs(alloc: Global, strs: Vec<&'static str>) -> Result<Thing, Thing> {
-    let mut builder = SmolStrBuilder::new(alloc);
-    gathered(builder.extend_strs(strs.into_iter()), builder)
-}
-
-fn extended_by_strings(alloc: Global, strings: Vec<String>) -> Result<Thing, Thing> {
-    let mut builder = SmolStrBuilder::new(alloc);
-    gathered(builder.extend_strings(strings.iter()), builder)
-}
-
-/// A text in so many pieces, about as long, and an empty one.
+/// A text in so many pieces, about as long, and behind two an empty one.
 fn cut(test: &Test, text: &'static str, count: usize) -> Vec<&'static str> {
     let (mut pieces, mut from) = (Vec::new(test.alloc), 0);
     for number in 1..=count {
@@ -162,7 +156,9 @@ fn cut(test: &Test, text: &'static str, count: usize) -> Vec<&'static str> {
         test.push(&mut pieces, text.get(from..to).unwrap_or(""));
         from = to;
     }
-    test.push(&mut pieces, "");
+    if count > 1 {
+        test.push(&mut pieces, "");
+    }
     pieces
 }
 

@@ -3,7 +3,6 @@ use OnText::*;
 use smol_str::{SmolStr, SmolStrBuilder, Step, StrExt, ToSmolStr, build, format_smolstr};
 use std::borrow::CowStr;
 use std::fmt::{self, Display, Formatter};
-use std::slice::from_ref;
 use test_support::*;
 
 #[derive(Clone, Copy)]
@@ -17,12 +16,13 @@ pub enum OnText {
     CollectChars,
     Print,
     PrintByParts,
+    PrintNumber,
     Format,
     FormatParts,
     /// And the text appended, which the capacity has room for.
     WithCapacity,
     ToBuild,
-    /// With a capacity of the text's size.
+    /// With a capacity of the size of both.
     ToBuildAtOnce,
     AsciiLower,
     AsciiUpper,
@@ -33,8 +33,8 @@ pub enum OnText {
 }
 
 impl Call for OnText {
-    /// A step of the text, for `build`.
-    type Input = Step;
+    /// Steps of the text and a character, for `build`.
+    type Input = Vec<Step>;
 
     fn takes(self, text: &str) -> bool {
         match self {
@@ -44,14 +44,16 @@ impl Call for OnText {
         }
     }
 
-    fn input(self, test: &Test, text: &'static str, _way: usize) -> Step {
-        match self {
-            ToBuild | ToBuildAtOnce => Step::PushStr(test.string(text)),
-            _ => Step::Push('a'),
+    fn input(self, test: &Test, text: &'static str, _way: usize) -> Vec<Step> {
+        let mut steps = Vec::new(test.alloc);
+        if let ToBuild | ToBuildAtOnce = self {
+            test.push(&mut steps, Step::PushStr(test.string(text)));
+            test.push(&mut steps, Step::Push('é'));
         }
+        steps
     }
 
-    fn run(self, alloc: Global, text: &str, step: Step) -> Result<Thing, Thing> {
+    fn run(self, alloc: Global, text: &str, steps: Vec<Step>) -> Result<Thing, Thing> {
         match self {
             New => made(SmolStr::new(alloc, text)),
             FromStr => made(SmolStr::from_str(alloc, text)),
@@ -62,11 +64,12 @@ impl Call for OnText {
             CollectChars => made(collected(alloc, text)),
             Print => made(text.to_smolstr(alloc)),
             PrintByParts => made(ByParts(text).to_smolstr(alloc)),
+            PrintNumber => made(number_of(text).to_smolstr(alloc)),
             Format => made(format_smolstr!(alloc; "{}", text)),
             FormatParts => made(format_smolstr!(alloc; "{}", ByParts(text))),
             WithCapacity => with_capacity(alloc, text),
-            ToBuild => made(build(alloc, 0, from_ref(&step))),
-            ToBuildAtOnce => made(build(alloc, text.len(), from_ref(&step))),
+            ToBuild => made(build(alloc, 0, &steps)),
+            ToBuildAtOnce => made(build(alloc, text.len().saturating_add(2), &steps)),
             AsciiLower => made(text.to_ascii_lowercase_smolstr(alloc)),
             AsciiUpper => made(text.to_ascii_uppercase_smolstr(alloc)),
             LowerOfAscii | Lower => made(text.to_lowercase_smolstr(alloc)),
@@ -82,9 +85,17 @@ impl Call for OnText {
             AsciiUpper => ok(test, text.to_ascii_uppercase(alloc)),
             LowerOfAscii | Lower => ok(test, text.to_lowercase(alloc)),
             UpperOfAscii | Upper => ok(test, text.to_uppercase(alloc)),
+            PrintNumber => ok(test, format!(in alloc; "{}", number_of(text))),
+            ToBuild | ToBuildAtOnce => test.joined(text, "é"),
             _ => test.string(text),
         }
     }
+}
+
+/// A number of one to 39 digits, by the text's length, and below zero where that is even.
+fn number_of(text: &str) -> i128 {
+    let number = i128::MIN >> (text.len() % 128);
+    if text.len() % 2 == 0 { number } else { !number }
 }
 
 fn collected(alloc: Global, text: &str) -> Result<SmolStr, AllocError> {

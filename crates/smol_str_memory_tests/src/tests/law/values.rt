@@ -90,11 +90,9 @@ pub fn is_plain(text: &str) -> bool {
 
 /// How many bytes of a text JSON does not have as they are.
 pub fn escapes(text: &str) -> usize {
-    text.bytes().filter(|byte| !is_plain_byte(*byte)).count()
-}
-
-fn is_plain_byte(byte: u8) -> bool {
-    byte >= b' ' && byte != b'"' && byte != b'\\'
+    text.bytes()
+        .filter(|&byte| byte < b' ' || byte == b'"' || byte == b'\\')
+        .count()
 }
 
 /// The text in JSON, as serde_json writes it.
