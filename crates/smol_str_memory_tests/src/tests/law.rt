@@ -120,7 +120,7 @@ fn of_values(rt: HostRuntime) -> Result<(), Fail> {
 }
 
 /// Of a builder.
-static BUILDERS: [Law<OnBuilder>; 17] = table! {
+static BUILDERS: [Law<OnBuilder>; 18] = table! {
     (CloneSmall, "SmolStrBuilder::clone", Most(1), Texts(1), Plus(0), UnlessShort);
     (CloneLarge, "SmolStrBuilder::clone", Most(1), Texts(1), Plus(0), ForAny);
     (Emptied, "SmolStrBuilder::emptied", Most(0), Texts(0), Plus(0), ForAny);
@@ -133,6 +133,7 @@ static BUILDERS: [Law<OnBuilder>; 17] = table! {
     (PushWithin, "SmolStrBuilder::push", Most(0), Texts(0), Plus(0), ForAny);
     (PushStr, "SmolStrBuilder::push_str", Most(1), Texts(2), Plus(0), UnlessShort);
     (PushStrWithin, "SmolStrBuilder::push_str", Most(0), Texts(0), Plus(0), ForAny);
+    (ExtendWithin, "SmolStrBuilder::extend_strs", Most(0), Texts(0), Plus(0), ForAny);
     (PushWithSpare, "SmolStrBuilder::push_with_spare", Most(1), Texts(2), Plus(0), UnlessShort);
     (PushBlank, "SmolStrBuilder::push_blank", Most(1), Texts(2), Plus(0), UnlessShort);
     (WriteStr, "SmolStrBuilder::write_str", Most(1), Texts(2), Plus(0), UnlessShort);
@@ -157,7 +158,7 @@ static FORMS: [Law<OnForm>; 11] = table! {
     (Fill, "stream::fill", Most(0), Texts(0), Plus(0), ForAny);
     (WriteSteps, "stream::write_steps", Most(0), Texts(0), Plus(0), ForAny);
     (NotUtf8, "SmolStr::from_utf8", Most(0), Texts(0), Plus(0), ForAny);
-    (EndsEarly, "BorshDeserialize::deserialize_reader", Doubling(1), Texts(4), Plus(8), UnlessShort);
+    (EndsEarly, "borsh::deserialize_limited", Doubling(1), Texts(4), Plus(8), UnlessShort);
 };
 
 #[test]

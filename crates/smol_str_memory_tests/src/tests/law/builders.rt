@@ -21,6 +21,7 @@ pub enum OnBuilder {
     PushWithin,
     PushStr,
     PushStrWithin,
+    ExtendWithin,
     /// With room for twice as many bytes more.
     PushWithSpare,
     /// As many spaces as the text has bytes, up to the most, and as many newlines or none.
@@ -37,7 +38,7 @@ impl Call for OnBuilder {
     fn ways(self) -> usize {
         match self {
             Finish | FromBuilder | IntoValue | ValueOf => 3,
-            CloneLarge | Emptied | PushWithin | PushStrWithin => 1,
+            CloneLarge | Emptied | PushWithin | PushStrWithin | ExtendWithin => 1,
             _ => 2,
         }
     }
@@ -45,7 +46,7 @@ impl Call for OnBuilder {
     fn input(self, test: &Test, text: &'static str, way: usize) -> SmolStrBuilder {
         let twice = text.len().saturating_mul(2).saturating_add(100);
         let capacity = match self {
-            CloneLarge | Emptied | PushWithin | PushStrWithin => twice,
+            CloneLarge | Emptied | PushWithin | PushStrWithin | ExtendWithin => twice,
             _ => [0, text.len(), twice][way.min(2)],
         };
         test.builder(capacity, text)
@@ -73,10 +74,9 @@ impl Call for OnBuilder {
                 let spaces = text.len().min(BLANK_SPACES);
                 test.text(&[(text, 1), ("\n", newlines), (" ", spaces)])
             }
-            PushStr | PushStrWithin | PushWithSpare | WriteStr | WriteFmt | ExtendChars => {
-                test.joined(text, text)
-            }
-            _ => test.string(text),
+            CloneSmall | CloneLarge | Finish | FromBuilder => test.string(text),
+            IntoValue | ValueOf => test.string(text),
+            _ => test.joined(text, text),
         }
     }
 }
@@ -92,6 +92,7 @@ impl OnBuilder {
                 let spaces = text.len().min(BLANK_SPACES);
                 changed(builder.push_blank(newlines, spaces), builder)
             }
+            ExtendWithin => changed(builder.extend_strs([text].into_iter()), builder),
             WriteStr => changed(builder.write_str(text), builder),
             WriteFmt => changed(builder.write_fmt(text), builder),
             ExtendChars => changed(builder.extend_chars(text.chars()), builder),

@@ -22,7 +22,7 @@ pub enum OnForm {
     WriteSteps,
     /// A byte behind the text that begins no character.
     NotUtf8,
-    /// The size is one more than the text's.
+    /// The size is one more than the text's, and by single bytes more than the limit.
     EndsEarly,
 }
 
@@ -77,7 +77,7 @@ impl Call for OnForm {
         match self {
             FromWire => found(from_wire(alloc, bytes)),
             SplitWire => found(split_wire(alloc, bytes)),
-            EndsEarly => faulty(made(SmolStr::deserialize_reader(alloc, &mut reader))),
+            EndsEarly => faulty(made(deserialize_limited(alloc, &mut reader, limit))),
             NotUtf8 => faulty(made(SmolStr::from_utf8(alloc, bytes))),
             ReadLimited => made(deserialize_limited(alloc, &mut reader, limit)),
             ReadUpTo => made(read_up_to(alloc, &mut reader, limit)),

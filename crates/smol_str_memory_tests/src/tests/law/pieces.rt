@@ -31,13 +31,9 @@ fn count_of(text: &str, way: usize) -> usize {
     [text.len().min(1), 2, 3 + text.len() % 20][way % 3]
 }
 
-static SEPARATORS: [&str; 5] = [
-    "",
-    ",",
-    ", ",
-    "€",
-    "----------------------------------------",
-];
+static SEPARATORS: [&str; 5] = table! {
+    ""; ","; ", "; "€, "; "----------------------------------------";
+};
 
 impl Call for OnPieces {
     /// The builder is for calls that extend one.
