@@ -4,22 +4,25 @@
 -- small, since `grind` stops at a number of instances: a lemma that fits everywhere takes them from all others. A goal may
 -- want two.
 --     texts          `IsValueOf (chars bytes) v` where `bytes ≡ encode_utf8_all t`, as `as_str` says: `v.text ≡ t`
---     compared       `IsTrue (text == "help") ↔ (chars text.now ≡ chars (codes "help"))`, of a `match` on a `&str` too
+--     compared       `IsTrue (text == "help") ↔ (chars text.now ≡ chars (codes "help"))`, of a `match` on a `&str` too; with
+--                    `""`, `chars text.now ≡ []`
 --     builders       `appended (appended b t) u ≡ appended b (t ++ u)`; no append of a short whole is refused
 --     by_char        `IsValueOf (chars text.now) v` of a loop that pushes each of `text.chars()` into a new builder
---     prints         `IsValueOf (chars key.now ++ value.now.text) v` of what a print says in bytes
+--     prints         `IsValueOf (chars key.now ++ decimal number) v` of what a print says in bytes
 --     replacing      `IsValueOf (each_replaced 95 45 t) v` after `replace_smolstr(alloc, "_", "-")`
 --     owned          `IsValueOf t v` of a `String` whose bytes are `encode_utf8_all t`, or ASCII
 --     cut_once       `chars line.now ≡ chars key.now ++ (61 ∷ chars value.now)` after `split_once('=')`; `strip_prefix` ..
 --     cut_at_texts   the same after `split_once("->")` and then `split_once("=>")`
 --     cut_alike      `key ≡ other_key` where `key ++ (61 ∷ value) ≡ other_key ++ (61 ∷ other)`, cut at their first `=`
 --     trimmed        `chars rest.now ≡ drop (prefix_len (λ c. c == 32) t) t` after `trim_start_matches(' ')`, t its text;
---                    `chars rest.now ≡ drop_trailing_whitespace (skip_leading_whitespace t)` after `trim()`
+--                    `chars rest.now ≡ drop_trailing_whitespace (skip_leading_whitespace t)`, `length rest.now ≤ length
+--                    text.now` after `trim()`
 --     cutting        `texts values ≡ cut (chars line.now) (44 ∷ []) (no_limit (chars line.now))`, of each piece of `split(',')`
 --     pieces_lack    `¬ Occurs (44 ∷ []) v.text` for each of these values
 --     joining        `IsValueOf (chars line.now) v` of such values joined again; some of them; by std's `join`
 --     by_line        `map w values ≡ map h (lines text.now)`, of a loop over `lines`, or `map` and `try_collect`; the same of
---                    `enumerate_from 0 (lines text.now)`, of a loop over `lines().enumerate()`
+--                    `enumerate_from 0 (lines text.now)`, of a loop over `lines().enumerate()`; with `filter_map` for `map`,
+--                    of a loop that keeps some
 --     by_item        `texts values.items ≡ map h items.now`, of `map` and `try_collect` over a slice
 --     collecting_chars, collecting_strs, collecting_pieces, collecting_strings
 --                    `IsValueOf (take 3 (chars text.now)) v` of `from_chars(alloc, text.chars().take(3))`, and the like

@@ -1,6 +1,6 @@
 //! Lines cut at a separator, and joined again; what a caller does with an index or a buffer that a call returns.
-ghost use Rattle.std.specs.List.{enumerate_from, prefix_len};
-ghost use Rattle.std.specs.Prelude.{◌≡◌, ◌≢◌, ◌<◌, ◌≤◌, ◌↔◌, ◌+◌, ◌++◌, ◌∷◌, ◌-◌, [], ℕ, List, codes, drop, length, map, set, take, IfNone, IfOk, IfSome, IsTrue, MatchBool, OnErr, encode_utf8_all, String, All, Some, ◌==◌};
+ghost use Rattle.std.specs.List.{enumerate_from, filter_map, prefix_len};
+ghost use Rattle.std.specs.Prelude.{◌≡◌, ◌≢◌, ◌<◌, ◌≤◌, ◌↔◌, ◌+◌, ◌++◌, ◌∷◌, ◌-◌, [], ℕ, List, codes, drop, length, map, set, take, IfNone, IfOk, IfSome, IsTrue, MatchBool, OnErr, encode_utf8_all, String, All, None, Some, ◌==◌, if◌then◌else◌};
 ghost use Rattle.std.specs.Str.{IsCharBoundary, chars, skip_leading_whitespace, drop_trailing_whitespace};
 ghost use Rattle.std.specs.Str.Lines.{lines};
 ghost use Rattle.smol_str.specs.Cut.{IsFirstAfter, Occurs, joined_by};
@@ -53,17 +53,13 @@ pub fn segments(alloc: Global, path: &str) -> Result<Vec<SmolStr>, AllocError>
 
 /// The line of all fields but the last.
 #[tactic(auto, using(smol_str::proofs::CallerLemmas::joining))]
-pub fn without_last(
-    alloc: Global,
-    fields: &[SmolStr],
-    separator: &str,
-) -> Result<SmolStr, AllocError>
+pub fn without_last(alloc: Global, fields: &[SmolStr], between: &str) -> Result<SmolStr, AllocError>
     requires some { 0 < length fields.now }
     ensures { IfOk result (λ v.
-        IsValueOf (joined_by (chars separator.now) (take (length fields.now - 1) (texts fields.now))) v) }
+        IsValueOf (joined_by (chars between.now) (take (length fields.now - 1) (texts fields.now))) v) }
 {
     let last = fields.len() - 1;
-    line_of(alloc, &fields[..last], separator)
+    line_of(alloc, &fields[..last], between)
 }
 
 /// A line cut into values and joined again: the line.
@@ -86,37 +82,37 @@ pub fn key_and_value(line: &str) -> Option<(&str, &str)>
     line.split_once('=')
 }
 
-/// Whether a line begins with a text, and whether it is a comment, by one character or by two.
+/// Whether a line begins with a text, whether it is a comment, and whether it names an interpreter.
 #[tactic(auto, using(smol_str::proofs::CallerLemmas::cut_once))]
 pub fn begins(line: &str, prefix: &str) -> (bool, bool, bool)
     ensures prefix { MatchBool result.0 ((rest : List ℕ) × (chars line.now ≡ chars prefix.now ++ rest))
         ((rest : List ℕ) → chars line.now ≢ chars prefix.now ++ rest) }
     ensures comment { MatchBool result.1 ((rest : List ℕ) × (chars line.now ≡ 35 ∷ rest))
         ((rest : List ℕ) → chars line.now ≢ 35 ∷ rest) }
-    ensures slashes { MatchBool result.2 ((rest : List ℕ) × (chars line.now ≡ chars (codes "//") ++ rest))
-        ((rest : List ℕ) → chars line.now ≢ chars (codes "//") ++ rest) }
+    ensures script { MatchBool result.2 ((rest : List ℕ) × (chars line.now ≡ chars (codes "#!/usr/bin/env ") ++ rest))
+        ((rest : List ℕ) → chars line.now ≢ chars (codes "#!/usr/bin/env ") ++ rest) }
 {
     (
         line.starts_with(prefix),
         line.starts_with('#'),
-        line.starts_with("//"),
+        line.starts_with("#!/usr/bin/env "),
     )
 }
 
-/// Whether a line ends with a text, whether with a semicolon, and whether it names a source file.
+/// Whether a line ends with a text, whether with a semicolon, and whether it names a generated file.
 #[tactic(auto, using(smol_str::proofs::CallerLemmas::cut_once))]
 pub fn ends(line: &str, suffix: &str) -> (bool, bool, bool)
     ensures suffix { MatchBool result.0 ((front : List ℕ) × (chars line.now ≡ front ++ chars suffix.now))
         ((front : List ℕ) → chars line.now ≢ front ++ chars suffix.now) }
     ensures semicolon { MatchBool result.1 ((front : List ℕ) × (chars line.now ≡ front ++ (59 ∷ [])))
         ((front : List ℕ) → chars line.now ≢ front ++ (59 ∷ [])) }
-    ensures source { MatchBool result.2 ((front : List ℕ) × (chars line.now ≡ front ++ chars (codes ".rs")))
-        ((front : List ℕ) → chars line.now ≢ front ++ chars (codes ".rs")) }
+    ensures source { MatchBool result.2 ((front : List ℕ) × (chars line.now ≡ front ++ chars (codes ".generated.rs")))
+        ((front : List ℕ) → chars line.now ≢ front ++ chars (codes ".generated.rs")) }
 {
     (
         line.ends_with(suffix),
         line.ends_with(';'),
-        line.ends_with(".rs"),
+        line.ends_with(".generated.rs"),
     )
 }
 
@@ -160,13 +156,13 @@ pub fn around<'a>(text: &'a str, pattern: &str) -> Option<(&'a str, &'a str)>
     text.split_once(pattern)
 }
 
-/// The two sides of a rule, at a pattern of two characters.
+/// The two sides of a rule.
 #[tactic(auto, using(smol_str::proofs::CallerLemmas::cut_once))]
 pub fn sides(rule: &str) -> Option<(&str, &str)>
-    ensures whole { IfSome result (λ it. chars rule.now ≡ chars it.0.now ++ (chars (codes "->") ++ chars it.1.now)) }
-    ensures none { IfNone result (¬ Occurs (chars (codes "->")) (chars rule.now)) }
+    ensures whole { IfSome result (λ it. chars rule.now ≡ chars it.0.now ++ (chars (codes " is written ") ++ chars it.1.now)) }
+    ensures none { IfNone result (¬ Occurs (chars (codes " is written ")) (chars rule.now)) }
 {
-    rule.split_once("->")
+    rule.split_once(" is written ")
 }
 
 /// The name of a field, its type and its value.
@@ -220,6 +216,15 @@ pub fn stem(alloc: Global, name: &SmolStr) -> Result<Option<SmolStr>, AllocError
     }
 }
 
+/// A text without the white space around it, which is no longer.
+#[tactic(auto, using(smol_str::proofs::CallerLemmas::trimmed))]
+pub fn stripped(text: &str) -> &str
+    ensures text { chars result.now ≡ drop_trailing_whitespace (skip_leading_whitespace (chars text.now)) }
+    ensures no_longer { length result.now ≤ length text.now }
+{
+    text.trim()
+}
+
 /// A name without the white space around it.
 #[tactic(auto, using(smol_str::proofs::CallerLemmas::trimmed))]
 pub fn trimmed(alloc: Global, name: &SmolStr) -> Result<SmolStr, AllocError>
@@ -231,18 +236,13 @@ pub fn trimmed(alloc: Global, name: &SmolStr) -> Result<SmolStr, AllocError>
 
 /// A line with another text in place of one of its fields.
 #[tactic(auto, using(smol_str::proofs::CallerLemmas::texts, smol_str::proofs::CallerLemmas::joining))]
-pub fn with_field(
-    alloc: Global,
-    line: &str,
-    at: usize,
-    text: SmolStr,
-) -> Result<SmolStr, AllocError>
+pub fn with_field(alloc: Global, line: &str, at: usize, new: SmolStr) -> Result<SmolStr, AllocError>
     ensures { IfOk result (λ v. IsValueOf
-        (joined_by (44 ∷ []) (set (cut (chars line.now) (44 ∷ []) (no_limit (chars line.now))) at text.text)) v) }
+        (joined_by (44 ∷ []) (set (cut (chars line.now) (44 ∷ []) (no_limit (chars line.now))) at new.text)) v) }
 {
     let mut fields = fields(alloc, line)?;
     if at < fields.len() {
-        fields[at] = text;
+        fields[at] = new;
     }
     line_of(alloc, &fields, ",")
 }
@@ -354,12 +354,12 @@ pub fn unindented(text: &str) -> &str
 /// What a command is.
 #[tactic(auto, using(smol_str::proofs::CallerLemmas::compared))]
 pub fn command(text: &str) -> Option<u8>
-    ensures help { result ≡ Some 1 ↔ (chars text.now ≡ chars (codes "help")) }
-    ensures quit { result ≡ Some 2 ↔ (chars text.now ≡ chars (codes "quit")) }
+    ensures list { result ≡ Some 1 ↔ (chars text.now ≡ chars (codes "list all names")) }
+    ensures nothing { result ≡ Some 2 ↔ (chars text.now ≡ []) }
 {
     match text {
-        "help" => Some(1),
-        "quit" => Some(2),
+        "list all names" => Some(1),
+        "" => Some(2),
         _ => None,
     }
 }
@@ -374,14 +374,11 @@ pub fn is_same(text: &str, other: &str) -> bool
 
 /// Values of pairs of texts, as of names and their values.
 #[tactic(auto, using(smol_str::proofs::CallerLemmas::items))]
-pub fn pairs_of(
-    alloc: Global,
-    pairs: &[(&str, &str)],
-) -> Result<Vec<(SmolStr, SmolStr)>, AllocError>
-    ensures { IfOk result (λ values. ArePairsOf (map (λ p. (chars p.0.now, chars p.1.now)) pairs.now) values.items) }
+pub fn pairs_of(alloc: Global, list: &[(&str, &str)]) -> Result<Vec<(SmolStr, SmolStr)>, AllocError>
+    ensures { IfOk result (λ values. ArePairsOf (map (λ p. (chars p.0.now, chars p.1.now)) list.now) values.items) }
 {
     let mut values = Vec::new(alloc);
-    for pair in pairs {
+    for pair in list {
         values.push(pair_of(alloc, pair)?)?;
     }
     Ok(values)
@@ -402,15 +399,18 @@ pub fn halves(text: &str, at: usize) -> Option<(&str, &str)>
     text.split_at_checked(at)
 }
 
-/// The lines of a text with their numbers, from 1.
+/// The lines of a text that are not empty, with their numbers, from 1.
 #[tactic(auto, using(smol_str::proofs::CallerLemmas::by_line))]
 pub fn numbered_lines(alloc: Global, text: &str) -> Result<Vec<(usize, SmolStr)>, AllocError>
     ensures { IfOk result (λ rows. map {B = ℕ × List ℕ} (λ row. (row.0, row.1.text)) rows.items
-        ≡ map {B = ℕ × List ℕ} (λ line. (line.0 + 1, chars line.1)) (enumerate_from 0 (lines text.now))) }
+        ≡ filter_map {Y = ℕ × List ℕ} (λ line. if length line.1 == 0 then None else Some (line.0 + 1, chars line.1))
+        (enumerate_from 0 (lines text.now))) }
 {
     let mut rows = Vec::new(alloc);
     for (number, line) in text.lines().enumerate() {
-        rows.push((number + 1, SmolStr::new(alloc, line)?))?;
+        if !line.is_empty() {
+            rows.push((number + 1, SmolStr::new(alloc, line)?))?;
+        }
     }
     Ok(rows)
 }

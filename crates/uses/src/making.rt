@@ -23,15 +23,17 @@ use std::alloc::{AllocError, Global};
 use std::convert::AsStr;
 use std::iter;
 
-/// The texts of values, one after another.
+/// The texts of values, one after another, and a newline.
+#[tactic(auto, using(smol_str::proofs::CallerLemmas::builders))]
 pub fn joined(alloc: Global, parts: &[SmolStr]) -> Result<SmolStr, AllocError>
-    ensures value { IfOk result (λ v. IsValueOf (flat_map (λ part. part.text) parts.now) v) }
-    ensures refused { OnErr result (¬ (IsShort (flat_map (λ part. part.text) parts.now))) }
+    ensures value { IfOk result (λ v. IsValueOf (flat_map (λ part. part.text) parts.now ++ (10 ∷ [])) v) }
+    ensures refused { OnErr result (¬ (IsShort (flat_map (λ part. part.text) parts.now ++ (10 ∷ [])))) }
 {
     let mut builder = SmolStrBuilder::new(alloc);
     for part in parts {
         builder.push_str(part.as_str())?;
     }
+    builder.push('\n')?;
     builder.into_value()
 }
 
@@ -106,21 +108,21 @@ pub fn wide_number(alloc: Global, number: u64) -> Result<SmolStr, FormatError>
     format_smolstr!(alloc; "{number:>6}")
 }
 
-/// A key and its value, as a text.
+/// A key and its number, as a text.
 #[tactic(auto, using(smol_str::proofs::CallerLemmas::prints))]
-pub fn entry(alloc: Global, key: &str, value: &SmolStr) -> Result<SmolStr, FormatError>
-    ensures { IfOk result (λ v. IsValueOf (chars key.now ++ (chars (codes " = ") ++ value.now.text)) v) }
+pub fn entry(alloc: Global, key: &str, number: u64) -> Result<SmolStr, FormatError>
+    ensures { IfOk result (λ v. IsValueOf (chars key.now ++ (chars (codes " = ") ++ decimal number)) v) }
 {
-    print_entry(alloc, key, value)
+    print_entry(alloc, key, number)
 }
 
-/// A key and its value, as bytes. A ruleset does not reach into a function that prints, so the print has its own.
-fn print_entry(alloc: Global, key: &str, value: &SmolStr) -> Result<SmolStr, FormatError>
+/// A key and its number, as bytes. A ruleset does not reach into a function that prints, so the print has its own.
+fn print_entry(alloc: Global, key: &str, number: u64) -> Result<SmolStr, FormatError>
     ensures text { IfOk result (λ v.
-        encode_utf8_all v.text ≡ key.now ++ (codes " = " ++ encode_utf8_all value.now.text)) }
+        encode_utf8_all v.text ≡ key.now ++ (codes " = " ++ decimal number)) }
     ensures place { IfOk result (λ v. v.place ≡ place_of v.text) }
 {
-    format_smolstr!(alloc; "{key} = {value}")
+    format_smolstr!(alloc; "{key} = {number}")
 }
 
 /// Tokens at a level of indentation.

@@ -1,5 +1,5 @@
 -- Builders: appends one after another, and when a builder leaves its buffer.
-use Rattle.smol_str.proofs.Common.{◌≡◌, ◌∷◌, ℕ, ◌+◌, ◌≤◌, List, [], take, refl, arith, flat_map, size, nat_tests, append-nil, append_assoc}
+use Rattle.smol_str.proofs.Common.{◌≡◌, ◌∷◌, ℕ, ◌+◌, ◌≤◌, List, [], take, take_all, refl, arith, flat_map, size, nat_tests, append-nil, append_assoc}
 use Rattle.std.proofs.lemmas.Grind.{take_at_read, flat_map-append}
 use Rattle.smol_str.proofs.TextLemmas.Lists.{flat_map-parts}
 use Rattle.smol_str.proofs.TextLemmas.Places.{size-append}
@@ -25,6 +25,7 @@ pub ruleset builders = (
   size-append,
   size-front,
   take_at_read,
+  take_all,
   flat_map-append,
   append-nil,
   append_assoc,

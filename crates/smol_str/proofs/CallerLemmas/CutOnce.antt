@@ -1,13 +1,14 @@
 -- Texts that std searches and cuts once: `split_once`, `strip_prefix`, `strip_suffix`, `starts_with`, `ends_with` and `contains`.
-use Rattle.smol_str.proofs.Common.{arith, zero, suc, ◌≡◌, ℕ, ◌+◌, ◌-◌, ◌<◌, ◌≤◌, Bool, true, false, List, [], ◌∷◌, ◌++◌, ◌==◌, length, take, drop, All, Bor, Option, Some, None, MatchOption, refl, sym, ap, ◌∙◌, subst, IsTrue, all_scalars, IsUtf8, chars, chars-nil, chars-append, chars-encodes, chars_from_encodes, encode_utf8, encode_utf8_all, encodes-append, encodes-chars, append-nil, size, Occurs, IsFirstAfter, IfSome, replicate, length-append, length-replicate, len_utf8_bounds}
+use Rattle.smol_str.proofs.Common.{arith, zero, suc, ◌≡◌, ℕ, ◌+◌, ◌-◌, ◌<◌, ◌≤◌, Bool, true, false, List, [], ◌∷◌, ◌++◌, ◌==◌, length, take, drop, Bor, Option, Some, None, MatchOption, refl, sym, ap, ◌∙◌, subst, IsTrue, all_scalars, IsUtf8, chars, chars-nil, chars-append, chars-encodes, chars_from_encodes, encode_utf8, encode_utf8_all, encodes-append, encodes-chars, append-nil, size, Occurs, IsFirstAfter, IfSome, replicate, length-append, length-replicate, len_utf8_bounds}
 use Rattle.std.proofs.Common.{◌≢◌, MatchBool}
 use Rattle.std.specs.Str.{IsCharBoundary, NonePass, trim, trim_start, trim_end, skip_leading_whitespace, drop_trailing_whitespace}
 use Rattle.std.specs.Str.Pattern.{CutsPrefixes, FindsCharPrefix, FindsChar, FindsText, FindsTextPrefix, FindsTextSuffix, HasCharAt, HasMatch, HasPrefixMatch, HasSuffixMatch, HasTextAt, LacksTextAt}
 use Rattle.std.proofs.Math.Seq.{drop-length}
 use Rattle.std.proofs.lemmas.Str.{IsUtf8-drop, IsUtf8-from_ascii, IsUtf8-take}
-use Rattle.smol_str.proofs.CallerLemmas.Texts.{encodes-literal, literal-utf8}
+use Rattle.smol_str.proofs.CallerLemmas.Texts.{IsLiteral, encodes-literal, literal-utf8}
 use Rattle.smol_str.proofs.CutLemmas.Cut.{same_parts}
 use Rattle.std.specs.List.{prefix_len}
+use Rattle.std.specs.Option.{IfNone}
 use Rattle.smol_str.proofs.Common.{cond, nat_tests, common_steps, and_parts, scalars-chars}
 use Rattle.smol_str.proofs.PieceLemmas.{bytes_there, found_char, found_parts, found_text}
 use Rattle.smol_str.proofs.TextLemmas.Places.{size-append, size-chars, some_char}
@@ -112,9 +113,30 @@ module _ (t : List ℕ) (scalars : IsTrue (all_scalars t)) where
 pub chars-trim : (bs : List ℕ) → IsUtf8 bs → chars (trim bs) ≡ drop_trailing_whitespace (skip_leading_whitespace (chars bs))
 chars-trim bs u = rw (encodes-chars bs u) at (chars-trim_text (chars bs) (scalars-chars bs u))
 
-pub ruleset trimmed = (char_trimmed, chars-trim, chars-trim_text)
+-- what `trim` gives is no longer, as where it is a measure
+size-skip : (t : List ℕ) → size (skip_leading_whitespace t) ≤ size t
+size-skip [] = omega arith
+size-skip (c ∷ t) = grind (arith, common_steps, size-append (c ∷ []) t, size-skip t)
+
+size-drop_trailing : (t : List ℕ) → size (drop_trailing_whitespace t) ≤ size t
+size-drop_trailing [] = omega arith
+size-drop_trailing (c ∷ t) =
+    grind (arith, common_steps, size-append (c ∷ []) t, size-append (c ∷ []) (drop_trailing_whitespace t), size-drop_trailing t)
+
+pub length-trimmed : (bs : List ℕ) → IsUtf8 bs → length (trim bs) ≤ length bs
+length-trimmed bs u =
+    let t = chars bs in
+    let is : trim bs ≡ encode_utf8_all (drop_trailing_whitespace (skip_leading_whitespace t)) =
+    rw (encodes-chars bs u) at (trim-text t (scalars-chars bs u)) in
+    omega (arith, ap length is, size-drop_trailing (skip_leading_whitespace t), size-skip t, size-chars bs u)
+
+pub ruleset trimmed = (char_trimmed, chars-trim, chars-trim_text, length-trimmed)
 
 -- ---- and a text, which may be a literal of ASCII
+none_weaker : {T P Q : Type 0} (R : T → Type 0) (o : Option T) → (P → Q) → MatchOption o P R → IfNone o Q
+none_weaker R None f said = f said
+none_weaker R (Some x) f said = tt
+
 module _ (nd bs : List ℕ) (u : IsUtf8 bs) where
   module _ (i j : ℕ) (at : HasTextAt nd bs i j) (some : 0 < length nd) where
     pub text_between : IsUtf8 nd
@@ -122,7 +144,7 @@ module _ (nd bs : List ℕ) (u : IsUtf8 bs) where
     text_between v =
         let h = found_parts bs u (chars nd) i j (some_char nd v some) (cc (at.split, encodes-chars nd v)) in (h.3, h.1, h.2)
 
-    pub literal_between : All (λ b. b < 128) nd
+    pub literal_between : IsLiteral nd
         → (chars bs ≡ chars (take i bs) ++ (chars nd ++ chars (drop j bs))) × IsUtf8 (take i bs) × IsUtf8 (drop j bs)
     literal_between low = text_between (literal-utf8 nd low)
 
@@ -134,7 +156,7 @@ module _ (nd bs : List ℕ) (u : IsUtf8 bs) where
     text_in_front v =
         (ap chars is ∙ chars-append nd (drop n bs) v, IsUtf8-drop bs n u (subst (IsCharBoundary bs) (sym long) cut))
 
-    pub literal_in_front : All (λ b. b < 128) nd → (chars bs ≡ chars nd ++ chars (drop n bs)) × IsUtf8 (drop n bs)
+    pub literal_in_front : IsLiteral nd → (chars bs ≡ chars nd ++ chars (drop n bs)) × IsUtf8 (drop n bs)
     literal_in_front low = text_in_front (literal-utf8 nd low)
 
   pub text_at_end : (i : ℕ) → bs ≡ take i bs ++ nd → IsCharBoundary bs i → (chars bs ≡ chars (take i bs) ++ chars nd) × IsUtf8 (take i bs)
@@ -146,9 +168,6 @@ module _ (nd bs : List ℕ) (u : IsUtf8 bs) where
         let long : length bs ≡ size a + size (chars nd ++ r) = sym (size-chars bs u) ∙ ap size e ∙ size-append a (chars nd ++ r) in
         none (size a) (omega (arith, long)) (encode_utf8_all r) (bytes_there bs u nd a r v e)
 
-    pub literal_nowhere : All (λ b. b < 128) nd → chars bs ≢ a ++ (chars nd ++ r)
-    literal_nowhere low = text_nowhere (literal-utf8 nd low)
-
   lacks_front : IsUtf8 nd → FindsTextPrefix nd bs None → (rest : List ℕ) → chars bs ≢ chars nd ++ rest
   lacks_front v none rest e = none (encode_utf8_all rest)
       (cc (encodes-chars bs u, ap encode_utf8_all e, encodes-append (chars nd) rest, encodes-chars nd v))
@@ -157,33 +176,40 @@ module _ (nd bs : List ℕ) (u : IsUtf8 bs) where
   lacks_end v none front e = none (encode_utf8_all front)
       (cc (encodes-chars bs u, ap encode_utf8_all e, encodes-append front (chars nd), encodes-chars nd v))
 
-  pub starts_with-text : (b : Bool) → IsUtf8 nd → MatchBool b (HasPrefixMatch (FindsTextPrefix nd) bs) (FindsTextPrefix nd bs None)
+  begins-text : (b : Bool) → MatchBool b (HasPrefixMatch (FindsTextPrefix nd) bs) (FindsTextPrefix nd bs None) → IsUtf8 nd
       → MatchBool b ((rest : List ℕ) × (chars bs ≡ chars nd ++ rest)) ((rest : List ℕ) → chars bs ≢ chars nd ++ rest)
-  starts_with-text true v (n, (long, parts, boundary), at) = (chars (drop n bs), (text_in_front n parts boundary long v).0)
-  starts_with-text false v none = lacks_front v none
+  begins-text true (n, (long, parts, boundary), at) v = (chars (drop n bs), (text_in_front n parts boundary long v).0)
+  begins-text false none v = lacks_front v none
 
-  pub starts_with-literal : (b : Bool) → All (λ b. b < 128) nd → MatchBool b (HasPrefixMatch (FindsTextPrefix nd) bs) (FindsTextPrefix nd bs None)
-      → MatchBool b ((rest : List ℕ) × (chars bs ≡ chars nd ++ rest)) ((rest : List ℕ) → chars bs ≢ chars nd ++ rest)
-  starts_with-literal b low said = starts_with-text b (literal-utf8 nd low) said
+  pub starts_with-text : (b : Bool) → MatchBool b (HasPrefixMatch (FindsTextPrefix nd) bs) (FindsTextPrefix nd bs None)
+      → (IsUtf8 nd → MatchBool b ((rest : List ℕ) × (chars bs ≡ chars nd ++ rest)) ((rest : List ℕ) → chars bs ≢ chars nd ++ rest))
+      × (IsLiteral nd → MatchBool b ((rest : List ℕ) × (chars bs ≡ chars nd ++ rest)) ((rest : List ℕ) → chars bs ≢ chars nd ++ rest))
+  starts_with-text b said = (begins-text b said, λ low. begins-text b said (literal-utf8 nd low))
 
-  pub ends_with-text : (b : Bool) → IsUtf8 nd → MatchBool b (HasSuffixMatch (FindsTextSuffix nd) bs) (FindsTextSuffix nd bs None)
+  ended-text : (b : Bool) → MatchBool b (HasSuffixMatch (FindsTextSuffix nd) bs) (FindsTextSuffix nd bs None) → IsUtf8 nd
       → MatchBool b ((front : List ℕ) × (chars bs ≡ front ++ chars nd)) ((front : List ℕ) → chars bs ≢ front ++ chars nd)
-  ends_with-text true v (n, (long, parts, boundary), within, cut) =
+  ended-text true (n, (long, parts, boundary), within, cut) v =
       (chars (take (length bs - n) bs), (text_at_end (length bs - n) parts cut).0)
-  ends_with-text false v none = lacks_end v none
+  ended-text false none v = lacks_end v none
 
-  pub ends_with-literal : (b : Bool) → All (λ b. b < 128) nd → MatchBool b (HasSuffixMatch (FindsTextSuffix nd) bs) (FindsTextSuffix nd bs None)
-      → MatchBool b ((front : List ℕ) × (chars bs ≡ front ++ chars nd)) ((front : List ℕ) → chars bs ≢ front ++ chars nd)
-  ends_with-literal b low said = ends_with-text b (literal-utf8 nd low) said
+  pub ends_with-text : (b : Bool) → MatchBool b (HasSuffixMatch (FindsTextSuffix nd) bs) (FindsTextSuffix nd bs None)
+      → (IsUtf8 nd → MatchBool b ((front : List ℕ) × (chars bs ≡ front ++ chars nd)) ((front : List ℕ) → chars bs ≢ front ++ chars nd))
+      × (IsLiteral nd → MatchBool b ((front : List ℕ) × (chars bs ≡ front ++ chars nd)) ((front : List ℕ) → chars bs ≢ front ++ chars nd))
+  ends_with-text b said = (ended-text b said, λ low. ended-text b said (literal-utf8 nd low))
 
   pub contains-text : (b : Bool) → 0 < length nd → IsUtf8 nd → MatchBool b (HasMatch (FindsText nd) bs) (FindsText nd bs None)
       → MatchBool b (Occurs (chars nd) (chars bs)) (¬ Occurs (chars nd) (chars bs))
   contains-text true some v (i, j, found, order, within) = (chars (take i bs), chars (drop j bs), (text_between i j found.1 some v).0)
   contains-text false some v none = found_text bs u nd None v some none
 
-  pub contains-literal : (b : Bool) → 0 < length nd → All (λ b. b < 128) nd → MatchBool b (HasMatch (FindsText nd) bs) (FindsText nd bs None)
+  pub contains-literal : (b : Bool) → 0 < length nd → IsLiteral nd → MatchBool b (HasMatch (FindsText nd) bs) (FindsText nd bs None)
       → MatchBool b (Occurs (chars nd) (chars bs)) (¬ Occurs (chars nd) (chars bs))
   contains-literal b some low said = contains-text b some (literal-utf8 nd low) said
+
+  -- where there is no match of a literal
+  module _ {T : Type 0} (o : Option T) (P : T → Type 0) (low : IsLiteral nd) where
+    pub split_once-none : 0 < length nd → MatchOption o (FindsText nd bs None) P → IfNone o (¬ Occurs (chars nd) (chars bs))
+    split_once-none some said = none_weaker P o (λ none. found_text bs u nd None (literal-utf8 nd low) some none) said
 
 pub ruleset cut_once = (
   append-nil,
@@ -200,17 +226,15 @@ pub ruleset cut_once = (
   literal_between,
   text_first,
   text_nowhere,
-  literal_nowhere,
   text_in_front,
   literal_in_front,
   text_at_end,
   starts_with-text,
-  starts_with-literal,
   ends_with-text,
-  ends_with-literal,
   contains-char,
   contains-text,
   contains-literal,
+  split_once-none,
 )
 
 -- a text cut at several literals or texts, one after another

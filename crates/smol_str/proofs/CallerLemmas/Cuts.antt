@@ -16,7 +16,7 @@ use Rattle.smol_str.proofs.TextLemmas.Places.{some_char}
 use Rattle.std.specs.List.{last_or}
 use Rattle.smol_str.proofs.CutLemmas.Cut.{IsCut-cut}
 use Rattle.smol_str.proofs.CallerLemmas.Loops.{AreOk, MapsBy, collected_oks, mapped, oks, texts_made}
-use Rattle.smol_str.proofs.CallerLemmas.Texts.{IsUtf8-one, chars-cons, literal-utf8}
+use Rattle.smol_str.proofs.CallerLemmas.Texts.{IsLiteral, IsUtf8-one, chars-cons, literal-utf8}
 use Rattle.smol_str.proofs.CallerLemmas.Wire.{items}
 use Rattle.smol_str.proofs.CutLemmas.Replace.{few_pieces, replaced-itself}
 use Rattle.smol_str.proofs.PieceLemmas.{gives-split, gives-split_at}
@@ -65,7 +65,7 @@ pub split_at_literal : {steps : Split (Bor (List ℕ)) → Option (Bor (List ℕ
     (xs : List (Bor (List ℕ))) (s t : Split (Bor (List ℕ))) (bs nd : List ℕ) → Yields steps s xs t
     → ((u : Split (Bor (List ℕ))) × steps t None u)
     → ((s : _) (o : _) (t : _) → steps s o t → split_steps (λ (n : Bor (List ℕ)). FindsText n.now) (λ n m. m.now ≡ n.now) s o t)
-    → split_has_more s ≡ true → split_text s ≡ bs → (split_pattern s).now ≡ nd → IsUtf8 bs → All (λ b. b < 128) nd → 0 < length nd
+    → split_has_more s ≡ true → split_text s ≡ bs → (split_pattern s).now ≡ nd → IsUtf8 bs → IsLiteral nd → 0 < length nd
     → map str_text xs ≡ cut (chars bs) (chars nd) (no_limit (chars bs))
 split_at_literal xs s t bs nd runs ends f more text is u low some =
     (split_at_text xs s t runs ends f more).1 bs nd text is u (literal-utf8 nd low) some
@@ -153,7 +153,7 @@ module _ (values : List Meaning) (k : ℕ) (d : Meaning) (a r : List ℕ) (withi
       → (get_or values k d).text ≢ a ++ (chars nd ++ r)
   text_lacked t nd are some u = lacked t (chars nd) are (some_char nd u some)
 
-  pub literal_lacked : (t nd : List ℕ) → texts values ≡ cut t (chars nd) (no_limit t) → 0 < length nd → All (λ b. b < 128) nd
+  pub literal_lacked : (t nd : List ℕ) → texts values ≡ cut t (chars nd) (no_limit t) → 0 < length nd → IsLiteral nd
       → (get_or values k d).text ≢ a ++ (chars nd ++ r)
   literal_lacked t nd are some low = text_lacked t nd are some (literal-utf8 nd low)
 

@@ -19,6 +19,7 @@ use Rattle.std.specs.Str.Lines.{lines}
 use Rattle.std.specs.declared.str.Lines.{Lines}
 use Rattle.std.proofs.lemmas.Iterator.Splits.{YieldsList-from_lines}
 use Rattle.std.proofs.lemmas.Grind.{fold-append}
+use Rattle.std.proofs.lemmas.List.Elements.{filter_map-append}
 use Rattle.smol_str.proofs.Common.{map-append}
 use Rattle.smol_str.proofs.IteratorLemmas.{weaker}
 use Rattle.std.specs.declared.iter.Map.{Map}
@@ -170,8 +171,17 @@ pub lines_numbered : {A : Type 0} (steps : Enumerate Lines → Option A → Enum
 lines_numbered steps xs s t run ends first =
     (refl, λ g last by. items_from_drains xs (t, run, λ _. ends) (all_numbered steps last g by s first))
 
--- a loop whose invariant folds or maps what was yielded goes on by `fold-append` and `map-append`
-pub ruleset by_line = (lines_yielded, lines_tried, lines_numbered, collected_oks, map-append, fold-append)
+-- a loop whose invariant folds, maps or filters what was yielded goes on by `fold-append` and the like
+pub ruleset by_line = (
+  lines_yielded,
+  lines_tried,
+  lines_numbered,
+  collected_oks,
+  map-append,
+  filter_map-append,
+  append-nil,
+  fold-append,
+)
 
 -- a loop over the characters of a text: all of them at its end, and in it no more than all
 module _ {steps : Chars → Option ℕ → Chars → Type 0} (xs : List ℕ) (s t : Chars) (run : Yields steps s xs t)

@@ -1,6 +1,9 @@
 -- Texts: their bytes and sizes, builders, and one character in place of another.
-use Rattle.smol_str.proofs.Common.{All, IsAscii-from_all, IsUtf8-from_ascii, ◌≡◌, ◌∷◌, ◌++◌, sym, Draft, OnHeap, appended, kind_with, ℕ, ◌+◌, ◌<◌, ◌≤◌, Result, IfOk, OnErr, subst, List, [], length, take, encode_utf8_all, refl, ap, ◌∙◌, inl, IsTrue, arith, flat_map, chars, all_scalars, IsUtf8, chars-encodes, chars_from_encodes, encodes-chars, encodes_same, chars-IsAscii, INLINE_CAP, size, IsShort, IsResident, place_of, Meaning, IsValueOf, IsAscii, replaced_all, each_with, each_replaced, rules, nat_tests, append-nil, append_assoc, encodes-append, IsAscii-cons, IsAscii-nil, nat_eq, pointwise, true}
+use Rattle.smol_str.proofs.Common.{◌^◌, encodes-IsAscii, get_or, list_all, ltb, ltb-true, IsAscii-from_all, IsUtf8-from_ascii, ◌≡◌, ◌∷◌, ◌++◌, sym, Draft, OnHeap, appended, kind_with, ℕ, ◌+◌, ◌<◌, ◌≤◌, Result, IfOk, OnErr, subst, List, [], length, take, encode_utf8_all, refl, ap, ◌∙◌, inl, IsTrue, arith, flat_map, chars, all_scalars, IsUtf8, chars-encodes, chars_from_encodes, encodes-chars, encodes_same, chars-IsAscii, INLINE_CAP, size, IsShort, IsResident, place_of, Meaning, IsValueOf, IsAscii, replaced_all, each_with, each_replaced, rules, nat_tests, append-nil, append_assoc, encodes-append, IsAscii-cons, IsAscii-nil, nat_eq, pointwise, true}
+use Rattle.std.proofs.lemmas.Fmt.{IsAscii-decimal}
+use Rattle.std.proofs.lemmas.List.Sums.{AllPass-from_list_all}
 use Rattle.std.proofs.lemmas.Slice.Eq.{bytes_eq-Decides}
+use Rattle.std.specs.Fmt.{decimal}
 use Rattle.std.proofs.lemmas.Str.{chars-append, chars-nil, encode_ascii}
 use Rattle.smol_str.proofs.CaseLemmas.Ascii.{size-mapped}
 use Rattle.smol_str.proofs.CutLemmas.Bytes.{each-moves, replaced_all-each, replaced_all-character}
@@ -30,10 +33,16 @@ IsUtf8-one c ascii = IsUtf8-from_ascii (c ∷ []) (IsAscii-cons c [] ascii IsAsc
 pub chars-cons : (c : ℕ) (bs : List ℕ) → c < 128 → chars (c ∷ bs) ≡ c ∷ chars bs
 chars-cons c bs ascii = chars-append (c ∷ []) bs (IsUtf8-one c ascii) ∙ ap (λ t. t ++ chars bs) (chars-one c ascii)
 
-pub literal-utf8 : (bs : List ℕ) → All (λ b. b < 128) bs → IsUtf8 bs
-literal-utf8 bs low = IsUtf8-from_ascii bs (IsAscii-from_all bs low)
+-- one of any length, whose bytes are tested in one step
+abbrev pub IsLiteral : List ℕ → Type 0
+IsLiteral bs = list_all (λ b. ltb b 128) bs ≡ true
 
-pub encodes-literal : (bs : List ℕ) → All (λ b. b < 128) bs → encode_utf8_all (chars bs) ≡ bs
+pub literal-utf8 : (bs : List ℕ) → IsLiteral bs → IsUtf8 bs
+literal-utf8 bs low =
+    let each = AllPass-from_list_all (λ b. ltb b 128) bs low in
+    IsUtf8-from_ascii bs (IsAscii-from_all bs (λ i d within. ltb-true (get_or bs i d) 128 (each i d within)))
+
+pub encodes-literal : (bs : List ℕ) → IsLiteral bs → encode_utf8_all (chars bs) ≡ bs
 encodes-literal bs low = encodes-chars bs (literal-utf8 bs low)
 
 -- what `==` says of two `&str`s, of which the second may be a literal of ASCII
@@ -44,7 +53,7 @@ module _ (bs cs : List ℕ) (same : chars bs ≡ chars cs) (u : IsUtf8 bs) where
   pub str_same : IsUtf8 cs → pointwise nat_eq bs cs ≡ true
   str_same v = (bytes_eq-Decides bs cs).1 (sym (encodes-chars bs u) ∙ ap encode_utf8_all same ∙ encodes-chars cs v)
 
-  pub literal_same : All (λ b. b < 128) cs → pointwise nat_eq bs cs ≡ true
+  pub literal_same : IsLiteral cs → pointwise nat_eq bs cs ≡ true
   literal_same low = str_same (literal-utf8 cs low)
 
 pub ruleset texts = (
@@ -61,7 +70,7 @@ pub ruleset texts = (
 )
 
 -- two texts compared by `==` or `match`
-pub ruleset compared = (same_bytes, str_same, literal_same, chars-as_str)
+pub ruleset compared = (same_bytes, str_same, literal_same, chars-as_str, chars-nil)
 
 -- ---- a text, or one character of ASCII, in place of each character of ASCII, as `text.replace_smolstr(alloc, "_", "-")`
 
@@ -98,4 +107,8 @@ pub printed-value : {E : Type 0} (r : Result Meaning E) (t : List ℕ) → IfOk 
     → IfOk r (λ v. v.place ≡ place_of v.text) → IfOk r (λ v. IsValueOf t v)
 printed-value r t same place = search (rules, encodes_same)
 
-pub ruleset prints = (printed-value, encodes-append, encodes-chars, encodes-literal, encode_ascii)
+-- the digits of a number are a text
+pub encodes-decimal : (n : ℕ) → n < 2 ^ 64 → encode_utf8_all (decimal n) ≡ decimal n
+encodes-decimal n fits = encodes-IsAscii (decimal n) (IsAscii-decimal n fits)
+
+pub ruleset prints = (printed-value, encodes-append, encodes-chars, encodes-literal, encodes-decimal, encode_ascii)

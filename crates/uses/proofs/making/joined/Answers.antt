@@ -2,8 +2,5 @@ use Rattle.std.proofs.Common.{arith}
 use Rattle.smol_str.proofs.CallerLemmas.{builders}
 use Rattle.uses.proofs.making.joined.Goals as goal
 
-pub loop-part-preserved : goal.loop-part-preserved
-loop-part-preserved c = grind (arith, builders)
-
 pub returns-in_err-push_str-clause-refused : goal.returns-in_err-push_str-clause-refused
 returns-in_err-push_str-clause-refused c = grind (arith, builders)
