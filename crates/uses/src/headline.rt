@@ -399,17 +399,12 @@ pub fn lie_alike(left: &SmolStr, right: &SmolStr) -> bool
 }
 
 /// Two values of one text, pinned or not, hash alike.
-pub fn hash_alike<H: Hasher>(
-    left: &SmolStr,
-    right: &SmolStr,
-    left_state: &mut H,
-    right_state: &mut H,
-)
+pub fn hash_alike<H: Hasher>(left: &SmolStr, right: &SmolStr, state: &mut H, right_state: &mut H)
     requires one_text { left.now.text ≡ right.now.text }
-    requires one_state { left_state.now ≡ right_state.now }
-    ensures { left_state.new ≡ right_state.new }
+    requires one_state { state.now ≡ right_state.now }
+    ensures { state.new ≡ right_state.new }
 {
-    left.hash(left_state);
+    left.hash(state);
     right.hash(right_state);
 }
 

@@ -54,11 +54,24 @@ pub fn both(alloc: Global, first: &str, second: &str) -> Result<SmolStrBuilder, 
 #[tactic(auto, using(smol_str::proofs::CallerLemmas::builders))]
 pub fn push_entry(out: &mut SmolStrBuilder, key: &str, value: &SmolStr) -> Result<(), AllocError>
     ensures ok { OnOk result (out.new ≡ appended out.old (chars key.now ++ (chars (codes ",") ++ value.now.text))) }
-    ensures refused { OnErr result ((appended out.old (chars key.now ++ (44 ∷ value.now.text))).kind ≡ OnHeap) }
+    ensures refused { OnErr result ((appended out.old ((chars key.now ++ (44 ∷ [])) ++ value.now.text)).kind ≡ OnHeap) }
 {
     out.push_str(key)?;
     out.push(',')?;
     out.push_str(value)
+}
+
+/// The texts of values at a builder's end.
+#[tactic(auto, using(smol_str::proofs::CallerLemmas::builders))]
+pub fn push_all(out: &mut SmolStrBuilder, parts: &[SmolStr]) -> Result<(), AllocError>
+    ensures ok { OnOk result (out.new ≡ appended out.old (flat_map (λ part. part.text) parts.now)) }
+    ensures refused { OnErr result ((appended out.old (flat_map (λ part. part.text) parts.now)).kind ≡ OnHeap) }
+{
+    let _text = out.as_str();
+    for part in parts {
+        out.push_str(part)?;
+    }
+    Ok(())
 }
 
 /// A line's end and the next line's indentation at a builder's end.
@@ -71,12 +84,7 @@ pub fn push_line_end(out: &mut SmolStrBuilder, level: u8) -> Result<(), AllocErr
 }
 
 /// A word, a number and a value.
-pub fn line_with(
-    alloc: Global,
-    word: &str,
-    number: u64,
-    value: &SmolStr,
-) -> Result<SmolStr, FormatError>
+pub fn line(alloc: Global, word: &str, number: u64, value: &SmolStr) -> Result<SmolStr, FormatError>
     ensures text { IfOk result (λ v. encode_utf8_all v.text ≡ word.now ++ (codes " " ++ (decimal number
         ++ (codes " " ++ (encode_utf8_all value.now.text ++ codes "\n"))))) }
     ensures place { IfOk result (λ v. v.place ≡ place_of v.text) }

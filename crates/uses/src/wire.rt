@@ -159,11 +159,7 @@ pub fn read_out<R: Read>(
 }
 
 /// What a reader has behind bytes that ended within a value: nothing.
-pub fn read_behind_early_end<R: Read>(
-    alloc: Global,
-    reader: &mut R,
-    bytes: &[u8],
-) -> Option<Vec<u8>>
+pub fn read_past_early_end<R: Read>(alloc: Global, reader: &mut R, bytes: &[u8]) -> Option<Vec<u8>>
     requires known { R.remaining reader.old ≡ Some bytes.now }
     ensures { IfSome result (λ more. more.items ≡ []) }
 {
@@ -201,17 +197,13 @@ pub fn valid_in_body(alloc: Global, bytes: &[u8]) -> Option<usize>
 }
 
 /// The next message of at most `limit` bytes. Of a longer one its size alone is read.
-pub fn next_limited(
-    alloc: Global,
-    messages: &mut &[u8],
-    limit: usize,
-) -> Result<SmolStr, LimitedFault>
-    ensures allowed { prefix_size messages.old.now ≤ limit →
+pub fn next_limited(alloc: Global, input: &mut &[u8], limit: usize) -> Result<SmolStr, LimitedFault>
+    ensures allowed { prefix_size input.old.now ≤ limit →
         IfErr result (λ fault. ¬ (fault ≡ LimitedFault.TooLong)) }
     ensures skipped { IfErr result (λ fault. fault ≡ LimitedFault.TooLong →
-        messages.new.now ≡ drop 4 messages.old.now) }
+        input.new.now ≡ drop 4 input.old.now) }
 {
-    deserialize_limited(alloc, messages, limit)
+    deserialize_limited(alloc, input, limit)
 }
 
 /// Whether the first message was not UTF-8. Its size and its body were read then, and the next message comes behind.
