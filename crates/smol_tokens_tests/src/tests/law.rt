@@ -29,13 +29,13 @@ enum OnLine {
 
 static MODES: [Law<OnLine>; 10] = table! {
     (Show, "run::run, show", Doubling(10), Texts(8), Plus(0), ForAny);
-    (Join, "run::run, join", Doubling(6), Texts(8), Plus(0), ForAny);
+    (Join, "run::run, join", Doubling(6), Texts(9), Plus(0), ForAny);
     (Lower, "run::run, lower", Doubling(10), Texts(8), Plus(0), ForAny);
     (Upper, "run::run, upper", Doubling(10), Texts(8), Plus(0), ForAny);
     (Replace("a", "é"), "run::run, replace", Doubling(10), Texts(8), Plus(0), ForAny);
     (Replace("aa", "bbb"), "run::run, replace", Doubling(11), Texts(8), Plus(0), ForAny);
     (Replace("", "-"), "run::run, replace", Doublings(3, 4), Texts(10), Plus(0), ForAny);
-    (Tokens, "run::run_with_hasher, tokens", Doubling(10), Texts(12), Plus(640), ForAny);
+    (Tokens, "run::run_with_hasher, tokens", Doubling(10), Texts(14), Plus(640), ForAny);
     (Merge, "run::run_with_hasher, merge", Doubling(11), Texts(8), Plus(640), ForAny);
     (NoSum, "run::run_with_hasher, merge", Doubling(11), Texts(12), Plus(760), ForAny);
 };
