@@ -1,6 +1,10 @@
 -- Collecting and extending from an iterator that gives a list.
 use Rattle.smol_str.proofs.Common.{append-nil, ◌≡◌, ℕ, ◌<◌, ◌++◌, String, Global, Bor, true, Option, Result, Ok, Err, IfOk, OnOk, OnErr, subst, List, [], length, take, drop, map, refl, sym, ap, ◌∙◌, arith, chars, IsUtf8, YieldsList, chars-encodes, take-append-drop, INLINE_CAP, size, IsShort, Meaning, IsValueOf, Draft, OnHeap, appended, joined, joined_strs, joined_strings, joined_string_refs, str_text, string_text, replaced_all, cut, no_limit, map-id, items_from_drains, None, place_of, rules, on_err_weaker, on_ok_weaker}
+use denote.Param.Members.{Mut}
+use Rattle.std.specs.Fn.{Called}
+use Rattle.std.specs.List.{filter_map}
 use Rattle.std.specs.Iterator.{Yields, DrainsIf}
+use Rattle.std.specs.Iterator.Adapters.{filter_map_source, filter_map_callee, filter_map_steps}
 use Rattle.std.specs.Array.Iter.{array_steps, array_into_iter_items}
 use Rattle.std.specs.declared.array.IntoIter.{IntoIter}
 use Rattle.std.specs.declared.str.Split.{Split}
@@ -12,7 +16,7 @@ use Rattle.smol_str.specs.JoinedLaws.{joined-strs}
 use Rattle.smol_str.proofs.BuilderLemmas.Collect.{Reads, collected, made, not_short-outgrown, text-appended, heap-stopped, front-stopped}
 use Rattle.smol_str.proofs.IteratorLemmas.{YieldsList-from_array, gives-chars, gives-rev_chars, gives-slice, gives-lines, gives-split_char, gives-copied, gives-rev_copied, gives-map, gives-map_lent, gives-flat_chars, gives-take_chars, gives-skip_chars, gives-take_slice, gives-skip_slice}
 use Rattle.std.proofs.lemmas.Iterator.Adapters.{YieldsList-from_repeat_n, YieldsList-from_vec, YieldsList-from_skip_while}
-use Rattle.std.proofs.lemmas.Iterator.Consumers.{YieldsList-from_chain, YieldsList-from_filter}
+use Rattle.std.proofs.lemmas.Iterator.Consumers.{YieldsList-from_chain, YieldsList-from_filter, YieldsList-from_filter_map}
 use Rattle.std.proofs.lemmas.Iterator.Search.{YieldsList-from_take_while}
 use Rattle.smol_str.proofs.PieceLemmas.{joined-nothing, gives-split, gives-split_at}
 use Rattle.smol_str.proofs.TextLemmas.Lists.{flat_map-parts}
@@ -241,12 +245,20 @@ split_long s u v some more out =
     let long = rw joined-nothing at (not_short-outgrown texts_lent out gives) in
     (refl, omega (arith, long))
 
+-- `filter_map` of items that are values
+pub gives-filter_map : {S F A C : Type 0} {s : _} {ys : List A} {f : F} {steps : S → Option A → S → Type 0} (h : A → Option C)
+    (g : Mut F (A × Unit {0}) (Option C)) → YieldsList steps (λ x. x) (filter_map_source s) ys → filter_map_callee s ≡ f
+    → ((x : A) (r : Option C) (q : F) → Called g f (x, tt) r q → (q ≡ f) × (r ≡ h x))
+    → YieldsList (filter_map_steps steps g) (λ y. y) s (filter_map h ys)
+gives-filter_map h g gives c k = YieldsList-from_filter_map g h gives c k
+
 -- for `#[tactic(auto, using(..))]` at a caller, and for `search (rules, collecting_chars)` at its goal: of characters,
 pub ruleset collecting_chars = (
   gives-slice,
   gives-chars,
   gives-rev_chars,
   gives-map,
+  gives-filter_map,
   gives-flat_chars,
   gives-take_chars,
   gives-skip_chars,

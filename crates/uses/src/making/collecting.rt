@@ -1,6 +1,6 @@
 //! Texts collected from iterators whose items the caller knows, through adapters of std too.
-ghost use Rattle.std.specs.Prelude.{◌≡◌, ◌<◌, ◌==◌, ◌++◌, ◌∷◌, [], ℕ, String, drop, length, map, not, reverse, take, IfOk, OnOk, OnErr, List};
-ghost use Rattle.std.specs.List.{filter, prefix_len, slice_split};
+ghost use Rattle.std.specs.Prelude.{◌≡◌, ◌<◌, ◌==◌, ◌++◌, ◌∷◌, [], ℕ, String, drop, length, map, not, reverse, take, IfOk, OnOk, OnErr, List, None, Some, if◌then◌else◌};
+ghost use Rattle.std.specs.List.{filter, filter_map, prefix_len, slice_split};
 ghost use Rattle.std.specs.Str.{chars};
 ghost use Rattle.std.specs.Str.Lines.{lines};
 ghost use Rattle.smol_str.specs.Text.{IsShort};
@@ -33,6 +33,14 @@ pub fn without(alloc: Global, text: &str, left_out: char) -> Result<SmolStr, All
     ensures refused { OnErr result (¬ (IsShort (filter (λ c. not (c == left_out)) (chars text.now)))) }
 {
     SmolStr::from_chars(alloc, text.chars().filter(|c| *c != left_out))
+}
+
+/// A text without its underscores.
+#[tactic(auto, using(smol_str::proofs::CallerLemmas::collecting_chars))]
+pub fn squeezed(alloc: Global, text: &str) -> Result<SmolStr, AllocError>
+    ensures { IfOk result (λ v. IsValueOf (filter_map (λ c. if c == 95 then None else Some c) (chars text.now)) v) }
+{
+    SmolStr::from_chars(alloc, text.chars().filter_map(|c| (c != '_').then_some(c)))
 }
 
 /// A text in upper case of ASCII.
