@@ -1,7 +1,7 @@
 //! Values sorted, looked up in lists and maps, and in maps one inside another.
 ghost use Rattle.std.specs.Str.{chars};
 ghost use Rattle.std.specs.Map.{lookup};
-ghost use Rattle.std.specs.Prelude.{◌≡◌, ◌<◌, IfNone, IfSome, IsSomeAnd, ◌↔◌, OnOk, OnErr, IfOk, IsTrue, Some, false, option_copied, slice_get, ◌≢◌, ℕ, List, true, bytes_eq, option_map};
+ghost use Rattle.std.specs.Prelude.{◌≡◌, ◌<◌, IfNone, IfSome, IsSomeAnd, ◌↔◌, OnOk, OnErr, IfOk, IsTrue, Some, false, option_copied, slice_get, ◌≢◌, ℕ, List, true, bytes_eq, option_map, filter, not, ◌++◌, ◌∷◌, [], if◌then◌else◌};
 ghost use Rattle.std.specs.Ordering.{nat_cmp};
 ghost use Rattle.std.specs.Cmp.Lexicographic.{slice_cmp};
 ghost use Rattle.std.specs.List.Sorted.{IsPermutation, IsSorted, IsStrictlySortedBy};
@@ -16,7 +16,6 @@ use indexmap::IndexMap;
 use smol_str::SmolStr;
 use std::alloc::{AllocError, Global};
 use std::collections::{BTreeMap, HashMap};
-use std::hash::BuildHasher;
 
 /// Puts values in the order of their texts.
 #[tactic(auto, using(smol_str::proofs::CallerLemmas::sorting))]
@@ -56,16 +55,6 @@ pub fn ordered_id<'a>(ids: &'a BTreeMap<SmolStr, usize>, name: &SmolStr) -> Opti
     ids.get(name)
 }
 
-/// What a hashed map has at a name's text.
-pub fn number_of<'a, S: BuildHasher>(
-    numbers: &'a HashMap<SmolStr, u64, S>,
-    name: &SmolStr,
-) -> Option<&'a u64>
-    ensures { option_copied result ≡ value_at name.now.text numbers.now }
-{
-    numbers.get(name)
-}
-
 /// What a map of `indexmap` has at a name.
 #[tactic(auto, using(smol_str::proofs::CallerLemmas::lookups))]
 pub fn id_by_text<'a>(ids: &'a IndexMap<SmolStr, u64>, name: &str) -> Option<&'a u64>
@@ -74,11 +63,25 @@ pub fn id_by_text<'a>(ids: &'a IndexMap<SmolStr, u64>, name: &str) -> Option<&'a
     ids.get(name)
 }
 
-/// Whether a list of keywords has a name.
-pub fn is_keyword(keywords: &[SmolStr], name: &SmolStr) -> bool
-    ensures { result ≡ has_text name.now.text keywords.now }
+/// The names that were not seen, in their order.
+#[tactic(auto, using(smol_str::proofs::CallerLemmas::by_item))]
+pub fn unseen(alloc: Global, all: &[SmolStr], seen: &[SmolStr]) -> Result<Vec<SmolStr>, AllocError>
+    ensures { IfOk result (λ v. v.items ≡ filter (λ name. not (has_text name.text seen.now)) all.now) }
 {
-    keywords.contains(name)
+    let mut names = Vec::new(alloc);
+    for name in all {
+        push_if(!seen.contains(name), &mut names, name)?;
+    }
+    Ok(names)
+}
+
+fn push_if(wanted: bool, names: &mut Vec<SmolStr>, name: &SmolStr) -> Result<(), AllocError>
+    ensures { OnOk result (names.new.items ≡ names.old.items ++ (if wanted then name.now ∷ [] else [])) }
+{
+    if wanted {
+        names.push(name.clone()?)?;
+    }
+    Ok(())
 }
 
 /// Whether a value of a list has a name's text.

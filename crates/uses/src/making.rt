@@ -6,7 +6,6 @@ ghost use Rattle.smol_str.specs.Draft.{OnHeap, appended};
 ghost use Rattle.smol_str.specs.Text.{IsShort, blank_run, place_of, IsResident};
 ghost use Rattle.smol_str.specs.Meaning.{IsValueOf, texts};
 ghost use Rattle.std.specs.Fmt.{decimal};
-ghost use Rattle.uses.specs.Widths.{right_aligned};
 ghost use Rattle.uses.specs.Layout.{untabbed, margin, line_text};
 ghost use Rattle.std.specs.String.{string_bytes};
 ghost use Rattle.serde.specs.Event.{text};
@@ -84,12 +83,12 @@ pub fn push_line_end(out: &mut SmolStrBuilder, level: u8) -> Result<(), AllocErr
 }
 
 /// A word, a number and a value.
-pub fn line(alloc: Global, word: &str, number: u64, value: &SmolStr) -> Result<SmolStr, FormatError>
-    ensures text { IfOk result (λ v. encode_utf8_all v.text ≡ word.now ++ (codes " " ++ (decimal number
+pub fn line_with(alloc: Global, word: &str, n: u64, value: &SmolStr) -> Result<SmolStr, FormatError>
+    ensures text { IfOk result (λ v. encode_utf8_all v.text ≡ word.now ++ (codes " " ++ (decimal n
         ++ (codes " " ++ (encode_utf8_all value.now.text ++ codes "\n"))))) }
     ensures place { IfOk result (λ v. v.place ≡ place_of v.text) }
 {
-    format_smolstr!(alloc; "{word} {number} {value}\n")
+    format_smolstr!(alloc; "{word} {n} {value}\n")
 }
 
 /// A text.
@@ -106,14 +105,6 @@ pub fn signed(mut builder: SmolStrBuilder, number: u64) -> Result<SmolStr, Forma
 {
     write!(builder, "{number}-")?;
     Ok(builder.into_value()?)
-}
-
-/// A number, with spaces before it where it is narrow.
-pub fn wide_number(alloc: Global, number: u64) -> Result<SmolStr, FormatError>
-    ensures text { IfOk result (λ v. encode_utf8_all v.text ≡ right_aligned 6 number) }
-    ensures place { IfOk result (λ v. v.place ≡ place_of v.text) }
-{
-    format_smolstr!(alloc; "{number:>6}")
 }
 
 /// A key and its number, as a text.

@@ -1,5 +1,5 @@
 -- Loops over what std's iterators lend, and what `map` and `try_collect` make of it.
-use Rattle.smol_str.proofs.Common.{◌+◌, subst, Ok, Err, IfOk, refl, sym, map, ◌≡◌, ℕ, List, [], ◌∷◌, ◌++◌, length, Some, None, ap, ◌∙◌, arith, length-append, Meaning, Result, encode_utf8_all, append-nil, append_assoc, Option, IsValueOf, place_of, chars, str_text, Bor, items_from_drains, FoldsTo, All-nil, All-cons, IsUtf8, YieldsList-from_chars, encode_utf8, map-id, size, ◌≤◌, All, YieldsList, YieldsList-from_slice}
+use Rattle.smol_str.proofs.Common.{Bool, cond, get_or, take, ◌<◌, ◌+◌, subst, Ok, Err, IfOk, refl, sym, map, ◌≡◌, ℕ, List, [], ◌∷◌, ◌++◌, length, Some, None, ap, ◌∙◌, arith, length-append, Meaning, Result, encode_utf8_all, append-nil, append_assoc, Option, IsValueOf, place_of, chars, str_text, Bor, items_from_drains, FoldsTo, All-nil, All-cons, IsUtf8, YieldsList-from_chars, encode_utf8, map-id, size, ◌≤◌, All, YieldsList, YieldsList-from_slice}
 use Rattle.smol_str.proofs.CallerLemmas.Builders.{size-cons}
 use Rattle.smol_str.proofs.BuilderLemmas.Draft.{appended-twice, OnHeap-long}
 use Rattle.smol_str.specs.Meaning.{AreValuesOf}
@@ -9,7 +9,7 @@ use Rattle.std.specs.List.{AllZip}
 use Rattle.std.specs.Iterator.{Yields, AlwaysYields}
 use Rattle.std.specs.Iterator.Adapters.{map_source, map_callee, enumerate_source, enumerate_count, enumerate_steps}
 use Rattle.std.specs.declared.iter.Enumerate.{Enumerate}
-use Rattle.std.specs.List.{enumerate_from}
+use Rattle.std.specs.List.{enumerate_from, filter}
 use Rattle.std.specs.Str.Iter.{chars_rest, chars_steps, lines_rest, lines_steps}
 use Rattle.std.specs.declared.str.Chars.{Chars}
 use Rattle.smol_str.proofs.TextLemmas.Places.{size-append, size-chars}
@@ -19,7 +19,7 @@ use Rattle.std.specs.Str.Lines.{lines}
 use Rattle.std.specs.declared.str.Lines.{Lines}
 use Rattle.std.proofs.lemmas.Iterator.Splits.{YieldsList-from_lines}
 use Rattle.std.proofs.lemmas.Grind.{fold-append}
-use Rattle.std.proofs.lemmas.List.Elements.{filter_map-append}
+use Rattle.std.proofs.lemmas.List.Elements.{filter_map-append, filter_more}
 use Rattle.smol_str.proofs.Common.{map-append}
 use Rattle.smol_str.proofs.IteratorLemmas.{weaker}
 use Rattle.std.specs.declared.iter.Map.{Map}
@@ -228,4 +228,10 @@ pub items_tried : {A F C D E : Type 0} (more : Map (Iter A) F → Option (Result
 items_tried more rs s t w h =
     let rest = iter_rest (map_source s) in tried iter_steps rest more rs s t w h (YieldsList-from_slice rest refl)
 
-pub ruleset by_item = (items_tried, all_tried, collected_oks)
+-- a loop over a slice that keeps some of its items, which a function pushes where they are wanted
+pub kept : {X : Type 0} (p : X → Bool) (xs : List X) (i : ℕ) → (filter p (take (i + 1) xs) ≡ filter p (take (i + 1) xs))
+    × ((x : X) → i < length xs → x ≡ get_or xs i x → filter p (take (i + 1) xs) ≡ filter p (take i xs) ++ cond (p x) (x ∷ []) [])
+kept p xs i =
+    (refl, λ x h at. filter_more p xs i x h ∙ (λ j. filter p (take i xs) ++ cond (p (sym at j)) (sym at j ∷ []) []))
+
+pub ruleset by_item = (items_tried, all_tried, collected_oks, kept)
