@@ -113,24 +113,7 @@ module _ (t : List ℕ) (scalars : IsTrue (all_scalars t)) where
 pub chars-trim : (bs : List ℕ) → IsUtf8 bs → chars (trim bs) ≡ drop_trailing_whitespace (skip_leading_whitespace (chars bs))
 chars-trim bs u = rw (encodes-chars bs u) at (chars-trim_text (chars bs) (scalars-chars bs u))
 
--- what `trim` gives is no longer, as where it is a measure
-size-skip : (t : List ℕ) → size (skip_leading_whitespace t) ≤ size t
-size-skip [] = omega arith
-size-skip (c ∷ t) = grind (arith, common_steps, size-append (c ∷ []) t, size-skip t)
-
-size-drop_trailing : (t : List ℕ) → size (drop_trailing_whitespace t) ≤ size t
-size-drop_trailing [] = omega arith
-size-drop_trailing (c ∷ t) =
-    grind (arith, common_steps, size-append (c ∷ []) t, size-append (c ∷ []) (drop_trailing_whitespace t), size-drop_trailing t)
-
-pub length-trimmed : (bs : List ℕ) → IsUtf8 bs → length (trim bs) ≤ length bs
-length-trimmed bs u =
-    let t = chars bs in
-    let is : trim bs ≡ encode_utf8_all (drop_trailing_whitespace (skip_leading_whitespace t)) =
-    rw (encodes-chars bs u) at (trim-text t (scalars-chars bs u)) in
-    omega (arith, ap length is, size-drop_trailing (skip_leading_whitespace t), size-skip t, size-chars bs u)
-
-pub ruleset trimmed = (char_trimmed, chars-trim, chars-trim_text, length-trimmed)
+pub ruleset trimmed = (char_trimmed, chars-trim, chars-trim_text)
 
 -- ---- and a text, which may be a literal of ASCII
 none_weaker : {T P Q : Type 0} (R : T → Type 0) (o : Option T) → (P → Q) → MatchOption o P R → IfNone o Q
