@@ -32,12 +32,14 @@ fn run(rt: &HostRuntime) -> Option<u64> {
         SmolStr::new(alloc, text).ok()?,
     );
     let (json, form) = (to_json(alloc, &left).ok()?, wire_form(alloc, &left)?);
+    let string = String::from_str(alloc, text).ok()?;
     let mut sum = 0u64;
     for _ in 0..u64::from_str_radix(rounds, 10).ok()? {
         let size = match name.as_str() {
             "eq" => usize::from(left == right),
             "hash" => hash(&left),
             "serialize" => wire_form(alloc, &left)?.len(),
+            "from_string_refs" => twice(alloc, &string)?.len(),
             "split_wire" => split_wire(alloc, &form).ok()?.0.len(),
             "to_json" => to_json(alloc, &left).ok()?.len(),
             "from_json" => from_json(alloc, &json).ok()?.len(),
@@ -57,6 +59,10 @@ fn made(alloc: Global, name: &str, text: &str) -> Option<SmolStr> {
         "from_utf8" => SmolStr::from_utf8(alloc, text.as_bytes()).ok(),
         _ => None,
     }
+}
+
+fn twice(alloc: Global, string: &String) -> Option<SmolStr> {
+    SmolStr::from_string_refs(alloc, [string, string].into_iter()).ok()
 }
 
 fn hash(value: &SmolStr) -> usize {
