@@ -6,7 +6,8 @@
 --     texts          `IsValueOf (chars bytes) v` where `bytes ≡ encode_utf8_all t`, as `as_str` says: `v.text ≡ t`
 --     compared       `IsTrue (text == "help") ↔ (chars text.now ≡ chars (codes "help"))`, of a `match` on a `&str` too; with
 --                    `""`, `chars text.now ≡ []`
---     builders       `appended (appended b t) u ≡ appended b (t ++ u)`; no append of a short whole is refused
+--     builders       `appended (appended b t) u ≡ appended b (t ++ u)`; no append of a short whole is refused; where one is,
+--                    `(appended out.old t).kind ≡ OnHeap` of the whole t
 --     by_char        `IsValueOf (chars text.now) v` of a loop that pushes each of `text.chars()` into a new builder
 --     prints         `IsValueOf (chars key.now ++ decimal number) v` of what a print says in bytes
 --     replacing      `IsValueOf (each_replaced 95 45 t) v` after `replace_smolstr(alloc, "_", "-")`
@@ -23,7 +24,8 @@
 --     by_line        `map w values ≡ map h (lines text.now)`, of a loop over `lines`, or `map` and `try_collect`; the same of
 --                    `enumerate_from 0 (lines text.now)`, of a loop over `lines().enumerate()`; with `filter_map` for `map`,
 --                    of a loop that keeps some
---     by_item        `texts values.items ≡ map h items.now`, of `map` and `try_collect` over a slice
+--     by_item        `texts values.items ≡ map h items.now`, of `map` and `try_collect` over a slice; `kept.items ≡ filter p
+--                    items.now`, of a loop that keeps some
 --     collecting_chars, collecting_strs, collecting_pieces, collecting_strings
 --                    `IsValueOf (take 3 (chars text.now)) v` of `from_chars(alloc, text.chars().take(3))`, and the like
 --     chars_by_std, strings_by_std
@@ -50,7 +52,7 @@ pub mod Cuts
 pub mod CutOnce
 pub mod Wire
 pub mod Crates
-pub use Rattle.smol_str.proofs.CallerLemmas.Texts.{texts, compared, replacing, prints}
+pub use Rattle.smol_str.proofs.CallerLemmas.Texts.{texts, compared, replacing, prints, chars-as_str}
 pub use Rattle.smol_str.proofs.CallerLemmas.Builders.{builders}
 pub use Rattle.smol_str.proofs.CallerLemmas.Values.{texts-push, text_at, listed}
 pub use Rattle.smol_str.proofs.CallerLemmas.Sorting.{sorting}
@@ -64,6 +66,8 @@ pub use Rattle.smol_str.proofs.CallerLemmas.Wire.{forms, parts, items, items-apa
 pub use Rattle.smol_str.proofs.CallerLemmas.Crates.{owned, chars_cut}
 -- each front of a short text is short; the size of the text that bytes spell, and of two texts, one after the other
 pub use Rattle.smol_str.proofs.TextLemmas.Places.{IsShort-front, size-chars, size-append}
+-- what holds of an `Err` where it holds whatever came, or of the one fault that came
+pub use Rattle.smol_str.proofs.TextLemmas.Places.{OnErr-always, IfErr-is}
 -- bytes of a text in two parts, at the size of the first: they may be cut there, into these
 pub use Rattle.smol_str.proofs.TextLemmas.Split.{boundary-parts, chars-take, chars-drop}
 -- appending twice is appending the joined text, and nothing changes nothing; a new builder leaves its buffer only for a
