@@ -6,8 +6,10 @@
 --     texts          `IsValueOf (chars bytes) v` where `bytes ≡ encode_utf8_all t`, as `as_str` says: `v.text ≡ t`
 --     compared       `IsTrue (text == "help") ↔ (chars text.now ≡ chars (codes "help"))`, of a `match` on a `&str` too; with
 --                    `""`, `chars text.now ≡ []`
---     builders       `appended (appended b t) u ≡ appended b (t ++ u)`; no append of a short whole is refused; where one is,
---                    `(appended out.old t).kind ≡ OnHeap` of the whole t
+--     builders       `appended (appended b t) u ≡ appended b (t ++ u)`; no append of a short whole is refused
+--     passed_builders
+--                    the same of a builder that is passed in; where an append is refused, `(appended out.old t).kind ≡
+--                    OnHeap` of the whole t
 --     by_char        `IsValueOf (chars text.now) v` of a loop that pushes each of `text.chars()` into a new builder
 --     prints         `IsValueOf (chars key.now ++ decimal number) v` of what a print says in bytes
 --     replacing      `IsValueOf (each_replaced 95 45 t) v` after `replace_smolstr(alloc, "_", "-")`
@@ -53,7 +55,7 @@ pub mod CutOnce
 pub mod Wire
 pub mod Crates
 pub use Rattle.smol_str.proofs.CallerLemmas.Texts.{texts, compared, replacing, prints, chars-as_str}
-pub use Rattle.smol_str.proofs.CallerLemmas.Builders.{builders}
+pub use Rattle.smol_str.proofs.CallerLemmas.Builders.{builders, passed_builders}
 pub use Rattle.smol_str.proofs.CallerLemmas.Values.{texts-push, text_at, listed}
 pub use Rattle.smol_str.proofs.CallerLemmas.Sorting.{sorting}
 pub use Rattle.smol_str.proofs.CallerLemmas.Interning.{interning}
@@ -72,6 +74,6 @@ pub use Rattle.smol_str.proofs.TextLemmas.Places.{OnErr-always, IfErr-is}
 pub use Rattle.smol_str.proofs.TextLemmas.Split.{boundary-parts, chars-take, chars-drop}
 -- appending twice is appending the joined text, and nothing changes nothing; a new builder leaves its buffer only for a
 -- text that is not short
-pub use Rattle.smol_str.proofs.BuilderLemmas.Draft.{appended-twice, appended-nothing, OnHeap-long}
+pub use Rattle.smol_str.proofs.BuilderLemmas.State.{appended-twice, appended-nothing, OnHeap-long}
 -- cuts: the one there is, a first match in front of a cut, a text without a match, and what joins pieces
 pub use Rattle.smol_str.proofs.CutLemmas.Cut.{same_parts, joined_more, IsCut-cut, IsCut-unique, IsCutAt-step, IsCutAt-unmatched}

@@ -3,7 +3,7 @@ pub use Rattle.std.proofs.Common.{◌≡◌, ℕ, ◌<◌, List, [], ◌∷◌, 
 pub use Rattle.smol_str.specs.Buffer.{IsPacked, packed, padded, unpacked, HaveOneBuffer}
 pub use Rattle.smol_str.specs.Case.{front, lower, upper, lowercased, uppercased, IsAsciiText, HasSigma, BeginsPastAscii, letter, converted, letters, full_case, mapped, IsMappedAlone, IsAsciiFront}
 pub use Rattle.smol_str.specs.Cut.{StandsAt, Occurs, IsNextMatch, IsCut, IsOnlyCut, joined_by, IsFirstAfter, IsCutAt, but_last, IsSpelled, IsCutBetween}
-pub use Rattle.smol_str.specs.Draft.{Draft, OnHeap, empty_draft, kind_for, appended, Kind, InBuffer, kind_with}
+pub use Rattle.smol_str.specs.BuilderState.{BuilderState, OnHeap, empty_builder, kind_for, appended, Kind, InBuffer, kind_with}
 pub use Rattle.smol_str.specs.Joined.{joined, str_text, string_text, joined_strs, joined_strings, joined_string_refs}
 pub use Rattle.smol_str.specs.Meaning.{Meaning, IsValueOf}
 pub use Rattle.smol_str.specs.Replace.{replaced, replaced_all, split_at_first, cut, cut_at, cut_between, spell, no_limit, match_count, each_with, each_replaced}

@@ -6,7 +6,7 @@ use Rattle.std.specs.String.{string_bytes}
 use Rattle.smol_str.specs.declared.builder.BuilderRepr.{BuilderRepr}
 use Rattle.smol_str.specs.declared.builder.BuilderRepr.TheVariants.{Inline, Heap}
 use Rattle.smol_str.specs.Text.{IsShort}
-use Rattle.smol_str.specs.Draft.{Draft, Kind, InBuffer, OnHeap}
+use Rattle.smol_str.specs.BuilderState.{BuilderState, Kind, InBuffer, OnHeap}
 
 -- the text that an arm holds
 abbrev pub builder_text : BuilderRepr → List ℕ
@@ -24,5 +24,5 @@ IsSoundBuilder (Inline t) = IsShort t
 IsSoundBuilder (Heap s) = Unit {0}
 
 -- a builder that keeps its text in this string
-abbrev pub heap_draft : String Global → Draft
-heap_draft s = record { text = chars (string_bytes s); kind = OnHeap }
+abbrev pub heap_builder : String Global → BuilderState
+heap_builder s = record { text = chars (string_bytes s); kind = OnHeap }

@@ -10,7 +10,7 @@ use Rattle.std.specs.Iterator.Runs.{SomeRun, WholeRun}
 use Rattle.smol_str.specs.Text.{IsShort}
 use Rattle.smol_str.specs.Meaning.{Meaning, IsValueOf}
 use Rattle.smol_str.specs.Cut.{but_last}
-use Rattle.smol_str.specs.Draft.{Draft, OnHeap, appended}
+use Rattle.smol_str.specs.BuilderState.{BuilderState, OnHeap, appended}
 
 module _ {S A : Type 0} (texts : List A → List ℕ) (steps : S → Option A → S → Type 0) (s : S) where
   -- the iterator gave these items and no more, and v, which means m v, is the value of their text
@@ -22,10 +22,10 @@ module _ {S A : Type 0} (texts : List A → List ℕ) (steps : S → Option A �
   Outgrown = SomeRun steps s (λ run. ¬ (IsShort (texts run.items)))
 
   -- the iterator gave these items and no more, and their text was appended
-  unfoldable pub AppendedAll : Draft → Draft → Type 0
+  unfoldable pub AppendedAll : BuilderState → BuilderState → Type 0
   AppendedAll old new = WholeRun steps s (λ run. new ≡ appended old (texts run.items))
 
   -- the last item that came would have put the builder on the heap; the text of those before it was appended
-  unfoldable pub StoppedAt : Draft → Draft → Type 0
+  unfoldable pub StoppedAt : BuilderState → BuilderState → Type 0
   StoppedAt old new = SomeRun steps s (λ run. (0 < length run.items)
       × (new ≡ appended old (texts (but_last run.items))) × ((appended old (texts run.items)).kind ≡ OnHeap))

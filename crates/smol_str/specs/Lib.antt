@@ -8,14 +8,14 @@ pub mod Shared
 pub mod ValueArms
 pub mod Needle
 pub mod Faults
-pub mod Draft
+pub mod BuilderState
 pub mod BuilderArms
 pub mod Joined
 pub mod JoinedLaws
 pub mod Steps
 pub mod Collect
 pub mod TextExamples
-pub mod DraftExamples
+pub mod BuilderStateExamples
 pub mod Case
 pub mod Cut
 pub mod Replace

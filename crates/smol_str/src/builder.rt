@@ -5,7 +5,7 @@ ghost use Rattle.std.specs.String.{string_bytes};
 ghost use Rattle.smol_str.specs.Text.{size, IsShort, IsResident, blank_run};
 ghost use Rattle.smol_str.specs.Buffer.{padded};
 ghost use Rattle.smol_str.specs.Meaning.{IsValueOf};
-ghost use Rattle.smol_str.specs.Draft.{InBuffer, OnHeap, empty_draft, appended, kind_for};
+ghost use Rattle.smol_str.specs.BuilderState.{InBuffer, OnHeap, empty_builder, appended, kind_for};
 
 mod chars;
 mod compare;
@@ -50,9 +50,9 @@ enum BuilderRepr {
 }
 
 impl Model for SmolStrBuilder {
-    ghost use Rattle.smol_str.specs.Draft.{Draft};
+    ghost use Rattle.smol_str.specs.BuilderState.{BuilderState};
 
-    ghost Value = { Draft };
+    ghost Value = { BuilderState };
 
     ghost use Rattle.smol_str.specs.BuilderArms.{builder_text, builder_kind, IsSoundBuilder};
 
@@ -65,7 +65,7 @@ impl SmolStrBuilder {
     /// An empty builder, which takes no memory.
     #[inline(always)]
     pub fn new(alloc: Global) -> SmolStrBuilder
-        ensures { result ≡ empty_draft InBuffer }
+        ensures { result ≡ empty_builder InBuffer }
     {
         SmolStrBuilder {
             alloc,
@@ -84,7 +84,7 @@ impl SmolStrBuilder {
     /// assert!(rt; builder.is_empty() && builder.inline_buffer().is_none());
     /// ```
     pub fn with_capacity(alloc: Global, capacity: usize) -> Result<SmolStrBuilder, AllocError>
-        ensures ok { IfOk result (λ b. b ≡ empty_draft (kind_for capacity)) }
+        ensures ok { IfOk result (λ b. b ≡ empty_builder (kind_for capacity)) }
         ensures refused { OnErr result (INLINE_CAP < capacity) }
     {
         if capacity <= INLINE_CAP {

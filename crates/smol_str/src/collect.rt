@@ -9,7 +9,7 @@ ghost use Rattle.std.proofs.Common.{refl};
 ghost use Rattle.std.specs.Iterator.{IsFinite};
 ghost use Rattle.smol_str.specs.Text.{IsResident};
 ghost use Rattle.smol_str.specs.Meaning.{Meaning, IsValueOf};
-ghost use Rattle.smol_str.specs.Draft.{InBuffer, OnHeap, empty_draft, appended};
+ghost use Rattle.smol_str.specs.BuilderState.{InBuffer, OnHeap, empty_builder, appended};
 ghost use Rattle.smol_str.specs.Joined.{joined, joined_strs, joined_strings, joined_string_refs, char_text, str_text, string_text, string_ref_text};
 ghost use Rattle.smol_str.specs.JoinedLaws.{joined-chars, joined-strs, joined-string_refs};
 ghost use Rattle.smol_str.specs.Collect.{AppendedAll, StoppedAt, Collected, Outgrown};
@@ -112,7 +112,7 @@ pub trait ValueAlloc {
 
     /// A builder without text.
     fn builder(self) -> SmolStrBuilder
-        ensures { result ≡ empty_draft InBuffer };
+        ensures { result ≡ empty_builder InBuffer };
 
     /// The value of a builder's text.
     fn value_of(builder: SmolStrBuilder) -> Result<Self::Value, AllocError>

@@ -2,7 +2,7 @@
 ghost use Rattle.std.specs.Prelude.{◌≡◌, Some, IfOk, OnOk, OnErr};
 ghost use Rattle.std.specs.Str.{chars, IsUtf8};
 ghost use Rattle.smol_str.specs.Meaning.{IsPrintOf};
-ghost use Rattle.smol_str.specs.Draft.{OnHeap, appended, AppendsPrintOf};
+ghost use Rattle.smol_str.specs.BuilderState.{OnHeap, appended, AppendsPrintOf};
 ghost use Rattle.smol_str.specs.Messages.{format_message};
 
 use crate::buffer::INLINE_CAP;

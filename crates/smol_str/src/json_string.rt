@@ -16,7 +16,7 @@ ghost use Rattle.serde_json.specs.View.{view};
 ghost use Rattle.serde_json.specs.Written.{compact_text};
 ghost use Rattle.smol_str.specs.Text.{IsResident};
 ghost use Rattle.smol_str.specs.Meaning.{IsValueOf};
-ghost use Rattle.smol_str.specs.Draft.{InBuffer, empty_draft};
+ghost use Rattle.smol_str.specs.BuilderState.{InBuffer, empty_builder};
 ghost use Rattle.smol_str.specs.Plain.{is_plain, is_space, IsPlain, IsPlainJson, in_quotes};
 ghost use Rattle.smol_str.specs.Unescaped.{Unescapes, UnescapesAfterU, BeginsWithUnit, IsSurrogatePair};
 ghost use Rattle.smol_str.specs.Messages.{json_fault_message};
@@ -374,7 +374,7 @@ fn unescaped(alloc: Global, text: &str) -> Result<Option<SmolStr>, AllocError>
 /// Appends the characters that a JSON string's content spells; returns what comes after them.
 #[tactic(auto, using(crate::proofs::JsonLemmas::Unescaped::pieces_read))]
 fn push_unescaped<'a>(builder: &mut SmolStrBuilder, text: &'a str) -> Result<&'a str, AllocError>
-    requires { builder.old ≡ empty_draft InBuffer }
+    requires { builder.old ≡ empty_builder InBuffer }
     ensures { IfOk result (λ rest. Unescapes text.now (encode_utf8_all builder.new.text) rest.now) }
 {
     let mut rest = text;

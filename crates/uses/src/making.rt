@@ -2,7 +2,7 @@
 ghost use Rattle.std.specs.Prelude.{◌≡◌, ◌+◌, ◌*◌, ◌≤◌, ◌++◌, ◌∷◌, [], codes, length, IfOk, IsOk, OnErr, OnOk, encode_utf8_all, ◌↔◌, String, IsTrue};
 ghost use Rattle.std.specs.List.{flat_map};
 ghost use Rattle.std.specs.Str.{chars};
-ghost use Rattle.smol_str.specs.Draft.{OnHeap, appended};
+ghost use Rattle.smol_str.specs.BuilderState.{OnHeap, appended};
 ghost use Rattle.smol_str.specs.Text.{IsShort, blank_run, place_of, IsResident};
 ghost use Rattle.smol_str.specs.Meaning.{IsValueOf, texts};
 ghost use Rattle.std.specs.Fmt.{decimal};
@@ -50,7 +50,7 @@ pub fn both(alloc: Global, first: &str, second: &str) -> Result<SmolStrBuilder, 
 }
 
 /// A key, a comma and a value at a builder's end. Where an append is refused, the whole would not fit the buffer.
-#[tactic(auto, using(smol_str::proofs::CallerLemmas::builders))]
+#[tactic(auto, using(smol_str::proofs::CallerLemmas::passed_builders))]
 pub fn push_entry(out: &mut SmolStrBuilder, key: &str, value: &SmolStr) -> Result<(), AllocError>
     ensures ok { OnOk result (out.new ≡ appended out.old (chars key.now ++ (chars (codes ",") ++ value.now.text))) }
     ensures refused { OnErr result ((appended out.old ((chars key.now ++ (44 ∷ [])) ++ value.now.text)).kind ≡ OnHeap) }
@@ -61,7 +61,7 @@ pub fn push_entry(out: &mut SmolStrBuilder, key: &str, value: &SmolStr) -> Resul
 }
 
 /// The texts of values at a builder's end.
-#[tactic(auto, using(smol_str::proofs::CallerLemmas::builders))]
+#[tactic(auto, using(smol_str::proofs::CallerLemmas::passed_builders))]
 pub fn push_all(out: &mut SmolStrBuilder, parts: &[SmolStr]) -> Result<(), AllocError>
     ensures ok { OnOk result (out.new ≡ appended out.old (flat_map (λ part. part.text) parts.now)) }
     ensures refused { OnErr result ((appended out.old (flat_map (λ part. part.text) parts.now)).kind ≡ OnHeap) }

@@ -1,5 +1,5 @@
 -- For collecting, extending and building by steps: items drawn and appended one after another.
-use Rattle.smol_str.proofs.Common.{String, Global, string_bytes, chars, true, false, false≢true, ◌⊎◌, inr, ◌≡◌, ℕ, ◌<◌, List, [], ◌∷◌, ◌++◌, length, take, drop, map, Option, Some, Result, Ok, Err, IfOk, OnOk, OnErr, refl, ap, ◌∙◌, subst, arith, rules, inl, length-append, length-take, YieldsList, items_from_drains, append-nil, length-map, IsShort, IsResident, but_last, Draft, InBuffer, OnHeap, empty_draft, appended, joined, Meaning, IsValueOf, on_err_weaker, IfOk-weaker}
+use Rattle.smol_str.proofs.Common.{String, Global, string_bytes, chars, true, false, false≢true, ◌⊎◌, inr, ◌≡◌, ℕ, ◌<◌, List, [], ◌∷◌, ◌++◌, length, take, drop, map, Option, Some, Result, Ok, Err, IfOk, OnOk, OnErr, refl, ap, ◌∙◌, subst, arith, rules, inl, length-append, length-take, YieldsList, items_from_drains, append-nil, length-map, IsShort, IsResident, but_last, BuilderState, InBuffer, OnHeap, empty_builder, appended, joined, Meaning, IsValueOf, on_err_weaker, IfOk-weaker}
 use Rattle.smol_str.proofs.TextLemmas.Lists.{length_but_last}
 use Rattle.std.specs.Iterator.{Yields, YieldsThen, Drains, DrainsIf, ExtendsWithItems}
 use Rattle.std.specs.Iterator.Runs.{Run}
@@ -7,14 +7,14 @@ use Rattle.std.proofs.iter.runs.Lists.{Yields-both}
 use Rattle.std.proofs.iter.runs.Made.{run, took, to_end, to_item}
 use Rattle.std.proofs.lemmas.Grind.{flat_map-append}
 use Rattle.std.proofs.lemmas.Iterator.Consumers.{YieldsList-so_far}
-use Rattle.smol_str.specs.BuilderArms.{heap_draft}
+use Rattle.smol_str.specs.BuilderArms.{heap_builder}
 use Rattle.smol_str.specs.Collect.{AppendedAll, StoppedAt, Collected, Outgrown}
 use Rattle.smol_str.proofs.TextLemmas.Places.{IsShort-front}
-use Rattle.smol_str.proofs.BuilderLemmas.Draft.{appended-twice, OnHeap-long}
+use Rattle.smol_str.proofs.BuilderLemmas.State.{appended-twice, OnHeap-long}
 use Rattle.smol_str.proofs.BuilderLemmas.Push.{appended-heap}
 
 -- after one item more
-pub appended-last : {A : Type 0} (f : A → List ℕ) (old now new : Draft) (xs : List A) (x : A)
+pub appended-last : {A : Type 0} (f : A → List ℕ) (old now new : BuilderState) (xs : List A) (x : A)
     → now ≡ appended old (joined f xs) → new ≡ appended now (f x) → new ≡ appended old (joined f (xs ++ x ∷ []))
 appended-last f old now new xs x h a = search (rules, arith, appended-twice, flat_map-append, append-nil)
 
@@ -37,7 +37,7 @@ came-before steps s t (x ∷ y ∷ xs) (u, step, came) =
     let before = came-before steps u t (y ∷ xs) came in (before.0, (u, step, before.1))
 
 -- a loop that appends the text of each item: the builder has that of the items xs so far
-module _ {S A : Type 0} (steps : S → Option A → S → Type 0) (s : S) (texts : List A → List ℕ) (xs : List A) (old new : Draft)
+module _ {S A : Type 0} (steps : S → Option A → S → Type 0) (s : S) (texts : List A → List ℕ) (xs : List A) (old new : BuilderState)
     (now : new ≡ appended old (texts xs)) where
   -- at the end of the iterator
   pub all-appended : Drains steps s xs → AppendedAll texts steps s old new
@@ -59,26 +59,26 @@ module _ {S A : Type 0} (steps : S → Option A → S → Type 0) (s : S) where
   pub run-drains : (p : Run steps) → p.from ≡ s → p.whole ≡ true → Drains steps s p.items
   run-drains p from whole = let end = (took p).2 whole in (end.0, ((took p).0, run-yields p from, end.1))
 
-  module _ (texts : List A → List ℕ) (new : Draft) where
+  module _ (texts : List A → List ℕ) (new : BuilderState) where
     -- a new builder that the items put on the heap, or whose value is made
-    pub outgrown-stopped : StoppedAt texts steps s (empty_draft InBuffer) new → Outgrown texts steps s
+    pub outgrown-stopped : StoppedAt texts steps s (empty_builder InBuffer) new → Outgrown texts steps s
     unfolding StoppedAt Outgrown
     outgrown-stopped stopped = search (rules, OnHeap-long)
 
     pub collected-value : {V E : Type 0} (m : V → Meaning) (r : Result V E)
-        → AppendedAll texts steps s (empty_draft InBuffer) new → IfOk r (λ v. IsValueOf new.text (m v))
+        → AppendedAll texts steps s (empty_builder InBuffer) new → IfOk r (λ v. IsValueOf new.text (m v))
         → IfOk r (Collected texts steps s m)
     unfolding AppendedAll Collected
     collected-value m r (p, from, whole, all) is = IfOk-weaker r _ _ (λ v is. (p, from, whole, search rules)) is
 
-    pub outgrown-value : {V E : Type 0} (r : Result V E) → AppendedAll texts steps s (empty_draft InBuffer) new
+    pub outgrown-value : {V E : Type 0} (r : Result V E) → AppendedAll texts steps s (empty_builder InBuffer) new
         → OnErr r (¬ (IsResident new.text)) → OnErr r (Outgrown texts steps s)
     unfolding AppendedAll Outgrown
     outgrown-value r (p, from, whole, all) away = on_err_weaker r (λ away. (p, from, search rules)) away
 
 -- what std says of an extension
 pub extended : {U S A E : Type 0} (becomes : U → S → Type 0) (steps : S → Option A → S → Type 0) (texts : List A → List ℕ)
-    (iter : U) (old new : Draft) (r : Result (Unit {0}) E)
+    (iter : U) (old new : BuilderState) (r : Result (Unit {0}) E)
     → OnOk r ((it : S) × becomes iter it × AppendedAll texts steps it old new)
     → OnErr r ((it : S) × becomes iter it × StoppedAt texts steps it old new)
     → ExtendsWithItems becomes steps (λ old items new. new ≡ appended old (texts items)) iter old new r
@@ -88,7 +88,7 @@ extended becomes steps texts iter old new (Ok u) (it, is, (p, from, whole, all))
 extended becomes steps texts iter old new (Err e) all (it, is, (p, from, (some, front, heap))) =
     (it, but_last p.items, is, front, came-before steps it _ p.items (run-yields steps it p from))
 
-module _ {S : Type 0} (steps : S → Option ℕ → S → Type 0) (s : S) (xs : List ℕ) (old now new : Draft)
+module _ {S : Type 0} (steps : S → Option ℕ → S → Type 0) (s : S) (xs : List ℕ) (old now new : BuilderState)
     (is : now ≡ appended old xs) (t : S) (x : ℕ) (came : YieldsThen steps s xs (Some x) t) where
   -- characters that came before others
   drew : (ys : List ℕ) (u : S) → Yields steps t ys u → Yields steps s (xs ++ x ∷ ys) u
@@ -115,12 +115,12 @@ module _ {S : Type 0} (steps : S → Option ℕ → S → Type 0) (s : S) (xs : 
       (made, refl, (omega (arith, length-append {A = ℕ}), rw (but_last-on xs p.items x some) text, cc))
 
 -- a character behind those of xs
-pub pushed-next : (first old new : String Global) (xs : List ℕ) (x : ℕ) → heap_draft old ≡ appended (heap_draft first) xs
-    → chars (string_bytes new) ≡ chars (string_bytes old) ++ x ∷ [] → heap_draft new ≡ appended (heap_draft first) (xs ++ x ∷ [])
-pushed-next first old new xs x is put = cc (is, put, appended-twice (heap_draft first) xs (x ∷ []))
+pub pushed-next : (first old new : String Global) (xs : List ℕ) (x : ℕ) → heap_builder old ≡ appended (heap_builder first) xs
+    → chars (string_bytes new) ≡ chars (string_bytes old) ++ x ∷ [] → heap_builder new ≡ appended (heap_builder first) (xs ++ x ∷ [])
+pushed-next first old new xs x is put = cc (is, put, appended-twice (heap_builder first) xs (x ∷ []))
 
 -- characters that came behind x, which was appended before
-module _ {S : Type 0} (steps : S → Option ℕ → S → Type 0) (s : S) (old now new : Draft) (x : ℕ)
+module _ {S : Type 0} (steps : S → Option ℕ → S → Type 0) (s : S) (old now new : BuilderState) (x : ℕ)
     (is : now ≡ appended old (x ∷ [])) where
   pub all-next : AppendedAll (λ items. items) steps s now new → AppendedAll (λ items. x ∷ items) steps s old new
   unfolding AppendedAll
@@ -173,20 +173,20 @@ module _ {S A B : Type 0} {steps : S → Option A → S → Type 0} {s : S} {v :
       long (IsShort-front (texts p.items) _ (subst IsShort (text-front p from gives) short))
 
   -- a builder with its text at the end
-  pub text-appended : (old new : Draft) → AppendedAll texts steps s old new → YieldsList steps v s all
+  pub text-appended : (old new : BuilderState) → AppendedAll texts steps s old new → YieldsList steps v s all
       → new ≡ appended old (whole all)
   unfolding AppendedAll
   text-appended old new (p, from, end, now) gives = cc (now, text-whole p from gives end)
 
   -- that a front puts on the heap only where the whole would
-  pub heap-stopped : (old new : Draft) → StoppedAt texts steps s old new → YieldsList steps v s all
+  pub heap-stopped : (old new : BuilderState) → StoppedAt texts steps s old new → YieldsList steps v s all
       → (appended old (whole all)).kind ≡ OnHeap
   unfolding StoppedAt
   heap-stopped old new (p, from, (some, front, heap)) gives =
       rw (text-front p from gives) (appended-heap old (texts p.items) _ heap)
 
   -- the builder has the text of a front then, and not of the whole
-  pub front-stopped : (old new : Draft) → StoppedAt texts steps s old new → YieldsList steps v s all
+  pub front-stopped : (old new : BuilderState) → StoppedAt texts steps s old new → YieldsList steps v s all
       → (n : ℕ) × (n < length all) × (new ≡ appended old (whole (take n all)))
   unfolding StoppedAt
   front-stopped old new (p, from, (some, front, heap)) gives =

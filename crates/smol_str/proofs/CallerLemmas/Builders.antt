@@ -1,22 +1,15 @@
 -- Builders: appends one after another, and when a builder leaves its buffer.
-use Rattle.smol_str.proofs.Common.{Draft, OnHeap, appended, kind_with, ◌++◌, drop, sym, ap, ◌∙◌, ◌≡◌, ◌∷◌, ℕ, ◌+◌, ◌≤◌, List, [], take, take_all, refl, arith, flat_map, size, nat_tests, append-nil, append_assoc}
+use Rattle.smol_str.proofs.Common.{BuilderState, OnHeap, appended, kind_with, ◌++◌, drop, sym, ap, ◌∙◌, ◌≡◌, ◌∷◌, ℕ, ◌+◌, ◌≤◌, List, [], take, take_all, refl, arith, flat_map, size, nat_tests, append-nil, append_assoc}
 use Rattle.std.proofs.lemmas.Grind.{take_at_read, flat_map-append}
 use Rattle.smol_str.proofs.TextLemmas.Lists.{flat_map-parts}
 use Rattle.smol_str.proofs.TextLemmas.Places.{size-append}
-use Rattle.smol_str.proofs.BuilderLemmas.Draft.{appended-twice, appended-nothing, OnHeap-long}
+use Rattle.smol_str.proofs.BuilderLemmas.State.{appended-twice, appended-nothing, OnHeap-long}
 use Rattle.smol_str.proofs.CallerLemmas.Texts.{texts}
 
 -- in a loop that appends a piece for each item: the pieces of the first, and of one more, are no longer than all pieces
--- and what follows them
 pub size-front : {X : Type 0} (f : X → List ℕ) (xs : List X) (i : ℕ)
     → (flat_map f (take i xs) ≡ flat_map f (take i xs)) × (size (flat_map f (take (i + 1) xs)) ≤ size (flat_map f xs))
-    × (flat_map f xs ≡ flat_map f (take (i + 1) xs) ++ flat_map f (drop (i + 1) xs))
-size-front f xs i = (refl, rw (flat_map-parts f xs (i + 1)) (omega (arith, size-append)), flat_map-parts f xs (i + 1))
-
--- a builder that a text takes to the heap is there whatever follows
-pub OnHeap-front : (b : Draft) (t u : List ℕ) → (appended b t).kind ≡ OnHeap → (appended b (t ++ u)).kind ≡ OnHeap
-OnHeap-front b t u heap =
-    ap (λ d. d.kind) (sym (appended-twice b t u)) ∙ ap (λ k. kind_with k ((b.text ++ t) ++ u)) heap
+size-front f xs i = (refl, rw (flat_map-parts f xs (i + 1)) (omega (arith, size-append)))
 
 -- a character more
 pub size-cons : (c : ℕ) (t : List ℕ) → size (c ∷ t) ≡ size (c ∷ []) + size t
@@ -28,10 +21,33 @@ pub ruleset builders = (
   appended-twice,
   appended-nothing,
   OnHeap-long,
-  OnHeap-front,
   nat_tests,
   size-append,
   size-front,
+  take_at_read,
+  take_all,
+  flat_map-append,
+  append-nil,
+  append_assoc,
+)
+
+-- a builder that a text takes to the heap is there whatever follows
+pub OnHeap-front : (b : BuilderState) (t u : List ℕ) → (appended b t).kind ≡ OnHeap → (appended b (t ++ u)).kind ≡ OnHeap
+OnHeap-front b t u heap =
+    ap (λ d. d.kind) (sym (appended-twice b t u)) ∙ ap (λ k. kind_with k ((b.text ++ t) ++ u)) heap
+
+-- in a loop: the pieces of the first items and of one more, and those that follow
+pub pieces-front : {X : Type 0} (f : X → List ℕ) (xs : List X) (i : ℕ) → (flat_map f (take i xs) ≡ flat_map f (take i xs))
+    × (flat_map f xs ≡ flat_map f (take (i + 1) xs) ++ flat_map f (drop (i + 1) xs))
+pieces-front f xs i = (refl, flat_map-parts f xs (i + 1))
+
+-- of a builder that is passed in, whose text is not known
+pub ruleset passed_builders = (
+  texts,
+  appended-twice,
+  appended-nothing,
+  OnHeap-front,
+  pieces-front,
   take_at_read,
   take_all,
   flat_map-append,

@@ -1,5 +1,5 @@
 -- Collecting and extending from an iterator that gives a list.
-use Rattle.smol_str.proofs.Common.{append-nil, ◌≡◌, ℕ, ◌<◌, ◌++◌, String, Global, Bor, true, Option, Result, Ok, Err, IfOk, OnOk, OnErr, subst, List, [], length, take, drop, map, refl, sym, ap, ◌∙◌, arith, chars, IsUtf8, YieldsList, chars-encodes, take-append-drop, INLINE_CAP, size, IsShort, Meaning, IsValueOf, Draft, OnHeap, appended, joined, joined_strs, joined_strings, joined_string_refs, str_text, string_text, replaced_all, cut, no_limit, map-id, items_from_drains, None, place_of, rules, on_err_weaker, on_ok_weaker}
+use Rattle.smol_str.proofs.Common.{append-nil, ◌≡◌, ℕ, ◌<◌, ◌++◌, String, Global, Bor, true, Option, Result, Ok, Err, IfOk, OnOk, OnErr, subst, List, [], length, take, drop, map, refl, sym, ap, ◌∙◌, arith, chars, IsUtf8, YieldsList, chars-encodes, take-append-drop, INLINE_CAP, size, IsShort, Meaning, IsValueOf, BuilderState, OnHeap, appended, joined, joined_strs, joined_strings, joined_string_refs, str_text, string_text, replaced_all, cut, no_limit, map-id, items_from_drains, None, place_of, rules, on_err_weaker, on_ok_weaker}
 use denote.Param.Members.{Mut}
 use Rattle.std.specs.Fn.{Called}
 use Rattle.std.specs.List.{filter_map}
@@ -34,16 +34,16 @@ module _ {S E : Type 0} {steps : S → Option ℕ → S → Type 0} {s : S} {all
       → YieldsList steps (λ c. c) s all → OnErr r (¬ (IsShort all))
   chars_refused r out gives = on_err_weaker r (λ out. not_short-outgrown characters out gives) out
 
-  pub chars_extended : {T : Type 0} (r : Result T E) (old new : Draft) → OnOk r (AppendedAll (λ xs. xs) steps s old new)
+  pub chars_extended : {T : Type 0} (r : Result T E) (old new : BuilderState) → OnOk r (AppendedAll (λ xs. xs) steps s old new)
       → YieldsList steps (λ c. c) s all → OnOk r (new ≡ appended old all)
   chars_extended r old new is gives = on_ok_weaker r (λ all. text-appended characters old new all gives) is
 
-  pub chars_extend_refused : {T : Type 0} (r : Result T E) (old new : Draft)
+  pub chars_extend_refused : {T : Type 0} (r : Result T E) (old new : BuilderState)
       → OnErr r (StoppedAt (λ xs. xs) steps s old new) → YieldsList steps (λ c. c) s all
       → OnErr r ((appended old all).kind ≡ OnHeap)
   chars_extend_refused r old new out gives = on_err_weaker r (λ out. heap-stopped characters old new out gives) out
 
-  pub chars_extend_stopped : {T : Type 0} (r : Result T E) (old new : Draft)
+  pub chars_extend_stopped : {T : Type 0} (r : Result T E) (old new : BuilderState)
       → OnErr r (StoppedAt (λ xs. xs) steps s old new) → YieldsList steps (λ c. c) s all
       → OnErr r ((n : ℕ) × (n < length all) × (new ≡ appended old (take n all)))
   chars_extend_stopped r old new out gives = on_err_weaker r (λ out. front-stopped characters old new out gives) out
@@ -61,11 +61,11 @@ module _ {S E : Type 0} {steps : S → Option (Bor (List ℕ)) → S → Type 0}
       → YieldsList steps (λ x. x.now) s all → OnErr r (¬ (IsShort (joined chars all)))
   strs_refused r out gives = on_err_weaker r (λ out. not_short-outgrown strs out gives) out
 
-  pub strs_extended : {T : Type 0} (r : Result T E) (old new : Draft) → OnOk r (AppendedAll joined_strs steps s old new)
+  pub strs_extended : {T : Type 0} (r : Result T E) (old new : BuilderState) → OnOk r (AppendedAll joined_strs steps s old new)
       → YieldsList steps (λ x. x.now) s all → OnOk r (new ≡ appended old (joined chars all))
   strs_extended r old new is gives = on_ok_weaker r (λ all. text-appended strs old new all gives) is
 
-  pub strs_extend_refused : {T : Type 0} (r : Result T E) (old new : Draft) → OnErr r (StoppedAt joined_strs steps s old new)
+  pub strs_extend_refused : {T : Type 0} (r : Result T E) (old new : BuilderState) → OnErr r (StoppedAt joined_strs steps s old new)
       → YieldsList steps (λ x. x.now) s all → OnErr r ((appended old (joined chars all)).kind ≡ OnHeap)
   strs_extend_refused r old new out gives = on_err_weaker r (λ out. heap-stopped strs old new out gives) out
 
@@ -105,11 +105,11 @@ module _ {S E : Type 0} {steps : S → Option (Bor (String Global)) → S → Ty
       → YieldsList steps (λ x. x.now) s all → OnErr r (¬ (IsShort (joined string_text all)))
   string_refs_refused r out gives = on_err_weaker r (λ out. not_short-outgrown string_refs out gives) out
 
-  pub string_refs_extended : {T : Type 0} (r : Result T E) (old new : Draft) → OnOk r (AppendedAll joined_string_refs steps s old new)
+  pub string_refs_extended : {T : Type 0} (r : Result T E) (old new : BuilderState) → OnOk r (AppendedAll joined_string_refs steps s old new)
       → YieldsList steps (λ x. x.now) s all → OnOk r (new ≡ appended old (joined string_text all))
   string_refs_extended r old new is gives = on_ok_weaker r (λ all. text-appended string_refs old new all gives) is
 
-  pub string_refs_extend_refused : {T : Type 0} (r : Result T E) (old new : Draft) → OnErr r (StoppedAt joined_string_refs steps s old new)
+  pub string_refs_extend_refused : {T : Type 0} (r : Result T E) (old new : BuilderState) → OnErr r (StoppedAt joined_string_refs steps s old new)
       → YieldsList steps (λ x. x.now) s all → OnErr r ((appended old (joined string_text all)).kind ≡ OnHeap)
   string_refs_extend_refused r old new out gives = on_err_weaker r (λ out. heap-stopped string_refs old new out gives) out
 
@@ -136,14 +136,14 @@ chars_came r all (xs, from, text, place) = let is = came characters all xs from 
 
 -- and by its `extend` with an iterator
 pub chars_grown : {S E : Type 0} {steps : S → Option ℕ → S → Type 0} {s : S} {all : List ℕ} (r : Result (Unit {0}) E)
-    (old new : Draft) → OnOk r ((it : S) × (it ≡ s) × AppendedAll (λ xs. xs) steps it old new)
+    (old new : BuilderState) → OnOk r ((it : S) × (it ≡ s) × AppendedAll (λ xs. xs) steps it old new)
     → YieldsList steps (λ c. c) s all → OnOk r (new ≡ appended old all)
 chars_grown {steps} r old new is gives = on_ok_weaker r
     (λ (it, same, grown). text-appended characters old new (subst (λ s. AppendedAll (λ xs. xs) steps s old new) same grown) gives) is
 
 pub string_refs_grown : {S E : Type 0} {steps : S → Option (Bor (String Global)) → S → Type 0} {s : S}
     {all : List (String Global)} (r : Result (Unit {0}) E)
-    (old new : Draft) → OnOk r ((it : S) × (it ≡ s) × AppendedAll joined_string_refs steps it old new)
+    (old new : BuilderState) → OnOk r ((it : S) × (it ≡ s) × AppendedAll joined_string_refs steps it old new)
     → YieldsList steps (λ x. x.now) s all → OnOk r (new ≡ appended old (joined string_text all))
 string_refs_grown {steps} r old new is gives = on_ok_weaker r
     (λ (it, same, grown). text-appended string_refs old new (subst (λ s. AppendedAll joined_string_refs steps s old new) same grown) gives) is
@@ -165,7 +165,7 @@ module _ {S E : Type 0} {steps : S → Option (Bor (List ℕ)) → S → Type 0}
       → YieldsList steps (λ x. x) s all → OnErr r (¬ (IsShort (joined str_text all)))
   items_refused r out gives = on_err_weaker r (λ out. not_short-outgrown items_lent out gives) out
 
-  pub items_extended : {T : Type 0} (r : Result T E) (old new : Draft) → OnOk r (AppendedAll joined_strs steps s old new)
+  pub items_extended : {T : Type 0} (r : Result T E) (old new : BuilderState) → OnOk r (AppendedAll joined_strs steps s old new)
       → YieldsList steps (λ x. x) s all → OnOk r (new ≡ appended old (joined str_text all))
   items_extended r old new is gives = on_ok_weaker r (λ all. text-appended items_lent old new all gives) is
 
@@ -194,12 +194,12 @@ module _ {S E : Type 0} {steps : S → Option (Bor (List ℕ)) → S → Type 0}
         → YieldsList steps (λ x. chars x.now) s (map h xs) → OnErr r (¬ (IsShort (joined h xs)))
     mapped_refused r out gives = texts_refused (joined h xs) (flat_map-map (λ t. t) h xs) r out gives
 
-    pub mapped_extended : {T : Type 0} (r : Result T E) (old new : Draft) → OnOk r (AppendedAll joined_strs steps s old new)
+    pub mapped_extended : {T : Type 0} (r : Result T E) (old new : BuilderState) → OnOk r (AppendedAll joined_strs steps s old new)
         → YieldsList steps (λ x. chars x.now) s (map h xs) → OnOk r (new ≡ appended old (joined h xs))
     mapped_extended r old new is gives =
         rw flat_map-map at (on_ok_weaker r (λ all. text-appended texts_lent old new all gives) is)
 
-    pub mapped_extend_refused : {T : Type 0} (r : Result T E) (old new : Draft)
+    pub mapped_extend_refused : {T : Type 0} (r : Result T E) (old new : BuilderState)
         → OnErr r (StoppedAt joined_strs steps s old new) → YieldsList steps (λ x. chars x.now) s (map h xs)
         → OnErr r ((appended old (joined h xs)).kind ≡ OnHeap)
     mapped_extend_refused r old new out gives =

@@ -1,7 +1,7 @@
 -- Loops over what std's iterators lend, and what `map` and `try_collect` make of it.
 use Rattle.smol_str.proofs.Common.{Bool, cond, get_or, take, ◌<◌, ◌+◌, subst, Ok, Err, IfOk, refl, sym, map, ◌≡◌, ℕ, List, [], ◌∷◌, ◌++◌, length, Some, None, ap, ◌∙◌, arith, length-append, Meaning, Result, encode_utf8_all, append-nil, append_assoc, Option, IsValueOf, place_of, chars, str_text, Bor, items_from_drains, FoldsTo, All-nil, All-cons, IsUtf8, YieldsList-from_chars, encode_utf8, map-id, size, ◌≤◌, All, YieldsList, YieldsList-from_slice}
 use Rattle.smol_str.proofs.CallerLemmas.Builders.{size-cons}
-use Rattle.smol_str.proofs.BuilderLemmas.Draft.{appended-twice, OnHeap-long}
+use Rattle.smol_str.proofs.BuilderLemmas.State.{appended-twice, OnHeap-long}
 use Rattle.smol_str.specs.Meaning.{AreValuesOf}
 use Rattle.std.specs.Prelude.{Vec}
 use Rattle.std.specs.Vec.{vec_items}

@@ -1,5 +1,5 @@
 -- Texts: their bytes and sizes, builders, and one character in place of another.
-use Rattle.smol_str.proofs.Common.{◌^◌, encodes-IsAscii, get_or, list_all, ltb, ltb-true, IsAscii-from_all, IsUtf8-from_ascii, ◌≡◌, ◌∷◌, ◌++◌, sym, Draft, OnHeap, appended, kind_with, ℕ, ◌+◌, ◌<◌, ◌≤◌, Result, IfOk, OnErr, subst, List, [], length, take, encode_utf8_all, refl, ap, ◌∙◌, inl, IsTrue, arith, flat_map, chars, all_scalars, IsUtf8, chars-encodes, chars_from_encodes, encodes-chars, encodes_same, chars-IsAscii, INLINE_CAP, size, IsShort, IsResident, place_of, Meaning, IsValueOf, IsAscii, replaced_all, each_with, each_replaced, rules, nat_tests, append-nil, append_assoc, encodes-append, IsAscii-cons, IsAscii-nil, nat_eq, pointwise, true}
+use Rattle.smol_str.proofs.Common.{◌^◌, encodes-IsAscii, get_or, list_all, ltb, ltb-true, IsAscii-from_all, IsUtf8-from_ascii, ◌≡◌, ◌∷◌, ◌++◌, sym, BuilderState, OnHeap, appended, kind_with, ℕ, ◌+◌, ◌<◌, ◌≤◌, Result, IfOk, OnErr, subst, List, [], length, take, encode_utf8_all, refl, ap, ◌∙◌, inl, IsTrue, arith, flat_map, chars, all_scalars, IsUtf8, chars-encodes, chars_from_encodes, encodes-chars, encodes_same, chars-IsAscii, INLINE_CAP, size, IsShort, IsResident, place_of, Meaning, IsValueOf, IsAscii, replaced_all, each_with, each_replaced, rules, nat_tests, append-nil, append_assoc, encodes-append, IsAscii-cons, IsAscii-nil, nat_eq, pointwise, true}
 use Rattle.std.proofs.lemmas.Fmt.{IsAscii-decimal}
 use Rattle.std.proofs.lemmas.List.Sums.{AllPass-from_list_all}
 use Rattle.std.proofs.lemmas.Slice.Eq.{bytes_eq-Decides}

@@ -1,5 +1,5 @@
 -- For `str_ext::ascii_case` and `str_ext::full_case`: the ASCII front of a text and the rest of it, in a case.
-use Rattle.smol_str.proofs.Common.{◌≡◌, ℕ, List, [], ◌++◌, length, take, drop, sym, ap, ◌∙◌, arith, append_assoc, length-append, IsUtf8, IsAscii, IsCharBoundary, chars, encode_utf8_all, take_at, IsUtf8-from_ascii, chars-IsAscii, encodes-IsAscii, IsAscii-from_all, AsciiCase, Lower, Upper, size, IsShort, padded, front, converted, Draft, InBuffer, OnHeap, empty_draft, appended, common_steps, rules, suc, ◌<◌, ◌∷◌, Bool, false, Option, None, flat_map, refl, append-nil, ne_eqb, to_ascii_lowercase, chars-encodes, INLINE_CAP, Occurs, lower, upper, lowercased, uppercased, IsAsciiText, HasSigma, letter, letters, full_case, mapped, IsMappedAlone, length-map, nat_tests, lowercase_is, uppercase_is, map-append, get_or, IsTrue, all_scalars, IsAsciiFront, ◌≤◌}
+use Rattle.smol_str.proofs.Common.{◌≡◌, ℕ, List, [], ◌++◌, length, take, drop, sym, ap, ◌∙◌, arith, append_assoc, length-append, IsUtf8, IsAscii, IsCharBoundary, chars, encode_utf8_all, take_at, IsUtf8-from_ascii, chars-IsAscii, encodes-IsAscii, IsAscii-from_all, AsciiCase, Lower, Upper, size, IsShort, padded, front, converted, BuilderState, InBuffer, OnHeap, empty_builder, appended, common_steps, rules, suc, ◌<◌, ◌∷◌, Bool, false, Option, None, flat_map, refl, append-nil, ne_eqb, to_ascii_lowercase, chars-encodes, INLINE_CAP, Occurs, lower, upper, lowercased, uppercased, IsAsciiText, HasSigma, letter, letters, full_case, mapped, IsMappedAlone, length-map, nat_tests, lowercase_is, uppercase_is, map-append, get_or, IsTrue, all_scalars, IsAsciiFront, ◌≤◌}
 use Rattle.smol_str.proofs.TextLemmas.Lists.{not_later}
 use Rattle.smol_str.proofs.CaseLemmas.Letters.{lowercase_moves, uppercase_moves}
 use Rattle.smol_str.proofs.CaseLemmas.Ascii.{front-parts, front-length, size-converted, front-append, IsAscii-converted, IsAscii-chars, ascii-converted}
@@ -10,7 +10,7 @@ use Rattle.std.specs.Char.Unicode.ToLowercase.{to_lowercase}
 use Rattle.std.specs.StrCase.Lower.{lowercase_chars, is_in_word_after}
 use Rattle.std.proofs.lemmas.Grind.{flat_map-append}
 use Rattle.smol_str.proofs.TextLemmas.Places.{OnErr-always, size-chars, some_char}
-use Rattle.smol_str.proofs.BuilderLemmas.Draft.{OnHeap-long, appended-twice}
+use Rattle.smol_str.proofs.BuilderLemmas.State.{OnHeap-long, appended-twice}
 
 pub IsAscii-front : (t : List ℕ) → IsAscii (front t)
 IsAscii-front t = IsAscii-from_all (front t) (front-parts t).2
@@ -109,7 +109,7 @@ pub ascii-refused : (case : AsciiCase) (bs : List ℕ) → IsUtf8 bs → IsAscii
 ascii-refused case bs u ascii long = search (rules, arith, full-ascii, size-converted, size-chars)
 
 -- a text that outgrows a new builder in a case is not short in it, nor is one whose front does
-module _ (case : AsciiCase) (t : List ℕ) (b : Draft) (begins : b ≡ empty_draft InBuffer) where
+module _ (case : AsciiCase) (t : List ℕ) (b : BuilderState) (begins : b ≡ empty_builder InBuffer) where
   pub full-refused : (appended b (full_case case t)).kind ≡ OnHeap → ¬ (IsShort (full_case case t))
   full-refused heap = OnHeap-long (full_case case t) (rw begins at heap)
 
@@ -135,12 +135,12 @@ pub none-found : (r : Option ℕ) (b : Bool) → b ≡ is_some r → b ≡ false
 none-found r b e f = search rules
 
 -- the short way: the front in a new builder, and then the rest, mapped character by character
-module _ (case : AsciiCase) (t r : List ℕ) (e : front t ++ r ≡ t) (alone : IsMappedAlone case r) (b d : Draft)
-    (begins : b ≡ empty_draft InBuffer) (first : d ≡ appended b (converted case (front t))) where
-  appended-full_case : appended d (mapped case r) ≡ appended (empty_draft InBuffer) (full_case case t)
+module _ (case : AsciiCase) (t r : List ℕ) (e : front t ++ r ≡ t) (alone : IsMappedAlone case r) (b d : BuilderState)
+    (begins : b ≡ empty_builder InBuffer) (first : d ≡ appended b (converted case (front t))) where
+  appended-full_case : appended d (mapped case r) ≡ appended (empty_builder InBuffer) (full_case case t)
   appended-full_case = grind (arith, common_steps, appended-twice, full-parts)
 
-  pub short-text : (f : Draft) → f ≡ appended d (mapped case r) → f.text ≡ full_case case t
+  pub short-text : (f : BuilderState) → f ≡ appended d (mapped case r) → f.text ≡ full_case case t
   short-text f put = ap (λ x. x.text) (put ∙ appended-full_case)
 
   pub short-refused : (appended d (mapped case r)).kind ≡ OnHeap → ¬ (IsShort (full_case case t))

@@ -1,10 +1,10 @@
 -- For `str_ext::replace`: replacing match by match.
-use Rattle.smol_str.proofs.Common.{◌≡◌, ℕ, ◌+◌, ◌-◌, ◌<◌, ◌≤◌, List, [], ◌∷◌, ◌++◌, length, take, drop, None, Some, refl, sym, ap, ◌∙◌, subst, arith, append_assoc, append-nil, length-append, Option, MatchOption, Bool, true, not, Result, IfOk, IsUtf8, IsCharBoundary, chars, encode_utf8_all, len_utf8, slice_get, encode, length-encode, length-le-encodes, chars-nil, size, IsShort, Occurs, IsNextMatch, IsOnlyCut, joined_by, cut, Meaning, IsValueOf, replaced, replaced_all, IsReplacing, Draft, InBuffer, OnHeap, empty_draft, appended, nil_from_length, IfOk-weaker, nat_tests, common_steps, rules}
+use Rattle.smol_str.proofs.Common.{◌≡◌, ℕ, ◌+◌, ◌-◌, ◌<◌, ◌≤◌, List, [], ◌∷◌, ◌++◌, length, take, drop, None, Some, refl, sym, ap, ◌∙◌, subst, arith, append_assoc, append-nil, length-append, Option, MatchOption, Bool, true, not, Result, IfOk, IsUtf8, IsCharBoundary, chars, encode_utf8_all, len_utf8, slice_get, encode, length-encode, length-le-encodes, chars-nil, size, IsShort, Occurs, IsNextMatch, IsOnlyCut, joined_by, cut, Meaning, IsValueOf, replaced, replaced_all, IsReplacing, BuilderState, InBuffer, OnHeap, empty_builder, appended, nil_from_length, IfOk-weaker, nat_tests, common_steps, rules}
 use Rattle.smol_str.proofs.TextLemmas.Places.{size-append, size-chars, IsShort-front, OnErr-always, chars-empty}
 use Rattle.std.specs.Option.{is_some}
 use Rattle.std.proofs.lemmas.Bool.{true≢false}
 use Rattle.memchr.specs.Find.{FindsNeedle}
-use Rattle.smol_str.proofs.BuilderLemmas.Draft.{appended-twice}
+use Rattle.smol_str.proofs.BuilderLemmas.State.{appended-twice}
 use Rattle.smol_str.proofs.BuilderLemmas.Push.{new-heap, appended-heap}
 use Rattle.smol_str.proofs.CutLemmas.Match.{IsNextMatch-found, Occurs-none, not_found}
 use Rattle.smol_str.proofs.CutLemmas.Replace.{replaced-none, replaced-matched, replaced-unmatched, replaced-between, replaced-end, replaced-enough, match_count-limit}
@@ -15,11 +15,11 @@ first_char : (b : List ℕ) (r : Option ℕ) → r ≡ slice_get b 0 → MatchOp
 first_char [] r e = rw e refl
 first_char (c ∷ s) r e = rw e (s, refl)
 
-pub replacing-start : (t p w : List ℕ) (n m : ℕ) (b : Draft) → b ≡ empty_draft InBuffer → m ≡ n → IsReplacing t p w n m b 0
-replacing-start t p w n m b empty is = rw (empty, is) (record { done = []; rest = t; parts = refl; at = refl; draft = refl; text = refl })
+pub replacing-start : (t p w : List ℕ) (n m : ℕ) (b : BuilderState) → b ≡ empty_builder InBuffer → m ≡ n → IsReplacing t p w n m b 0
+replacing-start t p w n m b empty is = rw (empty, is) (record { done = []; rest = t; parts = refl; at = refl; grown = refl; text = refl })
 
 -- in the text bs, with its first i bytes done
-module _ (bs p w : List ℕ) (n m : ℕ) (b : Draft) (i : ℕ) (h : IsReplacing (chars bs) p w n m b i) (u : IsUtf8 bs) where
+module _ (bs p w : List ℕ) (n m : ℕ) (b : BuilderState) (i : ℕ) (h : IsReplacing (chars bs) p w n m b i) (u : IsUtf8 bs) where
   pub replacing-boundary : IsCharBoundary bs i
   replacing-boundary = boundary-parts bs h.done h.rest i u h.parts h.at
 
@@ -50,13 +50,13 @@ replaced-longer bs nd w n u v longer =
     (λ o. omega (arith, longer, size-chars bs u, size-chars nd v, ap size o.2, size-append o.0 (chars nd ++ o.1), size-append (chars nd) o.1))
 
 -- the next match, found in the bytes of the rest
-pub replacing-found : (bs nd w : List ℕ) (n m : ℕ) (b : Draft) (i k : ℕ) (rest needle : List ℕ)
+pub replacing-found : (bs nd w : List ℕ) (n m : ℕ) (b : BuilderState) (i k : ℕ) (rest needle : List ℕ)
     (h : IsReplacing (chars bs) (chars nd) w n m b i) → IsUtf8 bs → IsUtf8 nd → 0 < length nd → rest ≡ drop i bs
     → needle ≡ nd → FindsNeedle rest needle 0 (Some k) → IsNextMatch h.done h.rest (chars nd) (i + k)
 replacing-found bs nd w n m b i k rest needle h u v some e f found = search (rules, IsNextMatch-found)
 
 -- or there is none
-pub replacing-none : (bs nd w : List ℕ) (n m : ℕ) (b : Draft) (i : ℕ) (rest needle : List ℕ)
+pub replacing-none : (bs nd w : List ℕ) (n m : ℕ) (b : BuilderState) (i : ℕ) (rest needle : List ℕ)
     (h : IsReplacing (chars bs) (chars nd) w n m b i) → IsUtf8 bs → IsUtf8 nd → rest ≡ drop i bs
     → needle ≡ nd → FindsNeedle rest needle 0 None → IsReplacing (chars bs) (chars nd) w n 0 b i
 replacing-none bs nd w n m b i rest needle h u v e f found =
@@ -64,10 +64,10 @@ replacing-none bs nd w n m b i rest needle h u v e f found =
     search (rules, arith, replaced-none, replaced-unmatched)
 
 -- two texts appended, one after the other
-pub appended-both : (b c d : Draft) (u v : List ℕ) → c ≡ appended b u → d ≡ appended c v → d ≡ appended b (u ++ v)
+pub appended-both : (b c d : BuilderState) (u v : List ℕ) → c ≡ appended b u → d ≡ appended c v → d ≡ appended b (u ++ v)
 appended-both b c d u v first second = cc (appended-twice b u v)
 
-pub second-heap : (b c : Draft) (u v : List ℕ) → c ≡ appended b u → (appended c v).kind ≡ OnHeap
+pub second-heap : (b c : BuilderState) (u v : List ℕ) → c ≡ appended b u → (appended c v).kind ≡ OnHeap
     → (appended b (u ++ v)).kind ≡ OnHeap
 second-heap b c u v first heap = cc (appended-twice b u v)
 
@@ -75,21 +75,21 @@ pub size-one : (c : ℕ) → size (c ∷ []) ≡ len_utf8 c
 size-one c = omega (arith, length-append (encode c) [], length-encode c)
 
 -- q of the rest is passed, and x is appended for it
-module _ (t p w : List ℕ) (n m l : ℕ) (b : Draft) (i : ℕ) (h : IsReplacing t p w n m b i) (q r x : List ℕ)
+module _ (t p w : List ℕ) (n m l : ℕ) (b : BuilderState) (i : ℕ) (h : IsReplacing t p w n m b i) (q r x : List ℕ)
     (reads : h.rest ≡ q ++ r) (made : replaced h.rest p w m ≡ x ++ replaced r p w l) where
   more-text : (b.text ++ x) ++ replaced r p w l ≡ replaced t p w n
   more-text = append_assoc b.text x (replaced r p w l) ∙ ap (λ y. b.text ++ y) (sym made) ∙ h.text
 
-  more-appended : (d : Draft) → d ≡ appended b x → d ≡ appended (empty_draft InBuffer) (b.text ++ x)
-  more-appended d e = cc (h.draft, appended-twice (empty_draft InBuffer) b.text x)
+  more-appended : (d : BuilderState) → d ≡ appended b x → d ≡ appended (empty_builder InBuffer) (b.text ++ x)
+  more-appended d e = cc (h.grown, appended-twice (empty_builder InBuffer) b.text x)
 
-  replacing-more : (d : Draft) → d ≡ appended b x → (j : ℕ) → j ≡ i + size q → IsReplacing t p w n l d j
+  replacing-more : (d : BuilderState) → d ≡ appended b x → (j : ℕ) → j ≡ i + size q → IsReplacing t p w n l d j
   replacing-more d e j at = record {
     done = h.done ++ q;
     rest = r;
     parts = cc (h.parts, append_assoc h.done q r);
     at = omega (arith, size-append h.done q);
-    draft = cc (more-appended d e);
+    grown = cc (more-appended d e);
     text = cc (more-text, more-appended d e);
   }
 
@@ -97,7 +97,7 @@ module _ (t p w : List ℕ) (n m l : ℕ) (b : Draft) (i : ℕ) (h : IsReplacing
   replacing-refused e = grind (arith, common_steps, new-heap, IsShort-front, more-text)
 
 -- in the text bs, the next match of the pattern nd is at j
-module _ (bs nd w : List ℕ) (n m : ℕ) (b : Draft) (i j : ℕ) (h : IsReplacing (chars bs) (chars nd) w n m b i)
+module _ (bs nd w : List ℕ) (n m : ℕ) (b : BuilderState) (i j : ℕ) (h : IsReplacing (chars bs) (chars nd) w n m b i)
     (k : IsNextMatch h.done h.rest (chars nd) j) where
   match-parts : chars bs ≡ (h.done ++ k.before) ++ (chars nd ++ k.after)
   match-parts = h.parts ∙ ap (λ x. h.done ++ x) k.reads ∙ sym (append_assoc h.done k.before (chars nd ++ k.after))
@@ -119,7 +119,7 @@ module _ (bs nd w : List ℕ) (n m : ℕ) (b : Draft) (i j : ℕ) (h : IsReplaci
     match-made : replaced h.rest (chars nd) w m ≡ (k.before ++ w) ++ replaced k.after (chars nd) w l
     match-made = grind (arith, common_steps, replaced-matched, append_assoc)
 
-    pub match-step : IsUtf8 nd → (d : Draft) → d ≡ appended b (k.before ++ w)
+    pub match-step : IsUtf8 nd → (d : BuilderState) → d ≡ appended b (k.before ++ w)
         → IsReplacing (chars bs) (chars nd) w n l d (j + length nd)
     match-step v d e =
         replacing-more (chars bs) (chars nd) w n m l b i h (k.before ++ chars nd) k.after (k.before ++ w) match-passed
@@ -132,12 +132,12 @@ module _ (bs nd w : List ℕ) (n m : ℕ) (b : Draft) (i j : ℕ) (h : IsReplaci
         match-passed match-made
 
 -- in the text t, at the empty pattern, the next character is c
-module _ (t w : List ℕ) (n m l : ℕ) (b : Draft) (i : ℕ) (h : IsReplacing t [] w n m b i) (next : m ≡ l + 1) where
+module _ (t w : List ℕ) (n m l : ℕ) (b : BuilderState) (i : ℕ) (h : IsReplacing t [] w n m b i) (next : m ≡ l + 1) where
   module _ (c : ℕ) (r : List ℕ) (reads : h.rest ≡ c ∷ r) where
     taken-made : replaced h.rest [] w m ≡ (w ++ (c ∷ [])) ++ replaced r [] w l
     taken-made = grind (arith, common_steps, replaced-between, append_assoc)
 
-    pub taken-step : (d : Draft) → d ≡ appended b (w ++ (c ∷ [])) → IsReplacing t [] w n l d (i + len_utf8 c)
+    pub taken-step : (d : BuilderState) → d ≡ appended b (w ++ (c ∷ [])) → IsReplacing t [] w n l d (i + len_utf8 c)
     taken-step d e =
         replacing-more t [] w n m l b i h (c ∷ []) r (w ++ (c ∷ [])) reads taken-made d e (i + len_utf8 c)
         (omega (arith, size-one c))
@@ -150,7 +150,7 @@ module _ (t w : List ℕ) (n m l : ℕ) (b : Draft) (i : ℕ) (h : IsReplacing t
     end-made : replaced h.rest [] w m ≡ w ++ replaced [] [] w 0
     end-made = grind (arith, common_steps, replaced-end, replaced-none, append-nil)
 
-    pub taken-end : (d : Draft) → d ≡ appended b w → IsReplacing t [] w n 0 d i
+    pub taken-end : (d : BuilderState) → d ≡ appended b w → IsReplacing t [] w n 0 d i
     taken-end d e = replacing-more t [] w n m 0 b i h [] [] w reads end-made d e i (omega arith)
 
   -- either way w comes next
@@ -159,11 +159,11 @@ module _ (t w : List ℕ) (n m l : ℕ) (b : Draft) (i : ℕ) (h : IsReplacing t
   before-refused (c ∷ r) e heap = taken-refused c r e (appended-heap b w (c ∷ []) heap)
 
 -- the rest appended
-module _ (bs p w : List ℕ) (n : ℕ) (b : Draft) (i : ℕ) (h : IsReplacing (chars bs) p w n 0 b i) (u : IsUtf8 bs) where
-  pub rest-whole : (d : Draft) → d ≡ appended b (chars (drop i bs)) → d ≡ appended (empty_draft InBuffer) (replaced (chars bs) p w n)
+module _ (bs p w : List ℕ) (n : ℕ) (b : BuilderState) (i : ℕ) (h : IsReplacing (chars bs) p w n 0 b i) (u : IsUtf8 bs) where
+  pub rest-whole : (d : BuilderState) → d ≡ appended b (chars (drop i bs)) → d ≡ appended (empty_builder InBuffer) (replaced (chars bs) p w n)
   rest-whole d e =
       let reads = chars-drop bs h.done h.rest i u h.parts h.at in
-      cc (reads, h.text, h.draft, replaced-none h.rest p w, appended-twice (empty_draft InBuffer) b.text h.rest)
+      cc (reads, h.text, h.grown, replaced-none h.rest p w, appended-twice (empty_builder InBuffer) b.text h.rest)
 
   pub rest-refused : (appended b (chars (drop i bs))).kind ≡ OnHeap → ¬ (IsShort (replaced (chars bs) p w n))
   rest-refused heap = search (rules, new-heap, rest-whole)

@@ -1,8 +1,8 @@
 //! Characters of an iterator, appended.
 ghost use Rattle.std.specs.Prelude.{◌≡◌, ◌⊎◌, ℕ, List, [], ◌∷◌, OnSome, OnOk, OnErr};
 ghost use Rattle.std.specs.Iterator.{IsFinite, YieldsThen};
-ghost use Rattle.smol_str.specs.Draft.{OnHeap, appended};
-ghost use Rattle.smol_str.specs.BuilderArms.{heap_draft};
+ghost use Rattle.smol_str.specs.BuilderState.{OnHeap, appended};
+ghost use Rattle.smol_str.specs.BuilderArms.{heap_builder};
 ghost use Rattle.smol_str.specs.Collect.{AppendedAll, StoppedAt};
 
 use super::{BuilderRepr, SmolStrBuilder};
@@ -79,8 +79,8 @@ impl SmolStrBuilder {
 fn extend_heap<I: Iterator<Item = char>>(heap: &mut String, iter: I) -> Result<(), AllocError>
     requires can { I.can_next iter }
     requires ends { IsFinite (I.remaining iter) }
-    ensures ok { OnOk result (AppendedAll (λ items. items) I.next_gives iter (heap_draft heap.old) (heap_draft heap.new)) }
-    ensures stopped { OnErr result (StoppedAt (λ items. items) I.next_gives iter (heap_draft heap.old) (heap_draft heap.new)) }
+    ensures ok { OnOk result (AppendedAll (λ items. items) I.next_gives iter (heap_builder heap.old) (heap_builder heap.new)) }
+    ensures stopped { OnErr result (StoppedAt (λ items. items) I.next_gives iter (heap_builder heap.old) (heap_builder heap.new)) }
 {
     for character in iter {
         heap.push(character)?;

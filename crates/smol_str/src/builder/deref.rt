@@ -2,7 +2,7 @@
 ghost use Rattle.std.specs.Prelude.{◌≡◌, IfOk, IsOk, IsTrue, encode_utf8_all};
 ghost use Rattle.std.specs.Str.{all_scalars};
 ghost use Rattle.smol_str.specs.Text.{IsShort};
-ghost use Rattle.smol_str.specs.Draft.{InBuffer, empty_draft};
+ghost use Rattle.smol_str.specs.BuilderState.{InBuffer, empty_builder};
 
 use super::SmolStrBuilder;
 use std::alloc::{AllocError, Global};
@@ -35,7 +35,7 @@ impl AsSlice<u8> for SmolStrBuilder {
 
 /// An empty builder, for `or_default` of a map; replaces upstream's `Default`.
 impl MadeWith<Global> for SmolStrBuilder {
-    ghost is_made_with = { λ b. b ≡ empty_draft InBuffer };
+    ghost is_made_with = { λ b. b ≡ empty_builder InBuffer };
 
     fn made_with(alloc: Global) -> SmolStrBuilder {
         SmolStrBuilder::new(alloc)
@@ -44,11 +44,11 @@ impl MadeWith<Global> for SmolStrBuilder {
 
 /// An empty builder with the same allocator, for `mem::try_take`, which is never refused one.
 impl Emptied for SmolStrBuilder {
-    ghost is_emptied = { λ b. b ≡ empty_draft InBuffer };
+    ghost is_emptied = { λ b. b ≡ empty_builder InBuffer };
 
     fn emptied(like: &SmolStrBuilder) -> Result<SmolStrBuilder, AllocError>
         ensures ok { IsOk result }
-        ensures empty { IfOk result (λ b. b ≡ empty_draft InBuffer) }
+        ensures empty { IfOk result (λ b. b ≡ empty_builder InBuffer) }
     {
         Ok(SmolStrBuilder::new(like.alloc))
     }

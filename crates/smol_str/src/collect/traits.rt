@@ -2,7 +2,7 @@
 ghost use Rattle.std.specs.Prelude.{◌≡◌, List, IfOk, OnOk, OnErr};
 ghost use Rattle.std.specs.Iterator.{Drains, IsFinite};
 ghost use Rattle.smol_str.specs.Meaning.{IsValueOf};
-ghost use Rattle.smol_str.specs.Draft.{appended};
+ghost use Rattle.smol_str.specs.BuilderState.{appended};
 ghost use Rattle.smol_str.specs.Collect.{AppendedAll, StoppedAt, Outgrown};
 
 use super::{Piece, append_all, collect};

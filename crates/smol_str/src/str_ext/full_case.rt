@@ -4,7 +4,7 @@ ghost use Rattle.std.specs.Prelude.{◌≡◌, ◌<◌, ◌≤◌, [], ◌∷◌
 ghost use Rattle.std.specs.Str.{chars};
 ghost use Rattle.smol_str.specs.Text.{IsShort};
 ghost use Rattle.smol_str.specs.Meaning.{IsValueOf};
-ghost use Rattle.smol_str.specs.Draft.{InBuffer, OnHeap, empty_draft, appended};
+ghost use Rattle.smol_str.specs.BuilderState.{InBuffer, OnHeap, empty_builder, appended};
 ghost use Rattle.smol_str.specs.Case.{front, converted, full_case, lowercased, mapped, IsMappedAlone};
 ghost use Rattle.smol_str.specs.declared.bytes.ascii.AsciiCase.TheVariants.{Lower};
 
@@ -133,7 +133,7 @@ fn has_context(text: &str, case: AsciiCase) -> bool
 
 /// Appends what each character of a text is mapped to.
 fn push_mapped(builder: &mut SmolStrBuilder, text: &str, case: AsciiCase) -> Result<(), AllocError>
-    requires { builder.old ≡ appended (empty_draft InBuffer) builder.old.text }
+    requires { builder.old ≡ appended (empty_builder InBuffer) builder.old.text }
     ensures ok { OnOk result (builder.new ≡ appended builder.old (mapped case (chars text.now))) }
     ensures refused { OnErr result
         ((appended builder.old (mapped case (chars text.now))).kind ≡ OnHeap) }
@@ -152,7 +152,7 @@ pub(super) fn push_one(
     character: char,
     case: AsciiCase,
 ) -> Result<(), AllocError>
-    requires { builder.old ≡ appended (empty_draft InBuffer) builder.old.text }
+    requires { builder.old ≡ appended (empty_builder InBuffer) builder.old.text }
     ensures ok { OnOk result (builder.new ≡ appended builder.old (mapped case (character ∷ []))) }
     ensures refused { OnErr result
         ((appended builder.old (mapped case (character ∷ []))).kind ≡ OnHeap) }

@@ -4,7 +4,7 @@ ghost use Rattle.std.specs.Prelude.{◌≡◌, ◌<◌, ◌≤◌, [], length, I
 ghost use Rattle.std.specs.Str.{chars};
 ghost use Rattle.smol_str.specs.Text.{IsShort};
 ghost use Rattle.smol_str.specs.Meaning.{IsValueOf};
-ghost use Rattle.smol_str.specs.Draft.{InBuffer, empty_draft};
+ghost use Rattle.smol_str.specs.BuilderState.{InBuffer, empty_builder};
 ghost use Rattle.smol_str.specs.Needle.{needle_bytes, IsSoundNeedle};
 ghost use Rattle.smol_str.specs.Replace.{each_replaced, replaced};
 ghost use Rattle.smol_str.specs.Replacing.{IsReplacing};
@@ -108,7 +108,7 @@ fn push_replaced(
     to: &str,
     count: usize,
 ) -> Result<usize, AllocError>
-    requires { builder.old ≡ empty_draft InBuffer }
+    requires { builder.old ≡ empty_builder InBuffer }
     ensures ok { IfOk result (λ index.
         IsReplacing (chars text.now) (chars from.now) (chars to.now) count 0 builder.new index) }
     ensures refused { OnErr result
@@ -128,7 +128,7 @@ fn push_between(
     to: &str,
     count: usize,
 ) -> Result<usize, AllocError>
-    requires { builder.old ≡ empty_draft InBuffer }
+    requires { builder.old ≡ empty_builder InBuffer }
     ensures ok { IfOk result (λ index.
         IsReplacing (chars text.now) [] (chars to.now) count 0 builder.new index) }
     ensures refused { OnErr result
@@ -157,7 +157,7 @@ fn push_matches(
     count: usize,
 ) -> Result<usize, AllocError>
     requires sound { IsSoundNeedle needle.now }
-    requires empty { builder.old ≡ empty_draft InBuffer }
+    requires empty { builder.old ≡ empty_builder InBuffer }
     ensures ok { IfOk result (λ index.
         IsReplacing (chars text.now) (chars (needle_bytes needle.now)) (chars to.now) count 0 builder.new index) }
     ensures refused { OnErr result

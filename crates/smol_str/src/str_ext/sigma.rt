@@ -2,7 +2,7 @@
 ghost use Rattle.std.specs.Prelude.{◌≡◌, OnOk, OnErr};
 ghost use Rattle.std.specs.Str.{chars};
 ghost use Rattle.std.specs.StrCase.Lower.{starts_with_cased, lowercase_before, is_in_word_after};
-ghost use Rattle.smol_str.specs.Draft.{InBuffer, OnHeap, empty_draft, appended};
+ghost use Rattle.smol_str.specs.BuilderState.{InBuffer, OnHeap, empty_builder, appended};
 ghost use Rattle.smol_str.specs.Case.{lowercased};
 
 use super::full_case::push_one;
@@ -12,7 +12,7 @@ use std::alloc::AllocError;
 
 /// Appends a text in lower case.
 pub(super) fn push_lowercase(builder: &mut SmolStrBuilder, text: &str) -> Result<(), AllocError>
-    requires { builder.old ≡ empty_draft InBuffer }
+    requires { builder.old ≡ empty_builder InBuffer }
     ensures ok { OnOk result (builder.new ≡ appended builder.old (lowercased (chars text.now))) }
     ensures refused { OnErr result
         ((appended builder.old (lowercased (chars text.now))).kind ≡ OnHeap) }
@@ -33,7 +33,7 @@ fn push_before(
     character: char,
     rest: &str,
 ) -> Result<(), AllocError>
-    requires { builder.old ≡ appended (empty_draft InBuffer) builder.old.text }
+    requires { builder.old ≡ appended (empty_builder InBuffer) builder.old.text }
     ensures ok { OnOk result
         (builder.new ≡ appended builder.old (lowercase_before in_word character (chars rest.now))) }
     ensures refused { OnErr result

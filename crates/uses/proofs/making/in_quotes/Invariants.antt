@@ -1,5 +1,5 @@
 use Rattle.std.proofs.Common.{◌≡◌}
-use Rattle.smol_str.specs.Draft.{appended}
+use Rattle.smol_str.specs.BuilderState.{appended}
 use Rattle.uses.proofs.making.in_quotes.Given as goal
 
 abbrev pub invariant-loop-character : goal.invariant-loop-character

@@ -1,6 +1,6 @@
 use Rattle.std.proofs.Common.{◌≡◌, take}
 use Rattle.std.specs.List.{flat_map}
-use Rattle.smol_str.specs.Draft.{appended}
+use Rattle.smol_str.specs.BuilderState.{appended}
 use Rattle.uses.proofs.making.joined.Given as goal
 
 abbrev pub invariant-loop-part : goal.invariant-loop-part

@@ -1,8 +1,8 @@
 use Rattle.std.proofs.iter.Next.{said}
 use Rattle.std.proofs.lemmas.Result.{IfErr-weaker}
-use Rattle.smol_str.specs.BuilderArms.{heap_draft}
+use Rattle.smol_str.specs.BuilderArms.{heap_builder}
 use Rattle.smol_str.proofs.BuilderLemmas.Collect.{all-appended, stopped-at, all-next, stopped-next}
-use Rattle.smol_str.proofs.BuilderLemmas.Draft.{appended-twice}
+use Rattle.smol_str.proofs.BuilderLemmas.State.{appended-twice}
 use Rattle.smol_str.proofs.Common.{◌≡◌, [], ◌∷◌, inr, arith, rules, appended, IfOk-weaker}
 use Rattle.smol_str.proofs.TextLemmas.Places.{OnErr-always}
 use Rattle.smol_str.proofs.builder.SmolStrBuilder.extend_rest.Goals as goal
@@ -10,16 +10,16 @@ use Rattle.smol_str.proofs.builder.SmolStrBuilder.extend_rest.Goals as goal
 pub returns-in-Heap-clause-ok : goal.returns-in-Heap-clause-ok
 returns-in-Heap-clause-ok g c =
     let old = c.args.self.now in
-    let now : heap_draft c.in-Heap.heap ≡ appended old (c.args.first ∷ []) = search rules in
+    let now : heap_builder c.in-Heap.heap ≡ appended old (c.args.first ∷ []) = search rules in
     IfOk-weaker c.extend_heap.result _ _
-    (λ _ all. all-next g.I.Iterator.next_gives c.args.iter old (heap_draft c.in-Heap.heap) (heap_draft c.extend_heap.new.heap) c.args.first now all) c.extend_heap.ensures.ok
+    (λ _ all. all-next g.I.Iterator.next_gives c.args.iter old (heap_builder c.in-Heap.heap) (heap_builder c.extend_heap.new.heap) c.args.first now all) c.extend_heap.ensures.ok
 
 pub returns-in-Heap-clause-stopped : goal.returns-in-Heap-clause-stopped
 returns-in-Heap-clause-stopped g c =
     let old = c.args.self.now in
-    let now : heap_draft c.in-Heap.heap ≡ appended old (c.args.first ∷ []) = search rules in
+    let now : heap_builder c.in-Heap.heap ≡ appended old (c.args.first ∷ []) = search rules in
     IfErr-weaker c.extend_heap.result _ _
-    (λ _ all. inr (stopped-next g.I.Iterator.next_gives c.args.iter old (heap_draft c.in-Heap.heap) (heap_draft c.extend_heap.new.heap) c.args.first now all)) c.extend_heap.ensures.stopped
+    (λ _ all. inr (stopped-next g.I.Iterator.next_gives c.args.iter old (heap_builder c.in-Heap.heap) (heap_builder c.extend_heap.new.heap) c.args.first now all)) c.extend_heap.ensures.stopped
 
 pub loop-character-preserved : goal.loop-character-preserved
 loop-character-preserved g c = search (rules, arith, appended-twice)

@@ -1,5 +1,5 @@
 use Rattle.smol_str.proofs.Common.{arith, rules}
-use Rattle.smol_str.proofs.BuilderLemmas.Draft.{kind_with-short, kind_with-long}
+use Rattle.smol_str.proofs.BuilderLemmas.State.{kind_with-short, kind_with-long}
 use Rattle.smol_str.proofs.TextLemmas.Places.{size-append, size-chars}
 use Rattle.smol_str.proofs.builder.SmolStrBuilder.push_short.Goals.{in-Inline+else-text-len, in_default}
 use Rattle.smol_str.proofs.builder.SmolStrBuilder.push_short.Goals as goal

@@ -1,5 +1,5 @@
 use Rattle.std.proofs.iter.Next.{said}
-use Rattle.smol_str.specs.BuilderArms.{heap_draft}
+use Rattle.smol_str.specs.BuilderArms.{heap_builder}
 use Rattle.smol_str.proofs.BuilderLemmas.Collect.{all-appended, stopped-at, pushed-next}
 use Rattle.smol_str.proofs.Common.{rules}
 use Rattle.smol_str.proofs.TextLemmas.Places.{OnErr-always, chars-pushed}
@@ -17,7 +17,7 @@ returns-in_err-push-clause-stopped g c =
     let now = c.loop-character in
     let x = c.in-Some.character in
     let yielded = rw c.into_iter-character-iterator.ensures.into_iter_gives at now.yielded_by in
-    let stopped = stopped-at g.I.Iterator.next_gives c.args.iter (λ items. items) now.yielded (heap_draft c.args.heap.now) (heap_draft c.push.new.self)
+    let stopped = stopped-at g.I.Iterator.next_gives c.args.iter (λ items. items) now.yielded (heap_builder c.args.heap.now) (heap_builder c.push.new.self)
     (search rules) x c.next.new.self (now.character-iterator, yielded, c.in-Some.ensures.steps) (search rules) in
     OnErr-always c.from_residual.result _ stopped
 

@@ -1,4 +1,4 @@
-use Rattle.smol_str.proofs.Common.{◌≡◌, ℕ, List, joined, YieldsList-from_slice, Draft, empty_draft, kind_for, inl, inr, sym, ap}
+use Rattle.smol_str.proofs.Common.{◌≡◌, ℕ, List, joined, YieldsList-from_slice, BuilderState, empty_builder, kind_for, inl, inr, sym, ap}
 use Rattle.std.specs.Slice.Iter.{iter_rest, iter_steps}
 use Rattle.std.specs.declared.slice.Iter.{Iter}
 use Rattle.std.proofs.lemmas.List.Folds.{flat_map-map}
@@ -7,7 +7,7 @@ use Rattle.smol_str.specs.Steps.{step_text, step_ref_text}
 use Rattle.smol_str.specs.declared.collect.steps.Step.{Step}
 use Rattle.smol_str.proofs.TextLemmas.Lists.{flat_map-parts}
 use Rattle.smol_str.proofs.TextLemmas.Places.{OnErr-always}
-use Rattle.smol_str.proofs.BuilderLemmas.Draft.{why_heap}
+use Rattle.smol_str.proofs.BuilderLemmas.State.{why_heap}
 use Rattle.smol_str.proofs.BuilderLemmas.Collect.{Reads, heap-stopped, text-appended}
 use Rattle.smol_str.proofs.collect.steps.build.Goals as goal
 
@@ -15,8 +15,8 @@ lent_steps : Reads (joined step_ref_text) (joined step_text) (λ x. x.now)
 lent_steps = record { is = λ xs. sym (flat_map-map step_text (λ x. x.now) xs); parts = flat_map-parts step_text }
 
 -- a builder that took all steps has their text
-text_built : (s : Iter Step) (all : List Step) (n : ℕ) (new : Draft) → iter_rest s ≡ all
-    → AppendedAll (joined step_ref_text) iter_steps s (empty_draft (kind_for n)) new → new.text ≡ joined step_text all
+text_built : (s : Iter Step) (all : List Step) (n : ℕ) (new : BuilderState) → iter_rest s ≡ all
+    → AppendedAll (joined step_ref_text) iter_steps s (empty_builder (kind_for n)) new → new.text ≡ joined step_text all
 text_built s all n new is took =
     ap (λ d. d.text) (text-appended lent_steps _ new took (YieldsList-from_slice all is))
 

@@ -2,7 +2,7 @@ use Rattle.smol_str.proofs.Common.{arith, common_steps, map-id, mapped, refl, Yi
 use Rattle.smol_str.proofs.TextLemmas.Places.{OnErr-always}
 use Rattle.smol_str.proofs.CaseLemmas.Full.{mapped-append}
 use Rattle.smol_str.proofs.BuilderLemmas.Push.{new-appended, mapped-refused}
-use Rattle.smol_str.proofs.BuilderLemmas.Draft.{appended-twice}
+use Rattle.smol_str.proofs.BuilderLemmas.State.{appended-twice}
 use Rattle.std.proofs.lemmas.Iterator.Consumers.{YieldsList-so_far, YieldsList-turn, YieldsList-end}
 use Rattle.smol_str.proofs.str_ext.full_case.push_mapped.Goals as goal
 

@@ -1,5 +1,5 @@
 use Rattle.smol_str.proofs.Common.{◌≡◌, ◌∷◌, arith, rules, chars}
-use Rattle.smol_str.proofs.BuilderLemmas.Draft.{appended-twice, OnHeap-long}
+use Rattle.smol_str.proofs.BuilderLemmas.State.{appended-twice, OnHeap-long}
 use Rattle.smol_str.proofs.BuilderLemmas.Join.{joined-first, first-long}
 use Rattle.smol_str.proofs.TextLemmas.Places.{OnErr-always}
 use Rattle.smol_str.proofs.value.SmolStr.join.Goals as goal

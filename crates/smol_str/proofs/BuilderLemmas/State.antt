@@ -1,5 +1,5 @@
 -- For the builder: its text and kind, before and after an append; appends are associative (`appended-twice`).
-use Rattle.smol_str.proofs.Common.{◌≡◌, ℕ, ◌<◌, List, [], ◌++◌, append-nil, refl, append_assoc, arith, ◌⊎◌, nat_tests, INLINE_CAP, IsShort, Draft, Kind, InBuffer, OnHeap, kind_with, kind_for, appended, empty_draft, common_steps, rules}
+use Rattle.smol_str.proofs.Common.{◌≡◌, ℕ, ◌<◌, List, [], ◌++◌, append-nil, refl, append_assoc, arith, ◌⊎◌, nat_tests, INLINE_CAP, IsShort, BuilderState, Kind, InBuffer, OnHeap, kind_with, kind_for, appended, empty_builder, common_steps, rules}
 use Rattle.smol_str.proofs.TextLemmas.Places.{is_short-true, is_short-false, IsShort-front}
 
 -- a builder in its buffer, whose text stays short, or does not
@@ -18,13 +18,13 @@ kind_with-twice OnHeap s t = refl
 kind_with-twice InBuffer s t = grind (arith, common_steps, kind_with-long, is_short-true, IsShort-front)
 
 -- appending twice is appending the joined text
-pub appended-twice : (b : Draft) (t u : List ℕ) → appended (appended b t) u ≡ appended b (t ++ u)
+pub appended-twice : (b : BuilderState) (t u : List ℕ) → appended (appended b t) u ≡ appended b (t ++ u)
 appended-twice b t u = search (rules, arith, append_assoc, kind_with-twice)
 
 -- appending nothing changes nothing; the premise is the clause `short` of a builder's `as_str`
-pub appended-nothing : (b : Draft) → (b.kind ≡ InBuffer → IsShort b.text) → appended b [] ≡ b
+pub appended-nothing : (b : BuilderState) → (b.kind ≡ InBuffer → IsShort b.text) → appended b [] ≡ b
 appended-nothing b short = search (rules, arith, append-nil, kind_with-short)
 
 -- a new builder leaves its buffer only for a text that is not short
-pub OnHeap-long : (t : List ℕ) → (appended (empty_draft InBuffer) t).kind ≡ OnHeap → ¬ (IsShort t)
+pub OnHeap-long : (t : List ℕ) → (appended (empty_builder InBuffer) t).kind ≡ OnHeap → ¬ (IsShort t)
 OnHeap-long t heap = λ short. let stays = kind_with-short t short in cc

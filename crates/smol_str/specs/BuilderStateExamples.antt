@@ -1,7 +1,7 @@
 -- Kinds of small builders, computed by the checker. Where a limit matters, the example names the constant.
 use Rattle.std.specs.Prelude.{◌≡◌, ◌+◌, ◌-◌, [], ◌∷◌, codes, replicate, refl}
 use Rattle.smol_str.specs.declared.buffer.TheConstants.{INLINE_CAP}
-use Rattle.smol_str.specs.Draft.{Kind, InBuffer, OnHeap, empty_draft, appended, kind_for}
+use Rattle.smol_str.specs.BuilderState.{Kind, InBuffer, OnHeap, empty_builder, appended, kind_for}
 use Rattle.smol_str.specs.Joined.{joined, char_text}
 
 -- a builder leaves its buffer with the first character that does not fit
@@ -21,7 +21,7 @@ larger_capacity : kind_for (INLINE_CAP + 1) ≡ OnHeap
 larger_capacity = refl
 
 -- a new builder has no text, in either kind
-empty : (kind : Kind) → empty_draft kind ≡ record { text = []; kind = kind }
+empty : (kind : Kind) → empty_builder kind ≡ record { text = []; kind = kind }
 empty kind = refl
 
 -- what is appended goes to the end, and text on the heap stays there
@@ -29,13 +29,13 @@ in_order : appended (record { text = codes "ab"; kind = OnHeap }) (codes "c") �
 in_order = refl
 
 -- a new builder that a text is appended to keeps it in its buffer where it fits
-short_draft : appended (empty_draft InBuffer) (codes "ab") ≡ record { text = codes "ab"; kind = InBuffer }
+short_builder : appended (empty_builder InBuffer) (codes "ab") ≡ record { text = codes "ab"; kind = InBuffer }
 unfolding lib.Utf8.encode
-short_draft = refl
+short_builder = refl
 
-long_draft : (appended (empty_draft InBuffer) (replicate (INLINE_CAP + 1) 97)).kind ≡ OnHeap
+long_builder : (appended (empty_builder InBuffer) (replicate (INLINE_CAP + 1) 97)).kind ≡ OnHeap
 unfolding lib.Utf8.encode
-long_draft = refl
+long_builder = refl
 
 -- texts in their order, and empty ones among them
 texts_in_a_row : joined (λ t. t) (codes "ab" ∷ [] ∷ codes "c" ∷ []) ≡ codes "abc"
