@@ -33,6 +33,7 @@
 --     chars_by_std, strings_by_std
 --                    the same of std's `collect` and `extend`
 --     sorting        `IsSorted (slice_cmp nat_cmp) (texts names.items)` after `sort`; `dedup`, `binary_search`, `==`
+--     among          `AreValuesOf (without ts us) values.items` of the values of ts that are not among those of us
 --     listed         `slice_get names i ≡ Some (chars result.now)` of what `values[i].as_str()` lends
 --     lookups        `option_copied result ≡ value_at (chars key.now) map.now` of `get`; the same of texts, by `entry_texts`
 --     inserts        `texts set.new.keys ≡ insert_key bytes_eq (texts set.old.keys) v.text`; `contains`; the same of a map;
@@ -55,8 +56,8 @@ pub mod CutOnce
 pub mod Wire
 pub mod Crates
 pub use Rattle.smol_str.proofs.CallerLemmas.Texts.{texts, compared, replacing, prints, chars-as_str}
-pub use Rattle.smol_str.proofs.CallerLemmas.Builders.{builders, passed_builders}
-pub use Rattle.smol_str.proofs.CallerLemmas.Values.{texts-push, text_at, listed}
+pub use Rattle.smol_str.proofs.CallerLemmas.Builders.{builders, passed_builders, OnHeap-front}
+pub use Rattle.smol_str.proofs.CallerLemmas.Values.{texts-push, text_at, listed, among}
 pub use Rattle.smol_str.proofs.CallerLemmas.Sorting.{sorting}
 pub use Rattle.smol_str.proofs.CallerLemmas.Interning.{interning}
 pub use Rattle.smol_str.proofs.CallerLemmas.Maps.{updates, lookups, inserts, scopes, stands_for-text, lookup-with_entry}

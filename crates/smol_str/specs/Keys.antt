@@ -8,13 +8,15 @@
 --     with_entry es t v         the entries es, in order, where the text t has v: in its place, or last where it is new
 --     entry_texts g es          the entries of a map with values as keys, as texts, where g reads what a key has
 --     has_text t values         whether a list has a value of the text t
+--     without ts us             the texts ts that are not among us, in their order; within ts us, those that are
+--     values_without vs ws      the values whose texts are not among those of ws; values_within vs ws, those whose are
 --     is_before s t             whether a value of the text s comes before one of t
 --     stands_for bytes key      whether a `&str` of these bytes has the text of the value
 --     id_of t names             the index of the first t among names, if there is one, as in an interner
 --     interned t names          the names once the text is among them
 --     ids_of names              the id of each text among names
 --     ids_in es                 what a map of these entries has at each text
-use Rattle.std.specs.Prelude.{ℕ, List, [], ◌∷◌, ◌++◌, Option, None, Bool, bytes_eq, encode_utf8_all, map, is_some, position, if◌then◌else◌}
+use Rattle.std.specs.Prelude.{ℕ, List, [], ◌∷◌, ◌++◌, Option, None, Bool, bytes_eq, encode_utf8_all, filter, map, is_some, not, position, if◌then◌else◌}
 use Rattle.std.specs.List.{list_any}
 use Rattle.std.specs.Ordering.{nat_cmp, is_lt}
 use Rattle.std.specs.Cmp.Lexicographic.{slice_cmp}
@@ -75,3 +77,15 @@ ids_of names t = id_of t names
 
 unfoldable pub ids_in : List (Meaning × ℕ) → List ℕ → Option ℕ
 ids_in es t = lookup (λ key. bytes_eq t key.text) es
+
+unfoldable pub without : List (List ℕ) → List (List ℕ) → List (List ℕ)
+without ts us = filter (λ t. not (list_any (λ u. bytes_eq u t) us)) ts
+
+unfoldable pub within : List (List ℕ) → List (List ℕ) → List (List ℕ)
+within ts us = filter (λ t. list_any (λ u. bytes_eq u t) us) ts
+
+unfoldable pub values_without : List Meaning → List Meaning → List Meaning
+values_without vs ws = filter (λ v. not (has_text v.text ws)) vs
+
+unfoldable pub values_within : List Meaning → List Meaning → List Meaning
+values_within vs ws = filter (λ v. has_text v.text ws) vs

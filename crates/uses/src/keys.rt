@@ -1,12 +1,13 @@
 //! Values sorted, looked up in lists and maps, and in maps one inside another.
 ghost use Rattle.std.specs.Str.{chars};
 ghost use Rattle.std.specs.Map.{lookup};
-ghost use Rattle.std.specs.Prelude.{◌≡◌, ◌<◌, IfNone, IfSome, IsSomeAnd, ◌↔◌, OnOk, OnErr, IfOk, IsTrue, Some, false, option_copied, slice_get, ◌≢◌, ℕ, List, true, bytes_eq, option_map, filter, not, ◌++◌, ◌∷◌, [], if◌then◌else◌};
+ghost use Rattle.std.specs.Prelude.{◌≡◌, ◌<◌, IfNone, IfSome, IsSomeAnd, ◌↔◌, OnOk, OnErr, IfOk, IsTrue, Some, false, option_copied, slice_get, ◌≢◌, ℕ, List, true, bytes_eq, option_map, ◌++◌, ◌∷◌, [], if◌then◌else◌};
 ghost use Rattle.std.specs.Ordering.{nat_cmp};
 ghost use Rattle.std.specs.Cmp.Lexicographic.{slice_cmp};
 ghost use Rattle.std.specs.List.Sorted.{IsPermutation, IsSorted, IsStrictlySortedBy};
-ghost use Rattle.smol_str.specs.Keys.{ordered_value_at, value_at, has_text, is_before, innermost, entry_lists, entry_texts};
-ghost use Rattle.smol_str.specs.Meaning.{texts};
+ghost use Rattle.smol_str.specs.Keys.{without, values_without, ordered_value_at, value_at, has_text, is_before, innermost, entry_lists, entry_texts};
+ghost use Rattle.smol_str.specs.Meaning.{AreValuesOf, texts};
+ghost use Rattle.smol_str.specs.Replace.{cut, no_limit};
 
 pub mod headers;
 pub mod settings;
@@ -64,15 +65,26 @@ pub fn id_by_text<'a>(ids: &'a IndexMap<SmolStr, u64>, name: &str) -> Option<&'a
 }
 
 /// The names that were not seen, in their order.
-#[tactic(auto, using(smol_str::proofs::CallerLemmas::by_item))]
+#[tactic(auto, using(smol_str::proofs::CallerLemmas::by_item), unfolding(smol_str::specs::Keys::values_without))]
 pub fn unseen(alloc: Global, all: &[SmolStr], seen: &[SmolStr]) -> Result<Vec<SmolStr>, AllocError>
-    ensures { IfOk result (λ v. v.items ≡ filter (λ name. not (has_text name.text seen.now)) all.now) }
+    ensures { IfOk result (λ v. v.items ≡ values_without all.now seen.now) }
 {
     let mut names = Vec::new(alloc);
     for name in all {
         push_if(!seen.contains(name), &mut names, name)?;
     }
     Ok(names)
+}
+
+/// The fields of a line that an old one lacks.
+#[tactic(auto, using(smol_str::proofs::CallerLemmas::among))]
+pub fn new_fields(alloc: Global, line: &str, old: &str) -> Result<Vec<SmolStr>, AllocError>
+    ensures { IfOk result (λ v. AreValuesOf (without (cut (chars line.now) (44 ∷ []) (no_limit (chars line.now)))
+        (cut (chars old.now) (44 ∷ []) (no_limit (chars old.now)))) v.items) }
+{
+    let old = crate::cutting::fields(alloc, old)?;
+    let new = crate::cutting::fields(alloc, line)?;
+    unseen(alloc, &new, &old)
 }
 
 fn push_if(wanted: bool, names: &mut Vec<SmolStr>, name: &SmolStr) -> Result<(), AllocError>

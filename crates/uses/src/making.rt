@@ -49,12 +49,13 @@ pub fn both(alloc: Global, first: &str, second: &str) -> Result<SmolStrBuilder, 
     Ok(builder)
 }
 
-/// A key, a comma and a value at a builder's end. Where an append is refused, the whole would not fit the buffer.
+/// A newline, a key, a comma and a value at a builder's end. Where an append is refused, the whole would not fit the buffer.
 #[tactic(auto, using(smol_str::proofs::CallerLemmas::passed_builders))]
 pub fn push_entry(out: &mut SmolStrBuilder, key: &str, value: &SmolStr) -> Result<(), AllocError>
-    ensures ok { OnOk result (out.new ≡ appended out.old (chars key.now ++ (chars (codes ",") ++ value.now.text))) }
-    ensures refused { OnErr result ((appended out.old ((chars key.now ++ (44 ∷ [])) ++ value.now.text)).kind ≡ OnHeap) }
+    ensures ok { OnOk result (out.new ≡ appended out.old (10 ∷ (chars key.now ++ (chars (codes ",") ++ value.now.text)))) }
+    ensures refused { OnErr result ((appended out.old (10 ∷ ((chars key.now ++ (44 ∷ [])) ++ value.now.text))).kind ≡ OnHeap) }
 {
+    out.push('\n')?;
     out.push_str(key)?;
     out.push(',')?;
     out.push_str(value)
@@ -80,15 +81,6 @@ pub fn push_line_end(out: &mut SmolStrBuilder, level: u8) -> Result<(), AllocErr
     ensures unchanged { OnErr result (out.new ≡ out.old) }
 {
     out.push_blank(1, 4 * usize::from(level))
-}
-
-/// A word, a number and a value.
-pub fn line_with(alloc: Global, word: &str, n: u64, value: &SmolStr) -> Result<SmolStr, FormatError>
-    ensures text { IfOk result (λ v. encode_utf8_all v.text ≡ word.now ++ (codes " " ++ (decimal n
-        ++ (codes " " ++ (encode_utf8_all value.now.text ++ codes "\n"))))) }
-    ensures place { IfOk result (λ v. v.place ≡ place_of v.text) }
-{
-    format_smolstr!(alloc; "{word} {n} {value}\n")
 }
 
 /// A text.

@@ -89,18 +89,14 @@ pub fn read_from_reader<'a>(
 
 /// A value of a reader whose bytes state a short text: it never runs out of memory, and what can fail is the reader,
 /// or the bytes themselves.
-pub fn read_short<R: Read>(
-    alloc: Global,
-    reader: &mut R,
-    bytes: &[u8],
-) -> Result<SmolStr, DecodeFault>
-    requires known { R.remaining reader.old ≡ Some bytes.now }
-    requires short { prefix_size bytes.now ≤ INLINE_CAP }
-    ensures value { IfOk result (λ v. Gave R.remaining reader.old reader.new (wire v.text)) }
+pub fn read_short<R: Read>(alloc: Global, from: &mut R, form: &[u8]) -> Result<SmolStr, DecodeFault>
+    requires known { R.remaining from.old ≡ Some form.now }
+    requires short { prefix_size form.now ≤ INLINE_CAP }
+    ensures value { IfOk result (λ v. Gave R.remaining from.old from.new (wire v.text)) }
     ensures place { IfOk result (λ v. v.place ≡ place_of v.text) }
     ensures refused { IfErr result (λ fault. ¬ (fault ≡ DecodeFault.OutOfMemory)) }
 {
-    match SmolStr::deserialize_reader(alloc, reader) {
+    match SmolStr::deserialize_reader(alloc, from) {
         Err(DecodeFault::OutOfMemory) => unreachable!(),
         read => read,
     }

@@ -1,6 +1,7 @@
 -- Builders: appends one after another, and when a builder leaves its buffer.
 use Rattle.smol_str.proofs.Common.{BuilderState, OnHeap, appended, kind_with, ◌++◌, drop, sym, ap, ◌∙◌, ◌≡◌, ◌∷◌, ℕ, ◌+◌, ◌≤◌, List, [], take, take_all, refl, arith, flat_map, size, nat_tests, append-nil, append_assoc}
 use Rattle.std.proofs.lemmas.Grind.{take_at_read, flat_map-append}
+use Rattle.std.proofs.lemmas.List.Folds.{flat_map-map}
 use Rattle.smol_str.proofs.TextLemmas.Lists.{flat_map-parts}
 use Rattle.smol_str.proofs.TextLemmas.Places.{size-append}
 use Rattle.smol_str.proofs.BuilderLemmas.State.{appended-twice, appended-nothing, OnHeap-long}
@@ -36,6 +37,14 @@ pub OnHeap-front : (b : BuilderState) (t u : List ℕ) → (appended b t).kind �
 OnHeap-front b t u heap =
     ap (λ d. d.kind) (sym (appended-twice b t u)) ∙ ap (λ k. kind_with k ((b.text ++ t) ++ u)) heap
 
+-- the same where a character comes first
+pub OnHeap-cons : (b : BuilderState) (c : ℕ) (t : List ℕ) → (appended b (c ∷ [])).kind ≡ OnHeap → (appended b (c ∷ t)).kind ≡ OnHeap
+OnHeap-cons b c t = OnHeap-front b (c ∷ []) t
+
+pub OnHeap-cons_front : (b : BuilderState) (c : ℕ) (t u : List ℕ) → (appended b (c ∷ t)).kind ≡ OnHeap
+    → (appended b (c ∷ (t ++ u))).kind ≡ OnHeap
+OnHeap-cons_front b c t u = OnHeap-front b (c ∷ t) u
+
 -- in a loop: the pieces of the first items and of one more, and those that follow
 pub pieces-front : {X : Type 0} (f : X → List ℕ) (xs : List X) (i : ℕ) → (flat_map f (take i xs) ≡ flat_map f (take i xs))
     × (flat_map f xs ≡ flat_map f (take (i + 1) xs) ++ flat_map f (drop (i + 1) xs))
@@ -47,10 +56,13 @@ pub ruleset passed_builders = (
   appended-twice,
   appended-nothing,
   OnHeap-front,
+  OnHeap-cons,
+  OnHeap-cons_front,
   pieces-front,
   take_at_read,
   take_all,
   flat_map-append,
+  flat_map-map,
   append-nil,
   append_assoc,
 )

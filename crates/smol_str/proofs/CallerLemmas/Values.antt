@@ -1,7 +1,10 @@
 -- Lists of values, as texts.
-use Rattle.smol_str.proofs.Common.{get_or, sym, ◌≡◌, ℕ, ◌<◌, List, [], ◌∷◌, ◌++◌, length, Some, ap, ◌∙◌, arith, length-map, map-append, slice_get, option_map, Meaning, IsTrue, all_scalars, encode_utf8_all, chars}
+use Rattle.smol_str.proofs.Common.{Bool, true, false, cond, not, map, refl, bytes_eq, place_of, get_or, sym, ◌≡◌, ℕ, ◌<◌, List, [], ◌∷◌, ◌++◌, length, Some, ap, ◌∙◌, arith, length-map, map-append, slice_get, option_map, Meaning, IsTrue, all_scalars, encode_utf8_all, chars}
 use Rattle.std.proofs.lemmas.Option.{slice_get-map, slice_get-get_or}
-use Rattle.smol_str.specs.Meaning.{texts}
+use Rattle.smol_str.specs.Meaning.{AreValuesOf, texts}
+use Rattle.smol_str.specs.Keys.{has_text, without, within, values_without, values_within}
+use Rattle.std.specs.List.{filter, list_any}
+use Rattle.std.proofs.lemmas.List.Elements.{All-filter, filter_agree}
 use Rattle.smol_str.proofs.CallerLemmas.Texts.{chars-as_str}
 
 -- one value more
@@ -23,3 +26,37 @@ text_lent ts vs i v bs are within at lent scalars =
     ∙ ap Some (sym (chars-as_str v.text bs scalars lent))
 
 pub ruleset listed = (text_lent)
+
+-- ---- values that are among others, or are not
+
+map-filter : {A B : Type 0} (f : A → B) (p : B → Bool) (xs : List A) → map f (filter (λ x. p (f x)) xs) ≡ filter p (map f xs)
+map-filter f p [] = refl
+map-filter f p (x ∷ xs) =
+    elim (p (f x)) as (λ b. map f (cond b (x ∷ filter (λ x. p (f x)) xs) (filter (λ x. p (f x)) xs)) ≡ cond b (f x ∷ filter p (map f xs)) (filter p (map f xs)))
+    [ true ↦ ap (λ ys. f x ∷ ys) (map-filter f p xs) | false ↦ map-filter f p xs ]
+
+list_any-map : {A B : Type 0} (f : A → B) (p : B → Bool) (xs : List A) → list_any (λ x. p (f x)) xs ≡ list_any p (map f xs)
+list_any-map f p [] = refl
+list_any-map f p (x ∷ xs) = rw (list_any-map f p xs)
+
+AreValuesOf-filter : (p : List ℕ → Bool) (ts : List (List ℕ)) (vs : List Meaning) → AreValuesOf ts vs
+    → AreValuesOf (filter p ts) (filter (λ v. p v.text) vs)
+AreValuesOf-filter p ts vs are = record {
+  text = map-filter (λ (v : Meaning). v.text) p vs ∙ ap (filter p) are.text;
+  place = All-filter (λ (v : Meaning). p v.text) (λ v. v.place ≡ place_of v.text) vs are.place;
+}
+
+module _ (ts us : List (List ℕ)) (vs ws : List Meaning) (are : AreValuesOf ts vs) (others : AreValuesOf us ws) where
+  has_text-among : (t : List ℕ) → has_text t ws ≡ list_any (λ u. bytes_eq u t) us
+  has_text-among t = list_any-map (λ (v : Meaning). v.text) (λ u. bytes_eq u t) ws ∙ ap (list_any (λ u. bytes_eq u t)) others.text
+
+  pub are_without : AreValuesOf (without ts us) (values_without vs ws)
+  unfolding without values_without
+  are_without =
+      rw (← filter_agree _ _ (λ t. ap not (has_text-among t)) ts) (AreValuesOf-filter (λ t. not (has_text t ws)) ts vs are)
+
+  pub are_within : AreValuesOf (within ts us) (values_within vs ws)
+  unfolding within values_within
+  are_within = rw (← filter_agree _ _ has_text-among ts) (AreValuesOf-filter (λ t. has_text t ws) ts vs are)
+
+pub ruleset among = (are_without, are_within)
