@@ -6,7 +6,7 @@
 --     seen_once texts        the texts, each with times 1
 --     HasEachOnce pairs      no text is in two of the pairs
 --     by_text entries        the entries of a table by values, each by its value's text
-use Rattle.std.specs.Prelude.{◌≢◌, ℕ, List, [], ◌∷◌, Bool, not, map, filter, sum_by, bytes_eq, AllPairs, if◌then◌else◌}
+use Rattle.std.specs.Prelude.{◌≢◌, ℕ, List, [], ◌∷◌, not, map, filter, sum_by, bytes_eq, AllPairs, if◌then◌else◌}
 use Rattle.smol_str.specs.Meaning.{Meaning}
 
 -- the first of each pair

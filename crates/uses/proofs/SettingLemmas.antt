@@ -1,7 +1,6 @@
 -- For settings: what is set by lines, and what a key's last line sets.
-use Rattle.std.proofs.Common.{◌≡◌, ℕ, List, [], ◌∷◌, ◌++◌, map, fold, Bool, if◌then◌else◌, Option, Some, None, Bor, bytes_eq, refl, ap, ◌∙◌, arith}
+use Rattle.std.proofs.Common.{◌≡◌, ℕ, List, [], ◌∷◌, fold, Option, Some, None, bytes_eq, refl, ap, ◌∙◌, arith}
 use Rattle.std.specs.Map.{lookup}
-use Rattle.smol_str.specs.Keys.{with_entry}
 use Rattle.smol_str.proofs.CallerLemmas.{lookup-with_entry}
 use Rattle.uses.specs.Settings.{setting, with_setting, settings, value_in, or_else, last_value}
 

@@ -7,7 +7,7 @@ use Rattle.std.specs.Prelude.{Vec}
 use Rattle.std.specs.Vec.{vec_items}
 use Rattle.std.specs.List.{AllZip}
 use Rattle.std.specs.Iterator.{Yields, AlwaysYields}
-use Rattle.std.specs.Iterator.Adapters.{map_source, map_callee, enumerate_source, enumerate_count, enumerate_steps}
+use Rattle.std.specs.Iterator.Adapters.{map_source, map_callee, enumerate_source, enumerate_count}
 use Rattle.std.specs.declared.iter.Enumerate.{Enumerate}
 use Rattle.std.specs.List.{enumerate_from, filter}
 use Rattle.std.specs.Str.Iter.{chars_rest, chars_steps, lines_rest, lines_steps}
