@@ -17,6 +17,7 @@
 --     cut_once       `chars line.now ≡ chars key.now ++ (61 ∷ chars value.now)` after `split_once('=')`; `strip_prefix` ..
 --     cut_at_texts   the same after `split_once("->")` and then `split_once("=>")`
 --     cut_alike      `key ≡ other_key` where `key ++ (61 ∷ value) ≡ other_key ++ (61 ∷ other)`, cut at their first `=`
+--     not_taken      `(get_or line.now 0 0 == 91) ≡ false` where `strip_prefix('[')` finds none; the last byte; `strip_suffix`
 --     trimmed        `chars rest.now ≡ drop (prefix_len (λ c. c == 32) t) t` after `trim_start_matches(' ')`, t its text;
 --                    `chars rest.now ≡ drop_trailing_whitespace (skip_leading_whitespace t)`, `length rest.now ≤ length
 --                    text.now` after `trim()`
@@ -61,10 +62,10 @@ pub use Rattle.smol_str.proofs.CallerLemmas.Values.{texts-push, text_at, listed,
 pub use Rattle.smol_str.proofs.CallerLemmas.Sorting.{sorting}
 pub use Rattle.smol_str.proofs.CallerLemmas.Interning.{interning}
 pub use Rattle.smol_str.proofs.CallerLemmas.Maps.{updates, lookups, inserts, scopes, stands_for-text, lookup-with_entry}
-pub use Rattle.smol_str.proofs.CallerLemmas.Loops.{by_line, by_char, by_item}
+pub use Rattle.smol_str.proofs.CallerLemmas.Loops.{by_line, by_char, by_item, lines_so_far, line_here}
 pub use Rattle.smol_str.proofs.CallerLemmas.Collecting.{collecting_chars, collecting_strs, collecting_pieces, collecting_strings, chars_by_std, strings_by_std, texts_collected}
 pub use Rattle.smol_str.proofs.CallerLemmas.Cuts.{cutting, joining, pieces_lack}
-pub use Rattle.smol_str.proofs.CallerLemmas.CutOnce.{cut_once, cut_at_texts, cut_alike, trimmed}
+pub use Rattle.smol_str.proofs.CallerLemmas.CutOnce.{cut_once, cut_at_texts, cut_alike, not_taken, trimmed}
 pub use Rattle.smol_str.proofs.CallerLemmas.Wire.{forms, parts, items, items-apart, lists-apart, AreRead, one_read, all_read}
 pub use Rattle.smol_str.proofs.CallerLemmas.Crates.{owned, chars_cut}
 -- each front of a short text is short; the size of the text that bytes spell, and of two texts, one after the other

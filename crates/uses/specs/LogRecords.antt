@@ -2,8 +2,7 @@
 --     form record, HasForm record    its wire form, and whether it has one
 --     forms records                  the forms one after another
 --     texts record                   its level's and its message's text
---     AfterRecordFault, AfterNextFault, AfterReadFault
---                                    what holds if a record was not read, or not kept, and if not all were
+--     AfterRecordFault, AfterNextFault, AfterReadFault    a record was not read, or not kept; not all were
 use Rattle.std.specs.Prelude.{◌≡◌, ℕ, ◌<◌, ◌⊎◌, List, ◌++◌, length, All, Option}
 use Rattle.std.specs.List.{flat_map}
 use Rattle.std.specs.Io.KnownBytes.{Consumes}

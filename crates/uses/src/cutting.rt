@@ -1,6 +1,6 @@
 //! Lines cut at a separator, and joined again; what a caller does with an index or a buffer that a call returns.
 ghost use Rattle.std.specs.List.{enumerate_from, filter_map, prefix_len};
-ghost use Rattle.std.specs.Prelude.{◌≡◌, ◌≢◌, ◌<◌, ◌≤◌, ◌↔◌, ◌+◌, ◌++◌, ◌∷◌, ◌-◌, [], ℕ, List, codes, drop, length, map, set, take, IfNone, IfOk, IfSome, IsTrue, MatchBool, OnErr, encode_utf8_all, String, All, None, Some, ◌==◌, if◌then◌else◌};
+ghost use Rattle.std.specs.Prelude.{get_or, ◌≡◌, ◌≢◌, ◌<◌, ◌≤◌, ◌↔◌, ◌+◌, ◌++◌, ◌∷◌, ◌-◌, [], ℕ, List, codes, drop, length, map, set, take, IfNone, IfOk, IfSome, IsTrue, MatchBool, OnErr, encode_utf8_all, String, All, None, Some, ◌==◌, if◌then◌else◌};
 ghost use Rattle.std.specs.Str.{IsCharBoundary, chars, skip_leading_whitespace, drop_trailing_whitespace};
 ghost use Rattle.std.specs.Str.Lines.{lines};
 ghost use Rattle.smol_str.specs.Cut.{IsFirstAfter, Occurs, joined_by};
@@ -413,4 +413,14 @@ pub fn numbered_lines(alloc: Global, text: &str) -> Result<Vec<(usize, SmolStr)>
         }
     }
     Ok(rows)
+}
+
+/// Whether a line is opened by a bracket, and whether one closes it, by its bytes.
+#[tactic(auto, using(smol_str::proofs::CallerLemmas::not_taken))]
+pub fn brackets(line: &str) -> (bool, bool)
+    ensures opened { result.0 ≡ (get_or line.now 0 0 == 91) }
+    ensures closed { result.1 ≡ (get_or line.now (length line.now - 1) 0 == 93) }
+{
+    let opened = line.strip_prefix('[').is_some();
+    (opened, line.strip_suffix(']').is_some())
 }

@@ -1,9 +1,6 @@
-//! The headline of the library, said by callers: one contract for every way to make a value, and what two values have
-//! in common, whichever way each was made.
-//!
-//! Each way ensures `value`, that the value is of exactly the text that is meant and lies in the place of that text; and
-//! `refused`, that memory may be refused only for text that is not resident, or not short where it comes in parts. At the
-//! end are values that cannot fail, or whose place the caller knows.
+//! The headline of the library: a contract for every way to make a value, and what any two values have in common.
+//! Clause `value` says that the value has exactly the expected text, in the place of that text, and `refused` that memory
+//! may be refused only for text that is not resident, or not short where it comes in parts.
 ghost use Rattle.std.specs.Prelude.{◌≡◌, ◌<◌, ◌≤◌, ◌⊎◌, ◌↔◌, ◌++◌, [], ◌∷◌, length, codes, encode_utf8_all, IfOk, IsOk, OnOk, OnErr, IsTrue, ◌-◌, map};
 ghost use Rattle.std.specs.Str.{chars, IsUtf8};
 ghost use Rattle.std.specs.String.{string_bytes};

@@ -1,5 +1,4 @@
-//! A value there and back: its wire form written, and read again by both calls. Readers that are read to their end, and
-//! bytes that are not UTF-8.
+//! Wire forms written and read back, by both calls; readers that are read to their end; bytes that are not UTF-8.
 ghost use Rattle.std.specs.Prelude.{◌≡◌, ◌<◌, ◌+◌, ◌≤◌, ◌++◌, [], drop, length, take, Some, IfOk, IfErr, IfSome, OnOk, OnErr, IsTrue};
 ghost use Rattle.std.specs.Io.KnownBytes.{Keeps};
 ghost use Rattle.smol_str.specs.Stream.{Gave};
@@ -87,8 +86,7 @@ pub fn read_from_reader<'a>(
     }
 }
 
-/// A value of a reader whose bytes state a short text: it never runs out of memory, and what can fail is the reader,
-/// or the bytes themselves.
+/// A value of a reader whose bytes state a short text: only the reader or the bytes can fail, and never memory.
 pub fn read_short<R: Read>(alloc: Global, from: &mut R, form: &[u8]) -> Result<SmolStr, DecodeFault>
     requires known { R.remaining from.old ≡ Some form.now }
     requires short { prefix_size form.now ≤ INLINE_CAP }
@@ -102,8 +100,7 @@ pub fn read_short<R: Read>(alloc: Global, from: &mut R, form: &[u8]) -> Result<S
     }
 }
 
-/// A value from a peer that may state any size: nothing is asked for where it states more than `limit`, nor where it
-/// states a short text.
+/// A value from a peer that may state any size: above `limit` no memory is asked for, nor for a short text.
 pub fn read_from_peer<R: Read>(
     alloc: Global,
     reader: &mut R,

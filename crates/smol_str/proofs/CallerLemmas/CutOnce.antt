@@ -4,7 +4,10 @@ use Rattle.std.proofs.Common.{◌≢◌, MatchBool}
 use Rattle.std.specs.Str.{IsCharBoundary, NonePass, trim, trim_start, trim_end, skip_leading_whitespace, drop_trailing_whitespace}
 use Rattle.std.specs.Str.Pattern.{CutsPrefixes, FindsCharPrefix, FindsChar, FindsText, FindsTextPrefix, FindsTextSuffix, HasCharAt, HasMatch, HasPrefixMatch, HasSuffixMatch, HasTextAt, LacksTextAt}
 use Rattle.std.proofs.Math.Seq.{drop-length}
-use Rattle.std.proofs.lemmas.Str.{IsUtf8-drop, IsUtf8-from_ascii, IsUtf8-take}
+use Rattle.std.proofs.lemmas.Str.{IsUtf8-drop, IsUtf8-from_ascii, IsUtf8-take, encode_ascii}
+use Rattle.std.proofs.lemmas.List.{take_more}
+use Rattle.std.proofs.Math.Seq.{take-length}
+use Rattle.std.proofs.Common.{get_or}
 use Rattle.smol_str.proofs.CallerLemmas.Texts.{IsLiteral, encodes-literal, literal-utf8}
 use Rattle.smol_str.proofs.CutLemmas.Cut.{same_parts}
 use Rattle.std.specs.List.{prefix_len}
@@ -222,6 +225,37 @@ pub ruleset cut_once = (
 
 -- a text cut at several literals or texts, one after another
 pub ruleset cut_at_texts = (text_between, literal_between)
+
+-- ---- a byte that `strip_prefix` or `strip_suffix` did not find, in a contract on bytes
+
+no_first : (c : ℕ) (bs : List ℕ) → 0 < c → ((rest : List ℕ) → bs ≢ c ∷ rest) → (get_or bs 0 0 == c) ≡ false
+no_first c [] some none = grind (arith, nat_tests)
+no_first c (b ∷ bs) some none = by (b == c) refl where
+  by : (t : Bool) → (b == c) ≡ t → (b == c) ≡ false
+  by true e = let same : b ≡ c = grind (arith, nat_tests) in absurd (none bs (ap (λ x. x ∷ bs) same))
+  by false e = e
+
+no_last : (c : ℕ) (bs : List ℕ) → 0 < c → ((front : List ℕ) → bs ≢ front ++ (c ∷ [])) → (get_or bs (length bs - 1) 0 == c) ≡ false
+no_last c [] some none = grind (arith, nat_tests)
+no_last c (b ∷ bs) some none = by (get_or (b ∷ bs) (length (b ∷ bs) - 1) 0 == c) refl where
+  by : (t : Bool) → (get_or (b ∷ bs) (length (b ∷ bs) - 1) 0 == c) ≡ t → (get_or (b ∷ bs) (length (b ∷ bs) - 1) 0 == c) ≡ false
+  by true e =
+      let whole = b ∷ bs in
+      let at = length whole - 1 in
+      let same : get_or whole at 0 ≡ c = grind (arith, nat_tests) in
+      let cut = take_more whole at 0 (omega arith) in
+      let n : at + 1 ≡ length whole = omega arith in
+      absurd (none (take at whole) (sym (take-length whole) ∙ ap (λ n. take n whole) (sym n) ∙ cut ∙ ap (λ x. take at whole ++ (x ∷ [])) same))
+  by false e = e
+
+pub begins_not : (c : ℕ) (bs : List ℕ) → 0 < c → c < 128 → ((rest : List ℕ) → bs ≢ encode_utf8 c ++ rest) → (get_or bs 0 0 == c) ≡ false
+begins_not c bs some low none = no_first c bs some (λ rest e. none rest (e ∙ ap (λ front. front ++ rest) (sym (encode_ascii c low))))
+
+pub ends_not : (c : ℕ) (bs : List ℕ) → 0 < c → c < 128 → ((front : List ℕ) → bs ≢ front ++ encode_utf8 c)
+    → (get_or bs (length bs - 1) 0 == c) ≡ false
+ends_not c bs some low none = no_last c bs some (λ front e. none front (e ∙ ap (λ end. front ++ end) (sym (encode_ascii c low))))
+
+pub ruleset not_taken = (begins_not, ends_not)
 
 -- texts that are cut at their first matches of a character, or of a text, are cut alike
 pub same_at_char : (c : ℕ) (q x : List ℕ) → IsFirstAfter (c ∷ []) q → (q ++ (c ∷ x) ≡ q ++ (c ∷ x))

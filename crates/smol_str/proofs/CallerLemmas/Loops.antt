@@ -7,7 +7,7 @@ use Rattle.std.specs.Prelude.{Vec}
 use Rattle.std.specs.Vec.{vec_items}
 use Rattle.std.specs.List.{AllZip}
 use Rattle.std.specs.Iterator.{Yields, AlwaysYields}
-use Rattle.std.specs.Iterator.Adapters.{map_source, map_callee, enumerate_source, enumerate_count}
+use Rattle.std.specs.Iterator.Adapters.{map_source, map_callee, enumerate_source, enumerate_count, enumerate_steps}
 use Rattle.std.specs.declared.iter.Enumerate.{Enumerate}
 use Rattle.std.specs.List.{enumerate_from, filter}
 use Rattle.std.specs.Str.Iter.{chars_rest, chars_steps, lines_rest, lines_steps}
@@ -18,6 +18,7 @@ use Rattle.std.specs.declared.slice.Iter.{Iter}
 use Rattle.std.specs.Str.Lines.{lines}
 use Rattle.std.specs.declared.str.Lines.{Lines}
 use Rattle.std.proofs.lemmas.Iterator.Splits.{YieldsList-from_lines}
+use Rattle.std.proofs.lemmas.Iterator.Consumers.{YieldsList-so_far, YieldsList-turn, YieldsList-from_enumerate}
 use Rattle.std.proofs.lemmas.Grind.{fold-append}
 use Rattle.std.proofs.lemmas.List.Elements.{filter_map-append, filter_more}
 use Rattle.smol_str.proofs.Common.{map-append}
@@ -170,6 +171,20 @@ pub lines_numbered : {A : Type 0} (steps : Enumerate Lines → Option A → Enum
     → map g xs ≡ enumerate_from 0 (lines (lines_rest (enumerate_source s))))
 lines_numbered steps xs s t run ends first =
     (refl, λ g last by. items_from_drains xs (t, run, λ _. ends) (all_numbered steps last g by s first))
+
+-- at an early return from such a loop: the lines so far, and the one at hand
+module _ (s : Enumerate Lines) (bs : List ℕ) (rest : lines_rest (enumerate_source s) ≡ bs) (first : enumerate_count s ≡ 0) where
+  numbered : YieldsList {B = ℕ × List ℕ} (enumerate_steps lines_steps) (λ p. (p.0, p.1.now)) s (enumerate_from 0 (lines bs))
+  numbered = YieldsList-from_enumerate (YieldsList-from_lines bs rest) first
+
+  module _ (xs : List (ℕ × Bor (List ℕ))) (t : Enumerate Lines) (run : Yields (enumerate_steps lines_steps) s xs t) where
+    pub lines_so_far : map {B = ℕ × List ℕ} (λ x. (x.0, x.1.now)) xs ≡ take (length xs) (enumerate_from 0 (lines bs))
+    lines_so_far = YieldsList-so_far numbered xs t run
+
+    pub line_here : (r : Option (ℕ × Bor (List ℕ))) (u : Enumerate Lines) (n : ℕ) (line : Bor (List ℕ)) → r ≡ Some (n, line)
+        → enumerate_steps lines_steps t r u → (length xs < length (enumerate_from 0 (lines bs)))
+        × (◌≡◌ {A = ℕ × List ℕ} (n, line.now) (get_or (enumerate_from 0 (lines bs)) (length xs) (n, line.now)))
+    line_here r u n line is step = YieldsList-turn numbered xs t run r u (n, line) is step
 
 -- a loop whose invariant folds, maps or filters what was yielded goes on by `fold-append` and the like
 pub ruleset by_line = (

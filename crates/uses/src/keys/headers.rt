@@ -61,8 +61,7 @@ impl<S: BuildHasher> Headers<S> {
     }
 }
 
-/// A store for names that a peer chooses: its keys are the system's, so the peer cannot choose names that all have one
-/// hash. The error is that of the system, where it gives no random bytes.
+/// A store for names that a peer chooses, who cannot know their hashes. It fails where the system gives no random bytes.
 pub fn headers_of_peer(alloc: Global, rt: &impl RandomSource) -> io::Result<Headers<RandomState>>
     ensures { IfOk result (λ headers. (name : List ℕ) → header_of name headers ≡ None) }
 {
