@@ -17,9 +17,9 @@ pub enum OnJson {
     FromEscapes,
     /// Behind characters by their numbers, of which one needs two.
     BehindNumbers,
-    /// The same, and others behind a long plain front.
+    /// As `BehindNumbers`, with other escapes behind a long plain front.
     NumbersAndMore,
-    /// A list or an object of it, a number, or what is no JSON.
+    /// A list or an object of it, a number, or text that is not JSON.
     NotString,
     Serialize,
     Deserialize,
