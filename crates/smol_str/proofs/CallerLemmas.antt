@@ -19,8 +19,7 @@
 --     cut_alike      `key ≡ other_key` where `key ++ (61 ∷ value) ≡ other_key ++ (61 ∷ other)`, cut at their first `=`
 --     not_taken      `(get_or line.now 0 0 == 91) ≡ false` where `strip_prefix('[')` finds none; the last byte; `strip_suffix`
 --     trimmed        `chars rest.now ≡ drop (prefix_len (λ c. c == 32) t) t` after `trim_start_matches(' ')`, t its text;
---                    `chars rest.now ≡ drop_trailing_whitespace (skip_leading_whitespace t)`, `length rest.now ≤ length
---                    text.now` after `trim()`
+--                    `chars rest.now ≡ drop_trailing_whitespace (skip_leading_whitespace t)` after `trim()`
 --     cutting        `texts values ≡ cut (chars line.now) (44 ∷ []) (no_limit (chars line.now))`, of each piece of `split(',')`
 --     pieces_lack    `¬ Occurs (44 ∷ []) v.text` for each of these values
 --     joining        `IsValueOf (chars line.now) v` of such values joined again; some of them; by std's `join`
@@ -62,7 +61,7 @@ pub use Rattle.smol_str.proofs.CallerLemmas.Values.{texts-push, text_at, listed,
 pub use Rattle.smol_str.proofs.CallerLemmas.Sorting.{sorting}
 pub use Rattle.smol_str.proofs.CallerLemmas.Interning.{interning}
 pub use Rattle.smol_str.proofs.CallerLemmas.Maps.{updates, lookups, inserts, scopes, stands_for-text, lookup-with_entry}
-pub use Rattle.smol_str.proofs.CallerLemmas.Loops.{by_line, by_char, by_item, lines_so_far, line_here}
+pub use Rattle.smol_str.proofs.CallerLemmas.Loops.{by_line, by_char, by_item}
 pub use Rattle.smol_str.proofs.CallerLemmas.Collecting.{collecting_chars, collecting_strs, collecting_pieces, collecting_strings, chars_by_std, strings_by_std, texts_collected}
 pub use Rattle.smol_str.proofs.CallerLemmas.Cuts.{cutting, joining, pieces_lack}
 pub use Rattle.smol_str.proofs.CallerLemmas.CutOnce.{cut_once, cut_at_texts, cut_alike, not_taken, trimmed}
@@ -72,6 +71,8 @@ pub use Rattle.smol_str.proofs.CallerLemmas.Crates.{owned, chars_cut}
 pub use Rattle.smol_str.proofs.TextLemmas.Places.{IsShort-front, size-chars, size-append}
 -- what holds of an `Err` where it holds whatever came, or of the one fault that came
 pub use Rattle.smol_str.proofs.TextLemmas.Places.{OnErr-always, IfErr-is}
+-- for an answer at an early return from a loop over `lines().enumerate()`: the lines so far, and the one at hand
+pub use Rattle.smol_str.proofs.CallerLemmas.Loops.{lines_so_far, line_here}
 -- bytes of a text in two parts, at the size of the first: they may be cut there, into these
 pub use Rattle.smol_str.proofs.TextLemmas.Split.{boundary-parts, chars-take, chars-drop}
 -- appending twice is appending the joined text, and nothing changes nothing; a new builder leaves its buffer only for a

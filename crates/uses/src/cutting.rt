@@ -216,11 +216,10 @@ pub fn stem(alloc: Global, name: &SmolStr) -> Result<Option<SmolStr>, AllocError
     }
 }
 
-/// A text without the white space around it, which is no longer.
+/// A text without the white space around it.
 #[tactic(auto, using(smol_str::proofs::CallerLemmas::trimmed))]
 pub fn stripped(text: &str) -> &str
-    ensures text { chars result.now ≡ drop_trailing_whitespace (skip_leading_whitespace (chars text.now)) }
-    ensures no_longer { length result.now ≤ length text.now }
+    ensures { chars result.now ≡ drop_trailing_whitespace (skip_leading_whitespace (chars text.now)) }
 {
     text.trim()
 }
