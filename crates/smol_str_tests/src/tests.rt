@@ -3,6 +3,7 @@
 mod borsh;
 mod builder;
 mod collect;
+mod fault;
 mod format;
 mod json_string;
 mod kernel;

@@ -2,7 +2,7 @@
 pub mod fault;
 
 use Place::{Heap, Inline, Static};
-use smol_str::borsh::{BorshDeserialize, BorshSerialize, DecodeFault, from_wire};
+use smol_str::borsh::{BorshDeserialize, BorshSerialize, DecodeFault, from_wire, length_prefix};
 use smol_str::{Place, SmolStr};
 use test_support::*;
 
@@ -13,11 +13,13 @@ pub type Row = (&'static str, usize, &'static [u8; 4], &'static [u8], Place);
 /// Letters of one and of two bytes.
 pub const LETTERS: &[u8] = b"a\xc3\x9f\xce\x94Ca\xc3\x9f\xce\xb4c";
 
-// Those of upstream's borsh_serialize_stack and borsh_serialize_heap are the fourth and the fifth.
+const OF_12: Row = ("aßΔCaßδc", 1, b"\x0c\0\0\0", LETTERS, Inline);
+
+const OF_132: Row = ("aßΔCaßδc", 11, b"\x84\0\0\0", LETTERS, Heap);
+
 pub static ROWS: [Row; 12] = table! {
     ("", 0, b"\0\0\0\0", b"", Inline); ("ab", 1, b"\x02\0\0\0", b"ab", Inline);
-    ("🦀", 1, b"\x04\0\0\0", b"\xf0\x9f\xa6\x80", Inline); ("aßΔCaßδc", 1, b"\x0c\0\0\0", LETTERS, Inline);
-    ("aßΔCaßδc", 11, b"\x84\0\0\0", LETTERS, Heap); ("a", 23, b"\x17\0\0\0", b"a", Inline);
+    ("🦀", 1, b"\x04\0\0\0", b"\xf0\x9f\xa6\x80", Inline); OF_12; OF_132; ("a", 23, b"\x17\0\0\0", b"a", Inline);
     ("a", 24, b"\x18\0\0\0", b"a", Inline); (" ", 24, b"\x18\0\0\0", b" ", Inline);
     ("a", 39, b"\x27\0\0\0", b"a", Inline); ("a", 40, b"\x28\0\0\0", b"a", Heap); (" ", 40, b"\x28\0\0\0", b" ", Static);
     ("a", 5000, b"\x88\x13\0\0", b"a", Heap);
@@ -65,6 +67,20 @@ fn rows(rt: HostRuntime) -> Result<(), Fail> {
     test.end()
 }
 
+#[test]
+fn borsh_serialize_stack(rt: HostRuntime) -> Result<(), Fail> {
+    let test = Test::begin(rt);
+    check_row(&test, OF_12);
+    test.end()
+}
+
+#[test]
+fn borsh_serialize_heap(rt: HostRuntime) -> Result<(), Fail> {
+    let test = Test::begin(rt);
+    check_row(&test, OF_132);
+    test.end()
+}
+
 /// The value is written as the form, which is read again.
 fn check_row(test: &Test, row: Row) {
     let (text, form) = (test.repeated(row.0, row.1), form_of(test, row));
@@ -100,5 +116,19 @@ fn two_forms(rt: HostRuntime) -> Result<(), Fail> {
         same(&test, &value.as_str(), &text, &"read");
     }
     holds(&test, reader.rest.is_empty(), &"nine bytes");
+    test.end()
+}
+
+static PREFIXES: [(usize, Option<[u8; 4]>); 2] = [
+    (4294967295, Some([0xff, 0xff, 0xff, 0xff])),
+    (4294967296, None),
+];
+
+#[test]
+fn prefixes(rt: HostRuntime) -> Result<(), Fail> {
+    let test = Test::begin(rt);
+    for &(size, prefix) in &PREFIXES {
+        same(&test, &length_prefix(size), &prefix, &size);
+    }
     test.end()
 }

@@ -1,4 +1,6 @@
-//! Builders: what is appended by calls and by lists of steps, and large capacities.
+//! Builders: what is appended by calls and by lists of steps, and large capacities; in `refused`, what a refusal leaves.
+mod refused;
+
 use Place::{Heap, Inline, Static};
 use smol_str::{INLINE_CAP, Place, SmolStrBuilder, Step, build};
 use test_support::*;

@@ -55,9 +55,9 @@ static ROWS: &[(&[(&str, usize)], usize, Place)] = &table! {
     (&[("ア", 13), ("é", 1)], 41, Heap);
     (&[(" ", 24)], 24, Inline);
     (&[(" ", INLINE_CAP + 1)], 40, Static);
-    (&[("\n", INLINE_CAP), (" ", 1)], 40, Static);
     (&[("\n", BLANK_NEWLINES), (" ", 1)], 65, Static);
-    (&[("\n", 23), (" ", 1)], 24, Inline);
+    (&[("\n", 32), (" ", 1)], 33, Inline);
+    (&[("\n", 39), (" ", 1)], 40, Static);
     (&[("if", 1), ("", 1), ("x", 1)], 3, Inline);
     (&[], 0, Inline);
 };
@@ -71,8 +71,17 @@ fn test_from_char_iterator(rt: HostRuntime) -> Result<(), Fail> {
         let value = ok(&test, SmolStr::from_chars(test.alloc, text.chars()));
         same_value(&test, &value, text, place, &text);
         same(&test, &value.len(), &len, &text);
-        let pieces = strings_of(&test, parts).into_iter();
-        let value = ok(&test, SmolStr::from_strings(test.alloc, pieces));
+        let strings = strings_of(&test, parts);
+        let mut strs = Vec::new(test.alloc);
+        for string in &strings {
+            test.push(&mut strs, string.as_str());
+        }
+        let value = ok(&test, SmolStr::from_strs(test.alloc, strs.into_iter()));
+        same_value(&test, &value, text, place, &text);
+        let value = ok(
+            &test,
+            SmolStr::from_strings(test.alloc, strings.into_iter()),
+        );
         same_value(&test, &value, text, place, &text);
     }
     test.end()
@@ -150,8 +159,9 @@ fn test_bad_size_hint_char_iter(rt: HostRuntime) -> Result<(), Fail> {
 fn hints(rt: HostRuntime) -> Result<(), Fail> {
     let test = Test::begin(rt);
     for lower in [1024, usize::MAX, 0] {
-        check_hint(&test, "testing", lower);
-        check_hint(&test, long_text(), lower);
+        for text in ["testing", "aaaaaaaaaaaaaaaaaaaaaaaa", long_text()] {
+            check_hint(&test, text, lower);
+        }
     }
     test.end()
 }

@@ -14,6 +14,17 @@ impl Display for GivesUp {
     }
 }
 
+/// Writes `ab`, then `c`.
+#[derive(Drop)]
+struct TwoPieces;
+
+impl Display for TwoPieces {
+    fn fmt<W: Write>(&self, f: &mut Formatter<W>) -> fmt::Result {
+        f.write_str("ab")?;
+        f.write_str("c")
+    }
+}
+
 /// The print makes the value of the text.
 fn check_value(test: &Test, made: Result<SmolStr, FormatError>, text: &str) {
     same_value(test, &ok(test, made), text, place_of(text), &text);
@@ -63,6 +74,9 @@ fn check_wide(test: &Test, value: &SmolStr, quote: &SmolStr) {
 #[test]
 fn numbers_as_a_string(rt: HostRuntime) -> Result<(), Fail> {
     let test = Test::begin(rt);
+    check_value(&test, 42u8.to_smolstr(test.alloc), "42");
+    let row = format_smolstr!(test.alloc; "{}-{:02}", "a", 7);
+    check_value(&test, row, "a-07");
     check_row(&test, "-0042", &format_args!("{:05}", -42));
     check_row(&test, "+7 0xff", &format_args!("{:+} {:#x}", 7u8, 255u8));
     check_row(&test, "{00000101}", &format_args!("{{{:08b}}}", 5u8));
@@ -70,6 +84,21 @@ fn numbers_as_a_string(rt: HostRuntime) -> Result<(), Fail> {
     check_value(&test, row, "                        ");
     let row = format_smolstr!(test.alloc; "{:>width$}", "", width = INLINE_CAP + 1);
     check_value(&test, row, long_blank());
+    test.end()
+}
+
+// With each request for memory refused in turn.
+#[test]
+fn two_pieces(rt: HostRuntime) -> Result<(), Fail> {
+    let test = Test::begin(rt);
+    for nth in 0..4 {
+        refuse(test.alloc, Refusals::One(nth));
+        let made = TwoPieces.to_smolstr(test.alloc);
+        let was_refused = end_refusals(test.alloc);
+        if !was_refused || made.is_ok() {
+            check_value(&test, made, "abc");
+        }
+    }
     test.end()
 }
 

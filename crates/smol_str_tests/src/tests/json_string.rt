@@ -1,4 +1,5 @@
 //! JSON strings, and JSON that is not a string, which serde's traits refuse as for a `String`.
+use Refusal::{Json, NotString};
 use serde_json::{Error, Value};
 use smol_str::SmolStr;
 use smol_str::json_string::{JsonFault, from_json, to_json};
@@ -27,7 +28,15 @@ static READ: [(&str, &str); 8] = table! {
     ("\u{2028}", "\"\\u2028\"");
 };
 
-// Upstream's test_serde is the first row.
+#[test]
+fn test_serde(rt: HostRuntime) -> Result<(), Fail> {
+    let test = Test::begin(rt);
+    let written = ok(&test, to_json(test.alloc, &test.value("Hello, World")));
+    same(&test, &written.as_str(), &"\"Hello, World\"", &"to_json");
+    check_read(&test, written.as_str(), "Hello, World");
+    test.end()
+}
+
 #[test]
 fn rows(rt: HostRuntime) -> Result<(), Fail> {
     let test = Test::begin(rt);
@@ -49,29 +58,40 @@ fn check_read(test: &Test, json: &str, text: &str) {
     }
 }
 
-/// JSON values that are not strings, and texts that are not JSON.
-static NOT_READ: [&str; 44] = table! {
-    "12"; "1.5"; "-7"; "-0"; "1e2"; "-1.5E-3"; "18446744073709551616"; "null"; "true"; "false";
-    "[\"ab\"]"; "[\"ab\", []]"; "{\"ab\": \"ab\"}"; "{\"a\": 1, \"b\": {}}";
-    ""; "\""; "\"\"\""; "\"\\\""; "\"abcdefg\\\""; "\"abcdefghijk\u{1f}lmnop\""; "\"abcdefghijklmnopqrst\"uvwxyz\"";
-    "\"abcdefghijklmnopqrstuvwxyz\tabcdefghijklmnopqrstuvwxyz\""; "[1"; "\"ab"; "\"ab\" 1"; "\"ab\"\"cd\""; "ab"; "'ab'";
-    "01"; "1e999"; "\"\\x41\""; "\"a\\n\\x\""; "\"a\\n\\"; "\"a\nb\""; "\"\\ud800\""; "\"\\udc00x\""; "\"\\ud800\\u0041\"";
-    "  x"; "\tx"; "\rx"; " \t x"; "\t\n\t[1"; "\n\n[1, 2"; "\"ab\"\n x";
+/// Why JSON makes no value.
+#[derive(Clone, Copy)]
+enum Refusal {
+    /// It is a value of another kind.
+    NotString,
+    /// It is not JSON; serde_json's own reader says where.
+    Json,
+}
+
+static NOT_READ: [(Refusal, &[&str]); 5] = table! {
+    (NotString, &["12", "1.5", "-7", "-0", "1e2", "-1.5E-3", "18446744073709551616", "null", "true", "false"]);
+    (NotString, &["[\"ab\"]", "[\"ab\", []]", "{\"ab\": \"ab\"}", "{\"a\": 1, \"b\": {}}"]);
+    (Json, &["", "[1", "\"ab", "\"ab\" 1", "\"ab\"\"cd\"", "ab", "'ab'", "01", "1e999", "[1\n", "\"ab\n "]);
+    (Json, &[
+        "\"", "\"\"\"", "\"\\\"", "\"abcdefg\\\"", "\"abcdefghijk\u{1f}lmnop\"", "\"abcdefghijklmnopqrst\"uvwxyz\"",
+        "\"abcdefghijklmnopqrstuvwxyz\tabcdefghijklmnopqrstuvwxyz\"", "\"\\x41\"", "\"a\\n\\x\"", "\"a\\n\\", "\"a\nb\"",
+        "\"\\ud800\"", "\"\\udc00x\"", "\"\\ud800\\u0041\"",
+    ]);
+    (Json, &["  x", "\tx", "\rx", " \t x", "\t\n\t[1", "\n\n[1, 2", "\"ab\"\n x"]);
 };
 
 #[test]
 fn not_read(rt: HostRuntime) -> Result<(), Fail> {
     let test = Test::begin(rt);
-    for json in &NOT_READ {
-        check_not_read(&test, json);
+    for &(refusal, texts) in &NOT_READ {
+        for &json in texts {
+            check_not_read(&test, json, refusal);
+        }
     }
     // lists in one another, and one more than are read
-    for depth in [127, 128] {
+    for (depth, refusal) in [(127, NotString), (128, Json)] {
         let closed = test.repeated("]", depth);
-        check_not_read(
-            &test,
-            test.repeated_and("[", depth, closed.as_str()).as_str(),
-        );
+        let json = test.repeated_and("[", depth, closed.as_str());
+        check_not_read(&test, json.as_str(), refusal);
     }
     test.end()
 }
@@ -143,19 +163,19 @@ fn check_as_serde_json(test: &Test, json: &str) {
     match Value::from_str(test.alloc, json) {
         Ok(Value::String(text)) => check_read(test, json, text.as_str()),
         Ok(_) => test.fail(&("no string:", json)),
-        Err(_) => check_not_read(test, json),
+        Err(_) => check_not_read(test, json, Json),
     }
 }
 
-/// The text is refused as a JSON value of another kind; or as no JSON, with serde_json's own error.
-fn check_not_read(test: &Test, json: &str) {
+/// The text is refused so; where it is not JSON, with serde_json's own error.
+fn check_not_read(test: &Test, json: &str, refusal: Refusal) {
     let (by_call, tree) = (
         from_json(test.alloc, json),
         Value::from_str(test.alloc, json),
     );
-    match (by_call, tree) {
-        (Err(JsonFault::NotString), Ok(_)) => {}
-        (Err(JsonFault::Json(error)), Err(own)) => same_error(test, error, own, json),
+    match (refusal, by_call, tree) {
+        (NotString, Err(JsonFault::NotString), Ok(_)) => {}
+        (Json, Err(JsonFault::Json(error)), Err(own)) => same_error(test, error, own, json),
         _ => test.fail(&json),
     }
     let read: Result<SmolStr, Error> = serde_json::from_str(test.alloc, json);
@@ -179,16 +199,23 @@ fn same_error(test: &Test, error: Error, own: Error, json: &str) {
 fn long_not_read(rt: HostRuntime) -> Result<(), Fail> {
     let test = Test::begin(rt);
     for &size in &ABOVE_BUFFERS[..2] {
-        check_parts(&test, "[\"", ("a", size), "\"]");
-        check_parts(&test, "\"", ("a", size), "");
-        check_parts(&test, "\"", ("a", size), "\\ud800\"");
+        check_parts(&test, NotString, "[\"", ("a", size), "\"]");
+        check_parts(&test, Json, "\"", ("a", size), "");
+        check_parts(&test, Json, "\"", ("a", size), "\\ud800\"");
     }
-    check_parts(&test, "\"\"", (" ", 5000), "x");
-    check_parts(&test, "\"\"", ("\n", 5000), "x");
+    check_parts(&test, Json, "\"\"", (" ", 5000), "x");
+    check_parts(&test, Json, "\"\"", ("\n", 5000), "x");
     test.end()
 }
 
-fn check_parts(test: &Test, front: &str, (unit, times): (&str, usize), end: &str) {
+fn check_parts(
+    test: &Test,
+    refusal: Refusal,
+    front: &str,
+    (unit, times): (&str, usize),
+    end: &str,
+) {
     let rest = test.repeated_and(unit, times, end);
-    check_not_read(test, test.joined(front, rest.as_str()).as_str())
+    let json = test.joined(front, rest.as_str());
+    check_not_read(test, json.as_str(), refusal)
 }

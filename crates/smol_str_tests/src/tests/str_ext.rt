@@ -61,6 +61,7 @@ static ROWS: &[(Call, &str, &str)] = &table! {
     (Replace("c", "cc"), "abcabc", "abccabcc");
     (Replace("ab", "b"), "abab", "bb");
     (Replacen("a", "b", 2), "aaaa", "bbaa");
+    (Replacen("a", "b", usize::MAX), "aaaa", "bbbb");
     (Replace("a", "b"), "aaaa", "bbbb");
     (Replace("x", "a"), "xb", "ab");
 };

@@ -2,8 +2,10 @@
 mod compare;
 mod convert;
 
+use super::borsh::ok_found;
 use Place::{Heap, Inline, Static};
-use smol_str::{BLANK_NEWLINES, BLANK_SPACES, INLINE_CAP, InlineBuffer, Place, SmolStr};
+use smol_str::borsh::from_wire;
+use smol_str::{BLANK_NEWLINES, BLANK_SPACES, INLINE_CAP, InlineBuffer, Place, SmolStr, StrExt};
 use test_support::*;
 
 /// Texts so many times, one after the other, and the place of the value.
@@ -15,7 +17,8 @@ static PLACES: &[(&[(&str, usize)], Place)] = &table! {
     (&[("\n", 1), (" ", INLINE_CAP - 1)], Inline); (&[("\n", BLANK_NEWLINES)], Static);
     (&[("\n", BLANK_NEWLINES), (" ", 1), ("\n", 1)], Heap); (&[(" ", INLINE_CAP + 1)], Static);
     (&[("\n", 32), (" ", 128)], Static); (&[(" ", 129)], Static); (&[("\n", 33)], Inline);
-    (&[(" ", 23), ("\n", 1)], Inline); (&[("\n", 32), (" ", 1), ("\n", 1)], Inline); (&[(" ", 24)], Inline);
+    (&[(" ", 23), ("\n", 1)], Inline); (&[("\n", 32)], Inline); (&[("\n", 32), (" ", 1), ("\n", 1)], Inline);
+    (&[(" ", 24)], Inline);
 };
 
 #[test]
@@ -120,4 +123,34 @@ fn inline_buffers(rt: HostRuntime) -> Result<(), Fail> {
 
 fn same_buffer(test: &Test, found: Option<&InlineBuffer>, wanted: Option<&InlineBuffer>) {
     holds(test, found == wanted, &(found, wanted));
+}
+
+#[test]
+fn one_text_in_every_way(rt: HostRuntime) -> Result<(), Fail> {
+    let test = Test::begin(rt);
+    let values = values_of_ab(&test);
+    for left in &values {
+        same_value(&test, left, "ab", Inline, &"one way");
+        for right in &values {
+            same(&test, left, right, &"two ways");
+        }
+    }
+    test.end()
+}
+
+fn values_of_ab(test: &Test) -> Vec<SmolStr> {
+    let (alloc, mut values) = (test.alloc, Vec::new(test.alloc));
+    test.push(&mut values, test.value("ab"));
+    test.push(&mut values, SmolStr::new_inline("ab"));
+    let of_bytes = SmolStr::from_utf8(alloc, b"ab");
+    test.push(&mut values, ok(test, of_bytes));
+    let of_chars = SmolStr::from_chars(alloc, "ab".chars());
+    test.push(&mut values, ok(test, of_chars));
+    let (read, _) = ok_found(test, from_wire(alloc, b"\x02\0\0\0ab"));
+    test.push(&mut values, read);
+    let replaced = "xb".replace_smolstr(alloc, "x", "a");
+    test.push(&mut values, ok(test, replaced));
+    let finished = test.builder(100, "ab").finish();
+    test.push(&mut values, finished.unwrap_or_default());
+    values
 }

@@ -31,10 +31,10 @@ const NOISE: &[u8] = b"\x1e\0\0\0\xc1\x8a\x5f\xe2\x3a\x9e\x3b\xaa\x01\x08\x6f\x2
 \x9a\x2f\x4a\x3f\x25\x0d\x8a\x2a\x19\x11\xf0\x7f\x0e\x80";
 
 /// Bytes, the fault, and how many of them a reader has left.
-static REFUSED: [(&[u8], Reason, usize); 8] = table! {
+static REFUSED: [(&[u8], Reason, usize); 6] = table! {
     (b"", Reason::Ended, 0); (b"\0\0\0", Reason::Ended, 0); (b"\x05\0\0\0\xff", Reason::Ended, 0);
     (b"\xff\xff\xff\xffabc", Reason::Ended, 0); (b"\x18\0\0\0aaaaaaaaaaaaaaaaaaaaaaa", Reason::Ended, 0);
-    (CUT, Reason::NotUtf8, 0); (b"\x01\0\0\0\xc3\xa9", Reason::NotUtf8, 1); (NOISE, Reason::NotUtf8, 0);
+    (b"\x01\0\0\0\xc3\xa9", Reason::NotUtf8, 1);
 };
 
 #[test]
@@ -46,10 +46,19 @@ fn refused(rt: HostRuntime) -> Result<(), Fail> {
     test.end()
 }
 
-// Bodies of each size: the last byte is missing, or the last or the first is not UTF-8.
+#[test]
+fn borsh_non_utf8_stack(rt: HostRuntime) -> Result<(), Fail> {
+    let test = Test::begin(rt);
+    assert_refused(&test, CUT, Reason::NotUtf8, 0);
+    test.end()
+}
+
+// A value has room for as many bytes here, so bodies of each other size follow: the last byte is missing, or the last or the
+// first is not UTF-8.
 #[test]
 fn borsh_non_utf8_heap(rt: HostRuntime) -> Result<(), Fail> {
     let test = Test::begin(rt);
+    assert_refused(&test, NOISE, Reason::NotUtf8, 0);
     for size in 1..=300u32 {
         check_bodies(&test, size);
         check_bodies(&test, size.saturating_mul(13));

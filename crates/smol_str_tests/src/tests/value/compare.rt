@@ -46,8 +46,15 @@ fn check_order(test: &Test, value: SmolStr, right: &'static str, order: Ordering
 #[test]
 fn pinned_and_new(rt: HostRuntime) -> Result<(), Fail> {
     let test = Test::begin(rt);
-    for text in ["", "ab", long_blank(), long_text()] {
+    for text in [
+        "",
+        "ab",
+        "aaaaaaaaaaaaaaaaaaaaaaaa",
+        long_blank(),
+        long_text(),
+    ] {
         let pinned = SmolStr::new_static(text);
+        same_place(&test, &pinned, Place::Static, &text);
         same_place(&test, &ok(&test, pinned.clone()), Place::Static, &text);
         same(&test, &test.value(text), &pinned, &text);
         let hashes = [hash_of(&test.value(text)), hash_of(&pinned)];

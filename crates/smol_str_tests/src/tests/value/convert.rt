@@ -25,6 +25,8 @@ fn bytes(rt: HostRuntime) -> Result<(), Fail> {
         let is_refused = matches!(made, Err(FromUtf8Fault::NotUtf8(_)));
         holds(&test, is_refused, &bytes);
     }
+    let made = SmolStr::from_utf8(test.alloc, b"\xc3\xa9");
+    same_value(&test, &ok(&test, made), "é", Place::Inline, &"two bytes");
     test.end()
 }
 
