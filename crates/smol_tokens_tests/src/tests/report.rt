@@ -22,6 +22,8 @@ static REPORTS: &[(Words, &str, &str)] = &table! {
     (&["upper"], "aß", "inline 3 Aß\n");
     (&["lower"], "AAAAAAAAAAAAAAAAAAAAAAAA", "inline 24 aaaaaaaaaaaaaaaaaaaaaaaa\n");
     (&["tokens"], "if\nx\nif", "2 if\n1 x\n");
+    (&["tokens"], "x\naaaaaaaaaaaaaaaaaaaaaaaaaaaaaaaaaaaaaaaa\nx\naaaaaaaaaaaaaaaaaaaaaaaaaaaaaaaaaaaaaaaa\nx\n",
+        "3 x\n2 aaaaaaaaaaaaaaaaaaaaaaaaaaaaaaaaaaaaaaaa\n");
     (&["tokens"], "\n\n", "2 \n");
     (&["tokens"], "", "");
     (&["merge"], "2 a\n1 b\n3 a\n", "5 a\n1 b\n");

@@ -1,48 +1,136 @@
 //! Tallies, by rows.
+use Place::{Inline, Static};
 use smol_str::{Place, SmolStr};
+use smol_tokens_core::mode::Mode;
+use smol_tokens_core::run::run_with_hasher;
 use smol_tokens_core::tally::{AddFault, Tally};
+use std::cell::Cell;
+use std::hash::{BuildHasher, Hasher};
 use test_support::*;
-
-/// A token, how often it is added, and its count then; none where that is too large.
-static ADDS: [(&str, u64, Option<u64>); 6] = table! {
-    ("a", 0, Some(0));
-    ("a", 2, Some(2));
-    ("b", u64::MAX, Some(u64::MAX));
-    ("a", 1, Some(3));
-    ("b", 0, Some(u64::MAX));
-    ("b", 1, None);
-};
 
 #[test]
 fn counted(rt: HostRuntime) -> Result<(), Fail> {
     let test = Test::begin(rt);
     let mut tally = Tally::new(test.alloc);
-    for &(text, times, count) in &ADDS {
-        check_add(&test, &mut tally, text, times, count);
-    }
-    same(&test, &tally.len(), &2, &"len");
-    check_at(&test, &tally, 0, "a", 3);
-    check_at(&test, &tally, 1, "b", u64::MAX);
-    holds(&test, tally.at(2).is_none(), &"two tokens");
-    same(&test, &tally.count(&SmolStr::new_static("c")), &None, &"c");
+    check_add(&test, &mut tally, SmolStr::new_inline("a"), 0, Some(0));
+    check_at(&test, &tally, 0, ("a", 0, Inline));
+    holds(&test, tally.at(1).is_none(), &"one token");
+    same(&test, &tally.count(&SmolStr::new_static("b")), &None, &"b");
+    check_add(&test, &mut tally, SmolStr::new_static("a"), 2, Some(2));
+    same(&test, &tally.len(), &1, &"len");
+    check_add(
+        &test,
+        &mut tally,
+        SmolStr::new_static("b"),
+        u64::MAX,
+        Some(u64::MAX),
+    );
+    check_add(&test, &mut tally, SmolStr::new_static("a"), 1, Some(3));
+    check_at(&test, &tally, 0, ("a", 3, Inline));
+    check_at(&test, &tally, 1, ("b", u64::MAX, Static));
+    test.end()
+}
+
+// The token comes back, and nothing changes.
+#[test]
+fn full(rt: HostRuntime) -> Result<(), Fail> {
+    let test = Test::begin(rt);
+    let mut tally = Tally::new(test.alloc);
+    check_add(
+        &test,
+        &mut tally,
+        SmolStr::new_inline("a"),
+        u64::MAX,
+        Some(u64::MAX),
+    );
+    check_add(&test, &mut tally, SmolStr::new_static("a"), 1, None);
+    same(&test, &tally.len(), &1, &"len");
+    check_at(&test, &tally, 0, ("a", u64::MAX, Inline));
+    check_add(
+        &test,
+        &mut tally,
+        SmolStr::new_static("a"),
+        0,
+        Some(u64::MAX),
+    );
     test.end()
 }
 
 /// Adds a token; where its count is too large it comes back, in its place.
-fn check_add(test: &Test, tally: &mut Tally, text: &'static str, times: u64, wanted: Option<u64>) {
-    match tally.add(SmolStr::new_static(text), times) {
+fn check_add(test: &Test, tally: &mut Tally, token: SmolStr, times: u64, wanted: Option<u64>) {
+    match tally.add(token, times) {
         Err(AddFault::Full(back)) => {
-            same_value(test, &back, text, Place::Static, &times);
-            holds(test, wanted.is_none(), &(text, times, "full"));
+            same_value(test, &back, "a", Static, &times);
+            holds(test, wanted.is_none(), &(times, "full"));
         }
-        added => same(test, &added.ok(), &wanted, &(text, times)),
+        added => same(test, &added.ok(), &wanted, &times),
     }
 }
 
-/// The token of this text is at the position, and counted so many times.
-fn check_at(test: &Test, tally: &Tally, index: usize, text: &str, count: u64) {
+/// The token of this text is at the position, counted so many times, and is the value that came first.
+fn check_at(test: &Test, tally: &Tally, index: usize, wanted: (&str, u64, Place)) {
     let found = tally
         .at(index)
-        .map(|(token, count)| (token.as_str(), count));
-    same(test, &found, &Some((text, count)), &index);
+        .map(|(token, count)| (token.as_str(), count, token.place()));
+    same(test, &found, &Some(wanted), &index);
+    let found = tally
+        .iter()
+        .nth(index)
+        .map(|(token, count)| (token.as_str(), *count, token.place()));
+    same(test, &found, &Some(wanted), &index);
+}
+
+/// Gives each token the same hash.
+#[derive(Clone, Copy)]
+struct Collides;
+
+impl Hasher for Collides {
+    ghost write = { λ h _. h };
+
+    ghost finish = { λ _. 7 };
+
+    fn finish(&self) -> u64 {
+        7
+    }
+
+    fn write(&mut self, _bytes: &[u8]) {}
+}
+
+/// Counts the hashers that it makes.
+#[derive(Drop)]
+struct Counting<'a> {
+    hasher: Collides,
+    made: &'a Cell<usize>,
+}
+
+impl BuildHasher for Counting<'_> {
+    type Hasher = Collides;
+
+    ghost build_hasher = { λ s. s.hasher };
+
+    fn build_hasher(&self) -> Collides {
+        self.made.set(self.made.get().wrapping_add(1));
+        self.hasher
+    }
+}
+
+// The state that is handed in hashes the tokens.
+#[test]
+fn hashed_by_the_state(rt: HostRuntime) -> Result<(), Fail> {
+    let test = Test::begin(rt);
+    check_state(&test, Mode::Tokens, b"if\nx\nif\n", b"2 if\n1 x\n");
+    check_state(&test, Mode::Merge, b"1 if\n1 x\n1 if\n", b"2 if\n1 x\n");
+    test.end()
+}
+
+fn check_state(test: &Test, mode: Mode, mut input: &[u8], wanted: &[u8]) {
+    let (made, mut out) = (Cell::new(0), Vec::new(test.alloc));
+    let (hasher, count) = (Collides, &made);
+    let state = Counting {
+        hasher,
+        made: count,
+    };
+    let ended = run_with_hasher(test.alloc, state, mode, &mut input, &mut out);
+    holds(test, ended.is_ok() && out.as_slice() == wanted, &wanted);
+    holds(test, made.get() >= 3, &made.get());
 }
