@@ -65,10 +65,12 @@ pub use Rattle.smol_str.proofs.CallerLemmas.Loops.{by_line, by_char, by_item}
 pub use Rattle.smol_str.proofs.CallerLemmas.Collecting.{collecting_chars, collecting_strs, collecting_pieces, collecting_strings, chars_by_std, strings_by_std, texts_collected}
 pub use Rattle.smol_str.proofs.CallerLemmas.Cuts.{cutting, joining, pieces_lack}
 pub use Rattle.smol_str.proofs.CallerLemmas.CutOnce.{cut_once, cut_at_texts, cut_alike, not_taken, trimmed}
-pub use Rattle.smol_str.proofs.CallerLemmas.Wire.{forms, parts, items, items-apart, lists-apart, AreRead, one_read, all_read}
+pub use Rattle.smol_str.proofs.CallerLemmas.Wire.{forms, parts, items, items-apart, lists-apart, form_is_whole, form-cut-utf8, AreRead, one_read, all_read, next_form}
 pub use Rattle.smol_str.proofs.CallerLemmas.Crates.{owned, chars_cut}
 -- each front of a short text is short; the size of the text that bytes spell, and of two texts, one after the other
 pub use Rattle.smol_str.proofs.TextLemmas.Places.{IsShort-front, size-chars, size-append}
+-- the size of a form, and the size that it states
+pub use Rattle.smol_str.proofs.WireLemmas.Wire.{length-wire, prefix_size-wire}
 -- what holds of an `Err` where it holds whatever came, or of the one fault that came
 pub use Rattle.smol_str.proofs.TextLemmas.Places.{OnErr-always, IfErr-is}
 -- for an answer at an early return from a loop over `lines().enumerate()`: the lines so far, and the one at hand

@@ -1,7 +1,9 @@
--- The text of lines of tokens.
---     untabbed t       t with four spaces in place of each tab
---     line_text line   four spaces for each level, the tokens without tabs and with a space between each two, and a newline
-use Rattle.std.specs.Prelude.{ℕ, ◌*◌, ◌==◌, List, [], ◌∷◌, ◌++◌, replicate, if◌then◌else◌}
+-- The text of lines of tokens, and of numbers in columns.
+--     untabbed t            t with four spaces in place of each tab
+--     line_text line        four spaces for each level, the tokens without tabs and with a space between each two, and a newline
+--     right_aligned w n     the number n, with spaces in front of it up to w characters
+use Rattle.std.specs.Prelude.{ℕ, ◌*◌, ◌-◌, ◌^◌, ◌==◌, List, [], ◌∷◌, ◌++◌, replicate, if◌then◌else◌}
+use Rattle.std.specs.Fmt.{format_spec, styled_decimal}
 use Rattle.std.specs.List.{flat_map}
 use Rattle.smol_str.specs.Cut.{joined_by}
 use Rattle.smol_str.specs.Meaning.{texts}
@@ -15,3 +17,7 @@ margin level = replicate (4 * level) 32
 
 abbrev pub line_text : Line → List ℕ
 line_text line = margin line.level ++ (untabbed (joined_by (32 ∷ []) (texts line.tokens.items)) ++ (10 ∷ []))
+
+-- with spaces as fill, and without a precision
+abbrev pub right_aligned : ℕ → ℕ → List ℕ
+right_aligned w n = styled_decimal (format_spec 32 3 0 w (2 ^ 64 - 1)) n

@@ -373,11 +373,14 @@ pub fn is_same(text: &str, other: &str) -> bool
 
 /// Values of pairs of texts, as of names and their values.
 #[tactic(auto, using(smol_str::proofs::CallerLemmas::items))]
-pub fn pairs_of(alloc: Global, list: &[(&str, &str)]) -> Result<Vec<(SmolStr, SmolStr)>, AllocError>
-    ensures { IfOk result (λ values. ArePairsOf (map (λ p. (chars p.0.now, chars p.1.now)) list.now) values.items) }
+pub fn pairs_of(
+    alloc: Global,
+    pairs: &[(&str, &str)],
+) -> Result<Vec<(SmolStr, SmolStr)>, AllocError>
+    ensures { IfOk result (λ values. ArePairsOf (map (λ p. (chars p.0.now, chars p.1.now)) pairs.now) values.items) }
 {
     let mut values = Vec::new(alloc);
-    for pair in list {
+    for pair in pairs {
         values.push(pair_of(alloc, pair)?)?;
     }
     Ok(values)

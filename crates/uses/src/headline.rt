@@ -153,6 +153,13 @@ pub fn of_shared(text: RcStr) -> SmolStr
     SmolStr::from_rc_str(text)
 }
 
+/// A shared text, by the trait's call.
+pub fn from_shared(text: RcStr) -> SmolStr
+    ensures value { IsValueOf (chars (rc_str_bytes text)) result }
+{
+    SmolStr::from(text)
+}
+
 /// One character, which is never refused.
 pub fn of_character(character: char) -> SmolStr
     ensures value { IsValueOf (character ∷ []) result }

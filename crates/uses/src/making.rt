@@ -6,7 +6,7 @@ ghost use Rattle.smol_str.specs.BuilderState.{OnHeap, appended};
 ghost use Rattle.smol_str.specs.Text.{IsShort, blank_run, place_of, IsResident};
 ghost use Rattle.smol_str.specs.Meaning.{IsValueOf, texts};
 ghost use Rattle.std.specs.Fmt.{decimal};
-ghost use Rattle.uses.specs.Layout.{untabbed, margin, line_text};
+ghost use Rattle.uses.specs.Layout.{untabbed, margin, line_text, right_aligned};
 ghost use Rattle.std.specs.String.{string_bytes};
 ghost use Rattle.serde.specs.Event.{text};
 ghost use Rattle.smol_str.specs.Cut.{joined_by};
@@ -99,10 +99,26 @@ pub fn signed(mut builder: SmolStrBuilder, number: u64) -> Result<SmolStr, Forma
     Ok(builder.into_value()?)
 }
 
+/// A number.
+pub fn number(alloc: Global, number: u8) -> Result<SmolStr, FormatError>
+    ensures text { IfOk result (λ v. encode_utf8_all v.text ≡ decimal number) }
+    ensures place { IfOk result (λ v. v.place ≡ place_of v.text) }
+{
+    number.to_smolstr(alloc)
+}
+
+/// A number, with spaces in front of it up to six characters.
+pub fn wide_number(alloc: Global, number: u64) -> Result<SmolStr, FormatError>
+    ensures text { IfOk result (λ v. encode_utf8_all v.text ≡ right_aligned 6 number) }
+    ensures place { IfOk result (λ v. v.place ≡ place_of v.text) }
+{
+    format_smolstr!(alloc; "{number:>6}")
+}
+
 /// A key and its number, as a text.
 #[tactic(auto, using(smol_str::proofs::CallerLemmas::prints))]
 pub fn entry(alloc: Global, key: &str, number: u64) -> Result<SmolStr, FormatError>
-    ensures { IfOk result (λ v. IsValueOf (chars key.now ++ (chars (codes " = ") ++ decimal number)) v) }
+    ensures value { IfOk result (λ v. IsValueOf (chars key.now ++ (chars (codes " = ") ++ decimal number)) v) }
 {
     print_entry(alloc, key, number)
 }

@@ -13,8 +13,8 @@ pub mod lists;
 pub mod log_records;
 
 use smol_str::borsh::{
-    BorshDeserialize, BorshSerialize, DecodeFault, EncodeFault, LimitedFault, deserialize_limited,
-    from_wire, split_wire,
+    BorshDeserialize, BorshSerialize, DecodeFault, EncodeFault, LimitedFault, STACK_BODY,
+    deserialize_limited, from_wire, split_wire,
 };
 use smol_str::stream::{ReadFault, read_all};
 use smol_str::{FromUtf8Fault, INLINE_CAP, SmolStr};
@@ -86,15 +86,31 @@ pub fn read_from_reader<'a>(
     }
 }
 
+/// A round trip: a value of `text` is written with `rest` after it, and read by both calls.
+pub fn round_trip(alloc: Global, text: &str, rest: &[u8]) -> Option<(SmolStr, SmolStr)>
+    ensures bytes { IfSome result (λ values. IsValueOf (chars text.now) values.0) }
+    ensures reader { IfSome result (λ values. IsValueOf (chars text.now) values.1) }
+{
+    let value = SmolStr::new(alloc, text).ok()?;
+    let bytes = written(alloc, &value, rest).ok()?;
+    let (from_bytes, _) = read_from_bytes(alloc, &bytes, text, rest).ok()?;
+    let (from_reader, _) = read_from_reader(alloc, &bytes, text, rest)?;
+    Some((from_bytes, from_reader))
+}
+
 /// A value of a reader whose bytes state a short text: only the reader or the bytes can fail, and never memory.
-pub fn read_short<R: Read>(alloc: Global, from: &mut R, form: &[u8]) -> Result<SmolStr, DecodeFault>
-    requires known { R.remaining from.old ≡ Some form.now }
-    requires short { prefix_size form.now ≤ INLINE_CAP }
-    ensures value { IfOk result (λ v. Gave R.remaining from.old from.new (wire v.text)) }
+pub fn read_short<R: Read>(
+    alloc: Global,
+    reader: &mut R,
+    bytes: &[u8],
+) -> Result<SmolStr, DecodeFault>
+    requires known { R.remaining reader.old ≡ Some bytes.now }
+    requires short { prefix_size bytes.now ≤ INLINE_CAP }
+    ensures value { IfOk result (λ v. Gave R.remaining reader.old reader.new (wire v.text)) }
     ensures place { IfOk result (λ v. v.place ≡ place_of v.text) }
     ensures refused { IfErr result (λ fault. ¬ (fault ≡ DecodeFault.OutOfMemory)) }
 {
-    match SmolStr::deserialize_reader(alloc, from) {
+    match SmolStr::deserialize_reader(alloc, reader) {
         Err(DecodeFault::OutOfMemory) => unreachable!(),
         read => read,
     }
@@ -206,6 +222,27 @@ pub fn skip_invalid(alloc: Global, messages: &mut &[u8]) -> bool
     match SmolStr::deserialize_reader(alloc, messages) {
         Err(DecodeFault::NotUtf8(_)) => true,
         Ok(_) | Err(_) => false,
+    }
+}
+
+/// The next message; `None` for one that is not UTF-8. The message behind it is then the next, as it is where memory is refused
+/// for a message of at most [`STACK_BODY`] bytes.
+pub fn next_message(alloc: Global, messages: &mut &[u8]) -> Result<Option<SmolStr>, DecodeFault>
+    ensures behind { OnOk result
+        (messages.new.now ≡ drop (4 + prefix_size messages.old.now) messages.old.now) }
+    ensures within { OnErr result
+        (length messages.old.now ≤ length messages.new.now + (4 + prefix_size messages.old.now)) }
+    ensures ended { IfErr result (λ fault. fault ≡ DecodeFault.Ended → messages.new.now ≡ []) }
+    ensures begun { IfErr result (λ fault. fault ≡ DecodeFault.OutOfMemory →
+        length messages.new.now + 4 < length messages.old.now) }
+    ensures skipped { IfErr result (λ fault. fault ≡ DecodeFault.OutOfMemory →
+        prefix_size messages.old.now ≤ STACK_BODY → IsUtf8 (body messages.old.now)
+        × (messages.new.now ≡ drop (4 + prefix_size messages.old.now) messages.old.now)) }
+{
+    match SmolStr::deserialize_reader(alloc, messages) {
+        Ok(value) => Ok(Some(value)),
+        Err(DecodeFault::NotUtf8(_)) => Ok(None),
+        Err(fault) => Err(fault),
     }
 }
 

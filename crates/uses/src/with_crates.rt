@@ -91,11 +91,15 @@ pub fn add_name(names: &mut IndexSet<SmolStr>, name: SmolStr) -> Result<(), Allo
 
 /// Counts a name in a map.
 #[tactic(auto, using(smol_str::proofs::CallerLemmas::inserts))]
-pub fn set_count(map: &mut IndexMap<SmolStr, u32>, name: SmolStr, n: u32) -> Result<(), AllocError>
-    ensures { OnOk result (entry_texts (λ n. n) map.new.entries
-        ≡ with_entry (entry_texts (λ n. n) map.old.entries) name.text n) }
+pub fn set_count(
+    counts: &mut IndexMap<SmolStr, u32>,
+    name: SmolStr,
+    count: u32,
+) -> Result<(), AllocError>
+    ensures { OnOk result (entry_texts (λ n. n) counts.new.entries
+        ≡ with_entry (entry_texts (λ n. n) counts.old.entries) name.text count) }
 {
-    map.insert(name, n)?;
+    counts.insert(name, count)?;
     Ok(())
 }
 

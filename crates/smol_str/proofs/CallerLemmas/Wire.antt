@@ -1,5 +1,6 @@
 -- Wire forms in bytes.
 use Rattle.smol_str.proofs.Common.{◌≡◌, ◌∷◌, ℕ, ◌+◌, ◌<◌, ◌≤◌, ◌^◌, All, List, [], ◌++◌, append_assoc, map, map-id, Option, length, drop, refl, sym, ap, ◌∙◌, subst, inl, inr, IsTrue, arith, flat_map, to_le_bytes, from_le_bytes-to_le_bytes_4, w32, chars, all_scalars, IsUtf8, take-append-le, chars-encodes, length-append, All-head, All-tail, size, HasWire, wire, Holds, HasEndedEarly, body, common_steps, rules, append-nil, length-take, Result, OnErr, Appends, get_or, Meaning, map-append, length-map, scalars-chars}
+use Rattle.smol_str.specs.Wire.{prefix_size}
 use Rattle.smol_str.specs.Stream.{AppendsBeginning}
 use Rattle.smol_str.specs.WireFaults.{AfterEncodeFault}
 use Rattle.smol_str.specs.declared.borsh.fault.EncodeFault.{EncodeFault}
@@ -9,7 +10,7 @@ use Rattle.std.proofs.lemmas.List.{flat_map_more, get_or-map, get_or_append_left
 use Rattle.std.proofs.lemmas.List.Elements.{All-push}
 use Rattle.smol_str.proofs.TextLemmas.Places.{OnErr-always}
 use Rattle.smol_str.proofs.WireLemmas.Stream.{beginning-of_first, beginning-of_second}
-use Rattle.smol_str.proofs.WireLemmas.Wire.{length-wire, wire-apart, Holds-one, Holds-whole, body-Holds, Holds-written}
+use Rattle.smol_str.proofs.WireLemmas.Wire.{length-wire, prefix_size-wire, wire-apart, Holds-one, Holds-whole, body-Holds, Holds-written}
 
 -- ---- wire forms
 
@@ -51,6 +52,24 @@ form-known t x sized scalars = (
 
 pub ruleset forms = (form-known, scalars-chars)
 
+-- bytes that with more are the form of t and what follows it: where they have not ended early, the form is all there
+module _ (b more t x : List ℕ) (sized : HasWire t) (scalars : IsTrue (all_scalars t)) (is : b ++ more ≡ wire t ++ x)
+    (whole : ¬ HasEndedEarly b) where
+  states : prefix_size b ≡ size t
+  unfolding prefix_size
+  states =
+      let four : 4 ≤ length b = omega (arith, λ (h : length b < 4). whole (inl h)) in
+      cc (take-append-le 4 b more four, prefix_size-wire t x sized)
+
+  within : size t + 4 ≤ length b
+  within = let says = states in omega (arith, λ (h : length b < 4 + prefix_size b). whole (inr h))
+
+  pub form-cut-utf8 : IsUtf8 (body b)
+  form-cut-utf8 =
+      let written = Holds-written t x sized scalars in
+      let held : Holds b t (size t + 4) = search (rules, within, take-append-le) in
+      (t, (scalars, sym (body-Holds b t (size t + 4) held)))
+
 -- ---- wire forms one after another, and how many they are
 
 -- a count before them, as four bytes
@@ -84,6 +103,17 @@ lists-apart ss ts x y few less h k e =
     let parts = count-apart (length ss) (length ts) (flat_map wire ss ++ x) (flat_map wire ts ++ y) few less e in
     forms-apart ss ts x y h k parts.0 parts.1
 
+-- more forms: behind the fewer comes the next
+pub forms-next : (ss ts : List (List ℕ)) (x y : List ℕ) → All HasWire ss → All HasWire ts
+    → All (λ t. IsTrue (all_scalars t)) ts → length ss < length ts → flat_map wire ss ++ x ≡ flat_map wire ts ++ y
+    → (t after : List ℕ) × HasWire t × IsTrue (all_scalars t) × (x ≡ wire t ++ after)
+forms-next [] (t ∷ ts) x y h k scalars l e = search (rules, arith, All-head, append_assoc)
+forms-next (s ∷ ss) (t ∷ ts) x y h k scalars l e =
+    forms-next ss ts x y (All-tail HasWire s ss h) (All-tail HasWire t ts k)
+    (All-tail (λ t. IsTrue (all_scalars t)) t ts scalars) (omega (arith, l))
+    (wire-apart s t _ _ (All-head HasWire s ss h) (All-head HasWire t ts k) (simp append_assoc at e)).1
+forms-next ss ts x y h k scalars l e = absurd (omega arith)
+
 -- one form more
 pub forms-more : (ts : List (List ℕ)) (t x : List ℕ)
     → flat_map wire ts ++ (wire t ++ x) ≡ flat_map wire (ts ++ t ∷ []) ++ x
@@ -106,6 +136,13 @@ module _ (bytes : List ℕ) (count : ℕ) (ts : List (List ℕ)) (rest : List �
   -- the end
   pub all_read : count ≤ i → i ≤ count → bytes ≡ (to_le_bytes w32 (length ts) ++ flat_map wire ts) ++ rest
   all_read up down = search (rules, arith)
+
+  -- a list that the bytes begin with, or they and more, has one text more
+  pub next_form : count < 2 ^ 32 → i < count → (us : List (List ℕ)) (more x : List ℕ) → length us < 2 ^ 32
+      → All HasWire us → All (λ t. IsTrue (all_scalars t)) us
+      → bytes ++ more ≡ (to_le_bytes w32 (length us) ++ flat_map wire us) ++ x
+      → (t after : List ℕ) × HasWire t × IsTrue (all_scalars t) × (rest ++ more ≡ wire t ++ after)
+  next_form few below us more x can sized scalars e = search (rules, arith, append_assoc, count-apart, forms-next)
 
 -- ---- items one after another, in a writer or of a reader
 

@@ -1,7 +1,7 @@
 //! Lists of values on the wire, as borsh has a `Vec` of strings.
-ghost use Rattle.std.specs.Prelude.{◌≡◌, ◌+◌, ◌<◌, ◌∷◌, [], ◌++◌, length, IfOk, IfSome, OnOk, MatchOption};
+ghost use Rattle.std.specs.Prelude.{◌≡◌, ◌+◌, ◌<◌, ◌∷◌, [], ◌++◌, length, IfOk, IfErr, IfSome, OnOk, MatchOption};
 ghost use Rattle.std.specs.Int.{w32, to_le_bytes};
-ghost use Rattle.uses.specs.Lists.{CanBeListed, list_form};
+ghost use Rattle.uses.specs.Lists.{CanBeListed, list_form, AfterListFault, AfterUnlisted};
 ghost use Rattle.smol_str.specs.Meaning.{texts};
 
 use smol_str::SmolStr;
@@ -13,6 +13,7 @@ use std::io::{self, Write};
 pub fn write_list(alloc: Global, values: &[SmolStr]) -> Result<Vec<u8>, EncodeFault>
     ensures listed { IfOk result (λ bytes. CanBeListed (texts values.now)) }
     ensures form { IfOk result (λ bytes. bytes.items ≡ list_form (texts values.now)) }
+    ensures fault { IfErr result (AfterUnlisted (texts values.now)) }
 {
     let Some(count) = length_prefix(values.len()) else {
         return Err(EncodeFault::TooLong);
@@ -36,6 +37,7 @@ pub fn add<F: From<AllocFailed<SmolStr>>>(list: &mut Vec<SmolStr>, name: SmolStr
 pub fn read_list(alloc: Global, bytes: &[u8]) -> Result<(Vec<SmolStr>, &[u8]), DecodeFault>
     ensures listed { IfOk result (λ read. CanBeListed (texts read.0.items)) }
     ensures form { IfOk result (λ read. bytes.now ≡ list_form (texts read.0.items) ++ read.1.now) }
+    ensures fault { IfErr result (AfterListFault bytes.now) }
 {
     let Some((count, mut rest)) = split_count(bytes) else {
         return Err(DecodeFault::Ended);
@@ -80,5 +82,18 @@ pub fn read_back<'a>(
     match read_list(alloc, bytes) {
         Ok(read) => Some(read),
         Err(_fault) => None,
+    }
+}
+
+/// Bytes of a list whose end is missing: no list is read of them, wherever they were cut.
+pub fn read_cut(alloc: Global, bytes: &[u8], missing: &[u8], values: &[SmolStr]) -> DecodeFault
+    requires listed { CanBeListed (texts values.now) }
+    requires cut { bytes.now ++ missing.now ≡ list_form (texts values.now) }
+    requires some { 0 < length missing.now }
+    ensures { AfterListFault bytes.now result }
+{
+    match read_list(alloc, bytes) {
+        Ok(_read) => unreachable!(),
+        Err(fault) => fault,
     }
 }

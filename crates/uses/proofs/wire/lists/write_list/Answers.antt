@@ -4,3 +4,6 @@ use Rattle.uses.proofs.wire.lists.write_list.Goals as goal
 
 pub loop-value-preserved : goal.loop-value-preserved
 loop-value-preserved c = grind (arith, items)
+
+pub returns-in_err-serialize-clause-fault : goal.returns-in_err-serialize-clause-fault
+returns-in_err-serialize-clause-fault c = grind (arith, items)

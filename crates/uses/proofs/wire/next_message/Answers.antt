@@ -1,0 +1,16 @@
+use Rattle.uses.proofs.MessageLemmas.{behind-value, within, nothing_left, some_came, skipped}
+use Rattle.uses.proofs.wire.next_message.Goals as goal
+
+pub returns-in-Ok-clause-behind : goal.returns-in-Ok-clause-behind
+returns-in-Ok-clause-behind c = behind-value _ _ _ c.in-Ok.ensures.value.0 c.in-Ok.ensures.ok
+
+pub returns-in-Err : goal.returns-in-Err
+returns-in-Err c =
+    let after = c.in-Err.ensures.fault in
+    record {
+      behind = tt;
+      within = within _ _ _ after;
+      ended = nothing_left _ _ _ after;
+      begun = some_came _ _ _ after;
+      skipped = skipped _ _ _ after;
+    }
