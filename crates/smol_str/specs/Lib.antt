@@ -27,6 +27,7 @@ pub mod Unescaped
 pub mod Serde
 pub mod CutExamples
 pub mod CaseExamples
+pub mod CaseParts
 pub mod JsonExamples
 pub mod WireExamples
 pub mod Messages

@@ -174,6 +174,24 @@ impl SmolStrBuilder {
         self.push(character)
     }
 
+    /// Like [`SmolStrBuilder::push_next`], with room for `spare` bytes more where the builder moves to the heap.
+    #[inline(always)]
+    pub(crate) fn push_next_with_spare(
+        &mut self,
+        character: char,
+        spare: usize,
+    ) -> Result<(), AllocError>
+        ensures ok { OnOk result (self.new ≡ appended self.old (character ∷ [])) }
+        ensures unchanged { OnErr result (self.new ≡ self.old) }
+        ensures refused { OnErr result ((appended self.old (character ∷ [])).kind ≡ OnHeap) }
+    {
+        if let BuilderRepr::Heap(heap) = &mut self.repr {
+            return heap.push(character);
+        }
+        let mut buf = [0; 4];
+        self.push_with_spare(character.encode_utf8(&mut buf), spare)
+    }
+
     /// Like [`SmolStrBuilder::push`], with the path on the heap inlined too: for loops over the characters of a text of
     /// any length.
     #[inline(always)]

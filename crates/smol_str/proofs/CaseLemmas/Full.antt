@@ -1,9 +1,10 @@
 -- For `str_ext::ascii_case` and `str_ext::full_case`: the ASCII front of a text and the rest of it, in a case.
-use Rattle.smol_str.proofs.Common.{◌≡◌, ℕ, List, [], ◌++◌, length, take, drop, sym, ap, ◌∙◌, arith, append_assoc, length-append, IsUtf8, IsAscii, IsCharBoundary, chars, encode_utf8_all, take_at, IsUtf8-from_ascii, chars-IsAscii, encodes-IsAscii, IsAscii-from_all, AsciiCase, Lower, Upper, size, IsShort, padded, front, converted, BuilderState, InBuffer, OnHeap, empty_builder, appended, common_steps, rules, suc, ◌<◌, ◌∷◌, Bool, false, Option, None, flat_map, refl, append-nil, ne_eqb, to_ascii_lowercase, chars-encodes, INLINE_CAP, Occurs, lower, upper, lowercased, uppercased, IsAsciiText, HasSigma, letter, letters, full_case, mapped, IsMappedAlone, length-map, nat_tests, lowercase_is, uppercase_is, map-append, get_or, IsTrue, all_scalars, IsAsciiFront, ◌≤◌}
+use Rattle.smol_str.proofs.Common.{◌≡◌, ℕ, List, [], ◌++◌, length, take, drop, sym, ap, ◌∙◌, arith, append_assoc, length-append, IsUtf8, IsAscii, IsCharBoundary, IsCharBoundary-from_take, chars, chars-append, take-append-drop, encode_utf8_all, take_at, IsUtf8-from_ascii, chars-IsAscii, encodes-IsAscii, IsAscii-from_all, AsciiCase, Lower, Upper, size, IsShort, padded, front, converted, BuilderState, InBuffer, OnHeap, empty_builder, appended, common_steps, rules, suc, ◌<◌, ◌∷◌, Bool, false, Option, None, flat_map, refl, append-nil, ne_eqb, to_ascii_lowercase, chars-encodes, INLINE_CAP, Occurs, lower, upper, lowercased, uppercased, IsAsciiText, HasSigma, letter, letters, full_case, mapped, IsMappedAlone, length-map, nat_tests, lowercase_is, uppercase_is, map-append, get_or, IsTrue, all_scalars, IsAsciiFront, ◌≤◌}
 use Rattle.smol_str.proofs.TextLemmas.Lists.{not_later}
 use Rattle.smol_str.proofs.CaseLemmas.Letters.{lowercase_moves, uppercase_moves}
 use Rattle.smol_str.proofs.CaseLemmas.Ascii.{front-parts, front-length, size-converted, front-append, IsAscii-converted, IsAscii-chars, ascii-converted}
-use Rattle.smol_str.proofs.BuilderLemmas.Push.{appended-heap}
+use Rattle.smol_str.proofs.BuilderLemmas.Push.{appended-heap, new-appended}
+use Rattle.smol_str.specs.CaseParts.{IsPartOf}
 use Rattle.smol_str.proofs.TextLemmas.Split.{boundary-parts, chars-drop, chars-take}
 use Rattle.std.specs.Option.{is_some}
 use Rattle.std.specs.Char.Unicode.ToLowercase.{to_lowercase}
@@ -157,3 +158,71 @@ pub ruleset short_texts = (OnErr-always, ascii-converted, full-ascii)
 pub ruleset short_fronts = (OnErr-always, front-refused, short-text, short-refused)
 
 pub ruleset contexts = (none-found, alone-lower, some_char, nat_tests)
+
+-- of ASCII text each character is mapped to its case of ASCII
+mapped-ascii : (case : AsciiCase) (t : List ℕ) → IsAscii t → mapped case t ≡ converted case t
+mapped-ascii case [] h = refl
+mapped-ascii case (c ∷ t) h = λ i. letters_ascii case c (h 0) i ++ mapped-ascii case t (λ k. h (suc k)) i
+
+-- a text mapped part by part: what puts the builder on the heap with a part does so with the whole
+pub part-heap : (case : AsciiCase) (old : BuilderState) (first rest t : List ℕ) → first ++ rest ≡ t
+    → (appended old (mapped case first)).kind ≡ OnHeap → (appended old (mapped case t)).kind ≡ OnHeap
+part-heap case old first rest t whole heap =
+    cc (appended-heap old (mapped case first) (mapped case rest) heap, mapped-append case first rest, whole)
+
+-- no part yet
+pub part-none : (case : AsciiCase) (old : BuilderState) (t : List ℕ) → old ≡ appended (empty_builder InBuffer) old.text
+    → IsPartOf case old old t t
+part-none case old t new = record {
+  first = [];
+  whole = refl;
+  put = cc (new, appended-twice (empty_builder InBuffer) old.text [], append-nil old.text);
+}
+
+-- the parts so far, in a builder that was new
+module _ (case : AsciiCase) (old now : BuilderState) (t rest : List ℕ) (h : IsPartOf case old now t rest) where
+  pub part-new : old ≡ appended (empty_builder InBuffer) old.text → now ≡ appended (empty_builder InBuffer) now.text
+  part-new new = new-appended old now (mapped case h.first) new h.put
+
+  pub part-more : (then : BuilderState) (after : List ℕ) → IsPartOf case now then rest after → IsPartOf case old then t after
+  part-more then after k = record {
+    first = h.first ++ k.first;
+    whole = append_assoc h.first k.first after ∙ ap (λ r. h.first ++ r) k.whole ∙ h.whole;
+    put = cc (k.put, h.put, appended-twice old (mapped case h.first) (mapped case k.first), mapped-append case h.first k.first);
+  }
+
+  pub part-refused : (appended now (mapped case rest)).kind ≡ OnHeap → (appended old (mapped case t)).kind ≡ OnHeap
+  part-refused heap =
+      cc (heap, h.put, appended-twice old (mapped case h.first) (mapped case rest), mapped-append case h.first rest, h.whole)
+
+  pub part-all : rest ≡ [] → now ≡ appended old (mapped case t)
+  part-all none = cc (h.put, h.whole, none, append-nil h.first)
+
+-- a part that is ASCII
+module _ (case : AsciiCase) (text : List ℕ) (n : ℕ) (u : IsUtf8 text) (f : IsAsciiFront text n) where
+  pub ascii-boundary : IsCharBoundary text n
+  ascii-boundary = search (rules, IsCharBoundary-from_take, IsUtf8-from_ascii)
+
+  ascii-whole : take n text ++ chars (drop n text) ≡ chars text
+  ascii-whole =
+      let parts = chars-append (take n text) (drop n text) (IsUtf8-from_ascii (take n text) f.low) in
+      sym (rw (take-append-drop n text, chars-IsAscii (take n text) f.low) at parts)
+
+  module _ (part : List ℕ) (is : part ≡ converted case (take n text)) where
+    ascii-low : IsAscii part
+    ascii-low = rw is (IsAscii-converted case (take n text) f.low)
+
+    pub ascii-utf8 : IsUtf8 part
+    ascii-utf8 = IsUtf8-from_ascii part ascii-low
+
+    ascii-chars : chars part ≡ mapped case (take n text)
+    ascii-chars = chars-IsAscii part ascii-low ∙ is ∙ sym (mapped-ascii case (take n text) f.low)
+
+    pub ascii-part : (old new : BuilderState) → new ≡ appended old (chars part)
+        → IsPartOf case old new (chars text) (chars (drop n text))
+    ascii-part old new put = record { first = take n text; whole = ascii-whole; put = cc (put, ascii-chars) }
+
+    pub ascii-part-heap : (old : BuilderState) → (appended old (chars part)).kind ≡ OnHeap
+        → (appended old (mapped case (chars text))).kind ≡ OnHeap
+    ascii-part-heap old heap =
+        part-heap case old (take n text) (chars (drop n text)) (chars text) ascii-whole (cc (heap, ascii-chars))

@@ -50,6 +50,16 @@ fn ascii_chunks(bytes: &[u8]) -> usize
     at
 }
 
+/// Whether there are `N` bytes, and the first `N` are ASCII.
+#[inline(always)]
+#[tactic(auto, using(crate::proofs::CaseLemmas::Ascii::ascii_fronts))]
+pub(crate) fn begins_ascii<const N: usize>(bytes: &[u8]) -> bool
+    requires { N ≤ 64 }
+    ensures { IsTrue result → IsAsciiFront bytes.now N }
+{
+    bytes.len() >= N && !has_high(load::<N>(bytes, 0))
+}
+
 /// Whether no byte is past ASCII. The last block may overlap the one before it.
 #[inline(always)]
 pub(crate) fn is_all_ascii(bytes: &[u8]) -> bool

@@ -1,11 +1,12 @@
-//! Full case. ASCII text takes ASCII case. Of any other text each character is mapped by itself,
-//! and a short text's ASCII front by lanes, unless a character is mapped by its context.
+//! Full case. ASCII text takes ASCII case. Of any other text each character is mapped by itself, but
+//! the ASCII front of a short text and the ASCII runs of a long one by lanes, unless a character is mapped by its context.
 ghost use Rattle.std.specs.Prelude.{◌≡◌, ◌<◌, ◌≤◌, [], ◌∷◌, ◌++◌, false, length, IfOk, OnOk, OnErr, IsTrue};
 ghost use Rattle.std.specs.Str.{chars};
 ghost use Rattle.smol_str.specs.Text.{IsShort};
 ghost use Rattle.smol_str.specs.Meaning.{IsValueOf};
 ghost use Rattle.smol_str.specs.BuilderState.{InBuffer, OnHeap, empty_builder, appended};
-ghost use Rattle.smol_str.specs.Case.{front, converted, full_case, lowercased, mapped, IsMappedAlone};
+ghost use Rattle.smol_str.specs.Case.{front, converted, full_case, lowercased, mapped, IsMappedAlone, IsAsciiFront};
+ghost use Rattle.smol_str.specs.CaseParts.{IsPartOf};
 ghost use Rattle.smol_str.specs.declared.bytes.ascii.AsciiCase.TheVariants.{Lower};
 
 use super::ascii_case::to_ascii_case_on_heap;
@@ -13,7 +14,7 @@ use super::case_ranges::letter_of;
 use super::sigma::push_lowercase;
 use crate::buffer::INLINE_CAP;
 use crate::builder::SmolStrBuilder;
-use crate::bytes::ascii::front_len;
+use crate::bytes::ascii::{begins_ascii, convert_all, front_len};
 use crate::kernel::{AsciiCase, next_match};
 use crate::value::SmolStr;
 use std::alloc::{AllocError, Global};
@@ -104,7 +105,7 @@ fn by_characters(alloc: Global, text: &str, case: AsciiCase) -> Result<SmolStr, 
         return by_context(alloc, text);
     }
     let mut builder = SmolStrBuilder::new(alloc);
-    push_mapped(&mut builder, text, case)?;
+    push_parts(&mut builder, text, case, 0)?;
     builder.into_value()
 }
 
@@ -144,9 +145,118 @@ fn push_mapped(builder: &mut SmolStrBuilder, text: &str, case: AsciiCase) -> Res
     Ok(())
 }
 
-/// Appends what one character is mapped to: at most three letters.
+/// Like `push_mapped`, with runs of ASCII by lanes, and with room for `behind` bytes after the text: for long texts.
+fn push_parts(
+    builder: &mut SmolStrBuilder,
+    text: &str,
+    case: AsciiCase,
+    behind: usize,
+) -> Result<(), AllocError>
+    requires { builder.old ≡ appended (empty_builder InBuffer) builder.old.text }
+    ensures ok { OnOk result (builder.new ≡ appended builder.old (mapped case (chars text.now))) }
+    ensures refused { OnErr result
+        ((appended builder.old (mapped case (chars text.now))).kind ≡ OnHeap) }
+{
+    let mut rest = text;
+    while !rest.is_empty() {
+        rest = push_part(builder, rest, case, behind)?;
+    }
+    Ok(())
+}
+
+/// Appends what the first part of a text is mapped to: 64 or 16 bytes of ASCII, or one character. Returns the rest.
 #[inline(always)]
-#[tactic(auto, using(crate::proofs::CaseLemmas::Full::letters_appended))]
+fn push_part<'a>(
+    builder: &mut SmolStrBuilder,
+    text: &'a str,
+    case: AsciiCase,
+    behind: usize,
+) -> Result<&'a str, AllocError>
+    requires some { 0 < length text.now }
+    requires new { builder.old ≡ appended (empty_builder InBuffer) builder.old.text }
+    ensures ok { IfOk result (λ rest. IsPartOf case builder.old builder.new (chars text.now) (chars rest.now)) }
+    ensures shorter { IfOk result (λ rest. length rest.now < length text.now) }
+    ensures refused { OnErr result
+        ((appended builder.old (mapped case (chars text.now))).kind ≡ OnHeap) }
+{
+    if !begins_ascii::<16>(text.as_bytes()) {
+        return push_first(builder, text, case, behind);
+    }
+    if !begins_ascii::<64>(text.as_bytes()) {
+        return push_ascii::<16>(builder, text, case, behind);
+    }
+    push_ascii::<64>(builder, text, case, behind)
+}
+
+/// Appends the first `N` bytes of a text, which are ASCII, in a case. Returns the rest.
+#[inline(always)]
+fn push_ascii<'a, const N: usize>(
+    builder: &mut SmolStrBuilder,
+    text: &'a str,
+    case: AsciiCase,
+    behind: usize,
+) -> Result<&'a str, AllocError>
+    requires some { 0 < N }
+    requires ascii { IsAsciiFront text.now N }
+    ensures ok { IfOk result (λ rest. IsPartOf case builder.old builder.new (chars text.now) (chars rest.now)) }
+    ensures shorter { IfOk result (λ rest. length rest.now < length text.now) }
+    ensures refused { OnErr result
+        ((appended builder.old (mapped case (chars text.now))).kind ≡ OnHeap) }
+{
+    let (first, rest) = text.split_at(N);
+    let mut part = [0; N];
+    part.copy_from_slice(first.as_bytes());
+    convert_all(&mut part, case);
+    let spare = rest.len().saturating_add(behind);
+    builder.push_piece(unsafe { str::from_utf8_unchecked(&part) }, spare)?;
+    Ok(rest)
+}
+
+/// Appends what the first character of a text is mapped to. Returns the rest.
+#[inline(always)]
+fn push_first<'a>(
+    builder: &mut SmolStrBuilder,
+    text: &'a str,
+    case: AsciiCase,
+    behind: usize,
+) -> Result<&'a str, AllocError>
+    requires some { 0 < length text.now }
+    requires new { builder.old ≡ appended (empty_builder InBuffer) builder.old.text }
+    ensures ok { IfOk result (λ rest. IsPartOf case builder.old builder.new (chars text.now) (chars rest.now)) }
+    ensures shorter { IfOk result (λ rest. length rest.now < length text.now) }
+    ensures refused { OnErr result
+        ((appended builder.old (mapped case (chars text.now))).kind ≡ OnHeap) }
+{
+    let mut characters = text.chars();
+    let Some(character) = characters.next() else {
+        return Ok(text);
+    };
+    let rest = characters.as_str();
+    push_one_with_spare(builder, character, case, rest.len().saturating_add(behind))?;
+    Ok(rest)
+}
+
+/// Like `push_one`, but looks for the heap first, and moves there with room for `spare` bytes more: for long texts.
+#[inline(always)]
+fn push_one_with_spare(
+    builder: &mut SmolStrBuilder,
+    character: char,
+    case: AsciiCase,
+    spare: usize,
+) -> Result<(), AllocError>
+    requires { builder.old ≡ appended (empty_builder InBuffer) builder.old.text }
+    ensures ok { OnOk result (builder.new ≡ appended builder.old (mapped case (character ∷ []))) }
+    ensures refused { OnErr result
+        ((appended builder.old (mapped case (character ∷ []))).kind ≡ OnHeap) }
+{
+    if let Some(letter) = letter_of(character, case) {
+        return builder.push_next_with_spare(letter, spare);
+    }
+    push_letters(builder, character, case, spare)
+}
+
+/// Appends what one character is mapped to.
+#[inline(always)]
 pub(super) fn push_one(
     builder: &mut SmolStrBuilder,
     character: char,
@@ -160,12 +270,29 @@ pub(super) fn push_one(
     if let Some(letter) = letter_of(character, case) {
         return builder.push(letter);
     }
+    push_letters(builder, character, case, INLINE_CAP)
+}
+
+/// Appends what std maps a character to: at most three letters.
+#[inline(always)]
+#[tactic(auto, using(crate::proofs::CaseLemmas::Full::letters_appended))]
+fn push_letters(
+    builder: &mut SmolStrBuilder,
+    character: char,
+    case: AsciiCase,
+    spare: usize,
+) -> Result<(), AllocError>
+    requires { builder.old ≡ appended (empty_builder InBuffer) builder.old.text }
+    ensures ok { OnOk result (builder.new ≡ appended builder.old (mapped case (character ∷ []))) }
+    ensures refused { OnErr result
+        ((appended builder.old (mapped case (character ∷ []))).kind ≡ OnHeap) }
+{
     let letters = match case {
         AsciiCase::Lower => character.to_lowercase(),
         AsciiCase::Upper => character.to_uppercase(),
     };
     for letter in letters {
-        builder.push(letter)?;
+        builder.push_next_with_spare(letter, spare)?;
     }
     Ok(())
 }
