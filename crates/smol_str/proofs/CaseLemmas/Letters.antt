@@ -1,7 +1,8 @@
 -- For `str_ext::case_ranges`: each letter of a range is mapped as Unicode's tables map it, seen one by one.
-use Rattle.smol_str.proofs.Common.{list_all, ◌≡◌, ℕ, ◌+◌, ◌-◌, ◌<◌, ◌≤◌, List, [], ◌∷◌, Bool, true, ◌&&◌, zero, suc, refl, arith, and_parts, bytes_eq}
+use Rattle.smol_str.proofs.Common.{list_all, ◌≡◌, ℕ, ◌+◌, ◌-◌, ◌<◌, ◌≤◌, List, [], ◌∷◌, Bool, true, ◌&&◌, zero, suc, refl, arith, and_parts, bytes_eq, ap, ◌∙◌, nat_tests, nat_le}
+use Rattle.std.specs.Prelude.{◌||◌, nat_lt}
 use Rattle.std.proofs.lemmas.Slice.Eq.{bytes_eq-Decides}
-use Rattle.std.specs.Char.Unicode.Rows.{by_runs, by_strings}
+use Rattle.std.specs.Char.Unicode.Rows.{Row, by_runs, by_strings, case_mapping}
 use Rattle.std.specs.Char.Unicode.ToLowercase.{to_lowercase, lowercase_runs, lowercase_strings}
 use Rattle.std.specs.Char.Unicode.ToUppercase.{to_uppercase, uppercase_runs, uppercase_strings}
 
@@ -68,3 +69,55 @@ uppercase_ranges =
 pub uppercase_moves : AllMove to_uppercase uppercase_ranges
 unfolding by_runs by_strings to_uppercase uppercase_runs uppercase_strings
 uppercase_moves = AllMove-computed to_uppercase uppercase_ranges refl
+
+-- ---- ranges without case: no row of the tables lies there
+
+-- no run has one of n characters from a on
+abbrev clear_of_runs : List Row → ℕ → ℕ → Bool
+clear_of_runs runs a n = list_all (λ run. nat_lt run.1 a || nat_le (a + n) run.0) runs
+
+abbrev clear_of_strings : List Row → ℕ → ℕ → Bool
+clear_of_strings rows a n = list_all (λ row. nat_lt row.0 a || nat_le (a + n) row.0) rows
+
+runs-clear : (runs : List Row) (a n c : ℕ) → clear_of_runs runs a n ≡ true → a ≤ c → c < a + n → by_runs runs c ≡ c
+unfolding by_runs
+runs-clear [] a n c ok least most = refl
+runs-clear (run ∷ runs) a n c ok least most = grind (arith, nat_tests, and_parts, runs-clear runs a n c)
+
+strings-clear : (default : List ℕ) (rows : List Row) (a n c : ℕ) → clear_of_strings rows a n ≡ true → a ≤ c → c < a + n
+    → by_strings default rows c ≡ default
+unfolding by_strings
+strings-clear default [] a n c ok least most = refl
+strings-clear default (row ∷ rows) a n c ok least most = grind (arith, nat_tests, and_parts, strings-clear default rows a n c)
+
+-- f leaves each character of these ranges as it is; of a range, its first character, and how many it has
+abbrev pub AllStay : (ℕ → List ℕ) → List (ℕ × ℕ) → Type 0
+AllStay f [] = Unit {0}
+AllStay f (r ∷ rs) = ((c : ℕ) → r.0 ≤ c → c < r.0 + r.1 → f c ≡ c ∷ []) × AllStay f rs
+
+abbrev all_clear : List Row → List Row → List (ℕ × ℕ) → Bool
+all_clear runs strings rs = list_all (λ r. clear_of_runs runs r.0 r.1 && clear_of_strings strings r.0 r.1) rs
+
+AllStay-computed : (runs strings : List Row) (rs : List (ℕ × ℕ)) → all_clear runs strings rs ≡ true
+    → AllStay (case_mapping runs strings) rs
+AllStay-computed runs strings [] ok = tt
+AllStay-computed runs strings (r ∷ rs) ok =
+    let parts = and_parts (clear_of_runs runs r.0 r.1 && clear_of_strings strings r.0 r.1) (all_clear runs strings rs) ok in
+    let both = and_parts (clear_of_runs runs r.0 r.1) (clear_of_strings strings r.0 r.1) parts.0 in (
+      λ c least most.
+          strings-clear _ strings r.0 r.1 c both.1 least most ∙ ap (λ x. x ∷ []) (runs-clear runs r.0 r.1 c both.0 least most),
+      AllStay-computed runs strings rs parts.1,
+    )
+
+abbrev pub caseless : List (ℕ × ℕ)
+caseless = (0x588, 2840) ∷ (0x2000, 294) ∷ (0x2d2e, 30994) ∷ (0xabc0, 20288) ∷ (0x1e944, 988860) ∷ []
+
+pub lowercase_stays : AllStay to_lowercase caseless
+unfolding to_lowercase lowercase_runs lowercase_strings
+lowercase_stays = AllStay-computed _ _ caseless refl
+
+pub uppercase_stays : AllStay to_uppercase caseless
+unfolding to_uppercase uppercase_runs uppercase_strings
+uppercase_stays = AllStay-computed _ _ caseless refl
+
+pub ruleset caseless_stays = (lowercase_stays, uppercase_stays)

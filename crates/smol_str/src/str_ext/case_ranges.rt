@@ -1,6 +1,6 @@
-//! A fast path for letters whose range maps by a constant offset: Latin, Greek, Cyrillic and
-//! Armenian. std searches through all ranges of Unicode.
-ghost use Rattle.std.specs.Prelude.{◌≡◌, [], ◌∷◌, IfSome};
+//! A fast path for letters whose range maps by a constant offset, which are Latin, Greek, Cyrillic and
+//! Armenian, and for the widest ranges without case. std searches through all ranges of Unicode.
+ghost use Rattle.std.specs.Prelude.{◌≡◌, [], ◌∷◌, IfSome, IsTrue};
 ghost use Rattle.std.specs.Char.Unicode.ToLowercase.{to_lowercase};
 ghost use Rattle.std.specs.Char.Unicode.ToUppercase.{to_uppercase};
 ghost use Rattle.smol_str.specs.Case.{mapped};
@@ -41,6 +41,7 @@ fn lowercase_by_range(code: u32) -> Option<u32>
         0x430..=0x45f => Some(code),
         0x531..=0x556 => Some(code + 48),
         0x561..=0x586 => Some(code),
+        _ if is_caseless(code) => Some(code),
         _ => None,
     }
 }
@@ -66,6 +67,25 @@ fn uppercase_by_range(code: u32) -> Option<u32>
         0x450..=0x45f => Some(code - 80),
         0x531..=0x556 => Some(code),
         0x561..=0x586 => Some(code - 48),
+        _ if is_caseless(code) => Some(code),
         _ => None,
+    }
+}
+
+/// Whether a code point is in one of the widest ranges without case: Hebrew to Burmese, punctuation, CJK with kana and Yi,
+/// Hangul, and emoji.
+#[inline(always)]
+#[tactic(auto, using(crate::proofs::CaseLemmas::Letters::caseless_stays))]
+fn is_caseless(code: u32) -> bool
+    ensures lower { IsTrue result → to_lowercase code ≡ code ∷ [] }
+    ensures upper { IsTrue result → to_uppercase code ≡ code ∷ [] }
+{
+    match code {
+        0x588..=0x109f => true,
+        0x2000..=0x2125 => true,
+        0x2d2e..=0xa63f => true,
+        0xabc0..=0xfaff => true,
+        0x1e944..=0x10ffff => true,
+        _ => false,
     }
 }
