@@ -2,3 +2,4 @@ pub mod Ascii
 pub mod Lanes
 pub mod Full
 pub mod Letters
+pub mod Sigma

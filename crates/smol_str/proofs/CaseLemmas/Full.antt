@@ -124,7 +124,7 @@ pub ruleset sizes_of_bytes = (OnErr-always, size-chars)
 pub mapped-append : (case : AsciiCase) (a b : List ℕ) → mapped case (a ++ b) ≡ mapped case a ++ mapped case b
 mapped-append case a b = flat_map-append (letters case) a b
 
-sigma : chars (0xCE ∷ 0xA3 ∷ []) ≡ 0x3A3 ∷ []
+pub sigma : chars (0xCE ∷ 0xA3 ∷ []) ≡ 0x3A3 ∷ []
 unfolding lib.Utf8.encode
 sigma = chars-encodes (0x3A3 ∷ []) refl
 

@@ -1,8 +1,10 @@
 -- For `str_ext::case_ranges`: each letter of a range is mapped as Unicode's tables map it, seen one by one.
-use Rattle.smol_str.proofs.Common.{list_all, ◌≡◌, ℕ, ◌+◌, ◌-◌, ◌<◌, ◌≤◌, List, [], ◌∷◌, Bool, true, ◌&&◌, zero, suc, refl, arith, and_parts, bytes_eq, ap, ◌∙◌, nat_tests, nat_le}
+use Rattle.smol_str.proofs.Common.{list_all, ◌≡◌, ℕ, ◌+◌, ◌-◌, ◌<◌, ◌≤◌, List, [], ◌∷◌, Bool, true, ◌&&◌, zero, suc, refl, arith, and_parts, bytes_eq, ap, ◌∙◌, nat_tests, nat_le, false, not, cond, sym}
 use Rattle.std.specs.Prelude.{◌||◌, nat_lt}
 use Rattle.std.proofs.lemmas.Slice.Eq.{bytes_eq-Decides}
-use Rattle.std.specs.Char.Unicode.Rows.{Row, by_runs, by_strings, case_mapping}
+use Rattle.std.specs.Char.Unicode.Cased.{is_cased, cased_ranges}
+use Rattle.std.specs.Char.Unicode.CaseIgnorable.{is_case_ignorable, case_ignorable_ranges}
+use Rattle.std.specs.Char.Unicode.Rows.{Row, by_runs, by_strings, case_mapping, in_ranges}
 use Rattle.std.specs.Char.Unicode.ToLowercase.{to_lowercase, lowercase_runs, lowercase_strings}
 use Rattle.std.specs.Char.Unicode.ToUppercase.{to_uppercase, uppercase_runs, uppercase_strings}
 
@@ -121,3 +123,39 @@ unfolding to_uppercase uppercase_runs uppercase_strings
 uppercase_stays = AllStay-computed _ _ caseless refl
 
 pub ruleset caseless_stays = (lowercase_stays, uppercase_stays)
+
+-- ---- letters that have case, and that case does not ignore
+
+abbrev pub AllAre : (ℕ → Bool) → Bool → List (ℕ × ℕ) → Type 0
+AllAre f b [] = Unit {0}
+AllAre f b (r ∷ rs) = ((c : ℕ) → r.0 ≤ c → c < r.0 + r.1 → f c ≡ b) × AllAre f b rs
+
+abbrev says : (ℕ → Bool) → Bool → ℕ → Bool
+says f b c = cond b (f c) (not (f c))
+
+abbrev all_are : (ℕ → Bool) → Bool → List (ℕ × ℕ) → Bool
+all_are f b rs = list_all (λ r. all_from (says f b) r.0 r.1) rs
+
+same : (b x : Bool) → cond b x (not x) ≡ true → x ≡ b
+same true x h = h
+same false false h = refl
+same false true h = sym h
+
+AllAre-computed : (f : ℕ → Bool) (b : Bool) (rs : List (ℕ × ℕ)) → all_are f b rs ≡ true → AllAre f b rs
+AllAre-computed f b [] ok = tt
+AllAre-computed f b (r ∷ rs) ok =
+    let parts = and_parts (all_from (says f b) r.0 r.1) (all_are f b rs) ok in
+    (λ c least most. same b (f c) (all_from-at (says f b) r.0 r.1 c parts.0 least most), AllAre-computed f b rs parts.1)
+
+abbrev pub cased_letters : List (ℕ × ℕ)
+cased_letters = (0x41, 26) ∷ (0x61, 26) ∷ (0x391, 17) ∷ (0x3a3, 7) ∷ (0x3b1, 25) ∷ (0x410, 64) ∷ []
+
+pub letters_cased : AllAre is_cased true cased_letters
+unfolding in_ranges is_cased cased_ranges
+letters_cased = AllAre-computed is_cased true cased_letters refl
+
+pub letters_count : AllAre is_case_ignorable false cased_letters
+unfolding in_ranges is_case_ignorable case_ignorable_ranges
+letters_count = AllAre-computed is_case_ignorable false cased_letters refl
+
+pub ruleset cased_ones = (letters_cased, letters_count)

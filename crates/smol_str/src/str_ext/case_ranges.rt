@@ -1,6 +1,8 @@
 //! A fast path for letters whose range maps by a constant offset, which are Latin, Greek, Cyrillic and
 //! Armenian, and for the widest ranges without case. std searches through all ranges of Unicode.
-ghost use Rattle.std.specs.Prelude.{◌≡◌, [], ◌∷◌, IfSome, IsTrue};
+ghost use Rattle.std.specs.Prelude.{◌≡◌, [], ◌∷◌, true, false, IfSome, IsTrue};
+ghost use Rattle.std.specs.Char.Unicode.Cased.{is_cased};
+ghost use Rattle.std.specs.Char.Unicode.CaseIgnorable.{is_case_ignorable};
 ghost use Rattle.std.specs.Char.Unicode.ToLowercase.{to_lowercase};
 ghost use Rattle.std.specs.Char.Unicode.ToUppercase.{to_uppercase};
 ghost use Rattle.smol_str.specs.Case.{mapped};
@@ -86,6 +88,25 @@ fn is_caseless(code: u32) -> bool
         0x2d2e..=0xa63f => true,
         0xabc0..=0xfaff => true,
         0x1e944..=0x10ffff => true,
+        _ => false,
+    }
+}
+
+/// Whether a character is one of the letters with case of ASCII, Greek without accents, or Russian; `false` where std has
+/// to be asked.
+#[inline(always)]
+#[tactic(auto, using(crate::proofs::CaseLemmas::Letters::cased_ones))]
+pub(super) fn is_cased_letter(character: char) -> bool
+    ensures cased { IsTrue result → is_cased character ≡ true }
+    ensures counts { IsTrue result → is_case_ignorable character ≡ false }
+{
+    match character as u32 {
+        0x41..=0x5a => true,
+        0x61..=0x7a => true,
+        0x391..=0x3a1 => true,
+        0x3a3..=0x3a9 => true,
+        0x3b1..=0x3c9 => true,
+        0x410..=0x44f => true,
         _ => false,
     }
 }

@@ -146,7 +146,7 @@ fn push_mapped(builder: &mut SmolStrBuilder, text: &str, case: AsciiCase) -> Res
 }
 
 /// Like `push_mapped`, with runs of ASCII by lanes, and with room for `behind` bytes after the text: for long texts.
-fn push_parts(
+pub(super) fn push_parts(
     builder: &mut SmolStrBuilder,
     text: &str,
     case: AsciiCase,
@@ -257,7 +257,7 @@ fn push_one_with_spare(
 
 /// Appends what one character is mapped to.
 #[inline(always)]
-pub(super) fn push_one(
+fn push_one(
     builder: &mut SmolStrBuilder,
     character: char,
     case: AsciiCase,
