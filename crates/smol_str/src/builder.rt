@@ -83,6 +83,7 @@ impl SmolStrBuilder {
     /// let builder = SmolStrBuilder::with_capacity(alloc, 100)?;
     /// assert!(rt; builder.is_empty() && builder.inline_buffer().is_none());
     /// ```
+    #[inline(always)]
     pub fn with_capacity(alloc: Global, capacity: usize) -> Result<SmolStrBuilder, AllocError>
         ensures ok { IfOk result (λ b. b ≡ empty_builder (kind_for capacity)) }
         ensures refused { OnErr result (INLINE_CAP < capacity) }

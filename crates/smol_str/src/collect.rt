@@ -4,102 +4,24 @@
 //! nothing is gathered first, and size hints are not read: they reserve nothing and decide nothing.
 //! Memory may be refused only where the text drawn is not short: `Outgrown`, in `specs/Collect.antt`.
 //! `extend_chars` writes to the builder's buffer, so it is in `builder/chars.rt`.
-ghost use Rattle.std.specs.Prelude.{◌≡◌, ℕ, List, IfOk, OnOk, OnErr};
-ghost use Rattle.std.proofs.Common.{refl};
+ghost use Rattle.std.specs.Prelude.{◌≡◌, IfOk, OnOk, OnErr};
 ghost use Rattle.std.specs.Iterator.{IsFinite};
 ghost use Rattle.smol_str.specs.Text.{IsResident};
 ghost use Rattle.smol_str.specs.Meaning.{Meaning, IsValueOf};
-ghost use Rattle.smol_str.specs.BuilderState.{InBuffer, OnHeap, empty_builder, appended};
-ghost use Rattle.smol_str.specs.Joined.{joined, joined_strs, joined_strings, joined_string_refs, char_text, str_text, string_text, string_ref_text};
-ghost use Rattle.smol_str.specs.JoinedLaws.{joined-chars, joined-strs, joined-string_refs};
+ghost use Rattle.smol_str.specs.BuilderState.{InBuffer, empty_builder};
+ghost use Rattle.smol_str.specs.Joined.{joined_strs, joined_strings, joined_string_refs};
 ghost use Rattle.smol_str.specs.Collect.{AppendedAll, StoppedAt, Collected, Outgrown};
 
 mod join;
+mod piece;
 pub mod steps;
 mod traits;
 
 use crate::buffer::INLINE_CAP;
 use crate::builder::SmolStrBuilder;
 use crate::value::SmolStr;
+pub use piece::Piece;
 use std::alloc::{AllocError, Global};
-
-/// An item with a text that is appended in one call: a `char`, `&str`, `String`, `&String`, [`SmolStr`] or `&Step`.
-pub trait Piece: Drop {
-    ghost text: { Self → List ℕ };
-
-    // The text of items, one after another, in the words of the items' kind.
-    ghost texts: { List Self → List ℕ };
-
-    /// Appends the text; a refusal leaves the builder as it was.
-    fn append_to(&self, builder: &mut SmolStrBuilder) -> Result<(), AllocError>
-        ensures ok { OnOk result (builder.new ≡ appended builder.old (text self.now)) }
-        ensures unchanged { OnErr result (builder.new ≡ builder.old) }
-        ensures refused { OnErr result ((appended builder.old (text self.now)).kind ≡ OnHeap) };
-
-    ghost joins: { (items : List Self) → joined text items ≡ texts items };
-}
-
-impl Piece for char {
-    ghost text = { char_text };
-
-    ghost texts = { λ items. items };
-
-    ghost joins = { joined-chars };
-
-    #[inline(always)]
-    fn append_to(&self, builder: &mut SmolStrBuilder) -> Result<(), AllocError> {
-        builder.push_inlined(*self)
-    }
-}
-
-impl<'a> Piece for &'a str {
-    ghost text = { str_text };
-
-    ghost texts = { joined_strs };
-
-    ghost joins = { joined-strs };
-
-    fn append_to(&self, builder: &mut SmolStrBuilder) -> Result<(), AllocError> {
-        builder.push_str(*self)
-    }
-}
-
-impl Piece for String {
-    ghost text = { string_text };
-
-    ghost texts = { joined_strings };
-
-    ghost joins = { λ _. refl };
-
-    fn append_to(&self, builder: &mut SmolStrBuilder) -> Result<(), AllocError> {
-        builder.push_str(self.as_str())
-    }
-}
-
-impl<'a> Piece for &'a String {
-    ghost text = { string_ref_text };
-
-    ghost texts = { joined_string_refs };
-
-    ghost joins = { joined-string_refs };
-
-    fn append_to(&self, builder: &mut SmolStrBuilder) -> Result<(), AllocError> {
-        builder.push_str(self.as_str())
-    }
-}
-
-impl Piece for SmolStr {
-    ghost text = { λ value. value.text };
-
-    ghost texts = { joined (λ value. value.text) };
-
-    ghost joins = { λ _. refl };
-
-    #[tactic(auto, using(crate::proofs::CallerLemmas::Texts::texts))]
-    fn append_to(&self, builder: &mut SmolStrBuilder) -> Result<(), AllocError> {
-        builder.push_str(self.as_str())
-    }
-}
 
 /// An allocator that collects values: `Global`. You never name it.
 ///

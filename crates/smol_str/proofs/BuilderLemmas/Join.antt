@@ -1,8 +1,10 @@
 -- For joining: a text, and then others behind a separator.
-use Rattle.smol_str.proofs.Common.{◌≡◌, ℕ, ◌+◌, ◌<◌, List, [], ◌∷◌, ◌++◌, length, get_or, map, take, flat_map, ap, ◌∙◌, arith, append-nil, common_steps, joined_by, BuilderState, InBuffer, OnHeap, empty_builder, appended, IsShort}
+use Rattle.smol_str.proofs.Common.{◌≡◌, ℕ, ◌+◌, ◌<◌, List, [], ◌∷◌, ◌++◌, length, get_or, map, take, flat_map, ap, ◌∙◌, arith, append-nil, common_steps, joined_by, BuilderState, OnHeap, empty_builder, appended, kind_for, IsShort, IsUtf8, chars, size, ◌%◌, ◌≤◌, ⊎_elim, INLINE_CAP}
 use Rattle.std.proofs.lemmas.Grind.{take_at_read, flat_map-append}
 use Rattle.std.proofs.lemmas.List.Folds.{flat_map-map}
-use Rattle.smol_str.proofs.BuilderLemmas.State.{appended-twice, appended-nothing, OnHeap-long}
+use Rattle.std.proofs.Math.Nat.{mod-le}
+use Rattle.smol_str.proofs.BuilderLemmas.State.{appended-twice, appended-nothing, why_heap}
+use Rattle.smol_str.proofs.TextLemmas.Places.{size-append, size-chars}
 use Rattle.smol_str.proofs.BuilderLemmas.Push.{appended-heap}
 use Rattle.smol_str.proofs.TextLemmas.Lists.{flat_map-parts}
 
@@ -12,19 +14,42 @@ pub joined-first : {X : Type 0} (f : X → List ℕ) (p : List ℕ) (xs others :
 joined-first f p xs others x e =
     ap (λ l. joined_by p (map f l)) e ∙ ap (λ l. f x ++ l) (flat_map-map (λ (q : List ℕ). p ++ q) f others)
 
+-- in a loop over pieces: those so far and one more
+flat_map-next : {X : Type 0} (f : X → List ℕ) (xs : List X) (i : ℕ) (x : X) → i < length xs → x ≡ get_or xs i x
+    → flat_map f (take (i + 1) xs) ≡ flat_map f (take i xs) ++ f x
+flat_map-next f xs i x here is = grind (arith, common_steps, take_at_read, flat_map-append, append-nil)
+
 -- in a loop over pieces: one that puts the builder on the heap does so with all others
 pub heap-at : {X : Type 0} (f : X → List ℕ) (old now : BuilderState) (xs : List X) (i : ℕ) (x : X) → i < length xs
     → x ≡ get_or xs i x → now ≡ appended old (flat_map f (take i xs)) → (appended now (f x)).kind ≡ OnHeap
     → (appended old (flat_map f xs)).kind ≡ OnHeap
 heap-at f old now xs i x here is so_far heap =
-    let more : flat_map f (take (i + 1) xs) ≡ flat_map f (take i xs) ++ f x =
-    grind (arith, common_steps, take_at_read, flat_map-append, append-nil) in
+    let more = flat_map-next f xs i x here is in
     let joins : appended now (f x) ≡ appended old (flat_map f (take (i + 1) xs)) =
     cc (so_far, more, appended-twice old (flat_map f (take i xs)) (f x)) in
     rw (flat_map-parts f xs (i + 1)) (appended-heap old (flat_map f (take (i + 1) xs)) _ (cc (joins, heap)))
 
--- a new builder that the first text puts on the heap
-pub first-long : (b : BuilderState) (t u : List ℕ) → b ≡ empty_builder InBuffer → (appended b t).kind ≡ OnHeap → ¬ (IsShort (t ++ u))
-first-long b t u new heap = OnHeap-long (t ++ u) (rw new at (appended-heap b t u heap))
+-- in a loop that sums, in machine words, what a text t and pieces have at least, each behind a separator
+pub least-more : {X : Type 0} (f : X → List ℕ) (t sep : List ℕ) (xs : List X) (i len m : ℕ) (x : X) (k : ℕ)
+    → IsUtf8 sep → i < length xs → x ≡ get_or xs i x → len ≤ size (t ++ flat_map (λ y. chars sep ++ f y) (take i xs))
+    → k ≤ size (f x) → ((len + length sep) % m + k) % m ≤ size (t ++ flat_map (λ y. chars sep ++ f y) (take (i + 1) xs))
+least-more {X = X} f t sep xs i len m x k u here is so_far least =
+    let g = λ (y : X). chars sep ++ f y in
+    let begun = flat_map g (take i xs) in
+    let sum = (len + length sep) % m in
+    let whole : size (t ++ flat_map g (take (i + 1) xs)) ≡ size t + (size begun + (length sep + size (f x))) =
+    cc (flat_map-next g xs i x here is, size-append t (begun ++ g x), size-append begun (g x), size-append (chars sep) (f x), size-chars sep u) in
+    omega (arith, so_far, size-append t begun, whole, mod-le (len + length sep) m, mod-le (sum + k) m, least)
+
+-- a builder with room for no more than the text, which the text, or a part of it, puts on the heap
+joined-long : (n : ℕ) (t : List ℕ) → n ≤ size t → (appended (empty_builder (kind_for n)) t).kind ≡ OnHeap → ¬ (IsShort t)
+joined-long n t least heap = ⊎_elim (λ more short. omega (arith, more, short, least)) (λ long. long) (why_heap n t heap)
+
+module _ (b : BuilderState) (n : ℕ) (t u : List ℕ) (new : b ≡ empty_builder (kind_for n)) (least : n ≤ size (t ++ u)) where
+  pub first-long : (appended b t).kind ≡ OnHeap → ¬ (IsShort (t ++ u))
+  first-long heap = joined-long n (t ++ u) least (rw new at (appended-heap b t u heap))
+
+  pub others-long : (d : BuilderState) → d ≡ appended b t → (appended d u).kind ≡ OnHeap → ¬ (IsShort (t ++ u))
+  others-long d put heap = joined-long n (t ++ u) least (cc (appended-twice b t u, put, new, heap))
 
 pub ruleset appends = (appended-twice, appended-nothing, appended-heap, take_at_read, flat_map-append, append-nil)

@@ -11,6 +11,8 @@ use Rattle.smol_str.proofs.TextLemmas.Blank.{IsAscii-blank_run, Passes-from_IsBl
 pub size-chars : (bs : List ℕ) → IsUtf8 bs → size (chars bs) ≡ length bs
 size-chars bs u = ap length (encodes-chars bs u)
 
+pub ruleset sizes = (size-chars, IsUtf8-string_bytes)
+
 pub chars-empty : (bs : List ℕ) → length bs ≡ 0 → chars bs ≡ []
 chars-empty bs e = ap chars (nil_from_length bs e) ∙ chars-nil
 

@@ -1,8 +1,8 @@
 //! Texts with a separator between each two.
-ghost use Rattle.std.specs.Prelude.{◌≡◌, ◌++◌, map, IfOk, OnOk, OnErr};
+ghost use Rattle.std.specs.Prelude.{◌≡◌, ◌≤◌, ◌++◌, map, IfOk, OnOk, OnErr};
 ghost use Rattle.std.specs.List.{flat_map};
 ghost use Rattle.std.specs.Str.{chars};
-ghost use Rattle.smol_str.specs.Text.{IsShort};
+ghost use Rattle.smol_str.specs.Text.{size, IsShort};
 ghost use Rattle.smol_str.specs.Cut.{joined_by};
 ghost use Rattle.smol_str.specs.BuilderState.{OnHeap, appended};
 ghost use Rattle.smol_str.specs.Meaning.{IsValueOf};
@@ -28,14 +28,32 @@ impl SmolStr {
         ensures ok { IfOk result (λ v. IsValueOf (joined_by (chars separator.now) (map P.text pieces.now)) v) }
         ensures refused { OnErr result (¬ (IsShort (joined_by (chars separator.now) (map P.text pieces.now)))) }
     {
-        let mut builder = SmolStrBuilder::new(alloc);
         let Some((first, others)) = pieces.split_first() else {
-            return builder.into_value();
+            return SmolStrBuilder::new(alloc).into_value();
         };
+        // Memory for the whole text, in one request. There is none where the text may fit in the buffer.
+        let room = least_len(first, separator, others);
+        let mut builder = SmolStrBuilder::with_capacity(alloc, room)?;
         first.append_to(&mut builder)?;
         append_others(&mut builder, separator, others)?;
         builder.into_value()
     }
+}
+
+/// A number of bytes that a text and others, each behind the separator, have at least.
+#[inline(always)]
+fn least_len<P: Piece>(first: &P, separator: &str, others: &[P]) -> usize
+    ensures { result ≤ size (P.text first.now
+        ++ flat_map (λ piece. chars separator.now ++ P.text piece) others.now) }
+{
+    let mut len = first.at_least();
+    for piece in others {
+        // A sum that wraps is still no more than the length.
+        len = len
+            .wrapping_add(separator.len())
+            .wrapping_add(piece.at_least());
+    }
+    len
 }
 
 /// Appends the texts, each behind the separator.
@@ -58,6 +76,8 @@ fn append_others<P: Piece>(
     Ok(())
 }
 
+/// Appends a separator and a text.
+#[inline(always)]
 #[tactic(auto, using(crate::proofs::BuilderLemmas::Join::appends))]
 fn append_next<P: Piece>(
     builder: &mut SmolStrBuilder,
@@ -67,6 +87,6 @@ fn append_next<P: Piece>(
     ensures ok { OnOk result (builder.new ≡ appended builder.old (chars separator.now ++ P.text piece.now)) }
     ensures refused { OnErr result ((appended builder.old (chars separator.now ++ P.text piece.now)).kind ≡ OnHeap) }
 {
-    builder.push_str(separator)?;
+    builder.push_piece(separator, INLINE_CAP)?;
     piece.append_to(builder)
 }

@@ -1,0 +1,125 @@
+//! What is collected, appended and joined.
+ghost use Rattle.std.specs.Prelude.{◌≡◌, ◌≤◌, ℕ, List, OnOk, OnErr};
+ghost use Rattle.std.proofs.Common.{refl};
+ghost use Rattle.smol_str.specs.Text.{size};
+ghost use Rattle.smol_str.specs.BuilderState.{OnHeap, appended};
+ghost use Rattle.smol_str.specs.Joined.{joined, joined_strs, joined_strings, joined_string_refs, char_text, str_text, string_text, string_ref_text};
+ghost use Rattle.smol_str.specs.JoinedLaws.{joined-chars, joined-strs, joined-string_refs};
+
+use crate::buffer::INLINE_CAP;
+use crate::builder::SmolStrBuilder;
+use crate::value::SmolStr;
+use std::alloc::AllocError;
+
+/// An item with a text that is appended in one call: a `char`, `&str`, `String`, `&String`, [`SmolStr`] or `&Step`.
+pub trait Piece: Drop {
+    ghost text: { Self → List ℕ };
+
+    // The text of items, one after another, in the words of the items' kind.
+    ghost texts: { List Self → List ℕ };
+
+    /// Appends the text; a refusal leaves the builder as it was.
+    fn append_to(&self, builder: &mut SmolStrBuilder) -> Result<(), AllocError>
+        ensures ok { OnOk result (builder.new ≡ appended builder.old (text self.now)) }
+        ensures unchanged { OnErr result (builder.new ≡ builder.old) }
+        ensures refused { OnErr result ((appended builder.old (text self.now)).kind ≡ OnHeap) };
+
+    /// A number of bytes that the text has at least, told without reading it: [`SmolStr::join`] asks for its room by it.
+    fn at_least(&self) -> usize
+        ensures { result ≤ size (text self.now) }
+    {
+        0
+    }
+
+    ghost joins: { (items : List Self) → joined text items ≡ texts items };
+}
+
+impl Piece for char {
+    ghost text = { char_text };
+
+    ghost texts = { λ items. items };
+
+    ghost joins = { joined-chars };
+
+    #[inline(always)]
+    fn append_to(&self, builder: &mut SmolStrBuilder) -> Result<(), AllocError> {
+        builder.push_inlined(*self)
+    }
+}
+
+impl<'a> Piece for &'a str {
+    ghost text = { str_text };
+
+    ghost texts = { joined_strs };
+
+    ghost joins = { joined-strs };
+
+    #[inline(always)]
+    fn append_to(&self, builder: &mut SmolStrBuilder) -> Result<(), AllocError> {
+        builder.push_piece(*self, INLINE_CAP)
+    }
+
+    #[inline(always)]
+    #[tactic(auto, using(crate::proofs::TextLemmas::Places::sizes))]
+    fn at_least(&self) -> usize {
+        let text: &str = *self;
+        text.len()
+    }
+}
+
+impl Piece for String {
+    ghost text = { string_text };
+
+    ghost texts = { joined_strings };
+
+    ghost joins = { λ _. refl };
+
+    #[inline(always)]
+    fn append_to(&self, builder: &mut SmolStrBuilder) -> Result<(), AllocError> {
+        builder.push_piece(self.as_str(), INLINE_CAP)
+    }
+
+    #[inline(always)]
+    #[tactic(auto, using(crate::proofs::TextLemmas::Places::sizes))]
+    fn at_least(&self) -> usize {
+        self.len()
+    }
+}
+
+impl<'a> Piece for &'a String {
+    ghost text = { string_ref_text };
+
+    ghost texts = { joined_string_refs };
+
+    ghost joins = { joined-string_refs };
+
+    #[inline(always)]
+    fn append_to(&self, builder: &mut SmolStrBuilder) -> Result<(), AllocError> {
+        builder.push_piece(self.as_str(), INLINE_CAP)
+    }
+
+    #[inline(always)]
+    #[tactic(auto, using(crate::proofs::TextLemmas::Places::sizes))]
+    fn at_least(&self) -> usize {
+        self.len()
+    }
+}
+
+impl Piece for SmolStr {
+    ghost text = { λ value. value.text };
+
+    ghost texts = { joined (λ value. value.text) };
+
+    ghost joins = { λ _. refl };
+
+    #[tactic(auto, using(crate::proofs::CallerLemmas::Texts::texts))]
+    #[inline(always)]
+    fn append_to(&self, builder: &mut SmolStrBuilder) -> Result<(), AllocError> {
+        builder.push_piece(self.as_str(), INLINE_CAP)
+    }
+
+    #[inline(always)]
+    fn at_least(&self) -> usize {
+        self.len()
+    }
+}
