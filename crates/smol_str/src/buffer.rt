@@ -50,7 +50,7 @@ impl Model for InlineText {
 impl InlineText {
     /// The empty text.
     #[inline(always)]
-    pub(crate) fn new() -> InlineText
+    pub(crate) const fn new() -> InlineText
         ensures { result ≡ [] }
     {
         InlineText {

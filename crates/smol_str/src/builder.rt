@@ -64,7 +64,7 @@ impl Model for SmolStrBuilder {
 impl SmolStrBuilder {
     /// An empty builder, which takes no memory.
     #[inline(always)]
-    pub fn new(alloc: Global) -> SmolStrBuilder
+    pub const fn new(alloc: Global) -> SmolStrBuilder
         ensures { result ≡ empty_builder InBuffer }
     {
         SmolStrBuilder {

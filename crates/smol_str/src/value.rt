@@ -145,7 +145,7 @@ impl SmolStr {
     /// assert_eq!(rt; name.place(), Place::Static);
     /// ```
     #[inline(always)]
-    pub fn new_static(text: &'static str) -> SmolStr
+    pub const fn new_static(text: &'static str) -> SmolStr
         ensures text { result.text ≡ chars text.now }
         ensures place { result.place ≡ Place.Static }
     {
@@ -215,7 +215,7 @@ impl SmolStr {
 
     /// Whether the text lies in memory that was asked for; resident text never does.
     #[inline(always)]
-    pub fn is_heap_allocated(&self) -> bool
+    pub const fn is_heap_allocated(&self) -> bool
         ensures heap { IsTrue result ↔ (self.now.place ≡ Place.Heap) }
         ensures not_resident { IsTrue result → ¬ (IsResident self.now.text) }
     {
@@ -224,7 +224,7 @@ impl SmolStr {
 
     /// Where the text lies. It follows from the text, but for pinned values, which are in place Static.
     #[inline(always)]
-    pub fn place(&self) -> Place
+    pub const fn place(&self) -> Place
         ensures place { result ≡ self.now.place }
         ensures inline { self.now.place ≡ Place.Inline → IsShort self.now.text }
         ensures by_text { (self.now.place ≡ place_of self.now.text) ⊎ (self.now.place ≡ Place.Static) }

@@ -12,6 +12,7 @@ ghost use Rattle.std.specs.Iterator.{IsFinite};
 ghost use Rattle.std.specs.Rc.{rc_str_bytes};
 ghost use Rattle.smol_str.specs.Text.{IsShort, IsResident, blank_run, place_of};
 ghost use Rattle.smol_str.specs.Meaning.{IsValueOf, texts};
+ghost use Rattle.smol_str.specs.BuilderState.{InBuffer, empty_builder};
 ghost use Rattle.smol_str.specs.Joined.{joined, joined_strs, joined_strings, joined_string_refs, string_text, str_text};
 ghost use Rattle.smol_str.specs.Collect.{Collected, Outgrown, AppendedAll, StoppedAt};
 ghost use Rattle.smol_str.specs.Steps.{step_text};
@@ -428,6 +429,35 @@ pub fn keyword() -> SmolStr
     ensures { IsValueOf (chars (codes "if")) result }
 {
     SmolStr::new_inline("if")
+}
+
+/// Keywords as constants of a trait, whose values may be calls. No contract sees what they are.
+pub trait Keywords {
+    const IF: SmolStr = SmolStr::new_static("if");
+}
+
+pub struct Rust;
+
+impl Keywords for Rust {}
+
+/// Whether a token is such a constant.
+pub fn is_keyword(token: &SmolStr) -> bool {
+    *token == Rust::IF
+}
+
+/// A builder made where only a `const` function may be called.
+pub const fn builder_of(alloc: Global) -> SmolStrBuilder
+    ensures { result ≡ empty_builder InBuffer }
+{
+    SmolStrBuilder::new(alloc)
+}
+
+/// A place asked where only a `const` function may be called.
+pub const fn place_and_heap(value: &SmolStr) -> (Place, bool)
+    ensures place { result.0 ≡ value.now.place }
+    ensures heap { IsTrue result.1 ↔ (value.now.place ≡ Heap) }
+{
+    (value.place(), value.is_heap_allocated())
 }
 
 /// A value of resident text is not on the heap; the law says it of the text's place.

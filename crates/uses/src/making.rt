@@ -1,11 +1,13 @@
 //! Values made piece by piece, by printing, and of what a program has at hand.
-ghost use Rattle.std.specs.Prelude.{◌≡◌, ◌+◌, ◌*◌, ◌≤◌, ◌++◌, ◌∷◌, [], codes, length, IfOk, IsOk, OnErr, OnOk, encode_utf8_all, ◌↔◌, String, IsTrue};
+ghost use Rattle.std.specs.Prelude.{◌≡◌, ◌+◌, ◌*◌, ◌≤◌, ◌++◌, ◌∷◌, [], codes, length, IfOk, IfSome, IsOk, OnErr, OnOk, Some, encode_utf8_all, ◌↔◌, String, IsTrue};
 ghost use Rattle.std.specs.List.{flat_map};
 ghost use Rattle.std.specs.Str.{chars};
 ghost use Rattle.smol_str.specs.BuilderState.{OnHeap, appended};
 ghost use Rattle.smol_str.specs.Text.{IsShort, blank_run, place_of, IsResident};
 ghost use Rattle.smol_str.specs.Meaning.{IsValueOf, texts};
-ghost use Rattle.std.specs.Fmt.{decimal};
+ghost use Rattle.std.specs.Fmt.{debug_str, decimal};
+ghost use Rattle.std.specs.Io.Cursor.{cursor_remaining};
+ghost use Rattle.std.specs.Path.{path_buf_bytes, path_bytes, path_join};
 ghost use Rattle.uses.specs.Layout.{untabbed, margin, line_text, right_aligned};
 ghost use Rattle.std.specs.String.{string_bytes};
 ghost use Rattle.serde.specs.Event.{text};
@@ -20,7 +22,9 @@ use smol_str::{
 };
 use std::alloc::{AllocError, Global};
 use std::convert::AsStr;
+use std::io::Cursor;
 use std::iter;
+use std::path::{Path, PathBuf};
 
 /// The texts of values, one after another, and a newline.
 #[tactic(auto, using(smol_str::proofs::CallerLemmas::builders))]
@@ -202,6 +206,34 @@ pub fn in_quotes(alloc: Global, text: &str) -> Result<SmolStr, AllocError>
     }
     out.push('"')?;
     out.into_value()
+}
+
+/// The path of a file of this name.
+pub fn path_of(alloc: Global, folder: &Path<'_>, name: &SmolStr) -> Result<PathBuf, AllocError>
+    ensures { IfOk result (λ path. path_buf_bytes path ≡ path_join (path_bytes folder.now) (encode_utf8_all name.now.text)) }
+{
+    folder.join(alloc, name)
+}
+
+/// A reader of a value's text.
+pub fn reader_of(text: SmolStr) -> Cursor<SmolStr>
+    ensures { cursor_remaining (λ v. Some (encode_utf8_all v.text)) result ≡ Some (encode_utf8_all text.text) }
+{
+    Cursor::new(text)
+}
+
+/// What is read of a word so far. It derives `Debug`, as a builder has it.
+#[derive(Debug, Drop)]
+pub struct Lexer {
+    pub at: usize,
+    pub word: SmolStrBuilder,
+}
+
+/// What a builder prints by `{:?}`, where std says it: of ASCII.
+pub fn debug_text(alloc: Global, word: &SmolStrBuilder) -> Result<SmolStr, FormatError>
+    ensures { IfOk result (λ v. IfSome (debug_str (encode_utf8_all word.now.text)) (λ bytes. encode_utf8_all v.text ≡ bytes)) }
+{
+    format_smolstr!(alloc; "{word:?}")
 }
 
 /// Tokens on one line, as a value, by std's `join` and the memory that it asked for.

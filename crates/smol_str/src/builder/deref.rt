@@ -1,5 +1,6 @@
-//! A builder for std's traits: its text lent, and an empty one made.
+//! A builder for std's traits: its text lent and printed, and an empty one made.
 ghost use Rattle.std.specs.Prelude.{◌≡◌, IfOk, IsOk, IsTrue, encode_utf8_all};
+ghost use Rattle.std.specs.Fmt.{debug_str};
 ghost use Rattle.std.specs.Str.{all_scalars};
 ghost use Rattle.smol_str.specs.Text.{IsShort};
 ghost use Rattle.smol_str.specs.BuilderState.{InBuffer, empty_builder};
@@ -8,6 +9,7 @@ use super::SmolStrBuilder;
 use std::alloc::{AllocError, Global};
 use std::convert::{AsSlice, AsStr};
 use std::default::{Emptied, MadeWith};
+use std::fmt::{self, Debug, Formatter, Write};
 
 /// For code over anything that lends a text; calls [`SmolStrBuilder::as_str`].
 impl AsStr for SmolStrBuilder {
@@ -51,5 +53,14 @@ impl Emptied for SmolStrBuilder {
         ensures empty { IfOk result (λ b. b ≡ empty_builder InBuffer) }
     {
         Ok(SmolStrBuilder::new(like.alloc))
+    }
+}
+
+/// The text in quotes, as of a value.
+impl Debug for SmolStrBuilder {
+    ghost debug_output = { λ b. debug_str (encode_utf8_all b.text) };
+
+    fn fmt<W: Write>(&self, f: &mut Formatter<W>) -> fmt::Result {
+        Debug::fmt(self.as_str(), f)
     }
 }

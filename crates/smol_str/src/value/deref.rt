@@ -1,10 +1,12 @@
 //! A value lends its text: `&*value`, every method of `str`, and what takes anything that lends a text.
-ghost use Rattle.std.specs.Prelude.{◌≡◌, ℕ, List, IsTrue, encode_utf8_all};
+ghost use Rattle.std.specs.Prelude.{◌≡◌, ℕ, List, IsTrue, Some, encode_utf8_all};
 ghost use Rattle.std.specs.Str.{all_scalars};
 
 use super::SmolStr;
 use std::convert::{AsSlice, AsStr};
+use std::io::AsBytes;
 use std::ops::{AsDeref, DerefStr};
+use std::path::AsPath;
 
 /// Lends the text as [`SmolStr::as_str`] does, so that a value has every method of `str`.
 ///
@@ -43,6 +45,27 @@ impl AsSlice<u8> for SmolStr {
 
     #[inline(always)]
     fn as_slice(&self) -> &[u8] {
+        self.as_str().as_bytes()
+    }
+}
+
+/// For what takes a path or a system string, such as `dir.join`, `fs::read_to_string` and `Command::new`: upstream's
+/// `AsRef<Path>` and `AsRef<OsStr>`.
+impl AsPath for SmolStr {
+    ghost path_text = { λ v. Some (encode_utf8_all v.text) };
+
+    #[inline(always)]
+    fn path_text(&self) -> &str {
+        self.as_str()
+    }
+}
+
+/// For what takes the bytes to read or write, such as `fs::write`, `Cursor` and `CString::new`.
+impl AsBytes for SmolStr {
+    ghost bytes = { λ v. Some (encode_utf8_all v.text) };
+
+    #[inline(always)]
+    fn as_byte_slice(&self) -> &[u8] {
         self.as_str().as_bytes()
     }
 }

@@ -56,6 +56,21 @@ fn texts_as_a_string(rt: HostRuntime) -> Result<(), Fail> {
     test.end()
 }
 
+// Where the text lies does not show.
+#[test]
+fn debug_of_builders(rt: HostRuntime) -> Result<(), Fail> {
+    let test = Test::begin(rt);
+    for capacity in [0, 100] {
+        let builder = test.builder(capacity, "né\n\"\u{200b}");
+        check_row(
+            &test,
+            "\"né\\n\\\"\\u{200b}\"",
+            &format_args!("{builder:?}"),
+        );
+    }
+    test.end()
+}
+
 fn check_short(test: &Test, value: &SmolStr) {
     check_row(test, "ab", &format_args!("{value}"));
     check_row(test, "\"ab\"", &format_args!("{value:?}"));

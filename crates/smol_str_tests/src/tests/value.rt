@@ -44,6 +44,22 @@ fn limits(rt: HostRuntime) -> Result<(), Fail> {
     test.end()
 }
 
+trait Keywords {
+    const IF: SmolStr = SmolStr::new_static("if");
+}
+
+struct Rust;
+
+impl Keywords for Rust {}
+
+#[test]
+fn constants_of_a_trait(rt: HostRuntime) -> Result<(), Fail> {
+    let test = Test::begin(rt);
+    same_value(&test, &Rust::IF, "if", Static, &"new_static");
+    same(&test, &Rust::IF, &test.value("if"), &"new");
+    test.end()
+}
+
 static SHORT: [&str; 5] = table! {
     ""; "A"; "HELLO"; "ABCDEFGHIZKLMNOPQRSTUVW"; "                       ";
 };

@@ -1,5 +1,7 @@
 //! Values from other texts, and back.
 use smol_str::{FromUtf8Fault, Place, SmolStr};
+use std::io::{Cursor, Read};
+use std::path::Path;
 use std::rc::RcStr;
 use test_support::*;
 
@@ -49,6 +51,24 @@ fn conversions(rt: HostRuntime) -> Result<(), Fail> {
     match of_shared(&test, "Hello, World!").into_rc_str(test.alloc) {
         Ok(shared) => same(&test, &shared.as_str(), &"Hello, World!", &"into_rc_str"),
         Err(_) => test.fail(&"into_rc_str"),
+    }
+    test.end()
+}
+
+// As a path, and as bytes to read.
+#[test]
+fn paths_and_readers(rt: HostRuntime) -> Result<(), Fail> {
+    let test = Test::begin(rt);
+    for text in ["né.rs", long_text()] {
+        let path = ok(&test, Path::new("src").join(test.alloc, test.value(text)));
+        let is_joined = path.as_str().strip_prefix("src/") == Some(text);
+        holds(&test, is_joined, &text);
+        let mut read = String::new(test.alloc);
+        ok(
+            &test,
+            Cursor::new(test.value(text)).read_to_string(&mut read),
+        );
+        same(&test, &read.as_str(), &text, &"a reader");
     }
     test.end()
 }
