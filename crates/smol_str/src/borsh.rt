@@ -10,8 +10,7 @@ ghost use Rattle.smol_str.specs.Text.{size, place_of};
 ghost use Rattle.smol_str.specs.Stream.{Gave};
 ghost use Rattle.smol_str.specs.Wire.{HasWire, wire, Holds};
 ghost use Rattle.smol_str.specs.declared.borsh.fault.LimitedFault.TheVariants.{Decode};
-ghost use Rattle.smol_str.specs.WireFaults.{AfterEncodeFault, AfterDecodeFault, AfterFromWireFault, AfterLimitedFault};
-ghost use Rattle.smol_str.specs.WireFaults.{HasReadSize, HasReadBody, AfterBodyFault};
+ghost use Rattle.smol_str.specs.WireFaults.{AfterEncodeFault, AfterDecodeFault, AfterFromWireFault, AfterLimitedFault, HasReadSize, HasReadBody, AfterBodyFault};
 
 mod fault;
 
@@ -19,6 +18,7 @@ use crate::buffer::INLINE_CAP;
 use crate::bytes::zeros;
 use crate::stream::{fill, read_up_to, write_steps};
 use crate::value::SmolStr;
+use crate::value::convert::utf8_text;
 pub use fault::{DecodeFault, EncodeFault, LimitedFault};
 use std::alloc::Global;
 use std::io::{Read, Write};
@@ -236,12 +236,15 @@ fn read_body<R: Read>(alloc: Global, reader: &mut R, size: usize) -> Result<Smol
         let mut buffer = zeros::<STACK_BODY>();
         return read_into(alloc, reader, &mut buffer[..size]);
     }
-    // By chunks; UTF-8 is tested when all of it is there.
+    // By chunks. UTF-8 is tested when all of it is there, and the value keeps the memory that they were gathered in.
     let body = read_up_to(alloc, reader, size)?;
     if body.len() < size {
         return Err(DecodeFault::Ended);
     }
-    Ok(SmolStr::from_utf8(alloc, body.as_slice())?)
+    if let Err(fault) = utf8_text(body.as_slice()) {
+        return Err(DecodeFault::NotUtf8(fault));
+    }
+    Ok(SmolStr::from_owned(unsafe { String::from_utf8_unchecked(body) })?)
 }
 
 /// The wire form of the text; every text of at most 4294967295 bytes has one.

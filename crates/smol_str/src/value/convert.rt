@@ -248,7 +248,7 @@ const BLOCK: usize = 64;
 
 /// `str::from_utf8` with a fast path for short ASCII, which is inlined, and one for long text.
 #[inline(always)]
-fn utf8_text(bytes: &[u8]) -> Result<&str, Utf8Error>
+pub(crate) fn utf8_text(bytes: &[u8]) -> Result<&str, Utf8Error>
     ensures ok { IfOk result (λ text. IsUtf8 bytes.now × (text.now ≡ bytes.now)) }
     ensures fault { IfErr result (λ fault. (¬ (IsUtf8 bytes.now)) × IsUtf8FaultOf bytes.now fault) }
 {
