@@ -6,6 +6,7 @@
 --     innermost t scopes        what the last of some lists of entries has there that has something, as in nested scopes
 --     entry_lists ms            the entries of each of some maps
 --     with_entry es t v         the entries es, in order, where the text t has v: in its place, or last where it is new
+--     with_change es t w f      the entries es, in order, where the text t has f of what it had, or, last, f of w where it is new
 --     entry_texts g es          the entries of a map with values as keys, as texts, where g reads what a key has
 --     has_text t values         whether a list has a value of the text t
 --     without ts us             the texts ts that are not among us, in their order; within ts us, those that are
@@ -49,6 +50,11 @@ entry_lists ms = map (λ m. m.entries) ms
 abbrev pub with_entry : {V : Type 0} → List (List ℕ × V) → List ℕ → V → List (List ℕ × V)
 with_entry [] t v = (t, v) ∷ []
 with_entry (e ∷ es) t v = if bytes_eq t e.0 then (e.0, v) ∷ es else e ∷ with_entry es t v
+
+-- the same after `f` of what `m.entry(key)?.or_insert(w)` lends
+abbrev pub with_change : {V : Type 0} → List (List ℕ × V) → List ℕ → V → (V → V) → List (List ℕ × V)
+with_change [] t w f = (t, f w) ∷ []
+with_change (e ∷ es) t w f = if bytes_eq t e.0 then (e.0, f e.1) ∷ es else e ∷ with_change es t w f
 
 abbrev pub entry_texts : {V W : Type 0} → (V → W) → List (Meaning × V) → List (List ℕ × W)
 entry_texts g es = map (λ e. (e.0.text, g e.1)) es

@@ -401,6 +401,14 @@ pub fn halves(text: &str, at: usize) -> Option<(&str, &str)>
     text.split_at_checked(at)
 }
 
+/// What comes after a comment's opening; `None` says that the line does not begin with it.
+#[tactic(auto, using(smol_str::proofs::CallerLemmas::stripped))]
+pub fn after_todo(line: &str) -> Option<&str>
+    ensures { IfNone result ((rest : List ℕ) → chars line.now ≢ chars (codes "// TODO(someone): ") ++ rest) }
+{
+    line.strip_prefix("// TODO(someone): ")
+}
+
 /// The lines of a text that are not empty, with their numbers, from 1.
 #[tactic(auto, using(smol_str::proofs::CallerLemmas::by_line))]
 pub fn numbered_lines(alloc: Global, text: &str) -> Result<Vec<(usize, SmolStr)>, AllocError>

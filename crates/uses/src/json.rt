@@ -1,13 +1,15 @@
 //! A value there and back through JSON.
-ghost use Rattle.std.specs.Prelude.{◌∷◌, ◌++◌, ◌≡◌, [], IfOk, IfErr, OnErr, encode_utf8_all};
+ghost use Rattle.std.specs.Prelude.{◌∷◌, ◌++◌, ◌≡◌, [], Some, codes, IfOk, IfErr, IfSome, OnErr, encode_utf8_all};
 ghost use Rattle.std.specs.Str.{chars};
 ghost use Rattle.std.specs.String.{string_bytes};
+ghost use Rattle.serde_json.specs.Find.{get};
 ghost use Rattle.serde_json.specs.View.{view};
 ghost use Rattle.smol_str.specs.Json.{json_value, IsJsonText, IsOther};
 ghost use Rattle.smol_str.specs.Meaning.{IsValueOf};
 ghost use Rattle.smol_str.specs.Plain.{IsPlain, IsPlainJson, in_quotes};
 ghost use Rattle.smol_str.specs.Text.{IsShort, IsResident};
 
+use crate::with_crates::named;
 use serde_json::Value;
 use smol_str::json_string::{JsonFault, from_json, from_value, to_json, to_value};
 use smol_str::{SmolStr, laws};
@@ -114,4 +116,24 @@ pub fn of_line(alloc: Global, line: &str, text: &str) -> Result<SmolStr, AllocEr
     ensures { IfOk result (λ v. IsValueOf (chars text.now) v) }
 {
     of_plain(alloc, line, text)
+}
+
+/// The name in such an object.
+pub fn name_of(alloc: Global, json: &Value, name: &SmolStr) -> Option<SmolStr>
+    requires { get (codes "name") (view json.now) ≡ Some (json_value name.now.text) }
+    ensures { IfSome result (λ v. IsValueOf name.now.text v) }
+{
+    match json.get("name") {
+        Some(it) => from_value(alloc, it).ok(),
+        None => None,
+    }
+}
+
+/// A name put in an object, and read from it. What is known of `json!` is lost where a `match` follows it, so each has a
+/// function of its own.
+pub fn through_object(alloc: Global, name: &SmolStr) -> Result<Option<SmolStr>, AllocError>
+    ensures { IfOk result (λ back. IfSome back (λ v. IsValueOf name.now.text v)) }
+{
+    let json = named(alloc, name)?;
+    Ok(name_of(alloc, &json, name))
 }

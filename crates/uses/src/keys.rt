@@ -9,7 +9,9 @@ ghost use Rattle.smol_str.specs.Keys.{without, values_without, ordered_value_at,
 ghost use Rattle.smol_str.specs.Meaning.{AreValuesOf, texts};
 ghost use Rattle.smol_str.specs.Replace.{cut, no_limit};
 
+pub mod groups;
 pub mod headers;
+pub mod paths;
 pub mod settings;
 pub mod symbols;
 
@@ -54,6 +56,20 @@ pub fn ordered_id<'a>(ids: &'a BTreeMap<SmolStr, usize>, name: &SmolStr) -> Opti
     ensures { option_copied result ≡ ordered_value_at name.now.text ids.now }
 {
     ids.get(name)
+}
+
+/// Sets what an ordered map has at a name.
+#[tactic(auto, using(smol_str::proofs::CallerLemmas::updates))]
+pub fn set_ordered(
+    ids: &mut BTreeMap<SmolStr, usize>,
+    name: SmolStr,
+    id: usize,
+) -> Result<(), AllocError>
+    ensures this { OnOk result (ordered_value_at name.text ids.new ≡ Some id) }
+    ensures others { OnOk result ((t : List ℕ) → t ≢ name.text → ordered_value_at t ids.new ≡ ordered_value_at t ids.old) }
+{
+    ids.insert(name, id)?;
+    Ok(())
 }
 
 /// What a map of `indexmap` has at a name.

@@ -1,6 +1,8 @@
 //! Values made piece by piece, by printing, and of what a program has at hand.
-ghost use Rattle.std.specs.Prelude.{◌≡◌, ◌+◌, ◌*◌, ◌≤◌, ◌++◌, ◌∷◌, [], codes, length, IfOk, IfSome, IsOk, OnErr, OnOk, Some, encode_utf8_all, ◌↔◌, String, IsTrue};
+ghost use Rattle.std.specs.Prelude.{◌≡◌, ◌+◌, ◌*◌, ◌≤◌, ◌++◌, ◌∷◌, [], codes, length, IfOk, IfSome, IsOk, OnErr, OnOk, Some, encode_utf8_all, ◌↔◌, String, IsTrue, filter, fold};
 ghost use Rattle.std.specs.List.{flat_map};
+ghost use Rattle.std.specs.Char.{is_ascii_digit as digit};
+ghost use Rattle.uses.specs.Names.{dashed, snake_step};
 ghost use Rattle.std.specs.Str.{chars};
 ghost use Rattle.smol_str.specs.BuilderState.{OnHeap, appended};
 ghost use Rattle.smol_str.specs.Text.{IsShort, blank_run, place_of, IsResident};
@@ -205,6 +207,51 @@ pub fn in_quotes(alloc: Global, text: &str) -> Result<SmolStr, AllocError>
         out.push(character)?;
     }
     out.push('"')?;
+    out.into_value()
+}
+
+/// The digits of a text.
+#[tactic(auto, using(smol_str::proofs::CallerLemmas::by_char_some))]
+pub fn digits(alloc: Global, text: &str) -> Result<SmolStr, AllocError>
+    ensures { IfOk result (λ v. IsValueOf (filter digit (chars text.now)) v) }
+{
+    let mut out = SmolStrBuilder::new(alloc);
+    for c in text.chars() {
+        if c.is_ascii_digit() {
+            out.push(c)?;
+        }
+    }
+    out.into_value()
+}
+
+/// A text with two dashes for each underscore.
+#[tactic(auto, using(smol_str::proofs::CallerLemmas::by_char_some))]
+pub fn with_dashes(alloc: Global, text: &str) -> Result<SmolStr, AllocError>
+    ensures { IfOk result (λ v. IsValueOf (flat_map dashed (chars text.now)) v) }
+{
+    let mut out = SmolStrBuilder::new(alloc);
+    for c in text.chars() {
+        if c == '_' {
+            out.push_str("--")?;
+        } else {
+            out.push(c)?;
+        }
+    }
+    out.into_value()
+}
+
+/// A name in CamelCase as one in snake_case.
+#[tactic(auto, using(smol_str::proofs::CallerLemmas::by_char_some))]
+pub fn to_snake(alloc: Global, name: &str) -> Result<SmolStr, AllocError>
+    ensures { IfOk result (λ v. IsValueOf (fold snake_step [] (chars name.now)) v) }
+{
+    let mut out = SmolStrBuilder::new(alloc);
+    for c in name.chars() {
+        if c.is_ascii_uppercase() && !out.is_empty() {
+            out.push('_')?;
+        }
+        out.push(c.to_ascii_lowercase())?;
+    }
     out.into_value()
 }
 

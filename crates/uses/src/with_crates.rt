@@ -1,11 +1,14 @@
 //! Values with other crates of the kit, a few lines each.
-ghost use Rattle.std.specs.Prelude.{◌≡◌, ◌||◌, ℕ, List, bytes_eq, ◌∷◌, ◌++◌, [], IfOk, OnOk, decimal, encode_utf8_all};
+ghost use Rattle.std.specs.Prelude.{◌≡◌, ◌≢◌, ◌||◌, ℕ, List, Some, None, true, bytes_eq, ◌∷◌, ◌++◌, [], IfOk, OnOk, codes, decimal, encode_utf8_all};
 ghost use Rattle.std.specs.List.{list_all, list_any};
 ghost use Rattle.std.specs.Str.{chars};
 ghost use Rattle.regex.specs.Patterns.{find_all_str};
 ghost use Rattle.regex.specs.Strings.{matcher_pattern, with_replaced};
 ghost use Rattle.indexmap.specs.IndexSet.{insert_key};
-ghost use Rattle.smol_str.specs.Keys.{entry_texts, with_entry};
+ghost use Rattle.serde_json.specs.Find.{get};
+ghost use Rattle.serde_json.specs.View.{view};
+ghost use Rattle.smol_str.specs.Json.{json_value};
+ghost use Rattle.smol_str.specs.Keys.{value_at, entry_texts, with_entry};
 ghost use Rattle.serde.specs.Event.{Logs, text};
 ghost use Rattle.smol_str.specs.Meaning.{IsValueOf, texts};
 ghost use Rattle.smol_str.specs.Serde.{HasReadText};
@@ -66,7 +69,9 @@ pub fn read_package(alloc: Global, json: &str) -> Result<Package, serde_json::Er
 }
 
 /// A package as a value of JSON.
-pub fn named(alloc: Global, name: &SmolStr) -> Result<Value, AllocError> {
+pub fn named(alloc: Global, name: &SmolStr) -> Result<Value, AllocError>
+    ensures { IfOk result (λ json. get (codes "name") (view json) ≡ Some (json_value name.now.text)) }
+{
     json!(in alloc; {"name": name, "version": 1})
 }
 
@@ -103,8 +108,41 @@ pub fn set_count(
     Ok(())
 }
 
+/// Counts a name in a map, and looks it up by its text.
+#[tactic(auto, using(smol_str::proofs::CallerLemmas::put_and_asked))]
+pub fn count_once(
+    map: &mut IndexMap<SmolStr, u32>,
+    name: SmolStr,
+    text: &str,
+) -> Result<Option<u32>, AllocError>
+    requires { name.text ≡ chars text.now }
+    ensures { IfOk result (λ n. n ≡ Some 1) }
+{
+    map.insert(name, 1)?;
+    Ok(map.get(text).copied())
+}
+
+/// Adds a name to a set, which then has its text.
+#[tactic(auto, using(smol_str::proofs::CallerLemmas::put_and_asked))]
+pub fn add_and_ask(
+    names: &mut IndexSet<SmolStr>,
+    name: SmolStr,
+    text: &str,
+) -> Result<bool, AllocError>
+    requires { name.text ≡ chars text.now }
+    ensures { IfOk result (λ has. has ≡ true) }
+{
+    names.insert(name)?;
+    Ok(names.contains(text))
+}
+
 /// Takes a name out of a map, and leaves the others in their order.
-pub fn forget(ids: &mut IndexMap<SmolStr, u32>, name: &str) -> Option<u32> {
+#[tactic(auto, using(smol_str::proofs::CallerLemmas::lookups, smol_str::proofs::CallerLemmas::updates))]
+pub fn forget(ids: &mut IndexMap<SmolStr, u32>, name: &str) -> Option<u32>
+    ensures was { result ≡ value_at (chars name.now) ids.old }
+    ensures gone { value_at (chars name.now) ids.new ≡ None }
+    ensures others { (t : List ℕ) → t ≢ chars name.now → value_at t ids.new ≡ value_at t ids.old }
+{
     ids.shift_remove(name)
 }
 

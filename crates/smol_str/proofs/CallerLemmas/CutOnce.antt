@@ -197,6 +197,12 @@ module _ (nd bs : List ℕ) (u : IsUtf8 bs) where
     pub split_once-none : 0 < length nd → MatchOption o (FindsText nd bs None) P → IfNone o (¬ Occurs (chars nd) (chars bs))
     split_once-none some said = none_weaker P o (λ none. found_text bs u nd None (literal-utf8 nd low) some none) said
 
+    pub strip_prefix-none : MatchOption o (FindsTextPrefix nd bs None) P → IfNone o ((rest : List ℕ) → chars bs ≢ chars nd ++ rest)
+    strip_prefix-none said = none_weaker P o (lacks_front (literal-utf8 nd low)) said
+
+    pub strip_suffix-none : MatchOption o (FindsTextSuffix nd bs None) P → IfNone o ((front : List ℕ) → chars bs ≢ front ++ chars nd)
+    strip_suffix-none said = none_weaker P o (lacks_end (literal-utf8 nd low)) said
+
 pub ruleset cut_once = (
   append-nil,
   chars_from_encodes,
@@ -222,6 +228,10 @@ pub ruleset cut_once = (
   contains-literal,
   split_once-none,
 )
+
+-- both answers of `strip_prefix` at a literal of any length, and the `None` of `strip_suffix`: apart, since `cut_once` has no
+-- room for more
+pub ruleset stripped = (literal_in_front, strip_prefix-none, strip_suffix-none)
 
 -- a text cut at several literals or texts, one after another
 pub ruleset cut_at_texts = (text_between, literal_between)

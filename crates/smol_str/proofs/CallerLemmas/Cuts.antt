@@ -16,6 +16,7 @@ use Rattle.smol_str.proofs.TextLemmas.Places.{some_char}
 use Rattle.std.specs.List.{last_or}
 use Rattle.smol_str.proofs.CutLemmas.Cut.{IsCut-cut}
 use Rattle.smol_str.proofs.CallerLemmas.Loops.{AreOk, MapsBy, collected_oks, mapped, oks, texts_made}
+use Rattle.smol_str.proofs.CallerLemmas.Values.{map-texts}
 use Rattle.smol_str.proofs.CallerLemmas.Texts.{IsLiteral, IsUtf8-one, chars-cons, literal-utf8}
 use Rattle.smol_str.proofs.CallerLemmas.Wire.{items}
 use Rattle.smol_str.proofs.CutLemmas.Replace.{few_pieces, replaced-itself}
@@ -197,6 +198,7 @@ pub ruleset joining = (
   take-map,
   drop-map,
   length-map,
+  map-texts,
   set_past,
   joined-cut,
   joined-bytes,

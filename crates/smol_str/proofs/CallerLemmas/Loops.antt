@@ -1,15 +1,15 @@
 -- Loops over what std's iterators lend, and what `map` and `try_collect` make of it.
-use Rattle.smol_str.proofs.Common.{Bool, cond, get_or, take, ◌<◌, ◌+◌, subst, Ok, Err, IfOk, refl, sym, map, ◌≡◌, ℕ, List, [], ◌∷◌, ◌++◌, length, Some, None, ap, ◌∙◌, arith, length-append, Meaning, Result, encode_utf8_all, append-nil, append_assoc, Option, IsValueOf, place_of, chars, str_text, Bor, items_from_drains, FoldsTo, All-nil, All-cons, IsUtf8, YieldsList-from_chars, encode_utf8, map-id, size, ◌≤◌, All, YieldsList, YieldsList-from_slice}
+use Rattle.smol_str.proofs.Common.{Bool, cond, get_or, take, ◌<◌, ◌+◌, subst, Ok, Err, IfOk, refl, sym, map, ◌≡◌, ℕ, List, [], ◌∷◌, ◌++◌, length, Some, None, ap, ◌∙◌, arith, length-append, Meaning, Result, encode_utf8_all, append-nil, append_assoc, Option, IsValueOf, place_of, chars, str_text, Bor, items_from_drains, FoldsTo, All-nil, All-cons, IsUtf8, YieldsList-from_chars, encode_utf8, map-id, size, ◌≤◌, All, YieldsList, YieldsList-from_slice, chars-nil, flat_map, length-map, nat_tests, nil_from_length, take_all, take_more}
 use Rattle.smol_str.proofs.CallerLemmas.Builders.{size-cons}
 use Rattle.smol_str.proofs.BuilderLemmas.State.{appended-twice, OnHeap-long}
-use Rattle.smol_str.specs.Meaning.{AreValuesOf}
+use Rattle.smol_str.specs.Meaning.{AreValuesOf, texts}
 use Rattle.std.specs.Prelude.{Vec}
 use Rattle.std.specs.Vec.{vec_items}
 use Rattle.std.specs.List.{AllZip}
 use Rattle.std.specs.Iterator.{Yields, AlwaysYields}
 use Rattle.std.specs.Iterator.Adapters.{map_source, map_callee, enumerate_source, enumerate_count, enumerate_steps}
 use Rattle.std.specs.declared.iter.Enumerate.{Enumerate}
-use Rattle.std.specs.List.{enumerate_from, filter}
+use Rattle.std.specs.List.{enumerate_from, filter, fold}
 use Rattle.std.specs.Str.Iter.{chars_rest, chars_steps, lines_rest, lines_steps}
 use Rattle.std.specs.declared.str.Chars.{Chars}
 use Rattle.smol_str.proofs.TextLemmas.Places.{size-append, size-chars}
@@ -19,8 +19,10 @@ use Rattle.std.specs.Str.Lines.{lines}
 use Rattle.std.specs.declared.str.Lines.{Lines}
 use Rattle.std.proofs.lemmas.Iterator.Splits.{YieldsList-from_lines}
 use Rattle.std.proofs.lemmas.Iterator.Consumers.{YieldsList-so_far, YieldsList-turn, YieldsList-from_enumerate}
-use Rattle.std.proofs.lemmas.Grind.{fold-append}
-use Rattle.std.proofs.lemmas.List.Elements.{filter_map-append, filter_more}
+use Rattle.std.proofs.lemmas.Grind.{fold-append, flat_map-append}
+use Rattle.std.proofs.lemmas.List.Elements.{filter-append, filter_map-append, filter_more}
+use Rattle.std.proofs.lemmas.List.{get_or-map}
+use Rattle.smol_str.proofs.CallerLemmas.Texts.{chars-cons, same_bytes}
 use Rattle.smol_str.proofs.Common.{map-append}
 use Rattle.smol_str.proofs.IteratorLemmas.{weaker}
 use Rattle.std.specs.declared.iter.Map.{Map}
@@ -235,6 +237,31 @@ module _ {steps : Chars → Option ℕ → Chars → Type 0} (xs : List ℕ) (s 
 
 pub ruleset by_char = (arith, chars_yielded, chars_begun, appended-twice, OnHeap-long, size-cons, size-append)
 
+-- what a loop has so far, and with one item more, where it looks at what it has, writes something for each item, or keeps some
+pub fold-push : {A B : Type 0} (f : B → A → B) (b : B) (xs : List A) (x : A) → fold f b (xs ++ x ∷ []) ≡ f (fold f b xs) x
+fold-push f b xs x = fold-append f b xs (x ∷ [])
+
+pub flat_map-push : {X A : Type 0} (f : X → List A) (xs : List X) (x : X) → flat_map f (xs ++ x ∷ []) ≡ flat_map f xs ++ f x
+flat_map-push f xs x = flat_map-append f xs (x ∷ []) ∙ ap (λ l. flat_map f xs ++ l) (append-nil (f x))
+
+pub filter-push : {X : Type 0} (p : X → Bool) (xs : List X) (x : X) → filter p (xs ++ x ∷ []) ≡ filter p xs ++ cond (p x) (x ∷ []) []
+filter-push p xs x = filter-append p xs (x ∷ [])
+
+-- a loop over characters that pushes some, or something for each
+pub ruleset by_char_some = (
+  chars_yielded,
+  fold-push,
+  flat_map-push,
+  filter-push,
+  appended-twice,
+  append-nil,
+  append_assoc,
+  nil_from_length,
+  chars-cons,
+  chars-nil,
+  nat_tests,
+)
+
 -- and of the items of a slice
 pub items_tried : {A F C D E : Type 0} (more : Map (Iter A) F → Option (Result C E) → Map (Iter A) F → Type 0) (rs : List (Result C E))
     (s t : Map (Iter A) F) (w : C → D) (h : A → D) → Yields more s rs t → ((u : Map (Iter A) F) × more t None u)
@@ -250,3 +277,20 @@ kept p xs i =
     (refl, λ x h at. filter_more p xs i x h ∙ (λ j. filter p (take i xs) ++ cond (p (sym at j)) (sym at j ∷ []) []))
 
 pub ruleset by_item = (items_tried, all_tried, collected_oks, kept)
+
+-- a loop over values whose invariant speaks of the texts so far: one more, and all
+pub texts_more : (vs : List Meaning) (i : ℕ) → (take (i + 1) (texts vs) ≡ take (i + 1) (texts vs))
+    × ((v : Meaning) → i < length vs → v ≡ get_or vs i v → take (i + 1) (texts vs) ≡ take i (texts vs) ++ v.text ∷ [])
+texts_more vs i = (
+  refl,
+  λ v within at.
+      let long : i < length (texts vs) = omega (arith, within, length-map vs (λ (v : Meaning). v.text)) in
+      take_more (texts vs) i v.text long
+      ∙ ap (λ (t : List ℕ). take i (texts vs) ++ t ∷ [])
+      (get_or-map (λ (v : Meaning). v.text) vs i v v.text within ∙ ap (λ (v : Meaning). v.text) (sym at)),
+)
+
+pub texts_all : (vs : List Meaning) (n : ℕ) → n ≡ length vs → take n (texts vs) ≡ texts vs
+texts_all vs n e = take_all n (texts vs) (omega (arith, e, length-map vs (λ (v : Meaning). v.text)))
+
+pub ruleset by_text = (texts_more, texts_all, fold-push, same_bytes)

@@ -1,17 +1,22 @@
 -- Maps with values as keys, at texts.
-use Rattle.smol_str.proofs.Common.{◌≡◌, ◌+◌, ◌≤◌, ◌++◌, ◌∙◌, ℕ, Bor, Option, None, Some, List, [], ◌∷◌, length, length-map, map, take, get_or, Bool, true, false, cond, false≢true, refl, sym, ap, arith, common_steps, IsUtf8, bytes_eq, chars, encodes-chars, encodes_same, false_from_ne_true, option_map, if◌then◌else◌, Meaning, rules}
+use Rattle.smol_str.proofs.Common.{◌≡◌, ◌+◌, ◌≤◌, ◌++◌, ◌∙◌, ℕ, Bor, Option, None, Some, List, [], ◌∷◌, length, length-map, map, take, get_or, Bool, true, false, cond, false≢true, refl, sym, ap, arith, common_steps, IsUtf8, bytes_eq, chars, encodes-chars, encodes_same, encode_utf8_all, false_from_ne_true, option_map, if◌then◌else◌, Meaning, rules, nat_cmp, slice_cmp}
 use Rattle.std.proofs.Common.{set, ◌||◌}
 use Rattle.std.proofs.lemmas.List.{take_more_set, take-map, take-set-le}
+use Rattle.std.specs.BTreeMap.{BTreeMap, is_at}
 use Rattle.std.specs.HashMap.{HashMap}
+use Rattle.std.specs.Prelude.{Vec}
+use Rattle.std.specs.Ordering.{is_eq, eq_by_cmp}
+use Rattle.std.specs.declared.cmp.Ordering.{Ordering}
 use Rattle.indexmap.specs.IndexMap.{IndexMap, insert_entry}
 use Rattle.std.specs.List.{list_any}
 use Rattle.smol_str.specs.Meaning.{texts}
 use Rattle.smol_str.proofs.CallerLemmas.Values.{texts-push}
 use Rattle.std.specs.Map.{lookup, KeepsOthers}
 use Rattle.std.specs.Option.{option_copied, option_or}
+use Rattle.std.proofs.lemmas.Map.Text.{is_eq-slice_cmp}
 use Rattle.std.proofs.lemmas.Slice.Eq.{bytes_eq-Decides}
 use Rattle.smol_str.specs.declared.value.place.Place.TheVariants.{Inline}
-use Rattle.smol_str.specs.Keys.{value_at, innermost, entry_lists, same_key, stands_for, with_entry, entry_texts}
+use Rattle.smol_str.specs.Keys.{value_at, ordered_value_at, innermost, entry_lists, same_key, stands_for, with_entry, entry_texts}
 
 -- ---- maps with values as keys
 
@@ -31,11 +36,27 @@ pub text-kept : {V : Type 0} (eq : Meaning → Meaning → Bool) (check : Meanin
     × ((t : List ℕ) → check (key_of t) ≡ false → lookup (λ k. bytes_eq t k.text) new ≡ lookup (λ k. bytes_eq t k.text) old)
 text-kept eq check old new keeps others = (refl, λ t apart. others (key_of t) apart)
 
-pub ruleset updates = (text-kept, same_key-other)
+-- the same of an ordered map, whose keys are compared
+pub same_text-other : (s t : List ℕ) → ¬ (t ≡ s) → is_eq (slice_cmp nat_cmp s t) ≡ false
+same_text-other s t other = search (rules, false_from_ne_true, is_eq-slice_cmp, bytes_eq-Decides)
+
+pub text-kept_ordered : {V : Type 0} (cmp : Meaning → Meaning → Ordering) (compare : Meaning → Ordering) (old new : BTreeMap Meaning V)
+    → KeepsOthers (eq_by_cmp cmp) (is_at compare) old.entries new.entries
+    → ((q : Meaning) → is_at compare q ≡ false → ordered_value_at q.text new ≡ ordered_value_at q.text old)
+    → (KeepsOthers (eq_by_cmp cmp) (is_at compare) old.entries new.entries ≡ KeepsOthers (eq_by_cmp cmp) (is_at compare) old.entries new.entries)
+    × ((t : List ℕ) → is_at compare (key_of t) ≡ false → ordered_value_at t new ≡ ordered_value_at t old)
+text-kept_ordered cmp compare old new keeps others = (refl, λ t apart. others (key_of t) apart)
 
 -- a `&str` matches the keys of its text
 pub stands_for-text : (bs : List ℕ) (key : Meaning) → IsUtf8 bs → stands_for bs key ≡ bytes_eq (chars bs) key.text
 stands_for-text bs key u = search (rules, arith, encodes-chars, encodes_same)
+
+-- and no key of another
+pub stands_for-other : (bs t : List ℕ) → ¬ (t ≡ chars bs) → IsUtf8 bs → bytes_eq bs (encode_utf8_all t) ≡ false
+stands_for-other bs t other u =
+    stands_for-text bs (key_of t) u ∙ false_from_ne_true _ (λ e. other (sym ((bytes_eq-Decides (chars bs) t).0 e)))
+
+pub ruleset updates = (text-kept, same_key-other, text-kept_ordered, same_text-other, stands_for-other)
 
 -- so a look-up by a `&str` is one of its text, in the entries seen as texts
 pub lookup-stands_for : {V W : Type 0} (g : V → W) (bs : List ℕ) (es : List (Meaning × V)) → IsUtf8 bs
@@ -76,11 +97,16 @@ value_at-over : {V : Type 0} (bs : List ℕ) (es : List (Meaning × V)) → IsUt
 value_at-over bs [] u = refl
 value_at-over bs (e ∷ es) u = grind (arith, value_at-over bs es u, stands_for-text bs e.0 u)
 
-pub value_at-asked : {V S : Type 0} (r : Option (Bor V)) (bs : List ℕ) (m : IndexMap Meaning V S) → IsUtf8 bs
-    → option_copied r ≡ lookup (stands_for bs) m.entries → option_copied r ≡ value_at (chars bs) m
-value_at-asked r bs m u found = found ∙ value_at-over bs m.entries u
+pub value_at-found : {V S : Type 0} (r : Option V) (bs : List ℕ) (m : IndexMap Meaning V S) → IsUtf8 bs
+    → r ≡ lookup (stands_for bs) m.entries → r ≡ value_at (chars bs) m
+value_at-found r bs m u found = found ∙ value_at-over bs m.entries u
 
-pub ruleset lookups = (value-lent, value-keyed, lookup-stands_for, value_at-asked)
+-- and what is left there
+pub value_at-left : {V S : Type 0} (r : Option V) (bs : List ℕ) (m : IndexMap Meaning V S) → IsUtf8 bs
+    → lookup (stands_for bs) m.entries ≡ r → value_at (chars bs) m ≡ r
+value_at-left r bs m u left = sym (value_at-over bs m.entries u) ∙ left
+
+pub ruleset lookups = (value-lent, value-keyed, lookup-stands_for, value_at-found, value_at-left)
 
 -- an insert into a map of `indexmap`, and into a set: its entries and its keys seen as texts
 module _ (eq : Meaning → Meaning → Bool) where
@@ -89,11 +115,17 @@ module _ (eq : Meaning → Meaning → Bool) where
   inserted g [] k v same = refl
   inserted g (e ∷ es) k v same = search (rules, same, inserted g es k v same)
 
-  -- of values as what is kept, and of what is kept as it is
+  -- of values as what is kept, of lists of values, and of what is kept as it is
   pub values-inserted : (es : List (Meaning × Meaning)) (k v : Meaning) → ((x y : Meaning) → eq x y ≡ same_key x y)
       → entry_texts (λ (v : Meaning). v.text) (insert_entry eq es k v)
       ≡ with_entry (entry_texts (λ (v : Meaning). v.text) es) k.text v.text
   values-inserted es k v same = inserted (λ (v : Meaning). v.text) es k v same
+
+  pub lists-inserted : {Z : Type 0} (es : List (Meaning × Vec Meaning Z)) (k : Meaning) (v : Vec Meaning Z)
+      → ((x y : Meaning) → eq x y ≡ same_key x y)
+      → entry_texts (λ v. texts v.items) (insert_entry eq es k v)
+      ≡ with_entry (entry_texts (λ v. texts v.items) es) k.text (texts v.items)
+  lists-inserted es k v same = inserted (λ v. texts v.items) es k v same
 
   pub entries-inserted : {V : Type 0} (es : List (Meaning × V)) (k : Meaning) (v : V) → ((x y : Meaning) → eq x y ≡ same_key x y)
       → entry_texts (λ (v : V). v) (insert_entry eq es k v) ≡ with_entry (entry_texts (λ (v : V). v) es) k.text v
@@ -121,7 +153,48 @@ pub has-added : (old new : List Meaning) (k : Meaning)
 has-added old new k added t =
     grind (arith, added (key_of t), among-keyed (key_of t) new, among-keyed (key_of t) old, bytes_eq-Decides)
 
+-- an insert, and then a look-up by a `&str` of the same text. `grind` takes the second part at each `chars bs` in sight
+module _ (k : Meaning) (bs : List ℕ) (same : k.text ≡ chars bs) (u : IsUtf8 bs) where
+  stands_for-keyed : (x : Meaning) → stands_for bs x ≡ same_key k x
+  stands_for-keyed x = stands_for-text bs x u ∙ (λ i. bytes_eq (sym same i) x.text)
+
+  itself : same_key k k ≡ true
+  itself = (bytes_eq-Decides k.text k.text).1 refl
+
+  put_found : {V : Type 0} (eq : Meaning → Meaning → Bool) (es : List (Meaning × V)) (v : V) → ((x y : Meaning) → eq x y ≡ same_key x y)
+      → lookup (stands_for bs) (insert_entry eq es k v) ≡ Some v
+  put_found eq [] v is = search (rules, stands_for-keyed, itself)
+  put_found eq (e ∷ es) v is = by (same_key k e.0) refl (put_found eq es v is) where
+    by : (b : Bool) → same_key k e.0 ≡ b → lookup (stands_for bs) (insert_entry eq es k v) ≡ Some v
+        → lookup (stands_for bs) (insert_entry eq (e ∷ es) k v) ≡ Some v
+    by true h rest = search (rules, is k e.0, h, stands_for-keyed)
+    by false h rest = search (rules, is k e.0, h, stands_for-keyed, rest)
+
+  last_found : (ks : List Meaning) → list_any (stands_for bs) (ks ++ k ∷ []) ≡ true
+  last_found [] = search (rules, stands_for-keyed, itself)
+  last_found (x ∷ ks) = search (rules, last_found ks)
+
+  kept_found : (b : Bool) (ks : List Meaning) → b ≡ list_any (same_key k) ks
+      → list_any (stands_for bs) (if b then ks else ks ++ k ∷ []) ≡ true
+  kept_found true ks there =
+      sym (among-lent bs ks u) ∙ (λ i. list_any (bytes_eq (sym same i)) (texts ks)) ∙ among-keyed k ks ∙ sym there
+  kept_found false ks there = last_found ks
+
+pub entry-put : {V : Type 0} (eq : Meaning → Meaning → Bool) (es : List (Meaning × V)) (k : Meaning) (v : V)
+    → ((x y : Meaning) → eq x y ≡ same_key x y) → (insert_entry eq es k v ≡ insert_entry eq es k v)
+    × ((bs : List ℕ) → k.text ≡ chars bs → IsUtf8 bs
+    → (chars bs ≡ chars bs) × (lookup (stands_for bs) (insert_entry eq es k v) ≡ Some v))
+entry-put eq es k v is = (refl, λ bs same u. (refl, put_found k bs same u eq es v is))
+
+pub key-put : (b : Bool) (ks : List Meaning) (k : Meaning) → b ≡ list_any (same_key k) ks
+    → ((if b then ks else ks ++ k ∷ []) ≡ (if b then ks else ks ++ k ∷ []))
+    × ((bs : List ℕ) → k.text ≡ chars bs → IsUtf8 bs
+    → (chars bs ≡ chars bs) × (list_any (stands_for bs) (if b then ks else ks ++ k ∷ []) ≡ true))
+key-put b ks k there = (refl, λ bs same u. (refl, kept_found k bs same u b ks there))
+
 pub ruleset inserts = (values-inserted, entries-inserted, texts-kept, among-keyed, among-lent, has-added)
+
+pub ruleset put_and_asked = (entry-put, key-put)
 
 -- an entry that is set is found at its text, and leaves what is found at others
 module _ {V : Type 0} (key t : List ℕ) (v : V) where

@@ -1,5 +1,5 @@
 -- Texts: their bytes and sizes, builders, and one character in place of another.
-use Rattle.smol_str.proofs.Common.{◌^◌, encodes-IsAscii, get_or, list_all, ltb, ltb-true, IsAscii-from_all, IsUtf8-from_ascii, ◌≡◌, ◌∷◌, ◌++◌, sym, BuilderState, OnHeap, appended, kind_with, ℕ, ◌+◌, ◌<◌, ◌≤◌, Result, IfOk, OnErr, subst, List, [], length, take, encode_utf8_all, refl, ap, ◌∙◌, inl, IsTrue, arith, flat_map, chars, all_scalars, IsUtf8, chars-encodes, chars_from_encodes, encodes-chars, encodes_same, chars-IsAscii, INLINE_CAP, size, IsShort, IsResident, place_of, Meaning, IsValueOf, IsAscii, replaced_all, each_with, each_replaced, rules, nat_tests, append-nil, append_assoc, encodes-append, IsAscii-cons, IsAscii-nil, nat_eq, pointwise, true}
+use Rattle.smol_str.proofs.Common.{bytes_eq, same_from_decides, ◌^◌, encodes-IsAscii, get_or, list_all, ltb, ltb-true, IsAscii-from_all, IsUtf8-from_ascii, ◌≡◌, ◌∷◌, ◌++◌, sym, BuilderState, OnHeap, appended, kind_with, ℕ, ◌+◌, ◌<◌, ◌≤◌, Result, IfOk, OnErr, subst, List, [], length, take, encode_utf8_all, refl, ap, ◌∙◌, inl, IsTrue, arith, flat_map, chars, all_scalars, IsUtf8, chars-encodes, chars_from_encodes, encodes-chars, encodes_same, chars-IsAscii, INLINE_CAP, size, IsShort, IsResident, place_of, Meaning, IsValueOf, IsAscii, replaced_all, each_with, each_replaced, rules, nat_tests, append-nil, append_assoc, encodes-append, IsAscii-cons, IsAscii-nil, nat_eq, pointwise, true}
 use Rattle.std.proofs.lemmas.Fmt.{IsAscii-decimal}
 use Rattle.std.proofs.lemmas.List.Sums.{AllPass-from_list_all}
 use Rattle.std.proofs.lemmas.Slice.Eq.{bytes_eq-Decides}
@@ -37,10 +37,13 @@ chars-cons c bs ascii = chars-append (c ∷ []) bs (IsUtf8-one c ascii) ∙ ap (
 abbrev pub IsLiteral : List ℕ → Type 0
 IsLiteral bs = list_all (λ b. ltb b 128) bs ≡ true
 
-pub literal-utf8 : (bs : List ℕ) → IsLiteral bs → IsUtf8 bs
-literal-utf8 bs low =
+literal-ascii : (bs : List ℕ) → IsLiteral bs → IsAscii bs
+literal-ascii bs low =
     let each = AllPass-from_list_all (λ b. ltb b 128) bs low in
-    IsUtf8-from_ascii bs (IsAscii-from_all bs (λ i d within. ltb-true (get_or bs i d) 128 (each i d within)))
+    IsAscii-from_all bs (λ i d within. ltb-true (get_or bs i d) 128 (each i d within))
+
+pub literal-utf8 : (bs : List ℕ) → IsLiteral bs → IsUtf8 bs
+literal-utf8 bs low = IsUtf8-from_ascii bs (literal-ascii bs low)
 
 pub encodes-literal : (bs : List ℕ) → IsLiteral bs → encode_utf8_all (chars bs) ≡ bs
 encodes-literal bs low = encodes-chars bs (literal-utf8 bs low)
@@ -71,6 +74,26 @@ pub ruleset texts = (
 
 -- two texts compared by `==` or `match`
 pub ruleset compared = (same_bytes, str_same, literal_same, chars-as_str, chars-nil)
+
+-- the same as a computed test. A literal of ASCII is its own text
+pub chars-literal : (bs : List ℕ) → IsLiteral bs → chars bs ≡ bs
+chars-literal bs low = chars-IsAscii bs (literal-ascii bs low)
+
+module _ (bs cs : List ℕ) (u : IsUtf8 bs) where
+  pub str_test : IsUtf8 cs → pointwise nat_eq (chars bs) (chars cs) ≡ pointwise nat_eq bs cs
+  str_test v =
+      sym (same_from_decides (bytes_eq bs cs) (bytes_eq (chars bs) (chars cs))
+      (λ e. ap chars ((bytes_eq-Decides bs cs).0 e), λ e. str_same bs cs e u v) (bytes_eq-Decides (chars bs) (chars cs)))
+
+  pub literal_test : IsLiteral cs → pointwise nat_eq (chars bs) cs ≡ pointwise nat_eq bs cs
+  literal_test low = ap (λ t. pointwise nat_eq (chars bs) t) (sym (chars-literal cs low)) ∙ str_test (literal-utf8 cs low)
+
+-- of what a value lends
+pub lent_test : (t cs : List ℕ) → IsTrue (all_scalars t) → IsLiteral cs → pointwise nat_eq (encode_utf8_all t) cs ≡ pointwise nat_eq t cs
+lent_test t cs scalars low =
+    sym (literal_test (encode_utf8_all t) cs (t, (scalars, refl)) low) ∙ ap (λ u. pointwise nat_eq u cs) (chars-encodes t scalars)
+
+pub ruleset tested = (literal_test, str_test, lent_test, bytes_eq-Decides, chars-cons, chars-nil)
 
 -- ---- a text, or one character of ASCII, in place of each character of ASCII, as `text.replace_smolstr(alloc, "_", "-")`
 

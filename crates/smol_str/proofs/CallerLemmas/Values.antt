@@ -1,15 +1,21 @@
 -- Lists of values, as texts.
-use Rattle.smol_str.proofs.Common.{Bool, true, false, cond, not, map, refl, bytes_eq, place_of, get_or, sym, ◌≡◌, ℕ, ◌<◌, List, [], ◌∷◌, ◌++◌, length, Some, ap, ◌∙◌, arith, length-map, map-append, slice_get, option_map, Meaning, IsTrue, all_scalars, encode_utf8_all, chars}
+use Rattle.smol_str.proofs.Common.{Bool, true, false, cond, not, map, refl, bytes_eq, place_of, get_or, sym, ◌≡◌, ℕ, ◌<◌, List, [], ◌∷◌, ◌++◌, length, Some, ap, ◌∙◌, arith, length-map, map-append, slice_get, option_map, Meaning, IsTrue, all_scalars, encode_utf8_all, chars, chars-nil}
 use Rattle.std.proofs.lemmas.Option.{slice_get-map, slice_get-get_or}
 use Rattle.smol_str.specs.Meaning.{AreValuesOf, texts}
 use Rattle.smol_str.specs.Keys.{has_text, without, within, values_without, values_within}
 use Rattle.std.specs.List.{filter, list_any}
 use Rattle.std.proofs.lemmas.List.Elements.{All-filter, filter_agree}
-use Rattle.smol_str.proofs.CallerLemmas.Texts.{chars-as_str}
+use Rattle.smol_str.proofs.CallerLemmas.Texts.{chars-as_str, chars-cons}
+use Rattle.std.proofs.lemmas.List.{take-map}
 
 -- one value more
 pub texts-push : (values : List Meaning) (v : Meaning) → texts (values ++ v ∷ []) ≡ texts values ++ v.text ∷ []
 texts-push values v = map-append (λ (v : Meaning). v.text) values (v ∷ [])
+
+-- what is made of the text of each
+pub map-texts : {B : Type 0} (f : List ℕ → B) (vs : List Meaning) → map f (texts vs) ≡ map (λ v. f v.text) vs
+map-texts f [] = refl
+map-texts f (v ∷ vs) = ap (λ l. f v.text ∷ l) (map-texts f vs)
 
 -- the name at a place, as a text
 pub text_at : (keys : List Meaning) (id : ℕ) (name : Meaning) → slice_get keys id ≡ Some name →
@@ -26,6 +32,9 @@ text_lent ts vs i v bs are within at lent scalars =
     ∙ ap Some (sym (chars-as_str v.text bs scalars lent))
 
 pub ruleset listed = (text_lent)
+
+-- a list as a stack: the last value, one more and one less
+pub ruleset stacked = (slice_get-map, take-map, length-map, texts-push, chars-as_str, chars-cons, chars-nil)
 
 -- ---- values that are among others, or are not
 

@@ -1,0 +1,8 @@
+use Rattle.std.proofs.Common.{◌≡◌}
+use Rattle.std.specs.List.{flat_map}
+use Rattle.smol_str.specs.BuilderState.{appended}
+use Rattle.uses.specs.Names.{dashed}
+use Rattle.uses.proofs.making.with_dashes.Given as goal
+
+abbrev pub invariant-loop-c : goal.invariant-loop-c
+invariant-loop-c l = l.out ≡ appended l.initial.out (flat_map dashed l.yielded)

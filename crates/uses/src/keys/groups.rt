@@ -1,0 +1,57 @@
+//! Entries of maps that are changed in place: names in groups, and counts.
+ghost use Rattle.std.specs.Prelude.{◌≡◌, ◌≢◌, ◌+◌, ◌-◌, ◌^◌, ◌++◌, ◌∷◌, [], ℕ, List, OnOk, IfOk, Some, fold, min, unwrap_or};
+ghost use Rattle.smol_str.specs.Keys.{entry_texts, value_at, with_change};
+ghost use Rattle.smol_str.specs.Meaning.{texts};
+ghost use Rattle.uses.specs.Names.{with_word};
+
+use indexmap::IndexMap;
+use smol_str::SmolStr;
+use std::alloc::{AllocError, Global};
+use std::collections::HashMap;
+
+/// Adds a name to a group, which comes last where it is new.
+#[tactic(auto, using(smol_str::proofs::CallerLemmas::grouped))]
+pub fn add(
+    groups: &mut IndexMap<SmolStr, Vec<SmolStr>>,
+    group: SmolStr,
+    name: &SmolStr,
+) -> Result<(), AllocError>
+    ensures { OnOk result (entry_texts (λ names. texts names.items) groups.new.entries
+        ≡ with_change (entry_texts (λ names. texts names.items) groups.old.entries) group.text [] (λ ts. ts ++ name.now.text ∷ [])) }
+{
+    groups.entry(group)?.or_default().push(name.clone()?)?;
+    Ok(())
+}
+
+/// Counts a word, in the order of the first ones.
+#[tactic(auto, using(smol_str::proofs::CallerLemmas::counted))]
+pub fn count_in_order(counts: &mut IndexMap<SmolStr, u32>, word: SmolStr) -> Result<(), AllocError>
+    ensures { OnOk result (entry_texts (λ n. n) counts.new.entries ≡ with_word (entry_texts (λ n. n) counts.old.entries) word.text) }
+{
+    let count = counts.entry(word)?.or_default();
+    *count = count.saturating_add(1);
+    Ok(())
+}
+
+/// Counts each of some words.
+#[tactic(auto, using(smol_str::proofs::CallerLemmas::by_text))]
+pub fn count_all(alloc: Global, words: &[SmolStr]) -> Result<IndexMap<SmolStr, u32>, AllocError>
+    ensures { IfOk result (λ counts. entry_texts (λ n. n) counts.entries ≡ fold with_word [] (texts words.now)) }
+{
+    let mut counts = IndexMap::new(alloc);
+    for word in words {
+        count_in_order(&mut counts, word.clone()?)?;
+    }
+    Ok(counts)
+}
+
+/// Counts a word: its count is one more, and those of others stay.
+#[tactic(auto, using(smol_str::proofs::CallerLemmas::updates))]
+pub fn count(counts: &mut HashMap<SmolStr, u32>, word: SmolStr) -> Result<(), AllocError>
+    ensures this { OnOk result (value_at word.text counts.new ≡ Some (min (unwrap_or (value_at word.text counts.old) 0 + 1) (2 ^ 32 - 1))) }
+    ensures others { OnOk result ((other : List ℕ) → other ≢ word.text → value_at other counts.new ≡ value_at other counts.old) }
+{
+    let count = counts.entry(word)?.or_default();
+    *count = count.saturating_add(1);
+    Ok(())
+}
