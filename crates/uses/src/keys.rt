@@ -5,7 +5,7 @@ ghost use Rattle.std.specs.Prelude.{◌≡◌, ◌<◌, IfNone, IfSome, IsSomeAn
 ghost use Rattle.std.specs.Ordering.{nat_cmp};
 ghost use Rattle.std.specs.Cmp.Lexicographic.{slice_cmp};
 ghost use Rattle.std.specs.List.Sorted.{IsPermutation, IsSorted, IsStrictlySortedBy};
-ghost use Rattle.smol_str.specs.Keys.{without, values_without, ordered_value_at, value_at, has_text, is_before, innermost, entry_lists, entry_texts};
+ghost use Rattle.smol_str.specs.Keys.{within, without, values_within, values_without, ordered_value_at, value_at, has_text, is_before, innermost, entry_lists, entry_texts};
 ghost use Rattle.smol_str.specs.Meaning.{AreValuesOf, texts};
 ghost use Rattle.smol_str.specs.Replace.{cut, no_limit};
 
@@ -92,6 +92,34 @@ pub fn unseen(alloc: Global, all: &[SmolStr], seen: &[SmolStr]) -> Result<Vec<Sm
     Ok(names)
 }
 
+/// The names that were seen, in their order.
+#[tactic(auto, using(smol_str::proofs::CallerLemmas::by_item), unfolding(smol_str::specs::Keys::values_within))]
+pub fn seen_again(
+    alloc: Global,
+    all: &[SmolStr],
+    seen: &[SmolStr],
+) -> Result<Vec<SmolStr>, AllocError>
+    ensures { IfOk result (λ v. v.items ≡ values_within all.now seen.now) }
+{
+    let mut names = Vec::new(alloc);
+    for name in all {
+        push_if(seen.contains(name), &mut names, name)?;
+    }
+    Ok(names)
+}
+
+/// The fields of a line that an old one has, too.
+#[tactic(auto, using(smol_str::proofs::CallerLemmas::among))]
+pub fn kept_fields(alloc: Global, line: &str, old: &str) -> Result<Vec<SmolStr>, AllocError>
+    ensures { IfOk result (λ v. AreValuesOf (within (cut (chars line.now) (44 ∷ []) (no_limit (chars line.now)))
+        (cut (chars old.now) (44 ∷ []) (no_limit (chars old.now)))) v.items) }
+{
+    let old = crate::cutting::fields(alloc, old)?;
+    let new = crate::cutting::fields(alloc, line)?;
+    seen_again(alloc, &new, &old)
+}
+
+/// The fields of a line that an old one lacks.
 /// The fields of a line that an old one lacks.
 #[tactic(auto, using(smol_str::proofs::CallerLemmas::among))]
 pub fn new_fields(alloc: Global, line: &str, old: &str) -> Result<Vec<SmolStr>, AllocError>

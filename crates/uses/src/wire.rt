@@ -230,11 +230,7 @@ pub fn skip_invalid(alloc: Global, messages: &mut &[u8]) -> bool
 pub fn next_message(alloc: Global, messages: &mut &[u8]) -> Result<Option<SmolStr>, DecodeFault>
     ensures behind { OnOk result
         (messages.new.now ≡ drop (4 + prefix_size messages.old.now) messages.old.now) }
-    ensures within { OnErr result
-        (length messages.old.now ≤ length messages.new.now + (4 + prefix_size messages.old.now)) }
     ensures ended { IfErr result (λ fault. fault ≡ DecodeFault.Ended → messages.new.now ≡ []) }
-    ensures begun { IfErr result (λ fault. fault ≡ DecodeFault.OutOfMemory →
-        length messages.new.now + 4 < length messages.old.now) }
     ensures skipped { IfErr result (λ fault. fault ≡ DecodeFault.OutOfMemory →
         prefix_size messages.old.now ≤ STACK_BODY → IsUtf8 (body messages.old.now)
         × (messages.new.now ≡ drop (4 + prefix_size messages.old.now) messages.old.now)) }
