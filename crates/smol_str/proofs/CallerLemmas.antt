@@ -31,7 +31,7 @@ pub use Rattle.smol_str.proofs.CallerLemmas.Sorting.{sorting}
 pub use Rattle.smol_str.proofs.CallerLemmas.Interning.{interning}
 pub use Rattle.smol_str.proofs.CallerLemmas.Maps.{updates, lookups, inserts, put_and_asked, scopes, stands_for-text, lookup-with_entry}
 pub use Rattle.smol_str.proofs.CallerLemmas.Groups.{grouped, counted}
-pub use Rattle.smol_str.proofs.CallerLemmas.Loops.{by_line, by_char, by_char_some, by_item, by_text}
+pub use Rattle.smol_str.proofs.CallerLemmas.Loops.{by_line, by_char, by_char_some, by_item, by_text, side_by_side}
 pub use Rattle.smol_str.proofs.CallerLemmas.Collecting.{collecting_chars, collecting_strs, collecting_pieces, collecting_strings, chars_by_std, strings_by_std, texts_collected}
 pub use Rattle.smol_str.proofs.CallerLemmas.Cuts.{cutting, joining, pieces_lack}
 pub use Rattle.smol_str.proofs.CallerLemmas.CutOnce.{cut_once, stripped, cut_at_texts, cut_alike, not_taken, trimmed}

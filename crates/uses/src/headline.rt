@@ -445,19 +445,17 @@ pub fn is_keyword(token: &SmolStr) -> bool {
     *token == Rust::IF
 }
 
-/// A builder made where only a `const` function may be called.
-pub const fn builder_of(alloc: Global) -> SmolStrBuilder
-    ensures { result ≡ empty_builder InBuffer }
+/// What a `const` function may call.
+pub const fn begun(alloc: Global, value: &SmolStr) -> (SmolStrBuilder, Place, bool)
+    ensures builder { result.0 ≡ empty_builder InBuffer }
+    ensures place { result.1 ≡ value.now.place }
+    ensures heap { IsTrue result.2 ↔ (value.now.place ≡ Heap) }
 {
-    SmolStrBuilder::new(alloc)
-}
-
-/// A place asked where only a `const` function may be called.
-pub const fn place_and_heap(value: &SmolStr) -> (Place, bool)
-    ensures place { result.0 ≡ value.now.place }
-    ensures heap { IsTrue result.1 ↔ (value.now.place ≡ Heap) }
-{
-    (value.place(), value.is_heap_allocated())
+    (
+        SmolStrBuilder::new(alloc),
+        value.place(),
+        value.is_heap_allocated(),
+    )
 }
 
 /// A value of resident text is not on the heap; the law says it of the text's place.

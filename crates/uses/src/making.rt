@@ -1,13 +1,13 @@
 //! Values made piece by piece, by printing, and of what a program has at hand.
-ghost use Rattle.std.specs.Prelude.{◌≡◌, ◌+◌, ◌*◌, ◌≤◌, ◌++◌, ◌∷◌, [], codes, length, IfOk, IfSome, IsOk, OnErr, OnOk, Some, encode_utf8_all, ◌↔◌, String, IsTrue, filter, fold};
+ghost use Rattle.std.specs.Prelude.{◌≡◌, ◌+◌, ◌*◌, ◌≤◌, ◌++◌, ◌∷◌, [], codes, length, IfOk, IsOk, OnErr, OnOk, Some, encode_utf8_all, ◌↔◌, String, IsTrue, filter};
 ghost use Rattle.std.specs.List.{flat_map};
 ghost use Rattle.std.specs.Char.{is_ascii_digit as digit};
-ghost use Rattle.uses.specs.Names.{dashed, snake_step};
+ghost use Rattle.uses.specs.Names.{dashed};
 ghost use Rattle.std.specs.Str.{chars};
 ghost use Rattle.smol_str.specs.BuilderState.{OnHeap, appended};
 ghost use Rattle.smol_str.specs.Text.{IsShort, blank_run, place_of, IsResident};
 ghost use Rattle.smol_str.specs.Meaning.{IsValueOf, texts};
-ghost use Rattle.std.specs.Fmt.{debug_str, decimal};
+ghost use Rattle.std.specs.Fmt.{decimal};
 ghost use Rattle.std.specs.Io.Cursor.{cursor_remaining};
 ghost use Rattle.std.specs.Path.{path_buf_bytes, path_bytes, path_join};
 ghost use Rattle.uses.specs.Layout.{untabbed, margin, line_text, right_aligned};
@@ -240,21 +240,6 @@ pub fn with_dashes(alloc: Global, text: &str) -> Result<SmolStr, AllocError>
     out.into_value()
 }
 
-/// A name in CamelCase as one in snake_case.
-#[tactic(auto, using(smol_str::proofs::CallerLemmas::by_char_some))]
-pub fn to_snake(alloc: Global, name: &str) -> Result<SmolStr, AllocError>
-    ensures { IfOk result (λ v. IsValueOf (fold snake_step [] (chars name.now)) v) }
-{
-    let mut out = SmolStrBuilder::new(alloc);
-    for c in name.chars() {
-        if c.is_ascii_uppercase() && !out.is_empty() {
-            out.push('_')?;
-        }
-        out.push(c.to_ascii_lowercase())?;
-    }
-    out.into_value()
-}
-
 /// The path of a file of this name.
 pub fn path_of(alloc: Global, folder: &Path<'_>, name: &SmolStr) -> Result<PathBuf, AllocError>
     ensures { IfOk result (λ path. path_buf_bytes path ≡ path_join (path_bytes folder.now) (encode_utf8_all name.now.text)) }
@@ -274,13 +259,6 @@ pub fn reader_of(text: SmolStr) -> Cursor<SmolStr>
 pub struct Lexer {
     pub at: usize,
     pub word: SmolStrBuilder,
-}
-
-/// What a builder prints by `{:?}`, where std says it: of ASCII.
-pub fn debug_text(alloc: Global, word: &SmolStrBuilder) -> Result<SmolStr, FormatError>
-    ensures { IfOk result (λ v. IfSome (debug_str (encode_utf8_all word.now.text)) (λ bytes. encode_utf8_all v.text ≡ bytes)) }
-{
-    format_smolstr!(alloc; "{word:?}")
 }
 
 /// Tokens on one line, as a value, by std's `join` and the memory that it asked for.

@@ -1,5 +1,5 @@
 -- Loops over what std's iterators lend, and what `map` and `try_collect` make of it.
-use Rattle.smol_str.proofs.Common.{Bool, cond, get_or, take, ◌<◌, ◌+◌, subst, Ok, Err, IfOk, refl, sym, map, ◌≡◌, ℕ, List, [], ◌∷◌, ◌++◌, length, Some, None, ap, ◌∙◌, arith, length-append, Meaning, Result, encode_utf8_all, append-nil, append_assoc, Option, IsValueOf, place_of, chars, str_text, Bor, items_from_drains, FoldsTo, All-nil, All-cons, IsUtf8, YieldsList-from_chars, encode_utf8, map-id, size, ◌≤◌, All, YieldsList, YieldsList-from_slice, chars-nil, flat_map, length-map, nat_tests, nil_from_length, take_all, take_more}
+use Rattle.smol_str.proofs.Common.{Bool, cond, get_or, take, ◌<◌, ◌+◌, subst, Ok, Err, IfOk, refl, sym, map, ◌≡◌, ℕ, List, [], ◌∷◌, ◌++◌, length, Some, None, ap, ◌∙◌, arith, length-append, Meaning, Result, encode_utf8_all, append-nil, append_assoc, Option, IsValueOf, place_of, chars, str_text, Bor, items_from_drains, FoldsTo, All-nil, All-cons, IsUtf8, YieldsList-from_chars, encode_utf8, map-id, size, ◌≤◌, All, YieldsList, YieldsList-from_slice, chars-nil, flat_map, length-map, nat_tests, nil_from_length, take_all, take_more, pointwise, nat_eq, true}
 use Rattle.smol_str.proofs.CallerLemmas.Builders.{size-cons}
 use Rattle.smol_str.proofs.BuilderLemmas.State.{appended-twice, OnHeap-long}
 use Rattle.smol_str.specs.Meaning.{AreValuesOf, texts}
@@ -294,3 +294,13 @@ pub texts_all : (vs : List Meaning) (n : ℕ) → n ≡ length vs → take n (te
 texts_all vs n e = take_all n (texts vs) (omega (arith, e, length-map vs (λ (v : Meaning). v.text)))
 
 pub ruleset by_text = (texts_more, texts_all, fold-push, same_bytes)
+
+-- a loop over two lists of values side by side, whose texts are the same so far
+pub same_front : (vs ws : List Meaning) (i : ℕ) (v w : Meaning) → take i (texts vs) ≡ take i (texts ws) → i < length vs → i < length ws
+    → v ≡ get_or vs i v → w ≡ get_or ws i w → pointwise nat_eq v.text w.text ≡ true → take (i + 1) (texts vs) ≡ take (i + 1) (texts ws)
+same_front vs ws i v w front left right at there same =
+    (texts_more vs i).1 v left at
+    ∙ ap (λ l. l ++ v.text ∷ []) front ∙ ap (λ (t : List ℕ). take i (texts ws) ++ t ∷ []) (same_bytes v.text w.text same)
+    ∙ sym ((texts_more ws i).1 w right there)
+
+pub ruleset side_by_side = (same_front)

@@ -1,4 +1,4 @@
-//! Entries of maps that are changed in place: names in groups, and counts.
+//! Entries of maps that are changed in place: names in groups, and words counted.
 ghost use Rattle.std.specs.Prelude.{◌≡◌, ◌≢◌, ◌+◌, ◌-◌, ◌^◌, ◌++◌, ◌∷◌, [], ℕ, List, OnOk, IfOk, Some, fold, min, unwrap_or};
 ghost use Rattle.smol_str.specs.Keys.{entry_texts, value_at, with_change};
 ghost use Rattle.smol_str.specs.Meaning.{texts};
@@ -43,15 +43,4 @@ pub fn count_all(alloc: Global, words: &[SmolStr]) -> Result<IndexMap<SmolStr, u
         count_in_order(&mut counts, word.clone()?)?;
     }
     Ok(counts)
-}
-
-/// Counts a word: its count is one more, and those of others stay.
-#[tactic(auto, using(smol_str::proofs::CallerLemmas::updates))]
-pub fn count(counts: &mut HashMap<SmolStr, u32>, word: SmolStr) -> Result<(), AllocError>
-    ensures this { OnOk result (value_at word.text counts.new ≡ Some (min (unwrap_or (value_at word.text counts.old) 0 + 1) (2 ^ 32 - 1))) }
-    ensures others { OnOk result ((other : List ℕ) → other ≢ word.text → value_at other counts.new ≡ value_at other counts.old) }
-{
-    let count = counts.entry(word)?.or_default();
-    *count = count.saturating_add(1);
-    Ok(())
 }

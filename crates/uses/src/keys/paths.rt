@@ -1,5 +1,5 @@
 //! Paths as lists of segments, from the one at hand upwards.
-ghost use Rattle.std.specs.Prelude.{◌≡◌, ◌-◌, List, OnOk, bytes_eq, length, slice_get};
+ghost use Rattle.std.specs.Prelude.{◌≡◌, ◌-◌, List, ◌≤◌, OnOk, bytes_eq, length, slice_get, take};
 ghost use Rattle.std.specs.Str.{chars};
 ghost use Rattle.smol_str.specs.Meaning.{texts};
 ghost use Rattle.uses.specs.Names.{above, dots, segment_kind};
@@ -9,26 +9,10 @@ use std::alloc::AllocError;
 
 /// Whether a segment leads one up.
 #[tactic(auto, using(smol_str::proofs::CallerLemmas::tested))]
-pub fn is_up(segment: &str) -> bool
-    ensures { result ≡ bytes_eq (chars segment.now) dots }
-{
-    segment == ".."
-}
-
-/// The same of a value.
-#[tactic(auto, using(smol_str::proofs::CallerLemmas::tested))]
 pub fn leads_up(segment: &SmolStr) -> bool
     ensures { result ≡ bytes_eq segment.now.text dots }
 {
     segment.eq_str("..")
-}
-
-/// Whether two segments are the same.
-#[tactic(auto, using(smol_str::proofs::CallerLemmas::tested))]
-pub fn same_segment(segment: &str, other: &str) -> bool
-    ensures { result ≡ bytes_eq (chars segment.now) (chars other.now) }
-{
-    segment == other
 }
 
 /// Which segment it is.
@@ -50,10 +34,25 @@ pub fn go_up(path: &mut Vec<SmolStr>) -> Result<(), AllocError>
         ≡ above (texts path.old.items) (slice_get (texts path.old.items) (length (texts path.old.items) - 1))) }
 {
     match path.last() {
-        Some(last) if !is_up(last) => {
+        Some(last) if !leads_up(last) => {
             path.pop();
         }
         _ => path.push(SmolStr::new_inline(".."))?,
     }
     Ok(())
+}
+
+/// How many segments two paths have in common at the front.
+#[tactic(auto, using(smol_str::proofs::CallerLemmas::side_by_side))]
+pub fn common_front(left: &[SmolStr], right: &[SmolStr]) -> usize
+    ensures within { (result ≤ length left.now) × (result ≤ length right.now) }
+    ensures same { take result (texts left.now) ≡ take result (texts right.now) }
+{
+    let shorter = left.len().min(right.len());
+    for at in 0..shorter {
+        if left[at] != right[at] {
+            return at;
+        }
+    }
+    shorter
 }
