@@ -229,9 +229,8 @@ pub ruleset cut_once = (
   split_once-none,
 )
 
--- both answers of `strip_prefix` at a literal of any length, and the `None` of `strip_suffix`: apart, since `cut_once` has no
--- room for more
-pub ruleset stripped = (literal_in_front, strip_prefix-none, strip_suffix-none)
+-- where `strip_prefix` or `strip_suffix` finds no literal, of any length: apart, since `cut_once` has no room for more
+pub ruleset stripped = (strip_prefix-none, strip_suffix-none)
 
 -- a text cut at several literals or texts, one after another
 pub ruleset cut_at_texts = (text_between, literal_between)
