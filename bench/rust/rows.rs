@@ -2,14 +2,15 @@
 //! `String` or `Arc<str>`. It ends with status 1 where the type has no such operation.
 use borsh::{BorshDeserialize, BorshSerialize};
 use smol_str::{SmolStr, SmolStrBuilder, StrExt, format_smolstr};
+use std::borrow::Borrow;
 use std::collections::HashMap;
-use std::fmt::{Display, Write};
+use std::fmt::{Debug, Display, Write};
 use std::hash::{DefaultHasher, Hash, Hasher};
 use std::hint::black_box;
 use std::ops::Deref;
 
-trait Text: Clone + Ord + Hash + Display + Deref<Target = str> + From<String> + for<'a> From<&'a str> {}
-impl<T: Clone + Ord + Hash + Display + Deref<Target = str> + From<String> + for<'a> From<&'a str>> Text for T {}
+trait Text: Clone + Ord + Hash + Display + Debug + Deref<Target = str> + Borrow<str> + From<String> + for<'a> From<&'a str> {}
+impl<T: Clone + Ord + Hash + Display + Debug + Deref<Target = str> + Borrow<str> + From<String> + for<'a> From<&'a str>> Text for T {}
 
 /// Two texts of the input, the value of each, and the wire form and JSON of the first.
 struct Case<T> {
@@ -96,7 +97,22 @@ fn run<T: Text>(operation: &str, all: &[Case<T>], n: Turns) -> Option<u64> {
             out.clear();
             write!(out, "{}", it.value).map_or(0, |()| seen(&out, at))
         }),
-        "get" => looked_up(all, n),
+        "debug" => rounds(all, n, |it, at| {
+            out.clear();
+            write!(out, "{:?}", it.value).map_or(0, |()| seen(&out, at))
+        }),
+        "get" => {
+            let places = places(all);
+            rounds(all, n, |it, at| told(places[&it.other_value] as u64, at))
+        }
+        "get by str" => {
+            let places = places(all);
+            rounds(all, n, |it, at| told(places[it.other.as_str()] as u64, at))
+        }
+        "join" => {
+            let values = kept(all, |it| it.value.clone());
+            batches(all, n, |_, at| seen(&values.join(","), at))
+        }
         "new into a Vec" => batches(all, n, |all, at| last_of(kept(all, |it| T::from(it.text.as_str())), at)),
         "clone into a Vec" => batches(all, n, |all, at| last_of(kept(all, |it| it.value.clone()), at)),
         "sort" => {
@@ -126,6 +142,9 @@ fn run_own(operation: &str, all: &[Case<SmolStr>], n: Turns) -> Option<u64> {
             grown(empty(), at, |builder| texts.iter().for_each(|text| builder.push_str(text)))
         }),
         "extend_strs" => rounds(all, n, |it, at| grown(empty(), at, |builder| builder.extend(it.text.split(' ')))),
+        "join three" => rounds(all, n, |it, at| {
+            seen(&SmolStr::from([it.text.as_str(), &it.other, &it.text].join(",")), at)
+        }),
         "finish" => rounds(all, n, |it, at| {
             grown(SmolStrBuilder::with_capacity(100), at, |builder| builder.push_str(&it.text))
         }),
@@ -140,6 +159,7 @@ fn run_own(operation: &str, all: &[Case<SmolStr>], n: Turns) -> Option<u64> {
         }
         "ascii_lower" => rounds(all, n, |it, at| seen(&it.text.to_ascii_lowercase_smolstr(), at)),
         "lower" => rounds(all, n, |it, at| seen(&it.text.to_lowercase_smolstr(), at)),
+        "upper" => rounds(all, n, |it, at| seen(&it.text.to_uppercase_smolstr(), at)),
         "replace a x" => rounds(all, n, |it, at| seen(&it.text.replace_smolstr("a", "x"), at)),
         "replace a xyz" => rounds(all, n, |it, at| seen(&it.text.replace_smolstr("a", "xyz"), at)),
         "replace ab c" => rounds(all, n, |it, at| seen(&it.text.replace_smolstr("ab", "c"), at)),
@@ -147,10 +167,9 @@ fn run_own(operation: &str, all: &[Case<SmolStr>], n: Turns) -> Option<u64> {
     })
 }
 
-/// Where the other value of each case is among the values, by the map that a user has without a word.
-fn looked_up<T: Text>(all: &[Case<T>], n: Turns) -> u64 {
-    let places: HashMap<T, usize> = all.iter().enumerate().map(|(place, case)| (case.value.clone(), place)).collect();
-    rounds(all, n, |it, at| told(places[&it.other_value] as u64, at))
+/// Where each value is among the values, in the map that a user has without a word.
+fn places<T: Text>(all: &[Case<T>]) -> HashMap<T, usize> {
+    all.iter().enumerate().map(|(place, case)| (case.value.clone(), place)).collect()
 }
 
 /// How many different values there are.
