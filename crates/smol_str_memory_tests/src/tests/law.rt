@@ -44,8 +44,8 @@ static TEXTS: [Law<OnText>; 21] = table! {
     (AsciiUpper, "StrExt::to_ascii_uppercase_smolstr", Most(2), Texts(1), Plus(40), UnlessShort);
     (LowerOfAscii, "StrExt::to_lowercase_smolstr", Most(2), Texts(1), Plus(40), UnlessShort);
     (UpperOfAscii, "StrExt::to_uppercase_smolstr", Most(2), Texts(1), Plus(40), UnlessShort);
-    (Lower, "StrExt::to_lowercase_smolstr", Doubling(2), Texts(4), Plus(40), UnlessShort);
-    (Upper, "StrExt::to_uppercase_smolstr", Doubling(2), Texts(4), Plus(40), UnlessShort);
+    (Lower, "StrExt::to_lowercase_smolstr", Most(3), Texts(3), Plus(40), UnlessShort);
+    (Upper, "StrExt::to_uppercase_smolstr", Most(3), Texts(3), Plus(40), UnlessShort);
 };
 
 #[test]
@@ -150,8 +150,8 @@ fn of_builders(rt: HostRuntime) -> Result<(), Fail> {
 static FORMS: [Law<OnForm>; 11] = table! {
     (FromWire, "borsh::from_wire", Most(2), Texts(1), Plus(40), UnlessResident);
     (SplitWire, "borsh::split_wire", Most(2), Texts(1), Plus(40), UnlessResident);
-    (ReadChunk, "BorshDeserialize::deserialize_reader", Most(3), Texts(2), Plus(40), UnlessShort);
-    (ReadForm, "BorshDeserialize::deserialize_reader", Doubling(0), Texts(5), Plus(40), UnlessShort);
+    (ReadChunk, "BorshDeserialize::deserialize_reader", Most(2), Texts(1), Plus(40), UnlessShort);
+    (ReadForm, "BorshDeserialize::deserialize_reader", Doubling(0), Texts(4), Plus(40), UnlessShort);
     (ReadLimited, "borsh::deserialize_limited", Doubling(2), Texts(5), Plus(40), UnlessShort);
     (ReadUpTo, "stream::read_up_to", Doubling(1), Texts(4), Plus(8), UnlessEmpty);
     (ReadAll, "stream::read_all", Doubling(1), Texts(4), Plus(8), UnlessEmpty);
