@@ -23,6 +23,7 @@ pub mod Collecting
 pub mod Cuts
 pub mod CutOnce
 pub mod Wire
+pub mod Messages
 pub mod Crates
 pub use Rattle.smol_str.proofs.CallerLemmas.Texts.{texts, compared, tested, replacing, prints, chars-as_str}
 pub use Rattle.smol_str.proofs.CallerLemmas.Builders.{builders, passed_builders, OnHeap-front}
@@ -36,11 +37,11 @@ pub use Rattle.smol_str.proofs.CallerLemmas.Collecting.{collecting_chars, collec
 pub use Rattle.smol_str.proofs.CallerLemmas.Cuts.{cutting, joining, pieces_lack}
 pub use Rattle.smol_str.proofs.CallerLemmas.CutOnce.{cut_once, stripped, cut_at_texts, cut_alike, not_taken, trimmed}
 pub use Rattle.smol_str.proofs.CallerLemmas.Wire.{forms, parts, items, items-apart, lists-apart, form_is_whole, form-cut-utf8, AreRead, one_read, all_read, next_form}
+-- for an answer in a loop over wire forms: what is left after a value, after an early end, and where memory was refused
+pub use Rattle.smol_str.proofs.CallerLemmas.Messages.{left-of_value, left-of_ended, left-of_refused}
 pub use Rattle.smol_str.proofs.CallerLemmas.Crates.{owned, chars_cut}
 -- each front of a short text is short; the size of the text that bytes spell, and of two texts, one after the other
 pub use Rattle.smol_str.proofs.TextLemmas.Places.{IsShort-front, size-chars, size-append}
--- the size of a form, and the size that it states
-pub use Rattle.smol_str.proofs.WireLemmas.Wire.{length-wire, prefix_size-wire}
 -- what holds of an `Err` where it holds whatever came, or of the one fault that came
 pub use Rattle.smol_str.proofs.TextLemmas.Places.{OnErr-always, IfErr-is}
 -- for an answer at an early return from a loop over `lines().enumerate()`: the lines so far, and the one at hand
