@@ -5,7 +5,8 @@ ghost use Rattle.std.specs.Prelude.{Some, ◌≡◌, []};
 use crate::memory::start_counts;
 use crate::test::{Test, holds, no_blocks, same};
 use std::alloc::Global;
-use std::fmt::Debug;
+use std::fmt::{Debug, InlineText};
+use std::hash::{DefaultHasher, Hash, Hasher};
 use std::io;
 use std::io::{ErrorKind, Read, Write};
 
@@ -16,20 +17,24 @@ pub fn steps_about(chunk: usize) -> [usize; 7] {
 }
 
 /// What a stream does where it fails, another thing at each place: it returns an error of its own, or EINTR, EIO, EAGAIN,
-/// ENOSPC, EPIPE or ETIMEDOUT of the system; or it takes no byte. Upstream's calls go on after EINTR, ours do not.
+/// ENOSPC, EPIPE, ECONNRESET or ETIMEDOUT of the system; or it takes no byte. Upstream's calls go on after EINTR, ours do not.
 fn failure_at(place: usize) -> Option<io::Error> {
-    match place % 8 {
+    match place % 10 {
         0 => None,
         1 => Some(io::Error::from(ErrorKind::UnexpectedEof)),
-        nth => Some(io::Error::from_raw_os_error([4, 5, 11, 28, 32, 110][nth - 2])),
+        2 => Some(io::Error::other("words of its own")),
+        nth => Some(io::Error::from_raw_os_error([4, 5, 11, 28, 32, 104, 110][nth - 3])),
     }
 }
 
-/// What tells an error from others: its kind, and the system's code where it has one.
-pub type Cause = (ErrorKind, Option<i32>);
+/// What tells an error from others: its kind, the system's code where it has one, and the hash of what it prints.
+pub type Cause = (ErrorKind, Option<i32>, u64);
 
 pub fn cause_of(error: &io::Error) -> Cause {
-    (error.kind(), error.raw_os_error())
+    let printed: InlineText<80> = InlineText::of(format_args!("{error}"));
+    let mut hasher = DefaultHasher::default();
+    printed.as_str().hash(&mut hasher);
+    (error.kind(), error.raw_os_error(), hasher.finish())
 }
 
 /// Whether a place in so many bytes is tried: each in a few, and in many those about the ends of chunks.

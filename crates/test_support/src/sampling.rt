@@ -17,7 +17,7 @@ static MARKS: [&str; 23] = table! {
     "\""; "\\"; "\u{8}"; "\t"; "\n"; "\u{c}"; "\r"; "\u{1}";
 };
 
-/// Texts of each length from 0 to 300, about the powers of two up to 70,000, some between those, and of more than a megabyte.
+/// Texts of each length from 0 to 300, about the powers of two up to 70,000, some between those, and of more than two megabytes.
 /// Where memory can't be refused, some.
 pub fn samples(test: &Test) -> Vec<&'static str> {
     let mut texts = Vec::new(test.alloc);
@@ -36,7 +36,7 @@ pub fn samples(test: &Test) -> Vec<&'static str> {
         }
     }
     push_samples(test, &mut texts, 70_000);
-    push_samples(test, &mut texts, 1_300_003);
+    push_samples(test, &mut texts, 2_200_003);
     push_between(test, &mut texts);
     texts
 }

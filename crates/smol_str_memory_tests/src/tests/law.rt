@@ -167,14 +167,15 @@ fn of_forms(rt: HostRuntime) -> Result<(), Fail> {
 }
 
 /// Of JSON: the text in quotes, with white space around, or a tree. serde's reader copies the JSON, of up to six bytes for one.
-static JSON: [Law<OnJson>; 11] = table! {
+static JSON: [Law<OnJson>; 12] = table! {
     (FromValue, "json_string::from_value", Most(2), Texts(1), Plus(40), UnlessResident);
     (FromPlain, "json_string::from_json", Most(2), Texts(1), Plus(40), UnlessResident);
     (FromEscape, "json_string::from_json", Most(3), Texts(1), Plus(200), UnlessShort);
     (FromEscapes, "json_string::from_json", Doubling(2), Texts(4), Plus(40), UnlessShort);
     (BehindNumbers, "json_string::from_json", Most(2), Texts(1), Plus(140), UnlessShort);
     (NumbersAndMore, "json_string::from_json", Most(2), Texts(2), Plus(140), UnlessShort);
-    (NotString, "json_string::from_json", Most(5), Texts(3), Plus(880), ForAny);
+    (NotString, "json_string::from_json", Most(3), Texts(2), Plus(140), ForAny);
+    (Object, "json_string::from_json", Most(5), Texts(3), Plus(880), ForAny);
     (Serialize, "SmolStr::serialize", Doubling(1), Texts(4), Plus(120), ForAny);
     (Deserialize, "SmolStr::deserialize", Most(3), Texts(2), Plus(48), ForAny);
     (DeserializeEscaped, "SmolStr::deserialize", Most(3), Texts(7), Plus(48), ForAny);

@@ -107,6 +107,21 @@ fn capacity_too_large(rt: HostRuntime) -> Result<(), Fail> {
     test.end()
 }
 
+// No more than the capacity is asked for, however large it is.
+#[test]
+fn capacities(rt: HostRuntime) -> Result<(), Fail> {
+    let test = Test::begin(rt);
+    for capacity in [40, 1000, 4096, 20_000_000] {
+        refuse(test.alloc, Refusals::One(0));
+        let builder = SmolStrBuilder::with_capacity(test.alloc, capacity as usize);
+        end_refusals(test.alloc);
+        holds(&test, builder.is_ok(), &capacity);
+        let is_exact = is_at_most(test.alloc, Count::Bytes, capacity);
+        holds(&test, is_exact || !can_refuse(test.alloc), &capacity);
+    }
+    test.end()
+}
+
 // All of a capacity is asked for at once.
 #[test]
 fn appends_within_the_capacity(rt: HostRuntime) -> Result<(), Fail> {

@@ -1,5 +1,6 @@
 //! Formatting: the printed texts, and prints that give up.
 use smol_str::{FormatError, INLINE_CAP, SmolStr, SmolStrBuilder, ToSmolStr, format_smolstr};
+use std::cell::Cell;
 use std::fmt::{self, Display, Formatter, Write};
 use test_support::*;
 
@@ -113,6 +114,58 @@ fn two_pieces(rt: HostRuntime) -> Result<(), Fail> {
         if !was_refused || made.is_ok() {
             check_value(&test, made, "abc");
         }
+    }
+    test.end()
+}
+
+static PAST_ASCII: [&str; 4] = ["é\n", "🦀\"", "\u{301}", "a\u{7f}\u{200b}"];
+
+// As their texts do; of text past ASCII no contract says what that is.
+#[test]
+fn debug_past_ascii(rt: HostRuntime) -> Result<(), Fail> {
+    let test = Test::begin(rt);
+    for text in &PAST_ASCII {
+        check_debug(&test, text);
+    }
+    check_debug(&test, test.repeated("é", 1000).as_str());
+    test.end()
+}
+
+fn check_debug(test: &Test, text: &str) {
+    let value = test.value(text);
+    let printed = ok(test, format!(in test.alloc; "{value:?}"));
+    let wanted = ok(test, format!(in test.alloc; "{text:?}"));
+    same(test, &printed.as_str(), &wanted.as_str(), &"a value");
+    let builder = test.builder(0, text);
+    let printed = ok(test, format!(in test.alloc; "{builder:?}"));
+    same(test, &printed.as_str(), &wanted.as_str(), &"a builder");
+}
+
+/// A text that counts how often it is printed.
+#[derive(Drop)]
+struct Counting<'a> {
+    text: &'a str,
+    times: &'a Cell<usize>,
+}
+
+impl Display for Counting<'_> {
+    fn fmt<W: Write>(&self, f: &mut Formatter<W>) -> fmt::Result {
+        self.times.set(self.times.get().wrapping_add(1));
+        f.write_str(self.text)
+    }
+}
+
+#[test]
+fn printed_once(rt: HostRuntime) -> Result<(), Fail> {
+    let test = Test::begin(rt);
+    for text in ["ab", long_text()] {
+        let times = Cell::new(0);
+        let counting = Counting {
+            text,
+            times: &times,
+        };
+        check_value(&test, counting.to_smolstr(test.alloc), text);
+        same(&test, &times.get(), &1, &text);
     }
     test.end()
 }

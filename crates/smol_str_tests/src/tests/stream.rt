@@ -1,6 +1,6 @@
 //! Each call that reads or writes, over readers and writers of every step, which end after each byte and fail at each call.
 use super::borsh::fault::{reason_of, reason_of_limited};
-use super::borsh::{LETTERS, ROWS, form_of, of_units, ok_found};
+use super::borsh::{LETTERS, ROWS, form_of, letters, of_units, ok_found};
 use Call::*;
 use smol_str::borsh::{
     BorshDeserialize, BorshSerialize, EncodeFault, deserialize_limited, from_wire,
@@ -221,14 +221,60 @@ fn few_calls(rt: HostRuntime) -> Result<(), Fail> {
     for len in 0..=INLINE_CAP {
         check_write_calls(&test, len, 1);
     }
-    check_write_calls(&test, INLINE_CAP + 1, 2);
-    check_write_calls(&test, 5_000_000, 2);
+    for len in [INLINE_CAP + 1, 100, 5_000_000] {
+        check_write_calls(&test, len, 2);
+    }
+    for text in [long_text(), long_blank(), PINNED] {
+        check_writes(&test, &SmolStr::new_static(text), 2);
+    }
     test.end()
 }
 
+const PINNED: &str =
+    "a text of more than a hundred bytes that is pinned, so that it is written from where it lies, and at once";
+
 fn check_write_calls(test: &Test, len: usize, wanted: usize) {
-    let value = test.value(test.repeated("a", len).as_str());
+    check_writes(test, &test.value(test.repeated("a", len).as_str()), wanted)
+}
+
+fn check_writes(test: &Test, value: &SmolStr, wanted: usize) {
     let mut writer = empty_drip(test.alloc, usize::MAX, 0, None);
-    same(test, &serialized(&value, &mut writer), &None, &len);
-    same(test, &writer.calls, &wanted, &len);
+    same(test, &serialized(value, &mut writer), &None, value);
+    same(test, &writer.calls, &wanted, value);
+}
+
+/// The size of a body, and by how many calls its form is read: one for the prefix, and one for each chunk.
+static READ_CALLS: [(u32, usize); 9] = [
+    (0, 1),
+    (1, 2),
+    (39, 2),
+    (40, 2),
+    (256, 2),
+    (257, 2),
+    (4096, 2),
+    (4097, 3),
+    (9000, 4),
+];
+
+#[test]
+fn few_read_calls(rt: HostRuntime) -> Result<(), Fail> {
+    let test = Test::begin(rt);
+    for &(size, calls) in &READ_CALLS {
+        let form = letters(&test, size, size);
+        let mut reader = trickle_of(form.as_slice(), usize::MAX, 0);
+        let read = SmolStr::deserialize_reader(test.alloc, &mut reader);
+        holds(&test, read.is_ok(), &size);
+        same(&test, &reader.calls, &calls, &size);
+    }
+    let mut reader = trickle_of(&[b'a'; 9000], usize::MAX, 0);
+    holds(
+        &test,
+        read_all(test.alloc, &mut reader).is_ok(),
+        &"read_all",
+    );
+    same(&test, &reader.calls, &4, &"read_all");
+    let mut writer = empty_drip(test.alloc, 1, 0, None);
+    holds(&test, write_steps(&mut writer, b"").is_ok(), &"write_steps");
+    same(&test, &writer.calls, &0, &"write_steps");
+    test.end()
 }

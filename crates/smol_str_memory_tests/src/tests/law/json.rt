@@ -19,8 +19,10 @@ pub enum OnJson {
     BehindNumbers,
     /// As `BehindNumbers`, with other escapes behind a long plain front.
     NumbersAndMore,
-    /// A list or an object of it, a number, or text that is not JSON.
+    /// A list of it, a number, or text that is not JSON.
     NotString,
+    /// An object with a key of it.
+    Object,
     Serialize,
     Deserialize,
     DeserializeEscaped,
@@ -35,14 +37,17 @@ pub enum Input {
     Value(SmolStr),
 }
 
-/// A quote, and `é🦀` by numbers.
-const NUMBERS: &str = "\"\\u00e9\\ud83e\\udd80";
+/// A quote, and characters by numbers, with digits in both cases, of planes 1 and 2, and an escaped slash.
+const NUMBERS: &str = "\"\\u00e9\\u00E9\\u004A\\/\\ud83e\\udd80\\ud840\\udc00";
+
+/// Their text.
+const BY_NUMBERS: &str = "ééJ/🦀\u{20000}";
 
 /// What comes before a text and after it.
 static AROUND: [(&str, &str); 4] = [("", ""), (" \t", "\r\n"), ("", "\n"), (BLANKS, " ")];
 
-static NO_STRINGS: [(&str, &str); 6] = table! {
-    ("[\"", "\"]"); ("{\"", "\":[]}"); ("1", ""); ("null", " "); ("\"", ""); ("\"", "\\x");
+static NO_STRINGS: [(&str, &str); 5] = table! {
+    ("[\"", "\"]"); ("1", ""); ("null", " "); ("\"", ""); ("\"", "\\x");
 };
 
 const BLANKS: &str =
@@ -54,7 +59,7 @@ impl Call for OnJson {
     fn ways(self) -> usize {
         match self {
             FromPlain | FromEscape | FromEscapes | BehindNumbers | NumbersAndMore => 4,
-            NotString => 6,
+            NotString => 5,
             _ => 1,
         }
     }
@@ -74,8 +79,11 @@ impl Call for OnJson {
         match self {
             FromValue | DeserializeOwned => Input::Tree(Value::String(test.string(text))),
             Serialize => Input::Value(test.value(text)),
-            NotString => {
-                let (front, end) = NO_STRINGS[way % 6];
+            NotString | Object => {
+                let (front, end) = match self {
+                    Object => ("{\"", "\":[]}"),
+                    _ => NO_STRINGS[way % 5],
+                };
                 Input::Json(test.joined(front, test.joined(text, end).as_str()))
             }
             _ => {
@@ -99,7 +107,7 @@ impl Call for OnJson {
                 Deserialize | DeserializeEscaped => {
                     by_serde::<SmolStr>(serde_json::from_str(alloc, json.as_str()))
                 }
-                NotString => faulty(made(from_json(alloc, json.as_str()))),
+                NotString | Object => faulty(made(from_json(alloc, json.as_str()))),
                 _ => made(from_json(alloc, json.as_str())),
             },
         }
@@ -108,7 +116,7 @@ impl Call for OnJson {
     fn wanted(self, test: &Test, text: &'static str, way: usize) -> String {
         match self {
             Serialize => json_of(test, text),
-            _ if self.has_numbers(way) => test.joined("é🦀", text),
+            _ if self.has_numbers(way) => test.joined(BY_NUMBERS, text),
             _ => test.string(text),
         }
     }

@@ -26,9 +26,15 @@ pub enum Pieces {
     Chars(Vec<char>),
 }
 
-/// How many pieces a text is cut in: one, or none of no text; two, or from three to twenty-two. An empty one follows two.
+/// How many pieces a text is cut in: one, or none of no text; two, or from three to twenty-two, and of some texts 150 or
+/// 1,500. An empty one follows two.
 fn count_of(text: &str, way: usize) -> usize {
-    [text.len().min(1), 2, 3 + text.len() % 20][way % 3]
+    let many = match text.len() {
+        200 | 512 => 150,
+        4096 => 1500,
+        len => 3 + len % 20,
+    };
+    [text.len().min(1), 2, many][way % 3]
 }
 
 static SEPARATORS: [&str; 5] = table! {

@@ -23,6 +23,9 @@ const ALL: usize = usize::MAX;
 /// From none to eight times, by the length of the text.
 const FEW: usize = usize::MAX - 1;
 
+/// At most half as often as the text has bytes.
+const HALF: usize = usize::MAX - 2;
+
 /// The C library rounds the blocks of results that grow from such a text up to whole pages.
 const MAPPED: usize = 1_000_000;
 
@@ -40,20 +43,20 @@ static BYTE_BY_MORE: [Change; 5] = table! {
     ("a", "bb", ALL); ("a", "éé", ALL); ("a", LONG, 1000); ("a", "bb", FEW); ("z", "yy", ALL);
 };
 
-static BY_LESS: [Change; 12] = table! {
+static BY_LESS: [Change; 15] = table! {
     ("a", "", ALL); ("aa", "", ALL); ("aa", "b", ALL); ("aa", "bb", ALL); ("aaa", "b", ALL); ("aab", "bbb", ALL);
     ("ab", "c", ALL); (LONG, "bbb", ALL); ("aa", "b", FEW); ("aac", "b", ALL);
-    ("a", "b", FEW); ("abab", "éé", ALL);
+    ("a", "b", FEW); ("abab", "éé", ALL); ("a", "b", HALF); ("aaa", "b", HALF); ("é", "e", ALL);
 };
 
-static BY_MORE: [Change; 12] = table! {
+static BY_MORE: [Change; 14] = table! {
     ("aa", "bbb", ALL); ("aaa", "bbbb", ALL); ("ab", "abc", ALL); ("aab", LONG, ALL); ("aa", LONG, ALL);
     (LONG, "bbbbbbbbbbbbbbbbbbbbbbbbbbbbbbbbbbbbbbbbbbb", ALL); ("aa", LONG, FEW); ("aac", LONG, ALL);
-    ("a", LONG, FEW); ("a", "bb", ALL); ("a", "éé", ALL); ("a", LONG, 1000);
+    ("a", LONG, FEW); ("a", "bb", ALL); ("a", "éé", ALL); ("a", LONG, 1000); ("é", "eee", ALL); ("a", "bb", HALF);
 };
 
-static BETWEEN: [Change; 4] = table! {
-    ("", "", ALL); ("", "-", ALL); ("", "éé", ALL); ("", LONG, 1);
+static BETWEEN: [Change; 5] = table! {
+    ("", "", ALL); ("", "-", ALL); ("", "éé", ALL); ("", LONG, 1); ("", "-", HALF);
 };
 
 impl Replace {
@@ -70,6 +73,7 @@ impl Replace {
     fn change(self, text: &str, way: usize) -> Change {
         match self.changes().get(way) {
             Some(&(from, to, FEW)) => (from, to, text.len() % 9),
+            Some(&(from, to, HALF)) => (from, to, text.len() / 2),
             Some(change) => *change,
             None => ("a", "b", ALL),
         }

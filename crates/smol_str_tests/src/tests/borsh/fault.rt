@@ -113,6 +113,35 @@ fn same_fault(test: &Test, found: Option<DecodeFault>, reason: Reason, row: (usi
     }
 }
 
+/// A body, and how many of its bytes are UTF-8.
+static INVALID: [(&[u8], usize); 5] = table! {
+    (b"ab\xff", 2); (b"\xe9ab", 0); (b"abc\xf0\x9f", 3); (&[b'a'; 41], 40); (&[b'a'; 301], 300);
+};
+
+// The fault has std's error, which says where the bytes are not UTF-8.
+#[test]
+fn invalid_from(rt: HostRuntime) -> Result<(), Fail> {
+    let test = Test::begin(rt);
+    for &(front, valid) in &INVALID {
+        let mut bytes = of_units(&test, &(front.len() as u32).to_le_bytes(), front, 1);
+        if let Some(last) = bytes.get_mut(valid.saturating_add(4)) {
+            *last = 0xff;
+        }
+        check_index(&test, from_wire(test.alloc, bytes.as_slice()).err(), valid);
+        let mut reader = trickle_of(bytes.as_slice(), usize::MAX, 0);
+        let read = SmolStr::deserialize_reader(test.alloc, &mut reader);
+        check_index(&test, read.err(), valid);
+    }
+    test.end()
+}
+
+fn check_index(test: &Test, found: Option<DecodeFault>, valid: usize) {
+    match found {
+        Some(DecodeFault::NotUtf8(error)) => same(test, &error.valid_up_to(), &valid, &"bytes"),
+        _ => test.fail(&valid),
+    }
+}
+
 /// The most bytes that may be asked for where ten million came.
 const MOST_BYTES: u32 = 0x200_0000;
 
