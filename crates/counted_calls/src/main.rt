@@ -5,7 +5,8 @@
 use smol_str::borsh::{BorshSerialize, split_wire};
 use smol_str::json_string::{from_json, to_json};
 use smol_str::stream::read_all;
-use smol_str::{SmolStr, StrExt};
+use smol_str::{SmolStr, StrExt, ToSmolStr};
+use smol_tokens_core::tally::Tally;
 use std::alloc::Global;
 use std::env;
 use std::hash::{DefaultHasher, Hash, Hasher};
@@ -33,15 +34,20 @@ fn run(rt: &HostRuntime) -> Option<u64> {
     );
     let (json, form) = (to_json(alloc, &left).ok()?, wire_form(alloc, &left)?);
     let string = String::from_str(alloc, text).ok()?;
+    let mut tally = Tally::new(alloc);
+    tally.add(left.clone().ok()?, 1).ok()?;
     let mut sum = 0u64;
     for _ in 0..u64::from_str_radix(rounds, 10).ok()? {
         let size = match name.as_str() {
             "eq" => usize::from(left == right),
+            "cmp" => usize::from(left.cmp(&right).is_eq()),
             "hash" => hash(&left),
             "serialize" => wire_form(alloc, &left)?.len(),
             "from_string_refs" => twice(alloc, &string)?.len(),
             "split_wire" => split_wire(alloc, &form).ok()?.0.len(),
             "to_json" => to_json(alloc, &left).ok()?.len(),
+            "join" => SmolStr::join(alloc, &[text, text, text], ",").ok()?.len(),
+            "at" => tally.at(0)?.0.len(),
             "from_json" => from_json(alloc, &json).ok()?.len(),
             _ => made(alloc, name, text)?.len(),
         };
@@ -56,6 +62,7 @@ fn made(alloc: Global, name: &str, text: &str) -> Option<SmolStr> {
         "collect" => text.chars().collect(alloc).ok(),
         "replace" => text.replace_smolstr(alloc, "a", "xyz").ok(),
         "lower" => text.to_lowercase_smolstr(alloc).ok(),
+        "to_smolstr" => text.to_smolstr(alloc).ok(),
         "from_utf8" => SmolStr::from_utf8(alloc, text.as_bytes()).ok(),
         _ => None,
     }
