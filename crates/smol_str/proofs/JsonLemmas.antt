@@ -11,8 +11,8 @@ use Rattle.smol_str.proofs.PlainLemmas.{high, escape-plain, run-passes, cut-run}
 use Rattle.smol_str.specs.Plain.{is_plain, is_space, IsPlain, IsPlainJson, in_quotes}
 use Rattle.smol_str.specs.Json.{json_value, IsJsonText, IsJsonOf, AfterValueFault, AfterJsonFault}
 use Rattle.smol_str.specs.Unescaped.{Unescapes}
-use Rattle.smol_str.specs.declared.json_string.JsonFault.{JsonFault}
-use Rattle.smol_str.specs.declared.json_string.JsonFault.TheVariants.{OutOfMemory}
+use Rattle.smol_str.specs.declared.json_string.fault.JsonFault.{JsonFault}
+use Rattle.smol_str.specs.declared.json_string.fault.JsonFault.TheVariants.{OutOfMemory}
 use Rattle.serde_json.specs.Data.{Data, string}
 use Rattle.serde_json.specs.Read.{read, of_json}
 use Rattle.serde_json.specs.View.{view}

@@ -9,8 +9,8 @@ use Rattle.std.specs.Prelude.{◌≡◌, ⊤, ℕ, ◌<◌, List, length, Some, 
 use Rattle.serde_json.specs.Data as json
 use Rattle.serde_json.specs.Read.{read}
 pub use Rattle.serde_json.specs.Written.{compact_text}
-use Rattle.smol_str.specs.declared.json_string.JsonFault.{JsonFault}
-use Rattle.smol_str.specs.declared.json_string.JsonFault.TheVariants.{NotString, Json, OutOfMemory}
+use Rattle.smol_str.specs.declared.json_string.fault.JsonFault.{JsonFault}
+use Rattle.smol_str.specs.declared.json_string.fault.JsonFault.TheVariants.{NotString, Json, OutOfMemory}
 use Rattle.smol_str.specs.Text.{IsResident, place_of}
 use Rattle.smol_str.specs.Meaning.{Meaning}
 

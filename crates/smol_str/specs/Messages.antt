@@ -6,8 +6,8 @@ use Rattle.std.specs.declared.io.Error.{Error as IoError}
 use Rattle.serde_json.specs.declared.error.Error.{Error as JsonError}
 use Rattle.smol_str.specs.declared.value.convert.FromUtf8Fault.{FromUtf8Fault}
 use Rattle.smol_str.specs.declared.value.convert.FromUtf8Fault.TheVariants as utf8
-use Rattle.smol_str.specs.declared.json_string.JsonFault.{JsonFault}
-use Rattle.smol_str.specs.declared.json_string.JsonFault.TheVariants as json
+use Rattle.smol_str.specs.declared.json_string.fault.JsonFault.{JsonFault}
+use Rattle.smol_str.specs.declared.json_string.fault.JsonFault.TheVariants as json
 use Rattle.smol_str.specs.declared.stream.ReadFault.{ReadFault}
 use Rattle.smol_str.specs.declared.stream.ReadFault.TheVariants as stream
 use Rattle.smol_str.specs.declared.borsh.fault.EncodeFault.{EncodeFault}

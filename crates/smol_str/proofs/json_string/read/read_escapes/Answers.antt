@@ -1,6 +1,6 @@
 use Rattle.smol_str.proofs.Common.{ap, arith, rules}
 use Rattle.smol_str.proofs.JsonLemmas.Unescaped.{Unescapes-character}
-use Rattle.smol_str.proofs.json_string.push_characters.Goals as goal
+use Rattle.smol_str.proofs.json_string.read.read_escapes.Goals as goal
 
 pub loop-character-preserved : goal.loop-character-preserved
 loop-character-preserved c = (

@@ -1,6 +1,6 @@
 use Rattle.smol_str.proofs.Common.{◌<◌, ◌≤◌, ◌⊎◌, arith, common_steps, nat_tests}
 use Rattle.smol_str.proofs.JsonLemmas.Unescaped.{UnescapesAfterU-one, UnescapesAfterU-pair}
-use Rattle.smol_str.proofs.json_string.split_code.Goals as goal
+use Rattle.smol_str.proofs.json_string.read.split_code.Goals as goal
 
 pub returns-then-not-is_surrogate-clause-unescapes : goal.returns-then-not-is_surrogate-clause-unescapes
 returns-then-not-is_surrogate-clause-unescapes c =

@@ -3,7 +3,7 @@ use denote.Shadow.{shadow}
 use denote.Text.{Utf8}
 use Rattle.smol_str.proofs.Common.{◌≡◌, ◌∷◌, ◌++◌, length, string_bytes}
 use Rattle.json.specs.Print.{escape}
-use Rattle.smol_str.proofs.json_string.escaped.Given as goal
+use Rattle.smol_str.proofs.json_string.write.write_escaped.Given as goal
 
 abbrev pub invariant-loop-json : goal.invariant-loop-json
 invariant-loop-json l = shadow (Utf8 l.rest) × (34 ∷ escape l.fn.text ≡ string_bytes l.json ++ escape l.rest)

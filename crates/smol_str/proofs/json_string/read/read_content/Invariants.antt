@@ -3,7 +3,7 @@ use denote.Shadow.{shadow}
 use denote.Text.{Utf8}
 use Rattle.smol_str.proofs.Common.{length, encode_utf8_all}
 use Rattle.smol_str.specs.Unescaped.{Unescapes}
-use Rattle.smol_str.proofs.json_string.push_unescaped.Given as goal
+use Rattle.smol_str.proofs.json_string.read.read_content.Given as goal
 
 abbrev pub invariant-loop-character : goal.invariant-loop-character
 invariant-loop-character l = shadow (Utf8 l.rest) × Unescapes l.fn.text (encode_utf8_all l.builder.text) l.rest

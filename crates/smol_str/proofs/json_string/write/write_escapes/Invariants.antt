@@ -3,7 +3,7 @@ use denote.Shadow.{shadow}
 use denote.Text.{Utf8}
 use Rattle.smol_str.proofs.Common.{◌≡◌, ◌≤◌, ◌++◌, length, string_bytes}
 use Rattle.json.specs.Print.{escape}
-use Rattle.smol_str.proofs.json_string.push_escapes.Given as goal
+use Rattle.smol_str.proofs.json_string.write.write_escapes.Given as goal
 
 abbrev pub invariant-loop-byte : goal.invariant-loop-byte
 invariant-loop-byte l = shadow (Utf8 l.rest) × (length l.rest ≤ length l.fn.text)
