@@ -1,16 +1,13 @@
--- When each fault of a tally comes, what it gives back, and what it makes of a run; what holds after a text was to be
--- counted again.
-use Rattle.std.specs.Prelude.{◌≡◌, ℕ, ◌+◌, ◌<◌, ◌≤◌, ◌^◌, List, [], ◌∷◌, ◌++◌, Option, None, Some, codes, bytes_eq}
+-- When each fault of a tally comes, what it gives back, and what it makes of a run.
+use Rattle.std.specs.Prelude.{◌≡◌, ℕ, ◌+◌, ◌≤◌, ◌^◌, List, Option, None, Some, codes, bytes_eq}
 use Rattle.std.specs.Map.{lookup}
 use Rattle.smol_str.specs.Meaning.{Meaning}
 use Rattle.smol_str.specs.Messages.{out_of_memory_message}
 use Rattle.smol_tokens_core.specs.declared.tally.AddFault.{AddFault}
-use Rattle.smol_tokens_core.specs.declared.tally.Again.{Again}
-use Rattle.smol_tokens_core.specs.declared.tally.Again.TheVariants.{Counted, Full as FullAgain, New}
 use Rattle.smol_tokens_core.specs.declared.tally.AddFault.TheVariants.{OutOfMemory, Full}
 use Rattle.smol_tokens_core.specs.declared.fault.RunFault.{RunFault}
 use Rattle.smol_tokens_core.specs.declared.fault.RunFault.TheVariants as run
-use Rattle.smol_tokens_core.specs.Tally.{times_of, tally}
+use Rattle.smol_tokens_core.specs.Tally.{times_of}
 
 -- of t, with so many times, to a tally of the pairs: t is new; or its count would exceed `u64::MAX`
 abbrev pub AfterAddFault : List (List ℕ × ℕ) → List ℕ → ℕ → AddFault → Type 0
@@ -31,10 +28,3 @@ add_fault_message (Full token) = Some (codes "the count would exceed 18446744073
 abbrev pub of_add_fault : AddFault → RunFault
 of_add_fault (OutOfMemory token) = run.OutOfMemory
 of_add_fault (Full token) = run.Full
-
--- of t, with so many times, which is in the tally or not
-abbrev pub AfterAgain : List (List ℕ × ℕ) → List (List ℕ × ℕ) → List ℕ → ℕ → Again → Type 0
-AfterAgain old new t times (Counted count) =
-    (new ≡ tally (old ++ (t, times) ∷ [])) × (lookup (bytes_eq t) new ≡ Some count) × (times_of t old + times < 2 ^ 64)
-AfterAgain old new t times FullAgain = (new ≡ old) × (2 ^ 64 ≤ times_of t old + times)
-AfterAgain old new t times New = (new ≡ old) × (lookup (bytes_eq t) old ≡ None) × (times_of t old ≡ 0)

@@ -1,9 +1,9 @@
 //! How often each token was seen.
-ghost use Rattle.std.specs.Prelude.{◌≡◌, ◌<◌, ◌≤◌, ◌+◌, ◌^◌, [], ◌∷◌, ◌++◌, Some, None, IfOk, IfErr, OnOk, OnErr, MatchBool, length, slice_get, option_map, bytes_eq};
+ghost use Rattle.std.specs.Prelude.{◌≡◌, ◌<◌, ◌≤◌, ◌+◌, ◌^◌, [], ◌∷◌, ◌++◌, Some, None, IfOk, IfErr, OnOk, OnErr, MatchBool, MatchOption, length, slice_get, option_map, bytes_eq};
 ghost use Rattle.std.specs.Map.{lookup};
 ghost use Rattle.std.specs.Str.{chars};
 ghost use Rattle.smol_tokens_core.specs.Tally.{by_text, times_of, tally, HasEachOnce};
-ghost use Rattle.smol_tokens_core.specs.TallyFaults.{AfterAddFault, AfterAgain, given_back, add_fault_message};
+ghost use Rattle.smol_tokens_core.specs.TallyFaults.{AfterAddFault, given_back, add_fault_message};
 
 use indexmap::IndexMap;
 use indexmap::map::Iter;
@@ -38,16 +38,6 @@ impl Display for AddFault {
 }
 
 impl Error for AddFault {}
-
-/// What became of a text that was to be counted again.
-pub(crate) enum Again {
-    /// It is in the tally, and has this count now.
-    Counted(u64),
-    /// It is in the tally, and its count would pass `u64::MAX`: nothing changed.
-    Full,
-    /// It is not in the tally.
-    New,
-}
 
 /// A table of tokens and how often each was counted, in order of first sight.
 ///
@@ -104,7 +94,6 @@ impl<S: BuildHasher> Tally<S> {
     /// changes after a refusal, and the token comes back in it. It is [`AddFault::Full`] where the
     /// count would pass `u64::MAX`, which is tested first, and [`AddFault::OutOfMemory`] where there
     /// is no room for a new token.
-    #[tactic(auto, using(smol_str::proofs::CallerLemmas::texts))]
     pub fn add(&mut self, token: SmolStr, times: u64) -> Result<u64, AddFault>
         ensures ok { OnOk result (self.new ≡ tally (self.old ++ (token.text, times) ∷ [])) }
         ensures count { IfOk result (λ count. lookup (bytes_eq token.text) self.new ≡ Some count) }
@@ -114,44 +103,15 @@ impl<S: BuildHasher> Tally<S> {
         ensures back { IfErr result (λ fault. given_back fault ≡ token) }
         ensures unchanged { OnErr result (self.new ≡ self.old) }
     {
-        match self.add_again(token.as_str(), times) {
-            Again::Counted(count) => Ok(count),
-            Again::Full => Err(AddFault::Full(token)),
-            Again::New => match self.add_new(token, times) {
-                Ok(()) => Ok(times),
-                Err(token) => Err(AddFault::OutOfMemory(token)),
-            },
+        match self.counts.get_mut(token.as_str()) {
+            Some(count) => add_in_place(count, times).ok_or(AddFault::Full(token)),
+            None => {
+                if let Err(refused) = self.counts.insert(token, times) {
+                    return Err(AddFault::OutOfMemory(refused.value.0));
+                }
+                Ok(times)
+            }
         }
-    }
-
-    /// Counts a text so many `times` more, where it is in the tally: no value is made to look it up.
-    #[inline(always)]
-    pub(crate) fn add_again(&mut self, text: &str, times: u64) -> Again
-        ensures { AfterAgain self.old self.new (chars text.now) times result }
-    {
-        let Some(count) = self.counts.get_mut(text) else {
-            return Again::New;
-        };
-        let Some(more) = count.checked_add(times) else {
-            return Again::Full;
-        };
-        *count = more;
-        Again::Counted(more)
-    }
-
-    /// Takes a token in that is not in the tally; where memory is refused it comes back.
-    #[inline(always)]
-    pub(crate) fn add_new(&mut self, token: SmolStr, times: u64) -> Result<(), SmolStr>
-        requires new { lookup (bytes_eq token.text) self.old ≡ None }
-        ensures ok { OnOk result (self.new ≡ tally (self.old ++ (token.text, times) ∷ [])) }
-        ensures count { OnOk result (lookup (bytes_eq token.text) self.new ≡ Some times) }
-        ensures back { IfErr result (λ back. back ≡ token) }
-        ensures unchanged { OnErr result (self.new ≡ self.old) }
-    {
-        if let Err(refused) = self.counts.insert(token, times) {
-            return Err(refused.value.0);
-        }
-        Ok(())
     }
 
     /// Counts a text so many `times` more; false where its count would pass `u64::MAX`. A value is made only of a text that
@@ -168,12 +128,10 @@ impl<S: BuildHasher> Tally<S> {
             × (times_of (chars text.now) self.old + times < 2 ^ 64))
             (2 ^ 64 ≤ times_of (chars text.now) self.old + times)) }
     {
-        match self.add_again(text, times) {
-            Again::Counted(_) => Ok(true),
-            Again::Full => Ok(false),
-            Again::New => {
-                let token = SmolStr::new(alloc, text)?;
-                self.add_new(token, times)?;
+        match self.counts.get_mut(text) {
+            Some(count) => Ok(add_in_place(count, times).is_some()),
+            None => {
+                self.counts.insert(SmolStr::new(alloc, text)?, times)?;
                 Ok(true)
             }
         }
@@ -216,4 +174,15 @@ impl<S: BuildHasher> Tally<S> {
         let (token, count) = self.counts.get_index(index)?;
         Some((token, *count))
     }
+}
+
+/// Adds to a count and returns it; `None`, and the count as before, where it would pass `u64::MAX`.
+#[inline(always)]
+fn add_in_place(count: &mut u64, times: u64) -> Option<u64>
+    ensures { MatchOption result ((count.new ≡ count.old) × (2 ^ 64 ≤ count.old + times))
+        (λ more. (count.new ≡ more) × (more ≡ count.old + times) × (more < 2 ^ 64)) }
+{
+    let more = count.checked_add(times)?;
+    *count = more;
+    Some(more)
 }
