@@ -14,7 +14,7 @@
 //!     kernel                                                     building blocks for loops of your own
 //!     buffer, stream                                             a short text in its bytes; single reads and writes
 //!     shared                                                     the text that values on the heap share
-//!     bytes                                                      slices, words, searches, ASCII and plain JSON
+//!     bytes, messages                                            slices, words, searches, ASCII and plain JSON; what faults print
 //! ```
 #![tactic(auto)]
 
@@ -27,6 +27,7 @@ mod format;
 pub mod json_string;
 pub mod kernel;
 pub mod laws;
+mod messages;
 mod serde_impls;
 mod shared;
 mod str_ext;

@@ -10,6 +10,7 @@ ghost use Rattle.smol_str.specs.Messages.{read_fault_message};
 ghost use Rattle.smol_str.specs.declared.stream.ReadFault.TheVariants.{OutOfMemory, Io};
 
 use crate::bytes::zeros;
+use crate::messages::OUT_OF_MEMORY;
 use std::alloc::{AllocError, AllocFailed, Global};
 use std::error::Error;
 use std::fmt::{Display, Formatter};
@@ -59,7 +60,7 @@ impl Display for ReadFault {
 
     fn fmt<W: fmt::Write>(&self, f: &mut Formatter<W>) -> fmt::Result {
         match self {
-            ReadFault::OutOfMemory => f.write_str("memory allocation failed"),
+            ReadFault::OutOfMemory => f.write_str(OUT_OF_MEMORY),
             ReadFault::Io(error) => Display::fmt(error, f),
         }
     }

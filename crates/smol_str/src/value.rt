@@ -15,7 +15,7 @@ pub mod place;
 mod print;
 
 use crate::buffer::{INLINE_CAP, InlineBuffer, InlineText};
-use crate::kernel::AsciiCase;
+use crate::bytes::ascii::AsciiCase;
 use crate::shared::SharedText;
 use blank::{BLANK_NEWLINES, BLANK_SPACES, blank_slice, blank_text};
 use place::Place;

@@ -15,8 +15,8 @@ use super::place::Place;
 use super::{Repr, SmolStr};
 use crate::buffer::{INLINE_CAP, InlineText};
 use crate::bytes::ascii::is_all_ascii;
+use crate::messages::OUT_OF_MEMORY;
 use crate::shared::SharedText;
-use crate::stream::ReadFault;
 use simdutf8::is_utf8;
 use std::alloc::{AllocError, AllocFailed, Global};
 use std::borrow::CowStr;
@@ -59,7 +59,7 @@ impl Display for FromUtf8Fault {
     fn fmt<W: Write>(&self, f: &mut Formatter<W>) -> fmt::Result {
         match self {
             FromUtf8Fault::NotUtf8(error) => Display::fmt(error, f),
-            FromUtf8Fault::OutOfMemory => Display::fmt(&ReadFault::OutOfMemory, f),
+            FromUtf8Fault::OutOfMemory => f.write_str(OUT_OF_MEMORY),
         }
     }
 }
