@@ -63,6 +63,7 @@ pub(super) fn copy_packed(packed: &Packed) -> Packed
     let mut buf = [0; PACKED_LEN];
     let first = PACKED_LEN % 16;
     copy_at::<8>(&mut buf, packed, 0);
+    // Four blocks are enough: an INLINE_CAP below b'A' makes a PACKED_LEN of at most 64.
     copy_block(&mut buf, packed, first);
     copy_block(&mut buf, packed, first + 16);
     copy_block(&mut buf, packed, first + 32);
@@ -113,25 +114,25 @@ fn copy_at<const N: usize>(buf: &mut Packed, packed: &Packed, at: usize)
     load::<N>(packed, at).copy_to_slice(&mut buf[at..]);
 }
 
-/// A character's bytes.
+/// A character in UTF-8, as a word: the first byte is the lowest.
 #[inline(always)]
 fn char_word(character: char) -> u64
     ensures { result ≡ word 8 (encode_utf8 character) 0 }
 {
     let code = character as u32 as u64;
-    let last = (0x80 + code % 0x40) * 0x100;
+    let last = (0x80 + (code & 0x3f)) << 8;
     if code < 0x80 {
         return code;
     }
     if code < 0x800 {
-        return 0xc0 + code / 0x40 + last;
+        return 0xc0 + (code >> 6) + last;
     }
-    let middle = (0x80 + code / 0x40 % 0x40) * 0x100;
+    let middle = (0x80 + ((code >> 6) & 0x3f)) << 8;
     if code < 0x1_0000 {
-        return 0xe0 + code / 0x1000 + middle + last * 0x100;
+        return 0xe0 + (code >> 12) + middle + (last << 8);
     }
-    let second = (0x80 + code / 0x1000 % 0x40) * 0x100;
-    0xf0 + code / 0x4_0000 + second + middle * 0x100 + last * 0x1_0000
+    let second = (0x80 + ((code >> 12) & 0x3f)) << 8;
+    0xf0 + (code >> 18) + second + (middle << 8) + (last << 16)
 }
 
 /// Whether the words are equal. `&=` without an early exit: no branch.
