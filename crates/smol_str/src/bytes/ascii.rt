@@ -10,6 +10,9 @@ use std::simd::prelude::*;
 /// How many bytes are mapped at a time.
 const LANES: usize = 16;
 
+/// How far a small ASCII letter lies behind its capital.
+const CASE_OFFSET: u8 = b'a' - b'A';
+
 /// A case of ASCII letters.
 #[derive(Clone, Copy, PartialEq, Eq, Debug)]
 pub enum AsciiCase {
@@ -107,11 +110,11 @@ fn convert_part<const N: usize>(bytes: &mut [u8], at: usize, case: AsciiCase)
     let mapped = match case {
         AsciiCase::Lower => {
             let is_capital = lanes.simd_ge(Simd::splat(b'A')) & lanes.simd_le(Simd::splat(b'Z'));
-            is_capital.select(lanes + Simd::splat(32), lanes)
+            is_capital.select(lanes + Simd::splat(CASE_OFFSET), lanes)
         }
         AsciiCase::Upper => {
             let is_small = lanes.simd_ge(Simd::splat(b'a')) & lanes.simd_le(Simd::splat(b'z'));
-            is_small.select(lanes - Simd::splat(32), lanes)
+            is_small.select(lanes - Simd::splat(CASE_OFFSET), lanes)
         }
     };
     mapped.copy_to_slice(&mut bytes[at..]);
