@@ -127,6 +127,14 @@ impl SmolStrBuilder {
         self.as_str().is_empty()
     }
 
+    /// Does nothing. The clause tells a proof that a builder to which nothing is appended stays in its buffer.
+    #[inline(always)]
+    pub(crate) fn short_in_buffer(&self)
+        ensures { self.now.kind ≡ InBuffer → IsShort self.now.text }
+    {
+        prove!(self.inline_buffer().is_none() || self.as_str().len() <= INLINE_CAP);
+    }
+
     /// The buffer of a builder that keeps its text there, `None` on the heap: the text's bytes, and
     /// then zeros up to its end.
     pub fn inline_buffer(&self) -> Option<&InlineBuffer>

@@ -17,7 +17,6 @@ mod piece;
 pub mod steps;
 mod traits;
 
-use crate::buffer::INLINE_CAP;
 use crate::builder::SmolStrBuilder;
 use crate::value::SmolStr;
 pub use piece::Piece;
@@ -185,8 +184,7 @@ pub(crate) fn append_all<P: Piece, I: Iterator<Item = P>>(
     ensures ok { OnOk result (AppendedAll P.texts I.next_gives iter builder.old builder.new) }
     ensures stopped { OnErr result (StoppedAt P.texts I.next_gives iter builder.old builder.new) }
 {
-    // So no items at all leave it in its buffer.
-    prove!(builder.inline_buffer().is_none() || builder.as_str().len() <= INLINE_CAP);
+    builder.short_in_buffer();
     for piece in iter {
         piece.append_to(builder)?;
     }

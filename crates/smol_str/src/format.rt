@@ -5,7 +5,6 @@ ghost use Rattle.smol_str.specs.Meaning.{IsPrintOf};
 ghost use Rattle.smol_str.specs.BuilderState.{OnHeap, appended, AppendsPrintOf};
 ghost use Rattle.smol_str.specs.Messages.{format_message};
 
-use crate::buffer::INLINE_CAP;
 use crate::builder::SmolStrBuilder;
 use crate::value::SmolStr;
 use std::alloc::{AllocError, AllocFailed, Global};
@@ -74,7 +73,7 @@ impl SmolStrBuilder {
     pub fn write_fmt<D: fmt::Display + Drop>(&mut self, value: D) -> fmt::Result
         ensures { OnOk result (AppendsPrintOf (D.output value) self.old self.new) }
     {
-        prove!(self.as_str().len() <= INLINE_CAP || self.inline_buffer().is_none());
+        self.short_in_buffer();
         fmt::Write::write_fmt(self, value)
     }
 }

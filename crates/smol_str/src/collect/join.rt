@@ -68,8 +68,7 @@ fn append_others<P: Piece>(
     ensures refused { OnErr result ((appended builder.old
         (flat_map (λ piece. chars separator.now ++ P.text piece) others.now)).kind ≡ OnHeap) }
 {
-    // So no others at all leave it in its buffer.
-    prove!(builder.inline_buffer().is_none() || builder.as_str().len() <= INLINE_CAP);
+    builder.short_in_buffer();
     for piece in others {
         append_next(builder, separator, piece)?;
     }
