@@ -11,7 +11,7 @@ ghost use Rattle.smol_str.specs.Case.{IsAsciiText, converted};
 mod packing;
 
 use crate::bytes::ascii::{AsciiCase, convert_all, is_all_ascii};
-use packing::{copy_packed, order_words, pack, pack_char, same_words, write_ascii, write_at};
+use packing::{copy_packed, equal_words, order_words, pack, pack_char, write_ascii, write_at};
 use std::cmp::Ordering;
 use std::marker::Model;
 
@@ -145,10 +145,10 @@ impl InlineText {
     /// Whether the texts are equal, by their whole buffers and lengths: the bytes past a text's end
     /// are zero.
     #[inline(always)]
-    pub(crate) fn same(&self, other: &InlineText) -> bool
+    pub(crate) fn equal_by_words(&self, other: &InlineText) -> bool
         ensures { IsTrue result ↔ (self.now ≡ other.now) }
     {
-        same_words(&self.packed, &other.packed)
+        equal_words(&self.packed, &other.packed)
     }
 
     /// The order of the texts. A prefix is followed by zeros, so it sorts first or ties; then the length decides.

@@ -137,7 +137,7 @@ fn char_word(character: char) -> u64
 
 /// Whether the words are equal. `&=` without an early exit: no branch.
 #[inline(always)]
-pub(super) fn same_words(left: &Packed, right: &Packed) -> bool
+pub(super) fn equal_words(left: &Packed, right: &Packed) -> bool
     ensures { result ≡ pointwise nat_eq left.now right.now }
 {
     let mut same = true;

@@ -71,7 +71,7 @@ fn read_u32(bytes: &[u8], at: usize) -> u64
 /// Whether the texts are equal. From 8 to 128 bytes they are compared by blocks that may overlap, which takes fewer
 /// instructions than std's loop; that is as good for others.
 #[inline(always)]
-pub(crate) fn same_text(left: &str, right: &str) -> bool
+pub(crate) fn equal_by_blocks(left: &str, right: &str) -> bool
     ensures { result ≡ pointwise nat_eq left.now right.now }
 {
     let len = left.len();
@@ -79,16 +79,16 @@ pub(crate) fn same_text(left: &str, right: &str) -> bool
         return false;
     }
     match len {
-        8..=32 => same_bytes(left.as_bytes(), right.as_bytes()),
-        33..=64 => same_ends::<32>(left.as_bytes(), right.as_bytes()),
-        65..=128 => same_ends::<64>(left.as_bytes(), right.as_bytes()),
+        8..=32 => equal_by_overlapping_words(left.as_bytes(), right.as_bytes()),
+        33..=64 => equal_by_overlapping_lanes::<32>(left.as_bytes(), right.as_bytes()),
+        65..=128 => equal_by_overlapping_lanes::<64>(left.as_bytes(), right.as_bytes()),
         _ => left == right,
     }
 }
 
 /// Whether the bytes are equal: the first `N` and the last, which may overlap.
 #[inline(always)]
-fn same_ends<const N: usize>(left: &[u8], right: &[u8]) -> bool
+fn equal_by_overlapping_lanes<const N: usize>(left: &[u8], right: &[u8]) -> bool
     requires few { (0 < N) × (N ≤ 64) }
     requires long { length left.now ≡ length right.now }
     requires least { N ≤ length left.now }
@@ -96,12 +96,12 @@ fn same_ends<const N: usize>(left: &[u8], right: &[u8]) -> bool
     ensures { result ≡ pointwise nat_eq left.now right.now }
 {
     let last = left.len() - N;
-    same_lanes::<N>(left, right, 0) & same_lanes::<N>(left, right, last)
+    equal_lanes::<N>(left, right, 0) & equal_lanes::<N>(left, right, last)
 }
 
 /// Whether the `N` bytes from an index on are equal.
 #[inline(always)]
-fn same_lanes<const N: usize>(left: &[u8], right: &[u8], at: usize) -> bool
+fn equal_lanes<const N: usize>(left: &[u8], right: &[u8], at: usize) -> bool
     requires few { (0 < N) × (N ≤ 64) }
     requires in_left { at + N ≤ length left.now }
     requires in_right { at + N ≤ length right.now }
@@ -112,7 +112,7 @@ fn same_lanes<const N: usize>(left: &[u8], right: &[u8], at: usize) -> bool
 
 /// Whether the bytes are equal: the first words and the last, which may overlap.
 #[inline(always)]
-fn same_bytes(left: &[u8], right: &[u8]) -> bool
+fn equal_by_overlapping_words(left: &[u8], right: &[u8]) -> bool
     requires long { length left.now ≡ length right.now }
     requires least { 8 ≤ length left.now }
     requires most { length left.now ≤ 32 }
@@ -120,17 +120,17 @@ fn same_bytes(left: &[u8], right: &[u8]) -> bool
 {
     let len = left.len();
     if len <= 16 {
-        return same_two(left, right, 0, len - 8);
+        return equal_word_pairs(left, right, 0, len - 8);
     }
-    if !same_two(left, right, 0, 8) {
+    if !equal_word_pairs(left, right, 0, 8) {
         return false;
     }
-    same_two(left, right, len - 16, len - 8)
+    equal_word_pairs(left, right, len - 16, len - 8)
 }
 
 /// Whether two words are equal; neither decides alone, so that nothing branches between them.
 #[inline(always)]
-fn same_two(left: &[u8], right: &[u8], first: usize, second: usize) -> bool
+fn equal_word_pairs(left: &[u8], right: &[u8], first: usize, second: usize) -> bool
     requires first_left { first + 8 ≤ length left.now }
     requires first_right { first + 8 ≤ length right.now }
     requires second_left { second + 8 ≤ length left.now }

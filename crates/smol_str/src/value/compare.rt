@@ -15,7 +15,7 @@ ghost use Rattle.smol_str.specs.Keys.{stands_for};
 use super::place::Place;
 use super::{Repr, SmolStr};
 use crate::buffer::{INLINE_CAP, InlineText};
-use crate::bytes::words::same_text;
+use crate::bytes::words::equal_by_blocks;
 use indexmap::Equivalent;
 use std::cmp::Ordering;
 use std::hash::{Hash, Hasher};
@@ -31,7 +31,7 @@ impl SmolStr {
         ensures { IsTrue result ↔ (self.now.text ≡ chars other.now) }
     {
         match &self.repr {
-            Repr::Inline(text) => same_text(text.as_str(), other),
+            Repr::Inline(text) => equal_by_blocks(text.as_str(), other),
             _ => self.as_str() == other,
         }
     }
@@ -84,8 +84,8 @@ impl PartialEq for SmolStr {
             IsTrue result ↔ HaveOneBuffer self.now.text other.now.text }
     {
         match (&self.repr, &other.repr) {
-            (Repr::Inline(left), Repr::Inline(right)) => left.same(right),
-            _ => same_text(self.as_str(), other.as_str()),
+            (Repr::Inline(left), Repr::Inline(right)) => left.equal_by_words(right),
+            _ => equal_by_blocks(self.as_str(), other.as_str()),
         }
     }
 }

@@ -10,4 +10,4 @@ pub returns-in-Inline-Inline-clause-inline_buffers : goal.returns-in-Inline-Inli
 returns-in-Inline-Inline-clause-inline_buffers c =
     let left = rw c.in-Inline-Inline.is-0 at c.self.view_is in
     let right = rw c.in-Inline-Inline.is-1 at c.other.view_is in
-    rw (← left, ← right) (λ _ _. test-HaveOneBuffer _ _ _ c.same.ensures)
+    rw (← left, ← right) (λ _ _. test-HaveOneBuffer _ _ _ c.equal_by_words.ensures)

@@ -1,6 +1,6 @@
 use Rattle.smol_str.proofs.Common.{sym, ◌∙◌}
 use Rattle.smol_str.proofs.BufferLemmas.Ends.{same-lanes}
-use Rattle.smol_str.proofs.bytes.words.same_lanes.Goals as goal
+use Rattle.smol_str.proofs.bytes.words.equal_lanes.Goals as goal
 
 pub returns : goal.returns
 returns g c =

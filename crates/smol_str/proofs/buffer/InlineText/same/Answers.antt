@@ -1,6 +1,0 @@
-use Rattle.smol_str.proofs.BufferLemmas.Packed.{same-texts}
-use Rattle.smol_str.proofs.buffer.InlineText.same.Goals as goal
-
-pub returns : goal.returns
-returns c = rw (← c.self.view_is, ← c.other.view_is, c.same_words.ensures)
-    (same-texts _ _ c.self.invariant c.other.invariant)
