@@ -1,18 +1,18 @@
 //! The builder of a text.
-ghost use Rattle.std.specs.Prelude.{◌≡◌, ◌↔◌, ◌<◌, ◌≤◌, [], ◌∷◌, IsSome, IfSome, IfOk, IfErr, OnOk, OnErr, IsTrue, false, encode_utf8_all};
-ghost use Rattle.std.specs.Str.{IsAscii, chars, all_scalars};
-ghost use Rattle.std.specs.String.{string_bytes};
-ghost use Rattle.smol_str.specs.Text.{size, IsShort, IsResident, blank_run};
+ghost use Rattle.std.specs.Prelude.{◌≡◌, ◌↔◌, ◌<◌, ◌≤◌, [], ◌∷◌, IsSome, IfSome, IfOk, OnOk, OnErr, IsTrue, encode_utf8_all};
+ghost use Rattle.std.specs.Str.{chars, all_scalars};
+ghost use Rattle.smol_str.specs.Text.{size, IsShort, blank_run};
 ghost use Rattle.smol_str.specs.Buffer.{padded};
-ghost use Rattle.smol_str.specs.Meaning.{IsValueOf};
 ghost use Rattle.smol_str.specs.BuilderState.{InBuffer, OnHeap, empty_builder, appended, kind_for};
 
+mod append;
 mod chars;
 mod compare;
 mod deref;
+mod finish;
 
 use crate::buffer::{INLINE_CAP, InlineBuffer, InlineText};
-use crate::value::SmolStr;
+use crate::bytes::ascii::ascii_text;
 use crate::value::blank::{BLANK_NEWLINES, BLANK_SPACES, blank_text};
 use std::alloc::{AllocError, Global};
 use std::marker::Model;
@@ -160,7 +160,7 @@ impl SmolStrBuilder {
         let code = character as u32;
         if code < 0x80 {
             // A one-byte `str`, so the compiler drops the tests of other lengths.
-            if self.push_short(ascii_text(&[code as u8])) {
+            if self.push_in_buffer(ascii_text(&[code as u8])) {
                 return Ok(());
             }
             return self.push_ascii_on_heap(code as u8);
@@ -168,52 +168,6 @@ impl SmolStrBuilder {
         let mut buf = [0; 4];
         let text = character.encode_utf8(&mut buf);
         self.push_str(text)
-    }
-
-    /// Like [`SmolStrBuilder::push`], but looks for the heap first: for loops over the characters of a long text.
-    #[inline(always)]
-    pub(crate) fn push_next(&mut self, character: char) -> Result<(), AllocError>
-        ensures ok { OnOk result (self.new ≡ appended self.old (character ∷ [])) }
-        ensures unchanged { OnErr result (self.new ≡ self.old) }
-        ensures refused { OnErr result ((appended self.old (character ∷ [])).kind ≡ OnHeap) }
-    {
-        if let BuilderRepr::Heap(heap) = &mut self.repr {
-            return heap.push(character);
-        }
-        self.push(character)
-    }
-
-    /// Like [`SmolStrBuilder::push_next`], with room for `spare` bytes more where the builder moves to the heap.
-    #[inline(always)]
-    pub(crate) fn push_next_with_spare(
-        &mut self,
-        character: char,
-        spare: usize,
-    ) -> Result<(), AllocError>
-        ensures ok { OnOk result (self.new ≡ appended self.old (character ∷ [])) }
-        ensures unchanged { OnErr result (self.new ≡ self.old) }
-        ensures refused { OnErr result ((appended self.old (character ∷ [])).kind ≡ OnHeap) }
-    {
-        if let BuilderRepr::Heap(heap) = &mut self.repr {
-            return heap.push(character);
-        }
-        let mut buf = [0; 4];
-        self.push_with_spare(character.encode_utf8(&mut buf), spare)
-    }
-
-    /// Like [`SmolStrBuilder::push`], with the path on the heap inlined too: for loops over the characters of a text of
-    /// any length.
-    #[inline(always)]
-    pub(crate) fn push_inlined(&mut self, character: char) -> Result<(), AllocError>
-        ensures ok { OnOk result (self.new ≡ appended self.old (character ∷ [])) }
-        ensures unchanged { OnErr result (self.new ≡ self.old) }
-        ensures refused { OnErr result ((appended self.old (character ∷ [])).kind ≡ OnHeap) }
-    {
-        let code = character as u32;
-        if code < 0x80 && self.push_short(ascii_text(&[code as u8])) {
-            return Ok(());
-        }
-        self.push_next(character)
     }
 
     /// Appends a text.
@@ -238,7 +192,7 @@ impl SmolStrBuilder {
         ensures unchanged { OnErr result (self.new ≡ self.old) }
         ensures refused { OnErr result ((appended self.old (chars text.now)).kind ≡ OnHeap) }
     {
-        if self.push_short(text) {
+        if self.push_in_buffer(text) {
             return Ok(());
         }
         self.push_on_heap(text, spare)
@@ -263,73 +217,6 @@ impl SmolStrBuilder {
         self.push_str(blank_text(newlines, spaces))
     }
 
-    /// Like [`SmolStrBuilder::push_with_spare`], but looks for the heap first: for loops over the pieces of a long text.
-    #[inline(always)]
-    pub(crate) fn push_piece(&mut self, text: &str, spare: usize) -> Result<(), AllocError>
-        ensures ok { OnOk result (self.new ≡ appended self.old (chars text.now)) }
-        ensures unchanged { OnErr result (self.new ≡ self.old) }
-        ensures refused { OnErr result ((appended self.old (chars text.now)).kind ≡ OnHeap) }
-    {
-        if let BuilderRepr::Heap(heap) = &mut self.repr {
-            return heap.push_str(text);
-        }
-        self.push_with_spare(text, spare)
-    }
-
-    /// Appends a text with which the builder stays in its buffer; `false` where it would not.
-    #[inline(always)]
-    fn push_short(&mut self, text: &str) -> bool
-        ensures done { IsTrue result → self.new ≡ appended self.old (chars text.now) }
-        ensures unchanged { result ≡ false → self.new ≡ self.old }
-        ensures outgrown { result ≡ false → (appended self.old (chars text.now)).kind ≡ OnHeap }
-    {
-        if let BuilderRepr::Inline(short) = &mut self.repr {
-            if text.len() <= INLINE_CAP - short.len() {
-                short.push_str(text);
-                return true;
-            }
-        }
-        false
-    }
-
-    /// Slow path of [`SmolStrBuilder::push`]; only here is the byte spilled to memory.
-    #[inline(never)]
-    fn push_ascii_on_heap(&mut self, byte: u8) -> Result<(), AllocError>
-        requires ascii { byte < 128 }
-        requires heap { (appended self.old (byte ∷ [])).kind ≡ OnHeap }
-        ensures ok { OnOk result (self.new ≡ appended self.old (byte ∷ [])) }
-        ensures unchanged { OnErr result (self.new ≡ self.old) }
-        ensures refused { OnErr result ((appended self.old (byte ∷ [])).kind ≡ OnHeap) }
-    {
-        match &mut self.repr {
-            // One store: `push_str` would call `memcpy`.
-            BuilderRepr::Heap(heap) => heap.push(byte as char),
-            BuilderRepr::Inline(_) => self.push_on_heap(ascii_text(&[byte]), INLINE_CAP),
-        }
-    }
-
-    /// Slow path of the appends, kept out of line so that the fast path inlines. A builder that moves to the heap asks for
-    /// room for `spare` bytes more.
-    #[inline(never)]
-    fn push_on_heap(&mut self, text: &str, spare: usize) -> Result<(), AllocError>
-        requires { (appended self.old (chars text.now)).kind ≡ OnHeap }
-        ensures ok { OnOk result (self.new ≡ appended self.old (chars text.now)) }
-        ensures unchanged { OnErr result (self.new ≡ self.old) }
-        ensures refused { OnErr result ((appended self.old (chars text.now)).kind ≡ OnHeap) }
-    {
-        match &mut self.repr {
-            BuilderRepr::Heap(heap) => heap.push_str(text),
-            BuilderRepr::Inline(short) => {
-                // Memory first: a refusal leaves the buffer as it is.
-                let room = text.len().saturating_add(spare);
-                let mut heap = with_room(self.alloc, short.as_str(), room)?;
-                heap.push_str(text)?;
-                self.repr = BuilderRepr::Heap(heap);
-                Ok(())
-            }
-        }
-    }
-
     /// A builder of equal text and kind, with this builder's allocator.
     ///
     /// Only a builder on the heap can be refused a clone. The clone has the room that its text needs,
@@ -345,60 +232,6 @@ impl SmolStrBuilder {
         };
         Ok(SmolStrBuilder { alloc, repr })
     }
-
-    /// The value of the text, in the place of the text wherever the builder kept it.
-    ///
-    /// Builders with one text therefore finish to equal values in the same place, however each was
-    /// filled. A resident text needs no memory. Any other is refused where the heap has no room for
-    /// the value, and the builder is given back.
-    ///
-    /// ```
-    /// let mut builder = SmolStrBuilder::new(alloc);
-    /// builder.push_str("fn")?;
-    /// let value = builder.finish().map_err(|_builder| AllocError)?;
-    /// assert_eq!(rt; value.as_str(), "fn");
-    /// ```
-    #[inline(always)]
-    pub fn finish(self) -> Result<SmolStr, SmolStrBuilder>
-        ensures ok { IfOk result (λ v. IsValueOf self.text v) }
-        ensures back { IfErr result (λ back. back ≡ self) }
-        ensures refused { OnErr result (¬ (IsResident self.text)) }
-    {
-        let SmolStrBuilder { alloc, repr } = self;
-        match repr {
-            BuilderRepr::Inline(text) => Ok(SmolStr::from_inline(text.duplicate())),
-            BuilderRepr::Heap(text) => match SmolStr::new(alloc, text.as_str()) {
-                Ok(value) => Ok(value),
-                Err(AllocError) => Err(SmolStrBuilder {
-                    alloc,
-                    repr: BuilderRepr::Heap(text),
-                }),
-            },
-        }
-    }
-
-    /// Like `finish`, but drops the builder on failure, and reuses the allocation that the text is in,
-    /// shrunk to fit where the heap does that. That no copy is made is only tested.
-    ///
-    /// It is refused with [`AllocError`] where the heap has no room for the value's own count.
-    ///
-    /// ```
-    /// let mut builder = SmolStrBuilder::new(alloc);
-    /// builder.push_str("fn")?;
-    /// assert_eq!(rt; builder.into_value()?.as_str(), "fn");
-    /// ```
-    #[inline(always)]
-    pub fn into_value(self) -> Result<SmolStr, AllocError>
-        ensures ok { IfOk result (λ v. IsValueOf self.text v) }
-        ensures refused { OnErr result (¬ (IsResident self.text)) }
-    {
-        let SmolStrBuilder { alloc: _, repr } = self;
-        match repr {
-            BuilderRepr::Inline(text) => Ok(SmolStr::from_inline(text.duplicate())),
-            // `Ok(x?)`: returning x as it comes would build the value in memory in both arms.
-            BuilderRepr::Heap(text) => Ok(value_from(text)?),
-        }
-    }
 }
 
 /// For containers of builders; calls [`SmolStrBuilder::clone`].
@@ -413,52 +246,4 @@ impl Clone for SmolStrBuilder {
     {
         SmolStrBuilder::clone(self)
     }
-}
-
-impl SmolStr {
-    /// Calls `builder.finish()`; replaces upstream's `From<SmolStrBuilder>`.
-    pub fn from_builder(builder: SmolStrBuilder) -> Result<SmolStr, SmolStrBuilder>
-        ensures ok { IfOk result (λ v. IsValueOf builder.text v) }
-        ensures back { IfErr result (λ back. back ≡ builder) }
-        ensures refused { OnErr result (¬ (IsResident builder.text)) }
-    {
-        builder.finish()
-    }
-}
-
-/// For `?` in a function that returns [`AllocError`]; the builder is dropped.
-impl From<SmolStrBuilder> for AllocError {
-    fn from(_builder: SmolStrBuilder) -> AllocError {
-        AllocError
-    }
-}
-
-/// A `String` of a short text with room for so many bytes more.
-#[inline(always)]
-fn with_room(alloc: Global, text: &str, room: usize) -> Result<String, AllocError>
-    ensures { IfOk result (λ heap. string_bytes heap ≡ text.now) }
-{
-    let mut heap = String::with_capacity(alloc, text.len().saturating_add(room))?;
-    if !text.is_empty() {
-        heap.push_str(text)?;
-    }
-    Ok(heap)
-}
-
-/// Slow path of `into_value`, kept out of line so that the fast path inlines.
-#[inline(never)]
-fn value_from(text: String) -> Result<SmolStr, AllocError>
-    ensures ok { IfOk result (λ v. IsValueOf (chars (string_bytes text)) v) }
-    ensures refused { OnErr result (¬ (IsResident (chars (string_bytes text)))) }
-{
-    Ok(SmolStr::from_owned(text)?)
-}
-
-/// One ASCII byte as a text.
-#[inline(always)]
-fn ascii_text(byte: &[u8; 1]) -> &str
-    requires { IsAscii byte.now }
-    ensures { chars result.now ≡ byte.now }
-{
-    unsafe { str::from_utf8_unchecked(byte) }
 }

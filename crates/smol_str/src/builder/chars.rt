@@ -68,7 +68,7 @@ impl SmolStrBuilder {
             return extend_heap(heap, iter);
         }
         for character in iter {
-            self.push_next(character)?;
+            self.push_heap_first(character)?;
         }
         Ok(())
     }

@@ -1,6 +1,6 @@
 //! ASCII bytes, sixteen at a time: how many there are at the front, and their letters in a case.
 ghost use Rattle.std.specs.Prelude.{◌≡◌, ◌↔◌, ◌<◌, ◌≤◌, ◌+◌, false, IsTrue, length, take, drop, slice_index};
-ghost use Rattle.std.specs.Str.{IsAscii};
+ghost use Rattle.std.specs.Str.{IsAscii, chars};
 ghost use Rattle.std.specs.Simd.Lanes.{put_chunk};
 ghost use Rattle.smol_str.specs.Case.{converted, IsAsciiFront};
 
@@ -128,4 +128,13 @@ fn has_high<const N: usize>(lanes: Simd<u8, N>) -> bool
     ensures { (result ≡ false) ↔ IsAscii lanes.entry }
 {
     lanes.simd_gt(Simd::splat(127)).any()
+}
+
+/// One ASCII byte as a text.
+#[inline(always)]
+pub(crate) fn ascii_text(byte: &[u8; 1]) -> &str
+    requires { IsAscii byte.now }
+    ensures { chars result.now ≡ byte.now }
+{
+    unsafe { str::from_utf8_unchecked(byte) }
 }

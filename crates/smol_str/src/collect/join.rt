@@ -86,6 +86,6 @@ fn append_next<P: Piece>(
     ensures ok { OnOk result (builder.new ≡ appended builder.old (chars separator.now ++ P.text piece.now)) }
     ensures refused { OnErr result ((appended builder.old (chars separator.now ++ P.text piece.now)).kind ≡ OnHeap) }
 {
-    builder.push_piece(separator, INLINE_CAP)?;
+    builder.push_str_heap_first(separator, INLINE_CAP)?;
     piece.append_to(builder)
 }

@@ -8,6 +8,7 @@ ghost use Rattle.smol_str.specs.JoinedLaws.{joined-chars, joined-strs, joined-st
 
 use crate::buffer::INLINE_CAP;
 use crate::builder::SmolStrBuilder;
+use crate::bytes::ascii::ascii_text;
 use crate::value::SmolStr;
 use std::alloc::AllocError;
 
@@ -43,7 +44,12 @@ impl Piece for char {
 
     #[inline(always)]
     fn append_to(&self, builder: &mut SmolStrBuilder) -> Result<(), AllocError> {
-        builder.push_inlined(*self)
+        // The path on the heap is inlined too: loops over characters know no length.
+        let code = *self as u32;
+        if code < 0x80 && builder.push_in_buffer(ascii_text(&[code as u8])) {
+            return Ok(());
+        }
+        builder.push_heap_first(*self)
     }
 }
 
@@ -56,7 +62,7 @@ impl<'a> Piece for &'a str {
 
     #[inline(always)]
     fn append_to(&self, builder: &mut SmolStrBuilder) -> Result<(), AllocError> {
-        builder.push_piece(*self, INLINE_CAP)
+        builder.push_str_heap_first(*self, INLINE_CAP)
     }
 
     #[inline(always)]
@@ -76,7 +82,7 @@ impl Piece for String {
 
     #[inline(always)]
     fn append_to(&self, builder: &mut SmolStrBuilder) -> Result<(), AllocError> {
-        builder.push_piece(self.as_str(), INLINE_CAP)
+        builder.push_str_heap_first(self.as_str(), INLINE_CAP)
     }
 
     #[inline(always)]
@@ -95,7 +101,7 @@ impl<'a> Piece for &'a String {
 
     #[inline(always)]
     fn append_to(&self, builder: &mut SmolStrBuilder) -> Result<(), AllocError> {
-        builder.push_piece(self.as_str(), INLINE_CAP)
+        builder.push_str_heap_first(self.as_str(), INLINE_CAP)
     }
 
     #[inline(always)]
@@ -115,7 +121,7 @@ impl Piece for SmolStr {
     #[tactic(auto, using(crate::proofs::CallerLemmas::Texts::texts))]
     #[inline(always)]
     fn append_to(&self, builder: &mut SmolStrBuilder) -> Result<(), AllocError> {
-        builder.push_piece(self.as_str(), INLINE_CAP)
+        builder.push_str_heap_first(self.as_str(), INLINE_CAP)
     }
 
     #[inline(always)]

@@ -145,7 +145,7 @@ fn read_content<'a>(builder: &mut SmolStrBuilder, text: &'a str) -> Result<&'a s
         let Some((character, after)) = split_escape(behind) else {
             return Ok(behind);
         };
-        builder.push_next(character)?;
+        builder.push_heap_first(character)?;
         rest = read_escapes(builder, after)?;
     }
 }
@@ -161,7 +161,7 @@ fn read_escapes<'a>(builder: &mut SmolStrBuilder, text: &'a str) -> Result<&'a s
 {
     let mut rest = text;
     while let Some((character, after)) = split_escape(rest) {
-        builder.push_next(character)?;
+        builder.push_heap_first(character)?;
         rest = after;
     }
     Ok(rest)

@@ -208,7 +208,7 @@ fn push_ascii<'a, const N: usize>(
     part.copy_from_slice(first.as_bytes());
     convert_all(&mut part, case);
     let spare = rest.len().saturating_add(behind);
-    builder.push_piece(unsafe { str::from_utf8_unchecked(&part) }, spare)?;
+    builder.push_str_heap_first(unsafe { str::from_utf8_unchecked(&part) }, spare)?;
     Ok(rest)
 }
 
@@ -250,7 +250,7 @@ fn push_one_with_spare(
         ((appended builder.old (mapped case (character ∷ []))).kind ≡ OnHeap) }
 {
     if let Some(letter) = letter_of(character, case) {
-        return builder.push_next_with_spare(letter, spare);
+        return builder.push_heap_first_with_spare(letter, spare);
     }
     push_letters(builder, character, case, spare)
 }
@@ -292,7 +292,7 @@ fn push_letters(
         AsciiCase::Upper => character.to_uppercase(),
     };
     for letter in letters {
-        builder.push_next_with_spare(letter, spare)?;
+        builder.push_heap_first_with_spare(letter, spare)?;
     }
     Ok(())
 }

@@ -173,9 +173,9 @@ fn push_matches(
         };
         let found = index + skipped;
         left = left.saturating_sub(skipped);
-        builder.push_piece(&text[index..found], left)?;
+        builder.push_str_heap_first(&text[index..found], left)?;
         left = left.saturating_sub(step);
-        builder.push_piece(to, left)?;
+        builder.push_str_heap_first(to, left)?;
         index = found + needle.len();
     }
     Ok(index)

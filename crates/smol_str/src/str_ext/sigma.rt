@@ -76,9 +76,9 @@ fn push_sigma(builder: &mut SmolStrBuilder, in_word: bool, rest: &str) -> Result
         ((appended builder.old (lowercase_before in_word 0x3A3 (chars rest.now))).kind ≡ OnHeap) }
 {
     if in_word && !starts_with_cased(rest) {
-        builder.push_next_with_spare('ς', rest.len())
+        builder.push_heap_first_with_spare('ς', rest.len())
     } else {
-        builder.push_next_with_spare('σ', rest.len())
+        builder.push_heap_first_with_spare('σ', rest.len())
     }
 }
 

@@ -24,8 +24,8 @@ returns-in-Heap-clause-stopped g c =
 pub loop-character-preserved : goal.loop-character-preserved
 loop-character-preserved g c = search (rules, arith, appended-twice)
 
-pub returns-in_err-push_next-clause-stopped : goal.returns-in_err-push_next-clause-stopped
-returns-in_err-push_next-clause-stopped g c =
+pub returns-in_err-push_heap_first-clause-stopped : goal.returns-in_err-push_heap_first-clause-stopped
+returns-in_err-push_heap_first-clause-stopped g c =
     let now = c.loop-character in
     let first = c.args.first in
     let x = c.in-Some.character in
@@ -33,8 +33,8 @@ returns-in_err-push_next-clause-stopped g c =
     let joins = appended-twice c.args.self.now (first ∷ now.yielded) (x ∷ []) in
     let stopped = stopped-at g.I.Iterator.next_gives c.args.iter (λ items. first ∷ items) now.yielded c.args.self.now now.self
     now.invariant x c.next.new.self (now.character-iterator, yielded, c.in-Some.ensures.steps)
-    (cc (now.invariant, joins, c.in_err-push_next.ensures.refused)) in
-    rw c.in_err-push_next.ensures.unchanged (OnErr-always c.from_residual-in_err-push_next.result _ (inr stopped))
+    (cc (now.invariant, joins, c.in_err-push_heap_first.ensures.refused)) in
+    rw c.in_err-push_heap_first.ensures.unchanged (OnErr-always c.from_residual-in_err-push_heap_first.result _ (inr stopped))
 
 pub returns-clause-ok : goal.returns-clause-ok
 returns-clause-ok g c =

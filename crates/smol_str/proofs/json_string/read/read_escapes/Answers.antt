@@ -7,5 +7,5 @@ loop-character-preserved c = (
   search rules,
   omega (arith, c.in-Some.ensures.shorter),
   λ whole h. Unescapes-character _ _ _ _ _ _ (c.loop-character.invariant.2 whole h) c.in-Some.ensures.unescapes
-      (ap (λ d. d.text) c.in_ok-push_next.ensures.ok),
+      (ap (λ d. d.text) c.in_ok-push_heap_first.ensures.ok),
 )

@@ -29,26 +29,26 @@ range-requires-clause-end_boundary c =
     refl c.in-Some.ensures in
     match-boundary _ _ _ _ _ _ _ _ h k c.utf8.text
 
-pub returns-in_err-push_piece-clause-refused : goal.returns-in_err-push_piece-clause-refused
-returns-in_err-push_piece-clause-refused c =
+pub returns-in_err-push_str_heap_first-clause-refused : goal.returns-in_err-push_str_heap_first-clause-refused
+returns-in_err-push_str_heap_first-clause-refused c =
     let h = c.loop-taken.invariant in
     let k = replacing-found _ _ _ _ _ _ _ _ _ _ h c.utf8.text (sound-utf8 _ c.requires.sound) (sound-some _ c.requires.sound) c.bytes_from.ensures
     refl c.in-Some.ensures in
-    let heap = rw (c.range.ensures.value, match-piece _ _ _ _ _ _ _ _ h k c.utf8.text) at c.in_err-push_piece.ensures.refused in
+    let heap = rw (c.range.ensures.value, match-piece _ _ _ _ _ _ _ _ h k c.utf8.text) at c.in_err-push_str_heap_first.ensures.refused in
     OnErr-always c.from_residual.result _
     (match-refused _ _ _ _ _ _ _ _ h k (c.args.count - (c.loop-taken.taken + 1)) (omega arith)
     (appended-heap c.loop-taken.builder k.before (chars c.args.to.now) heap))
 
-pub returns-in_err-push_piece-2-clause-refused : goal.returns-in_err-push_piece-2-clause-refused
-returns-in_err-push_piece-2-clause-refused c =
+pub returns-in_err-push_str_heap_first-2-clause-refused : goal.returns-in_err-push_str_heap_first-2-clause-refused
+returns-in_err-push_str_heap_first-2-clause-refused c =
     let h = c.loop-taken.invariant in
     let k = replacing-found _ _ _ _ _ _ _ _ _ _ h c.utf8.text (sound-utf8 _ c.requires.sound) (sound-some _ c.requires.sound) c.bytes_from.ensures
     refl c.in-Some.ensures in
-    let first = rw (c.range.ensures.value, match-piece _ _ _ _ _ _ _ _ h k c.utf8.text) at c.in_ok-push_piece.ensures.ok in
-    OnErr-always c.from_residual-in_err-push_piece-2.result _
+    let first = rw (c.range.ensures.value, match-piece _ _ _ _ _ _ _ _ h k c.utf8.text) at c.in_ok-push_str_heap_first.ensures.ok in
+    OnErr-always c.from_residual-in_err-push_str_heap_first-2.result _
     (match-refused _ _ _ _ _ _ _ _ h k (c.args.count - (c.loop-taken.taken + 1)) (omega arith)
-    (second-heap c.loop-taken.builder c.push_piece.new.self k.before (chars c.args.to.now) first
-    c.in_err-push_piece-2.ensures.refused))
+    (second-heap c.loop-taken.builder c.push_str_heap_first.new.self k.before (chars c.args.to.now) first
+    c.in_err-push_str_heap_first-2.ensures.refused))
 
 pub overflow_add-index : goal.overflow_add-index
 overflow_add-index c = grind (arith, common_steps, replacing-found, match-end)
@@ -58,7 +58,7 @@ loop-taken-preserved c =
     let h = c.loop-taken.invariant in
     let k = replacing-found _ _ _ _ _ _ _ _ _ _ h c.utf8.text (sound-utf8 _ c.requires.sound) (sound-some _ c.requires.sound) c.bytes_from.ensures
     refl c.in-Some.ensures in
-    let first = rw (c.range.ensures.value, match-piece _ _ _ _ _ _ _ _ h k c.utf8.text) at c.in_ok-push_piece.ensures.ok in
+    let first = rw (c.range.ensures.value, match-piece _ _ _ _ _ _ _ _ h k c.utf8.text) at c.in_ok-push_str_heap_first.ensures.ok in
     rw c.len-in-loop-taken.ensures
     (match-step _ _ _ _ _ _ _ _ h k (c.args.count - (c.loop-taken.taken + 1)) (omega arith)
-    (sound-utf8 _ c.requires.sound) _ (appended-both _ _ _ _ _ first c.in_ok-push_piece-2.ensures.ok))
+    (sound-utf8 _ c.requires.sound) _ (appended-both _ _ _ _ _ first c.in_ok-push_str_heap_first-2.ensures.ok))

@@ -1,8 +1,8 @@
 use Rattle.smol_str.proofs.Common.{arith, rules}
 use Rattle.smol_str.proofs.BuilderLemmas.State.{kind_with-short, kind_with-long}
 use Rattle.smol_str.proofs.TextLemmas.Places.{size-append, size-chars}
-use Rattle.smol_str.proofs.builder.SmolStrBuilder.push_short.Goals.{in-Inline+else-text-len, in_default}
-use Rattle.smol_str.proofs.builder.SmolStrBuilder.push_short.Goals as goal
+use Rattle.smol_str.proofs.builder.SmolStrBuilder.push_in_buffer.Goals.{in-Inline+else-text-len, in_default}
+use Rattle.smol_str.proofs.builder.SmolStrBuilder.push_in_buffer.Goals as goal
 
 pub invariant_of-self : goal.invariant_of-self
 invariant_of-self c = search (rules, arith, size-append, size-chars)

@@ -1,6 +1,6 @@
 use Rattle.smol_str.proofs.Common.{chars-append, IsUtf8-string_bytes, arith, rules}
 use Rattle.smol_str.proofs.TextLemmas.Places.{OnOk-if}
-use Rattle.smol_str.proofs.builder.SmolStrBuilder.push_piece.Goals as goal
+use Rattle.smol_str.proofs.builder.SmolStrBuilder.push_str_heap_first.Goals as goal
 
 pub returns-in-Heap-clause-ok : goal.returns-in-Heap-clause-ok
 returns-in-Heap-clause-ok c = search (rules, arith, OnOk-if, chars-append, IsUtf8-string_bytes) fits 60

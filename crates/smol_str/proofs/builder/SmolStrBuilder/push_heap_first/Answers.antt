@@ -1,6 +1,6 @@
 use Rattle.smol_str.proofs.Common.{arith, rules}
 use Rattle.smol_str.proofs.TextLemmas.Places.{OnOk-if, chars-pushed}
-use Rattle.smol_str.proofs.builder.SmolStrBuilder.push_next.Goals as goal
+use Rattle.smol_str.proofs.builder.SmolStrBuilder.push_heap_first.Goals as goal
 
 pub returns-in-Heap-clause-ok : goal.returns-in-Heap-clause-ok
 returns-in-Heap-clause-ok c = search (rules, arith, OnOk-if, chars-pushed) fits 60

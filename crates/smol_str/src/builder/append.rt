@@ -1,0 +1,122 @@
+//! Appending to the buffer, and to the heap.
+ghost use Rattle.std.specs.Prelude.{◌≡◌, ◌<◌, [], ◌∷◌, IfOk, OnOk, OnErr, IsTrue, false};
+ghost use Rattle.std.specs.Str.{chars};
+ghost use Rattle.std.specs.String.{string_bytes};
+ghost use Rattle.smol_str.specs.BuilderState.{OnHeap, appended};
+
+use super::{BuilderRepr, SmolStrBuilder};
+use crate::buffer::INLINE_CAP;
+use crate::bytes::ascii::ascii_text;
+use std::alloc::{AllocError, Global};
+
+impl SmolStrBuilder {
+    /// Like [`SmolStrBuilder::push`], but looks for the heap first: for loops over the characters of a long text.
+    #[inline(always)]
+    pub(crate) fn push_heap_first(&mut self, character: char) -> Result<(), AllocError>
+        ensures ok { OnOk result (self.new ≡ appended self.old (character ∷ [])) }
+        ensures unchanged { OnErr result (self.new ≡ self.old) }
+        ensures refused { OnErr result ((appended self.old (character ∷ [])).kind ≡ OnHeap) }
+    {
+        if let BuilderRepr::Heap(heap) = &mut self.repr {
+            return heap.push(character);
+        }
+        self.push(character)
+    }
+
+    /// Like [`SmolStrBuilder::push_heap_first`], with room for `spare` bytes more where the builder moves to the heap.
+    #[inline(always)]
+    pub(crate) fn push_heap_first_with_spare(
+        &mut self,
+        character: char,
+        spare: usize,
+    ) -> Result<(), AllocError>
+        ensures ok { OnOk result (self.new ≡ appended self.old (character ∷ [])) }
+        ensures unchanged { OnErr result (self.new ≡ self.old) }
+        ensures refused { OnErr result ((appended self.old (character ∷ [])).kind ≡ OnHeap) }
+    {
+        if let BuilderRepr::Heap(heap) = &mut self.repr {
+            return heap.push(character);
+        }
+        let mut buf = [0; 4];
+        self.push_with_spare(character.encode_utf8(&mut buf), spare)
+    }
+
+    /// Like [`SmolStrBuilder::push_with_spare`], but looks for the heap first: for loops over the pieces of a long text.
+    #[inline(always)]
+    pub(crate) fn push_str_heap_first(&mut self, text: &str, spare: usize) -> Result<(), AllocError>
+        ensures ok { OnOk result (self.new ≡ appended self.old (chars text.now)) }
+        ensures unchanged { OnErr result (self.new ≡ self.old) }
+        ensures refused { OnErr result ((appended self.old (chars text.now)).kind ≡ OnHeap) }
+    {
+        if let BuilderRepr::Heap(heap) = &mut self.repr {
+            return heap.push_str(text);
+        }
+        self.push_with_spare(text, spare)
+    }
+
+    /// Appends a text with which the builder stays in its buffer; `false` where it would not.
+    #[inline(always)]
+    pub(crate) fn push_in_buffer(&mut self, text: &str) -> bool
+        ensures done { IsTrue result → self.new ≡ appended self.old (chars text.now) }
+        ensures unchanged { result ≡ false → self.new ≡ self.old }
+        ensures outgrown { result ≡ false → (appended self.old (chars text.now)).kind ≡ OnHeap }
+    {
+        if let BuilderRepr::Inline(short) = &mut self.repr {
+            if text.len() <= INLINE_CAP - short.len() {
+                short.push_str(text);
+                return true;
+            }
+        }
+        false
+    }
+
+    /// Slow path of [`SmolStrBuilder::push`]; only here is the byte spilled to memory.
+    #[inline(never)]
+    pub(super) fn push_ascii_on_heap(&mut self, byte: u8) -> Result<(), AllocError>
+        requires ascii { byte < 128 }
+        requires heap { (appended self.old (byte ∷ [])).kind ≡ OnHeap }
+        ensures ok { OnOk result (self.new ≡ appended self.old (byte ∷ [])) }
+        ensures unchanged { OnErr result (self.new ≡ self.old) }
+        ensures refused { OnErr result ((appended self.old (byte ∷ [])).kind ≡ OnHeap) }
+    {
+        match &mut self.repr {
+            // One store: `push_str` would call `memcpy`.
+            BuilderRepr::Heap(heap) => heap.push(byte as char),
+            BuilderRepr::Inline(_) => self.push_on_heap(ascii_text(&[byte]), INLINE_CAP),
+        }
+    }
+
+    /// Slow path of the appends, kept out of line so that the fast path inlines. A builder that moves to the heap asks for
+    /// room for `spare` bytes more.
+    #[inline(never)]
+    pub(super) fn push_on_heap(&mut self, text: &str, spare: usize) -> Result<(), AllocError>
+        requires { (appended self.old (chars text.now)).kind ≡ OnHeap }
+        ensures ok { OnOk result (self.new ≡ appended self.old (chars text.now)) }
+        ensures unchanged { OnErr result (self.new ≡ self.old) }
+        ensures refused { OnErr result ((appended self.old (chars text.now)).kind ≡ OnHeap) }
+    {
+        match &mut self.repr {
+            BuilderRepr::Heap(heap) => heap.push_str(text),
+            BuilderRepr::Inline(short) => {
+                // Memory first: a refusal leaves the buffer as it is.
+                let room = text.len().saturating_add(spare);
+                let mut heap = with_room(self.alloc, short.as_str(), room)?;
+                heap.push_str(text)?;
+                self.repr = BuilderRepr::Heap(heap);
+                Ok(())
+            }
+        }
+    }
+}
+
+/// A `String` of a short text with room for so many bytes more.
+#[inline(always)]
+fn with_room(alloc: Global, text: &str, room: usize) -> Result<String, AllocError>
+    ensures { IfOk result (λ heap. string_bytes heap ≡ text.now) }
+{
+    let mut heap = String::with_capacity(alloc, text.len().saturating_add(room))?;
+    if !text.is_empty() {
+        heap.push_str(text)?;
+    }
+    Ok(heap)
+}
