@@ -1,5 +1,5 @@
 //! The immutable text.
-ghost use Rattle.std.specs.Prelude.{◌≡◌, ◌≤◌, ◌↔◌, ◌⊎◌, [], length, MatchOption, IfOk, OnErr, IsSome, IfSome, IsTrue, encode_utf8_all};
+ghost use Rattle.std.specs.Prelude.{◌≡◌, ◌≤◌, ◌↔◌, ◌⊎◌, [], length, IfOk, OnErr, IsSome, IfSome, IsTrue, encode_utf8_all};
 ghost use Rattle.std.specs.Str.{chars, all_scalars};
 ghost use Rattle.smol_str.specs.Shared.{shared_bytes};
 ghost use Rattle.smol_str.specs.Text.{size, IsShort, IsResident, blank_run, place_of};
@@ -17,7 +17,7 @@ mod print;
 use crate::buffer::{INLINE_CAP, InlineBuffer, InlineText};
 use crate::bytes::ascii::AsciiCase;
 use crate::shared::SharedText;
-use blank::{BLANK_NEWLINES, BLANK_SPACES, blank_slice, blank_text};
+use blank::{BLANK_NEWLINES, BLANK_SPACES, blank_text};
 use place::Place;
 use std::alloc::{AllocError, Global};
 use std::marker::Model;
@@ -82,13 +82,8 @@ impl SmolStr {
         ensures ok { IfOk result (λ v. IsValueOf (chars text.now) v) }
         ensures refused { OnErr result (¬ (IsResident (chars text.now))) }
     {
-        if text.len() <= INLINE_CAP {
-            return Ok(SmolStr::new_inline(text));
-        }
-        match blank_slice(text) {
-            Some(run) => Ok(SmolStr {
-                repr: Repr::Static(run),
-            }),
+        match SmolStr::resident(text) {
+            Some(value) => Ok(value),
             None => Ok(SmolStr::from_heap(heap_text(alloc, text)?)),
         }
     }
@@ -251,42 +246,6 @@ impl SmolStr {
         match &self.repr {
             Repr::Inline(text) => Some(text.buffer()),
             Repr::Static(_) | Repr::Heap(_) => None,
-        }
-    }
-
-    /// The value of a resident text, which takes no memory.
-    #[inline(always)]
-    pub(crate) fn resident(text: &str) -> Option<SmolStr>
-        ensures { MatchOption result (¬ (IsResident (chars text.now))) (λ v. IsValueOf (chars text.now) v) }
-    {
-        if text.len() <= INLINE_CAP {
-            return Some(SmolStr::new_inline(text));
-        }
-        let run = blank_slice(text)?;
-        Some(SmolStr {
-            repr: Repr::Static(run),
-        })
-    }
-
-    /// The value that keeps a short text in its buffer.
-    #[inline(always)]
-    pub(crate) fn from_inline(text: InlineText) -> SmolStr
-        requires { IsShort text }
-        ensures { IsValueOf text result }
-    {
-        SmolStr {
-            repr: Repr::Inline(text),
-        }
-    }
-
-    /// The value that keeps a text on the heap.
-    #[inline(always)]
-    pub(crate) fn from_heap(text: SharedText) -> SmolStr
-        requires { ¬ (IsResident (chars (shared_bytes text))) }
-        ensures { IsValueOf (chars (shared_bytes text)) result }
-    {
-        SmolStr {
-            repr: Repr::Heap(text),
         }
     }
 }
