@@ -10,6 +10,7 @@
 --     HasReadSize           the size came
 --     HasReadBody           the body came, and is the text of a value
 --     HasReadLarge          the body came, and is a text that is not resident
+--     AfterFillFault        a buffer was not filled
 --     AfterBodyFault        it did not, or is not UTF-8, or memory was refused
 -- And what other calls' faults become.
 --     of_read_fault         the fault of a reader that was read by chunks
@@ -122,6 +123,13 @@ pub record HasReadLarge (input left : Option (List ℕ)) (n : ℕ) : Type 0 wher
   pub utf8 : IsUtf8 body
   pub large : ¬ (IsResident (chars body))
   pub bytes : Consumes input left body
+
+-- after a buffer of n bytes was not filled
+abbrev pub AfterFillFault : Option (List ℕ) → Option (List ℕ) → ℕ → DecodeFault → Type 0
+AfterFillFault input left n Ended = GaveAllBelow input left n
+AfterFillFault input left n (ReadFailed e) = GaveBelow input left n
+-- no other fault comes of it
+AfterFillFault input left n fault = ⊥
 
 -- after reading a body of n bytes
 abbrev pub AfterBodyFault : Option (List ℕ) → Option (List ℕ) → ℕ → DecodeFault → Type 0

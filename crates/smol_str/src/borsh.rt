@@ -10,7 +10,7 @@ ghost use Rattle.smol_str.specs.Text.{size, place_of};
 ghost use Rattle.smol_str.specs.Stream.{Gave};
 ghost use Rattle.smol_str.specs.Wire.{HasWire, wire, Holds};
 ghost use Rattle.smol_str.specs.declared.borsh.fault.LimitedFault.TheVariants.{Decode};
-ghost use Rattle.smol_str.specs.WireFaults.{AfterEncodeFault, AfterDecodeFault, AfterFromWireFault, AfterLimitedFault, HasReadSize, HasReadBody, AfterBodyFault};
+ghost use Rattle.smol_str.specs.WireFaults.{AfterEncodeFault, AfterDecodeFault, AfterFromWireFault, AfterLimitedFault, HasReadSize, HasReadBody, AfterFillFault, AfterBodyFault};
 
 mod fault;
 
@@ -197,29 +197,41 @@ fn read_size<R: Read>(reader: &mut R) -> Result<usize, DecodeFault>
         AfterLimitedFault limit (R.remaining reader.old) (R.remaining reader.new) (Decode fault)) }
 {
     let mut prefix = [0; 4];
-    if fill(reader, &mut prefix)? < 4 {
-        return Err(DecodeFault::Ended);
-    }
+    fill_all(reader, &mut prefix)?;
     Ok(size_in(&prefix))
 }
 
-/// Reads a body that fills a buffer, so that memory is asked for the value alone.
+/// Fills a buffer; an early end if fewer bytes are left.
 #[inline(always)]
-#[tactic(auto, using(crate::proofs::WireLemmas::Borsh::read_bodies))]
-fn read_into<R: Read>(
-    alloc: Global,
-    reader: &mut R,
-    buffer: &mut [u8],
-) -> Result<SmolStr, DecodeFault>
-    ensures ok { IfOk result
-        (HasReadBody (R.remaining reader.old) (R.remaining reader.new) (length buffer.old)) }
+fn fill_all<R: Read>(reader: &mut R, buffer: &mut [u8]) -> Result<(), DecodeFault>
+    ensures ok { OnOk result (Gave R.remaining reader.old reader.new buffer.new) }
     ensures fault { IfErr result
-        (AfterBodyFault (R.remaining reader.old) (R.remaining reader.new) (length buffer.old)) }
+        (AfterFillFault (R.remaining reader.old) (R.remaining reader.new) (length buffer.old)) }
 {
     if fill(reader, buffer)? < buffer.len() {
         return Err(DecodeFault::Ended);
     }
-    Ok(SmolStr::from_utf8(alloc, buffer)?)
+    Ok(())
+}
+
+/// Reads a body of `size` bytes into a buffer of `N` on the stack, so that memory is asked for the value alone.
+#[inline(always)]
+#[tactic(auto, using(crate::proofs::WireLemmas::Borsh::read_bodies))]
+fn read_on_stack<R: Read, const N: usize>(
+    alloc: Global,
+    reader: &mut R,
+    size: usize,
+) -> Result<SmolStr, DecodeFault>
+    requires room { size ≤ N }
+    requires small { N ≤ STACK_BODY }
+    ensures ok { IfOk result (HasReadBody (R.remaining reader.old) (R.remaining reader.new) size) }
+    ensures fault { IfErr result
+        (AfterBodyFault (R.remaining reader.old) (R.remaining reader.new) size) }
+{
+    let mut buffer = zeros::<N>();
+    let body = &mut buffer[..size];
+    fill_all(reader, body)?;
+    Ok(SmolStr::from_utf8(alloc, body)?)
 }
 
 /// Reads a body of `size` bytes.
@@ -229,12 +241,10 @@ fn read_body<R: Read>(alloc: Global, reader: &mut R, size: usize) -> Result<Smol
         (AfterBodyFault (R.remaining reader.old) (R.remaining reader.new) size) }
 {
     if size <= INLINE_CAP {
-        let mut buffer = zeros::<INLINE_CAP>();
-        return read_into(alloc, reader, &mut buffer[..size]);
+        return read_on_stack::<R, INLINE_CAP>(alloc, reader, size);
     }
     if size <= STACK_BODY {
-        let mut buffer = zeros::<STACK_BODY>();
-        return read_into(alloc, reader, &mut buffer[..size]);
+        return read_on_stack::<R, STACK_BODY>(alloc, reader, size);
     }
     // By chunks. UTF-8 is tested when all of it is there, and the value keeps the memory that they were gathered in.
     let body = read_up_to(alloc, reader, size)?;

@@ -13,7 +13,7 @@ use borrow.Rule.Slice.PartMut.{put_mid}
 use Rattle.smol_str.specs.Stream.{AppendsBeginning, GaveAllBelow, GaveBelow, GaveUpTo}
 use Rattle.smol_str.specs.WireFaults.{AfterDecodeFault, GaveTooFew, GaveSomeOfBody, HasReadBody, HasReadLarge, NeedsMemory, AfterBodyFault, StatesAtMost, AfterLimitedFault, of_utf8_fault}
 use Rattle.smol_str.proofs.TextLemmas.Places.{size-chars, IfErr-is}
-use Rattle.smol_str.proofs.WireLemmas.Stream.{beginning-of_first, beginning-of_second, Consumes-full}
+use Rattle.smol_str.proofs.WireLemmas.Stream.{beginning-of_first, beginning-of_second}
 
 -- ---- faults that another call's become
 
@@ -148,6 +148,6 @@ module _ (n : ℕ) (fits : n < 2 ^ 32) where
 
 pub ruleset written_forms = (IfErr-is, Appends-parts)
 
-pub ruleset read_bodies = (IfErr-is, Consumes-full, AfterBodyFault-of_text)
+pub ruleset read_bodies = (IfErr-is, AfterBodyFault-of_text)
 
 pub ruleset limited_reads = (IfErr-is, is_read-of_body, Consumes-of_body, size-of_body, AfterLimitedFault-above)

@@ -1,6 +1,6 @@
 -- A beginning of what is written in two parts: for `serialize`, which writes a size and then a text. And what a
 -- reader gave that failed: for `stream`.
-use Rattle.smol_str.proofs.Common.{ℕ, ◌+◌, ◌<◌, ◌≤◌, length, List, ◌++◌, Option, arith, append_assoc, length-append, Appends, Appends-trans, Consumes, Consumes-trans, rules, take, subst, take_all}
+use Rattle.smol_str.proofs.Common.{ℕ, ◌+◌, ◌<◌, ◌≤◌, length, List, ◌++◌, Option, arith, append_assoc, length-append, Appends, Appends-trans, Consumes, Consumes-trans, rules}
 use Rattle.smol_str.specs.Stream.{AppendsBeginning, GaveBelow, GaveUpTo}
 
 module _ (first second : List ℕ) where
@@ -24,8 +24,3 @@ GaveBelow-after a b c bytes room n consumed h within = search (rules, arith, len
 pub GaveUpTo-after : (a b c : Option (List ℕ)) (bytes more : List ℕ) (n : ℕ) → Consumes a b bytes
     → Consumes b c more → 0 < length more → length bytes + length more ≤ n → GaveUpTo a c n
 GaveUpTo-after a b c bytes more n consumed then some within = search (rules, arith, length-append, Consumes-trans)
-
--- a reader gave what fills a buffer
-pub Consumes-full : (a b : Option (List ℕ)) (n : ℕ) (buffer : List ℕ) → Consumes a b (take n buffer) → length buffer ≤ n
-    → Consumes a b buffer
-Consumes-full a b n buffer consumed full = subst (Consumes a b) (take_all n buffer full) consumed
