@@ -6,6 +6,7 @@ ghost use Rattle.smol_str.specs.declared.borsh.fault.EncodeFault.TheVariants.{Io
 ghost use Rattle.smol_str.specs.declared.borsh.fault.DecodeFault.TheVariants.{OutOfMemory as NoMemory, Io as ReadFailed};
 ghost use Rattle.smol_str.specs.declared.borsh.fault.LimitedFault.TheVariants.{Decode};
 
+use crate::messages::OUT_OF_MEMORY;
 use crate::stream::ReadFault;
 use crate::value::convert::FromUtf8Fault;
 use std::alloc::{AllocError, AllocFailed};
@@ -155,7 +156,7 @@ impl Display for DecodeFault {
         match self {
             DecodeFault::Ended => f.write_str("the bytes end before the text does"),
             DecodeFault::NotUtf8(error) => Display::fmt(error, f),
-            DecodeFault::OutOfMemory => Display::fmt(&ReadFault::OutOfMemory, f),
+            DecodeFault::OutOfMemory => f.write_str(OUT_OF_MEMORY),
             DecodeFault::Io(error) => Display::fmt(error, f),
         }
     }

@@ -3,7 +3,7 @@ ghost use Rattle.std.specs.Prelude.{◌≡◌};
 ghost use Rattle.smol_str.specs.Messages.{json_fault_message};
 ghost use Rattle.smol_str.specs.declared.json_string.fault.JsonFault.TheVariants.{OutOfMemory};
 
-use crate::stream::ReadFault;
+use crate::messages::OUT_OF_MEMORY;
 use std::alloc::{AllocError, AllocFailed};
 use std::error::Error;
 use std::fmt;
@@ -45,7 +45,7 @@ impl Display for JsonFault {
         match self {
             JsonFault::NotString => f.write_str("the JSON value is not a string"),
             JsonFault::Json(error) => Display::fmt(error, f),
-            JsonFault::OutOfMemory => Display::fmt(&ReadFault::OutOfMemory, f),
+            JsonFault::OutOfMemory => f.write_str(OUT_OF_MEMORY),
         }
     }
 }
