@@ -45,13 +45,18 @@ pub fn convert_while_ascii(text: &str, case: AsciiCase) -> (InlineBuffer, usize)
 pub fn next_match(text: &str, from: usize, pattern: &str) -> Option<usize>
     requires boundary { 0 < from → IsCharBoundary text.now from }
     requires not_empty { 0 < length pattern.now }
+
+    // Which match is found: the pattern does not occur before it.
     ensures first { MatchOption result (¬ Occurs (chars pattern.now) (chars (drop from text.now)))
         (λ i. IsFirstAfter (chars pattern.now) (chars (take (i - from) (drop from text.now)))) }
+
+    // What a cut at the match leaves.
     ensures parts { IfSome result (λ i. chars text.now ≡ chars (take i text.now)
         ++ (chars pattern.now ++ chars (drop (i + length pattern.now) text.now))) }
     ensures boundaries { IfSome result (λ i.
         IsCharBoundary text.now i × IsCharBoundary text.now (i + length pattern.now)) }
     ensures within { IfSome result (λ i. (from ≤ i) × (i + length pattern.now ≤ length text.now)) }
+
     // For proofs over every split: of the characters at `from`, or of the bytes round a match.
     ensures found { (a b : List ℕ) → chars text.now ≡ a ++ b → size a ≡ from →
         (i : ℕ) → (result ≡ Some i) ↔ IsNextMatch a b (chars pattern.now) i }

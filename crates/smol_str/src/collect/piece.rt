@@ -44,7 +44,7 @@ impl Piece for char {
 
     #[inline(always)]
     fn append_to(&self, builder: &mut SmolStrBuilder) -> Result<(), AllocError> {
-        // The path on the heap is inlined too: loops over characters know no length.
+        // As `push`, with the path on the heap inlined too: a loop over characters may be of any length.
         let code = *self as u32;
         if code < 0x80 && builder.push_in_buffer(ascii_text(&[code as u8])) {
             return Ok(());
