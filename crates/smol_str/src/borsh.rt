@@ -16,7 +16,7 @@ mod fault;
 
 use crate::buffer::INLINE_CAP;
 use crate::bytes::zeros;
-use crate::stream::{fill, read_up_to, write_steps};
+use crate::stream::{fill, read_up_to, write_fully};
 use crate::value::SmolStr;
 use crate::value::convert::utf8_text;
 pub use fault::{DecodeFault, EncodeFault, LimitedFault};
@@ -274,11 +274,11 @@ impl BorshSerialize for SmolStr {
             let mut form = zeros::<SHORT_FORM>();
             form[..4].copy_from_slice(&prefix);
             form[4..].copy_from_slice(buffer);
-            write_steps(writer, &form[..4 + bytes.len()])?;
+            write_fully(writer, &form[..4 + bytes.len()])?;
             return Ok(());
         }
-        write_steps(writer, &prefix)?;
-        write_steps(writer, bytes)?;
+        write_fully(writer, &prefix)?;
+        write_fully(writer, bytes)?;
         Ok(())
     }
 }

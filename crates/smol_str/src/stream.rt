@@ -147,10 +147,10 @@ pub fn read_all<R: Read>(alloc: Global, reader: &mut R) -> Result<Vec<u8>, ReadF
 ///
 /// ```
 /// let mut written = Vec::new(alloc);
-/// write_steps(&mut written, b"ab")?;
+/// write_fully(&mut written, b"ab")?;
 /// assert_eq!(rt; written.as_slice(), b"ab".as_slice());
 /// ```
-pub fn write_steps<W: Write>(writer: &mut W, bytes: &[u8]) -> Result<(), io::Error>
+pub fn write_fully<W: Write>(writer: &mut W, bytes: &[u8]) -> Result<(), io::Error>
     ensures ok { OnOk result (Appends (W.contents writer.old) (W.contents writer.new) bytes.now) }
     ensures beginning { OnErr result
         (AppendsBeginning (W.contents writer.old) (W.contents writer.new) bytes.now) }

@@ -6,7 +6,7 @@ use crate::fault::RunFault;
 use crate::mode::Mode;
 use crate::report::make_report;
 use simdutf8::compat::from_utf8;
-use smol_str::stream::{read_all, write_steps};
+use smol_str::stream::{read_all, write_fully};
 use std::alloc::Global;
 use std::hash::{BuildHasher, BuildHasherDefault, FoldHasher};
 use std::io::{Read, Write};
@@ -53,6 +53,6 @@ pub fn run_with_hasher<S: BuildHasher + Drop, R: Read, W: Write>(
         return Err(RunFault::NotUtf8);
     };
     let report = make_report(alloc, state, &mode, text)?;
-    write_steps(writer, report.as_bytes())?;
+    write_fully(writer, report.as_bytes())?;
     Ok(())
 }

@@ -156,7 +156,7 @@ static FORMS: [Law<OnForm>; 11] = table! {
     (ReadUpTo, "stream::read_up_to", Doubling(1), Texts(4), Plus(8), UnlessEmpty);
     (ReadAll, "stream::read_all", Doubling(1), Texts(4), Plus(8), UnlessEmpty);
     (Fill, "stream::fill", Most(0), Texts(0), Plus(0), ForAny);
-    (WriteSteps, "stream::write_steps", Most(0), Texts(0), Plus(0), ForAny);
+    (WriteFully, "stream::write_fully", Most(0), Texts(0), Plus(0), ForAny);
     (NotUtf8, "SmolStr::from_utf8", Most(0), Texts(0), Plus(0), ForAny);
     (EndsEarly, "borsh::deserialize_limited", Doubling(1), Texts(4), Plus(8), UnlessShort);
 };

@@ -5,7 +5,7 @@ use Call::*;
 use smol_str::borsh::{
     BorshDeserialize, BorshSerialize, EncodeFault, deserialize_limited, from_wire,
 };
-use smol_str::stream::{CHUNK, ReadFault, fill, read_all, read_up_to, write_steps};
+use smol_str::stream::{CHUNK, ReadFault, fill, read_all, read_up_to, write_fully};
 use smol_str::{INLINE_CAP, SmolStr};
 use std::io;
 use test_support::*;
@@ -168,27 +168,27 @@ fn check_no_read(test: &Test, call: Call) {
 #[derive(Drop)]
 enum Writes<'a> {
     Serialize(SmolStr),
-    WriteSteps(&'a [u8]),
+    WriteFully(&'a [u8]),
 }
 
 impl Writing for Writes<'_> {
     fn name(&self) -> &str {
         match self {
             Writes::Serialize(_) => "BorshSerialize::serialize",
-            Writes::WriteSteps(_) => "stream::write_steps",
+            Writes::WriteFully(_) => "stream::write_fully",
         }
     }
 
     fn write(&self, _test: &Test, writer: &mut Drip) -> Option<Reason> {
         match self {
             Writes::Serialize(value) => serialized(value, writer),
-            Writes::WriteSteps(form) => steps_written(form, writer),
+            Writes::WriteFully(form) => steps_written(form, writer),
         }
     }
 }
 
 fn steps_written(form: &[u8], writer: &mut Drip) -> Option<Reason> {
-    match write_steps(writer, form) {
+    match write_fully(writer, form) {
         Ok(()) => None,
         Err(error) => Some(Reason::Io(cause_of(&error))),
     }
@@ -209,7 +209,7 @@ fn fails_at_each_write_call(rt: HostRuntime) -> Result<(), Fail> {
         let form = form.as_slice();
         let (value, _) = ok_found(&test, from_wire(test.alloc, form));
         fails_at_each_write(&test, CHUNK, &Writes::Serialize(value), form);
-        fails_at_each_write(&test, CHUNK, &Writes::WriteSteps(form), form);
+        fails_at_each_write(&test, CHUNK, &Writes::WriteFully(form), form);
     }
     test.end()
 }
@@ -274,7 +274,7 @@ fn few_read_calls(rt: HostRuntime) -> Result<(), Fail> {
     );
     same(&test, &reader.calls, &4, &"read_all");
     let mut writer = empty_drip(test.alloc, 1, 0, None);
-    holds(&test, write_steps(&mut writer, b"").is_ok(), &"write_steps");
-    same(&test, &writer.calls, &0, &"write_steps");
+    holds(&test, write_fully(&mut writer, b"").is_ok(), &"write_fully");
+    same(&test, &writer.calls, &0, &"write_fully");
     test.end()
 }

@@ -2,7 +2,7 @@
 use OnForm::*;
 use smol_str::SmolStr;
 use smol_str::borsh::{BorshDeserialize, DecodeFault, deserialize_limited, from_wire, split_wire};
-use smol_str::stream::{CHUNK, fill, read_all, read_up_to, write_steps};
+use smol_str::stream::{CHUNK, fill, read_all, read_up_to, write_fully};
 use std::io::Read;
 use test_support::*;
 
@@ -19,7 +19,7 @@ pub enum OnForm {
     ReadUpTo,
     ReadAll,
     Fill,
-    WriteSteps,
+    WriteFully,
     /// A byte behind the text that begins no character.
     NotUtf8,
     /// The size is one more than the text's, and by single bytes more than the limit.
@@ -33,7 +33,7 @@ impl Call for OnForm {
     /// From a slice, and from readers that give one byte a call, some, and all.
     fn ways(self) -> usize {
         match self {
-            FromWire | SplitWire | WriteSteps | NotUtf8 => 1,
+            FromWire | SplitWire | WriteFully | NotUtf8 => 1,
             _ => 3,
         }
     }
@@ -48,7 +48,7 @@ impl Call for OnForm {
 
     fn input(self, test: &Test, text: &'static str, way: usize) -> (Vec<u8>, Vec<u8>, usize) {
         let mut form = Vec::new(test.alloc);
-        if !matches!(self, ReadUpTo | ReadAll | Fill | WriteSteps | NotUtf8) {
+        if !matches!(self, ReadUpTo | ReadAll | Fill | WriteFully | NotUtf8) {
             let more = usize::from(matches!(self, EndsEarly));
             let size = u32::try_from(text.len().saturating_add(more)).unwrap_or(0);
             ok(test, form.extend_from_slice(&size.to_le_bytes()));
@@ -59,7 +59,7 @@ impl Call for OnForm {
             Fill => ok(test, room.resize(text.len(), 0)),
             FromWire | ReadLimited => ok(test, form.extend_from_slice(text.as_bytes())),
             NotUtf8 => test.push(&mut form, 0xff),
-            WriteSteps => room = ok(test, Vec::with_capacity(test.alloc, text.len())),
+            WriteFully => room = ok(test, Vec::with_capacity(test.alloc, text.len())),
             _ => {}
         }
         (form, room, [1, 1000, usize::MAX][way % 3])
@@ -83,7 +83,7 @@ impl Call for OnForm {
             ReadUpTo => made(read_up_to(alloc, &mut reader, limit)),
             ReadAll => made(read_all(alloc, &mut reader)),
             Fill => filled(&mut reader, room),
-            WriteSteps => written(bytes, room),
+            WriteFully => written(bytes, room),
             _ => made(SmolStr::deserialize_reader(alloc, &mut reader)),
         }
     }
@@ -113,7 +113,7 @@ fn filled<R: Read>(reader: &mut R, mut room: Vec<u8>) -> Result<Thing, Thing> {
 }
 
 fn written(bytes: &[u8], mut room: Vec<u8>) -> Result<Thing, Thing> {
-    match write_steps(&mut room, bytes) {
+    match write_fully(&mut room, bytes) {
         Ok(()) => Ok(Thing::Bytes(room)),
         Err(_) => Err(Thing::Fault),
     }

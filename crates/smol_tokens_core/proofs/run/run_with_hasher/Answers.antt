@@ -16,8 +16,8 @@ returns-in_err-report-clause-fault g c =
     let text = rw c.as_slice.ensures.value at c.in-Ok.ensures.cases in
     let none = rw text.0 at c.in_err-report.ensures.fault in search (rules, err_from_is_err_and, after-no_report)
 
-pub returns-in_err-write_steps-clause-fault : goal.returns-in_err-write_steps-clause-fault
-returns-in_err-write_steps-clause-fault g c = search (rules, err_from_is_err_and, IfSome_then)
+pub returns-in_err-write_fully-clause-fault : goal.returns-in_err-write_fully-clause-fault
+returns-in_err-write_fully-clause-fault g c = search (rules, err_from_is_err_and, IfSome_then)
 
 pub returns-clause-ok : goal.returns-clause-ok
 returns-clause-ok g c = search (rules, IfSome_then)

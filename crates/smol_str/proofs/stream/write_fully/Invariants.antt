@@ -1,6 +1,6 @@
 -- What is gone from what is left was appended.
 use Rattle.smol_str.proofs.Common.{◌≡◌, ℕ, List, ◌++◌, length, Appends}
-use Rattle.smol_str.proofs.stream.write_steps.Given as goal
+use Rattle.smol_str.proofs.stream.write_fully.Given as goal
 
 abbrev pub invariant-loop-rest : goal.invariant-loop-rest
 invariant-loop-rest g l =

@@ -1,5 +1,5 @@
 use Rattle.smol_str.proofs.Common.{◌≡◌, ℕ, ◌-◌, List, ◌++◌, length, take, drop, append_assoc, take-append-drop, take_rest, arith, common_steps, Appends-trans, rules}
-use Rattle.smol_str.proofs.stream.write_steps.Goals as goal
+use Rattle.smol_str.proofs.stream.write_fully.Goals as goal
 
 -- what a step takes from the front of the rest goes over to what is done
 moves_front : (all done rest : List ℕ) (n : ℕ) → all ≡ done ++ rest
