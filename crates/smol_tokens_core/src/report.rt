@@ -19,6 +19,9 @@ use smol_str::{INLINE_CAP, Place, SmolStr, SmolStrBuilder, StrExt};
 use std::alloc::{AllocError, Global};
 use std::hash::BuildHasher;
 
+/// The bytes that a report line has round an inline text, whose size has two digits at most.
+const AROUND_INLINE: usize = "inline 00 \n".len();
+
 /// A mode's mapping of each line, in the modes with a report line for each.
 #[derive(Clone, Copy)]
 enum LineMap<'a> {
@@ -103,7 +106,7 @@ fn push_line(alloc: Global, out: &mut String, value: &SmolStr) -> Result<(), All
     ensures { OnOk result (string_bytes out.new ≡ string_bytes out.old
         ++ encode_utf8_all (report_line value.now.place (size value.now.text) value.now.text)) }
 {
-    if value.place() == Place::Inline && value.len() <= INLINE_CAP - "inline 00 \n".len() {
+    if value.place() == Place::Inline && value.len() <= INLINE_CAP - AROUND_INLINE {
         push_inline(alloc, out, value)
     } else {
         print_line(out, value)
