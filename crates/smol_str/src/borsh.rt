@@ -9,17 +9,17 @@ ghost use Rattle.std.specs.Io.KnownBytes.{Appends};
 ghost use Rattle.smol_str.specs.Text.{size, place_of};
 ghost use Rattle.smol_str.specs.Stream.{Gave};
 ghost use Rattle.smol_str.specs.Wire.{HasWire, wire, Holds};
-ghost use Rattle.smol_str.specs.declared.borsh.fault.LimitedFault.TheVariants.{Decode};
-ghost use Rattle.smol_str.specs.WireFaults.{AfterEncodeFault, AfterDecodeFault, AfterFromWireFault, AfterLimitedFault, HasReadSize, HasReadBody, AfterFillFault, AfterBodyFault};
+ghost use Rattle.smol_str.specs.WireFaults.{AfterEncodeFault, AfterDecodeFault, AfterFromWireFault, AfterLimitedFault};
 
 mod fault;
+mod read;
 
 use crate::buffer::INLINE_CAP;
 use crate::bytes::zeros;
-use crate::stream::{fill, read_up_to, write_fully};
+use crate::stream::write_fully;
 use crate::value::SmolStr;
-use crate::value::convert::utf8_text;
 pub use fault::{DecodeFault, EncodeFault, LimitedFault};
+use read::{read_body, read_size};
 use std::alloc::Global;
 use std::io::{Read, Write};
 
@@ -186,75 +186,6 @@ fn size_in(prefix: &[u8; 4]) -> usize
     ensures read { result ≡ from_le_bytes w32 prefix.now }
 {
     u32::from_le_bytes(*prefix) as usize
-}
-
-/// Reads the length prefix; an early end if fewer than its four bytes are left.
-fn read_size<R: Read>(reader: &mut R) -> Result<usize, DecodeFault>
-    ensures ok { IfOk result (HasReadSize (R.remaining reader.old) (R.remaining reader.new)) }
-    ensures fault { IfErr result
-        (AfterDecodeFault (R.remaining reader.old) (R.remaining reader.new)) }
-    ensures limited { IfErr result (λ fault. (limit : ℕ) →
-        AfterLimitedFault limit (R.remaining reader.old) (R.remaining reader.new) (Decode fault)) }
-{
-    let mut prefix = [0; 4];
-    fill_all(reader, &mut prefix)?;
-    Ok(size_in(&prefix))
-}
-
-/// Fills a buffer; an early end if fewer bytes are left.
-#[inline(always)]
-fn fill_all<R: Read>(reader: &mut R, buffer: &mut [u8]) -> Result<(), DecodeFault>
-    ensures ok { OnOk result (Gave R.remaining reader.old reader.new buffer.new) }
-    ensures fault { IfErr result
-        (AfterFillFault (R.remaining reader.old) (R.remaining reader.new) (length buffer.old)) }
-{
-    if fill(reader, buffer)? < buffer.len() {
-        return Err(DecodeFault::Ended);
-    }
-    Ok(())
-}
-
-/// Reads a body of `size` bytes into a buffer of `N` on the stack, so that memory is asked for the value alone.
-#[inline(always)]
-#[tactic(auto, using(crate::proofs::WireLemmas::Borsh::read_bodies))]
-fn read_on_stack<R: Read, const N: usize>(
-    alloc: Global,
-    reader: &mut R,
-    size: usize,
-) -> Result<SmolStr, DecodeFault>
-    requires room { size ≤ N }
-    requires small { N ≤ STACK_BODY }
-    ensures ok { IfOk result (HasReadBody (R.remaining reader.old) (R.remaining reader.new) size) }
-    ensures fault { IfErr result
-        (AfterBodyFault (R.remaining reader.old) (R.remaining reader.new) size) }
-{
-    let mut buffer = zeros::<N>();
-    let body = &mut buffer[..size];
-    fill_all(reader, body)?;
-    Ok(SmolStr::from_utf8(alloc, body)?)
-}
-
-/// Reads a body of `size` bytes.
-fn read_body<R: Read>(alloc: Global, reader: &mut R, size: usize) -> Result<SmolStr, DecodeFault>
-    ensures ok { IfOk result (HasReadBody (R.remaining reader.old) (R.remaining reader.new) size) }
-    ensures fault { IfErr result
-        (AfterBodyFault (R.remaining reader.old) (R.remaining reader.new) size) }
-{
-    if size <= INLINE_CAP {
-        return read_on_stack::<R, INLINE_CAP>(alloc, reader, size);
-    }
-    if size <= STACK_BODY {
-        return read_on_stack::<R, STACK_BODY>(alloc, reader, size);
-    }
-    // By chunks. UTF-8 is tested when all of it is there, and the value keeps the memory that they were gathered in.
-    let body = read_up_to(alloc, reader, size)?;
-    if body.len() < size {
-        return Err(DecodeFault::Ended);
-    }
-    if let Err(fault) = utf8_text(body.as_slice()) {
-        return Err(DecodeFault::NotUtf8(fault));
-    }
-    Ok(SmolStr::from_owned(unsafe { String::from_utf8_unchecked(body) })?)
 }
 
 /// The wire form of the text; every text of at most 4294967295 bytes has one.
