@@ -1,6 +1,7 @@
 //! The builder of a text.
-ghost use Rattle.std.specs.Prelude.{◌≡◌, ◌↔◌, ◌<◌, ◌≤◌, [], ◌∷◌, IsSome, IfSome, IfOk, OnOk, OnErr, IsTrue, encode_utf8_all};
+ghost use Rattle.std.specs.Prelude.{◌≡◌, ◌↔◌, ◌<◌, ◌≤◌, [], ◌∷◌, length, IsSome, IfSome, IfOk, OnOk, OnErr, IsTrue, encode_utf8_all};
 ghost use Rattle.std.specs.Str.{chars, all_scalars};
+ghost use Rattle.std.specs.String.{string_bytes};
 ghost use Rattle.smol_str.specs.Text.{size, IsShort, blank_run};
 ghost use Rattle.smol_str.specs.Buffer.{padded};
 ghost use Rattle.smol_str.specs.BuilderState.{InBuffer, OnHeap, empty_builder, appended, kind_for};
@@ -96,6 +97,32 @@ impl SmolStrBuilder {
             alloc,
             repr: BuilderRepr::Heap(heap),
         })
+    }
+
+    /// A builder of a short text, in its buffer.
+    #[inline(always)]
+    #[tactic(auto, using(crate::proofs::BuilderLemmas::State::begun))]
+    pub(crate) fn from_short(alloc: Global, text: InlineText) -> SmolStrBuilder
+        requires { IsShort text }
+        ensures { result ≡ appended (empty_builder InBuffer) text }
+    {
+        SmolStrBuilder {
+            alloc,
+            repr: BuilderRepr::Inline(text),
+        }
+    }
+
+    /// A builder of a text that is longer than the buffer, on the heap.
+    #[inline(always)]
+    #[tactic(auto, using(crate::proofs::BuilderLemmas::State::begun))]
+    pub(crate) fn from_long(alloc: Global, text: String) -> SmolStrBuilder
+        requires { INLINE_CAP < length (string_bytes text) }
+        ensures { result ≡ appended (empty_builder InBuffer) (chars (string_bytes text)) }
+    {
+        SmolStrBuilder {
+            alloc,
+            repr: BuilderRepr::Heap(text),
+        }
     }
 
     /// The text so far, as std's `str`.

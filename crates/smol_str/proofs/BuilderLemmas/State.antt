@@ -1,6 +1,6 @@
 -- For the builder: its text and kind, before and after an append; appends are associative (`appended-twice`).
-use Rattle.smol_str.proofs.Common.{◌≡◌, ℕ, ◌<◌, List, [], ◌++◌, append-nil, refl, append_assoc, arith, ◌⊎◌, nat_tests, INLINE_CAP, IsShort, BuilderState, Kind, InBuffer, OnHeap, kind_with, kind_for, appended, empty_builder, common_steps, rules}
-use Rattle.smol_str.proofs.TextLemmas.Places.{is_short-true, is_short-false, IsShort-front}
+use Rattle.smol_str.proofs.Common.{◌≡◌, ℕ, ◌<◌, IsUtf8-string_bytes, List, [], ◌++◌, append-nil, refl, append_assoc, arith, ◌⊎◌, nat_tests, INLINE_CAP, IsShort, BuilderState, Kind, InBuffer, OnHeap, kind_with, kind_for, appended, empty_builder, common_steps, rules}
+use Rattle.smol_str.proofs.TextLemmas.Places.{is_short-true, is_short-false, IsShort-front, size-chars}
 
 -- a builder in its buffer, whose text stays short, or does not
 pub kind_with-short : (t : List ℕ) → IsShort t → kind_with InBuffer t ≡ InBuffer
@@ -8,6 +8,8 @@ kind_with-short t h = rw (is_short-true t h)
 
 pub kind_with-long : (t : List ℕ) → ¬ (IsShort t) → kind_with InBuffer t ≡ OnHeap
 kind_with-long t h = rw (is_short-false t h)
+
+pub ruleset begun = (common_steps, kind_with-short, kind_with-long, size-chars, IsUtf8-string_bytes)
 
 -- a builder is on the heap for its capacity or for its text
 pub why_heap : (n : ℕ) (t : List ℕ) → kind_with (kind_for n) t ≡ OnHeap → (INLINE_CAP < n) ⊎ (¬ (IsShort t))

@@ -1,5 +1,5 @@
 -- For `str_ext::sigma`: lower case round a capital sigma.
-use Rattle.smol_str.proofs.Common.{◌≡◌, ℕ, List, [], ◌∷◌, ◌++◌, Bool, true, length, take, refl, sym, ap, ◌∙◌, append_assoc, ne_eqb, chars, encode, IsUtf8, chars-append, take_at, IsCharBoundary-at_seam, IsUtf8-encode, Lower, mapped, HasSigma, lowercased, BuilderState, InBuffer, empty_builder, appended, Occurs, but_last, append-nil, drop, ◌-◌, arith}
+use Rattle.smol_str.proofs.Common.{◌≡◌, ℕ, List, [], ◌∷◌, ◌++◌, Bool, true, length, take, refl, sym, ap, ◌∙◌, append_assoc, ne_eqb, chars, encode, IsUtf8, chars-append, take_at, IsCharBoundary-at_seam, IsUtf8-encode, Lower, mapped, HasSigma, lowercased, BuilderState, InBuffer, empty_builder, appended, append-nil, drop, ◌-◌, arith, size, IsCharBoundary, false, IsNextMatch, OnHeap, ◌+◌, ◌≤◌}
 use Rattle.std.specs.Char.{IsScalar}
 use Rattle.std.specs.Char.Unicode.ToLowercase.{to_lowercase}
 use Rattle.std.specs.Char.Unicode.Rows.{in_ranges}
@@ -7,11 +7,13 @@ use Rattle.std.specs.Char.Unicode.Cased.{is_cased, cased_ranges}
 use Rattle.std.specs.Char.Unicode.CaseIgnorable.{is_case_ignorable, case_ignorable_ranges}
 use Rattle.std.specs.StrCase.Lower.{lowercase_chars, lowercase_before, is_in_word_after}
 use Rattle.std.proofs.lemmas.Str.{IsUtf8-take}
-use Rattle.smol_str.specs.CaseParts.{word_after}
-use Rattle.smol_str.proofs.CaseLemmas.Full.{sigma, lowercase-alone}
+use Rattle.smol_str.specs.CaseParts.{word_after, IsLowering}
+use Rattle.smol_str.proofs.CaseLemmas.Full.{lowercase-alone}
 use Rattle.smol_str.proofs.BuilderLemmas.State.{appended-twice}
 use Rattle.smol_str.proofs.TextLemmas.Lists.{not_later}
-use Rattle.smol_str.proofs.TextLemmas.Places.{chars-one}
+use Rattle.smol_str.proofs.BuilderLemmas.Push.{appended-heap, new-part}
+use Rattle.smol_str.proofs.TextLemmas.Places.{chars-one, size-append, size-chars}
+use Rattle.smol_str.proofs.TextLemmas.Split.{boundary-parts, chars-drop, chars-take, chars-middle}
 
 -- a character at the end decides, unless case ignores it
 pub word_after-last : (w : Bool) (t : List ℕ) (c : ℕ) → word_after w (t ++ c ∷ []) ≡ is_in_word_after (word_after w t) c
@@ -53,20 +55,103 @@ module _ (bs rest : List ℕ) (c : ℕ) (u : IsUtf8 bs) (e : bs ≡ rest ++ enco
       ap chars e ∙ chars-append rest (encode c) IsUtf8-before_last
       ∙ ap (λ s. chars rest ++ s) (chars-one c (encode c) (IsUtf8-encode c k) refl)
 
--- what comes before the first match of a capital sigma has none
-pub first-sigma : (text : List ℕ) (at : ℕ)
-    → ¬ Occurs (chars (0xCE ∷ 0xA3 ∷ [])) (chars (take (at - 0) (drop 0 text)) ++ but_last (chars (0xCE ∷ 0xA3 ∷ [])))
-    → ¬ HasSigma (chars (take at text))
-first-sigma text at none =
-    let same : at - 0 ≡ at = omega arith in
-    let first = rw (sigma, same) at none in
-    λ here. first (rw (append-nil (chars (take at text))) here)
+word_after-append : (w : Bool) (a b : List ℕ) → word_after w (a ++ b) ≡ word_after (word_after w a) b
+word_after-append w [] b = refl
+word_after-append w (c ∷ a) b = word_after-append (is_in_word_after w c) a b
 
--- what comes after the last capital sigma is mapped by itself
-pub lowercase-rest : (old now : BuilderState) (w : Bool) (t rest : List ℕ) → old ≡ empty_builder InBuffer
-    → now ≡ appended (empty_builder InBuffer) now.text → now.text ++ lowercase_chars w rest ≡ lowercased t → ¬ HasSigma rest
-    → appended now (mapped Lower rest) ≡ appended old (lowercased t)
-lowercase-rest old now w t rest begins new whole none =
-    let all = sym (ap (λ s. now.text ++ s) (lowercase-alone w rest none)) ∙ whole in
-    ap (λ b. appended b (mapped Lower rest)) new ∙ appended-twice (empty_builder InBuffer) now.text (mapped Lower rest)
-    ∙ ap (λ s. appended (empty_builder InBuffer) s) all ∙ ap (λ b. appended b (lowercased t)) (sym begins)
+size-sigma : size (0x3A3 ∷ []) ≡ 2
+unfolding lib.Utf8.encode
+size-sigma = refl
+
+-- a text that is lowered up to an index
+module _ (text : List ℕ) (u : IsUtf8 text) (b : BuilderState) (from : ℕ) (h : IsLowering (chars text) b from) where
+  pub lowering-boundary : IsCharBoundary text from
+  lowering-boundary = boundary-parts text h.done h.rest from u h.parts h.at
+
+  pub lowering-rest : chars (drop from text) ≡ h.rest
+  lowering-rest = chars-drop text h.done h.rest from u h.parts h.at
+
+  -- behind the last capital sigma each character is mapped by itself
+  pub lowering-last : ¬ HasSigma h.rest
+      → appended b (mapped Lower (chars (drop from text))) ≡ appended (empty_builder InBuffer) (lowercased (chars text))
+  lowering-last none =
+      let all = sym (ap (λ s. b.text ++ s) (lowercase-alone (word_after false h.done) h.rest none)) ∙ h.text in
+      cc (lowering-rest, h.grown, appended-twice (empty_builder InBuffer) b.text (mapped Lower h.rest), all)
+
+  -- before the next capital sigma, too, and its own letter follows from what is on both sides of it
+  module _ (sigma : ℕ) (next : IsNextMatch h.done h.rest (0x3A3 ∷ []) sigma) where
+    abbrev to_sigma : List ℕ
+    to_sigma = h.done ++ next.before
+
+    abbrev past_sigma : List ℕ
+    past_sigma = to_sigma ++ 0x3A3 ∷ []
+
+    whole : chars text ≡ h.done ++ (next.before ++ 0x3A3 ∷ next.after)
+    whole = h.parts ∙ ap (λ r. h.done ++ r) next.reads
+
+    whole_to : chars text ≡ to_sigma ++ 0x3A3 ∷ next.after
+    whole_to = whole ∙ sym (append_assoc h.done next.before (0x3A3 ∷ next.after))
+
+    whole_past : chars text ≡ past_sigma ++ next.after
+    whole_past = whole_to ∙ sym (append_assoc to_sigma (0x3A3 ∷ []) next.after)
+
+    at_past : size past_sigma ≡ sigma + 2
+    at_past = size-append to_sigma (0x3A3 ∷ []) ∙ ap (λ k. k + size (0x3A3 ∷ [])) next.index ∙ ap (λ k. sigma + k) size-sigma
+
+    pub segment-start : from ≤ sigma
+    segment-start = omega (arith, h.at, next.index, size-append h.done next.before)
+
+    pub segment-end : sigma + 2 ≤ length text
+    segment-end = omega (arith, at_past, size-append past_sigma next.after, ap size whole_past, size-chars text u)
+
+    pub segment-boundaries : IsCharBoundary text sigma × IsCharBoundary text (sigma + 2)
+    segment-boundaries =
+        (boundary-parts text to_sigma (0x3A3 ∷ next.after) sigma u whole_to next.index, boundary-parts text past_sigma next.after (sigma + 2) u whole_past at_past)
+
+    segment-before : chars (take sigma text) ≡ to_sigma
+    segment-before = chars-take text to_sigma (0x3A3 ∷ next.after) sigma u whole_to next.index
+
+    segment-between : chars (take (sigma - from) (drop from text)) ≡ next.before
+    segment-between = chars-middle text h.done next.before (0x3A3 ∷ next.after) from sigma u whole h.at next.index
+
+    segment-after : chars (drop (sigma + 2) text) ≡ next.after
+    segment-after = chars-drop text past_sigma next.after (sigma + 2) u whole_past at_past
+
+    none : ¬ HasSigma next.before
+    none here = next.first (rw (append-nil next.before) here)
+
+    abbrev letter : List ℕ
+    letter = lowercase_before (word_after false (chars (take sigma text))) 0x3A3 (chars (drop (sigma + 2) text))
+
+    abbrev between : List ℕ
+    between = mapped Lower (chars (take (sigma - from) (drop from text)))
+
+    step : b.text ++ ((between ++ letter) ++ lowercase_chars true next.after) ≡ lowercased (chars text)
+    step =
+        let parts = lowercase-sigma (word_after false h.done) next.before next.after h.rest next.reads none in
+        rw (segment-between, segment-before, segment-after, word_after-append false h.done next.before)
+        (ap (λ s. b.text ++ s) (sym parts) ∙ h.text)
+
+    -- what is appended is refused only where the whole is
+    pub segment-first : (appended b between).kind ≡ OnHeap → (appended (empty_builder InBuffer) (lowercased (chars text))).kind ≡ OnHeap
+    segment-first heap = (new-part b (between ++ letter) (lowercase_chars true next.after) (lowercased (chars text)) h.grown step).0 (appended-heap b between letter heap)
+
+    module _ (d : BuilderState) (put : d ≡ appended b between) where
+      both : appended d letter ≡ appended b (between ++ letter)
+      both = cc (put, appended-twice b between letter)
+
+      pub segment-refused : (appended d letter).kind ≡ OnHeap → (appended (empty_builder InBuffer) (lowercased (chars text))).kind ≡ OnHeap
+      segment-refused heap = (new-part b (between ++ letter) (lowercase_chars true next.after) (lowercased (chars text)) h.grown step).0 (cc (both, heap))
+
+      pub segment-more : (e : BuilderState) → e ≡ appended d letter → IsLowering (chars text) e (sigma + 2)
+      segment-more e is =
+          let more = (new-part b (between ++ letter) (lowercase_chars true next.after) (lowercased (chars text)) h.grown step).1 e (is ∙ both) in
+          let on : word_after false past_sigma ≡ true = word_after-last false to_sigma 0x3A3 ∙ sigma-in_word (word_after false to_sigma) in
+          record {
+            done = past_sigma;
+            rest = next.after;
+            parts = whole_past;
+            at = at_past;
+            grown = more.0;
+            text = rw on more.1;
+          }

@@ -21,6 +21,9 @@ pub(crate) fn find(bytes: &[u8], needle: &[u8]) -> Option<usize>
     requires { 0 < length needle.now }
     ensures { FindsNeedle bytes.now needle.now 0 result }
 {
+    if needle.len() == 2 {
+        return find_two(bytes, needle);
+    }
     let first = first_byte(bytes, needle)?;
     if needle.len() == 1 {
         Some(first)

@@ -1,21 +1,20 @@
-//! Full case. ASCII text takes ASCII case. Of any other text each character is mapped by itself, but
-//! the ASCII front of a short text and the ASCII runs of a long one by lanes, unless a character is mapped by its context.
-ghost use Rattle.std.specs.Prelude.{◌≡◌, ◌<◌, ◌≤◌, [], ◌∷◌, ◌++◌, false, length, IfOk, OnOk, OnErr, IsTrue};
+//! Full case. The ASCII front of a text takes ASCII case. Behind it each character is mapped by itself, unless it is mapped by its
+//! context, and runs of ASCII by lanes.
+ghost use Rattle.std.specs.Prelude.{◌≡◌, ◌<◌, [], ◌∷◌, length, take, IfOk, OnOk, OnErr};
 ghost use Rattle.std.specs.Str.{chars};
 ghost use Rattle.smol_str.specs.Text.{IsShort};
 ghost use Rattle.smol_str.specs.Meaning.{IsValueOf};
 ghost use Rattle.smol_str.specs.BuilderState.{InBuffer, OnHeap, empty_builder, appended};
-ghost use Rattle.smol_str.specs.Case.{front, converted, full_case, lowercased, mapped, IsMappedAlone, IsAsciiFront};
+ghost use Rattle.smol_str.specs.Case.{full_case, mapped, IsAsciiFront};
 ghost use Rattle.smol_str.specs.CaseParts.{IsPartOf};
-ghost use Rattle.smol_str.specs.declared.bytes.ascii.AsciiCase.TheVariants.{Lower};
 
-use super::ascii_case::to_ascii_case_on_heap;
+use super::ascii_case::to_ascii_case;
 use super::case_ranges::letter_of;
 use super::sigma::push_lowercase;
-use crate::buffer::INLINE_CAP;
+use crate::buffer::{INLINE_CAP, InlineText};
 use crate::builder::SmolStrBuilder;
 use crate::bytes::ascii::{begins_ascii, convert_all, front_len};
-use crate::kernel::{AsciiCase, next_match};
+use crate::kernel::AsciiCase;
 use crate::value::SmolStr;
 use std::alloc::{AllocError, Global};
 
@@ -30,122 +29,77 @@ pub(super) fn to_full_case(
     ensures ok { IfOk result (λ v. IsValueOf (full_case case (chars text.now)) v) }
     ensures refused { OnErr result (¬ (IsShort (full_case case (chars text.now)))) }
 {
-    if text.len() > INLINE_CAP {
-        return long_full_case(alloc, text, case);
+    if text.len() <= INLINE_CAP {
+        let short = SmolStr::new_inline_in_case(text, case);
+        if short.is_ascii() {
+            return Ok(short);
+        }
     }
-    let short = SmolStr::new_inline_in_case(text, case);
-    if short.is_ascii() {
-        return Ok(short);
-    }
-    short_full_case(alloc, short, text, case)
+    any_full_case(alloc, text, case)
 }
 
-/// A long text in a case. Slow path, kept out of line so that the fast path inlines.
+/// Any text in a case. Slow path, kept out of line so that the fast path inlines.
 #[inline(never)]
-#[tactic(auto, using(crate::proofs::CaseLemmas::Full::ascii_texts))]
-fn long_full_case(alloc: Global, text: &str, case: AsciiCase) -> Result<SmolStr, AllocError>
-    requires { INLINE_CAP < length text.now }
+#[tactic(auto, using(crate::proofs::CaseLemmas::Full::any_texts))]
+fn any_full_case(alloc: Global, text: &str, case: AsciiCase) -> Result<SmolStr, AllocError>
     ensures ok { IfOk result (λ v. IsValueOf (full_case case (chars text.now)) v) }
     ensures refused { OnErr result (¬ (IsShort (full_case case (chars text.now)))) }
-{
-    if text.is_ascii() {
-        return to_ascii_case_on_heap(alloc, text, case);
-    }
-    by_characters(alloc, text, case)
-}
-
-/// A short text in a case; `in_case` is the text with its ASCII letters in that case.
-#[inline(never)]
-#[tactic(auto, using(crate::proofs::CaseLemmas::Full::short_fronts))]
-fn short_full_case(
-    alloc: Global,
-    in_case: SmolStr,
-    text: &str,
-    case: AsciiCase,
-) -> Result<SmolStr, AllocError>
-    requires { in_case.text ≡ converted case (chars text.now) }
-    ensures ok { IfOk result (λ v. IsValueOf (full_case case (chars text.now)) v) }
-    ensures refused { OnErr result (¬ (IsShort (full_case case (chars text.now)))) }
-{
-    let mut builder = SmolStrBuilder::new(alloc);
-    let rest = push_front(&mut builder, &in_case, text, case)?;
-    if has_context(rest, case) {
-        return by_context(alloc, text);
-    }
-    push_mapped(&mut builder, rest, case)?;
-    builder.into_value()
-}
-
-/// Appends the ASCII front of a text in a case, and returns the rest of the text.
-fn push_front<'a>(
-    builder: &mut SmolStrBuilder,
-    in_case: &SmolStr,
-    text: &'a str,
-    case: AsciiCase,
-) -> Result<&'a str, AllocError>
-    requires { in_case.now.text ≡ converted case (chars text.now) }
-    ensures ok { IfOk result (λ rest.
-        builder.new ≡ appended builder.old (converted case (front (chars text.now)))) }
-    ensures rest { IfOk result (λ rest. front (chars text.now) ++ chars rest.now ≡ chars text.now) }
-    ensures refused { OnErr result
-        ((appended builder.old (converted case (front (chars text.now)))).kind ≡ OnHeap) }
 {
     let len = front_len(text.as_bytes());
-    builder.push_str(&in_case.as_str()[..len])?;
-    Ok(&text[len..])
-}
-
-/// Any text in a case, character by character.
-#[tactic(auto, using(crate::proofs::CaseLemmas::Full::whole_texts))]
-fn by_characters(alloc: Global, text: &str, case: AsciiCase) -> Result<SmolStr, AllocError>
-    ensures ok { IfOk result (λ v. IsValueOf (full_case case (chars text.now)) v) }
-    ensures refused { OnErr result (¬ (IsShort (full_case case (chars text.now)))) }
-{
-    if has_context(text, case) {
-        return by_context(alloc, text);
+    if len == text.len() {
+        return to_ascii_case(alloc, text, case);
     }
-    let mut builder = SmolStrBuilder::new(alloc);
-    push_parts(&mut builder, text, case, 0)?;
+    let mut builder = front_in_case(alloc, text, len, case)?;
+    push_rest(&mut builder, text, len, case)?;
     builder.into_value()
 }
 
-/// The text in lower case, each capital sigma by the characters around it.
-#[tactic(auto, using(crate::proofs::CaseLemmas::Full::whole_texts))]
-fn by_context(alloc: Global, text: &str) -> Result<SmolStr, AllocError>
-    ensures ok { IfOk result (λ v. IsValueOf (lowercased (chars text.now)) v) }
-    ensures refused { OnErr result (¬ (IsShort (lowercased (chars text.now)))) }
+/// A builder of the first `len` bytes of a text, which are ASCII, in a case. On the heap it has room for the rest.
+#[inline(always)]
+fn front_in_case(
+    alloc: Global,
+    text: &str,
+    len: usize,
+    case: AsciiCase,
+) -> Result<SmolStrBuilder, AllocError>
+    requires { IsAsciiFront text.now len }
+    ensures ok { IfOk result (λ builder.
+        builder ≡ appended (empty_builder InBuffer) (mapped case (take len text.now))) }
+    ensures refused { OnErr result
+        ((appended (empty_builder InBuffer) (mapped case (take len text.now))).kind ≡ OnHeap) }
 {
-    let mut builder = SmolStrBuilder::new(alloc);
-    push_lowercase(&mut builder, text)?;
-    builder.into_value()
+    let front = &text[..len];
+    if len <= INLINE_CAP {
+        let short = InlineText::from_short(front).in_case(case);
+        return Ok(SmolStrBuilder::from_short(alloc, short));
+    }
+    let mut bytes = Vec::with_capacity(alloc, text.len())?;
+    bytes.extend_from_slice(front.as_bytes())?;
+    convert_all(&mut bytes, case);
+    Ok(SmolStrBuilder::from_long(alloc, unsafe { String::from_utf8_unchecked(bytes) }))
 }
 
-/// Whether a character of the text is mapped by its context.
-#[tactic(auto, using(crate::proofs::CaseLemmas::Full::contexts))]
-fn has_context(text: &str, case: AsciiCase) -> bool
-    ensures alone { result ≡ false → IsMappedAlone case (chars text.now) }
-    ensures lower { IsTrue result → case ≡ Lower }
+/// Appends the text behind its ASCII front, which the builder has already, in a case.
+#[inline(always)]
+fn push_rest(
+    builder: &mut SmolStrBuilder,
+    text: &str,
+    from: usize,
+    case: AsciiCase,
+) -> Result<(), AllocError>
+    requires ascii { IsAsciiFront text.now from }
+    requires front { builder.old ≡ appended (empty_builder InBuffer) (mapped case (take from text.now)) }
+    ensures ok { OnOk result (builder.new ≡ appended (empty_builder InBuffer) (full_case case (chars text.now))) }
+    ensures refused { OnErr result
+        ((appended (empty_builder InBuffer) (full_case case (chars text.now))).kind ≡ OnHeap) }
 {
     match case {
-        AsciiCase::Lower => next_match(text, 0, "Σ").is_some(),
-        AsciiCase::Upper => false,
+        AsciiCase::Lower => push_lowercase(builder, text, from),
+        AsciiCase::Upper => push_parts(builder, &text[from..], case, 0),
     }
 }
 
-/// Appends what each character of a text is mapped to.
-fn push_mapped(builder: &mut SmolStrBuilder, text: &str, case: AsciiCase) -> Result<(), AllocError>
-    requires { builder.old ≡ appended (empty_builder InBuffer) builder.old.text }
-    ensures ok { OnOk result (builder.new ≡ appended builder.old (mapped case (chars text.now))) }
-    ensures refused { OnErr result
-        ((appended builder.old (mapped case (chars text.now))).kind ≡ OnHeap) }
-{
-    for character in text.chars() {
-        push_one(builder, character, case)?;
-    }
-    Ok(())
-}
-
-/// Like `push_mapped`, with runs of ASCII by lanes, and with room for `behind` bytes after the text: for long texts.
+/// Appends what each character of a text is mapped to, with room for `behind` bytes after it.
 pub(super) fn push_parts(
     builder: &mut SmolStrBuilder,
     text: &str,
@@ -232,13 +186,13 @@ fn push_first<'a>(
         return Ok(text);
     };
     let rest = characters.as_str();
-    push_one_with_spare(builder, character, case, rest.len().saturating_add(behind))?;
+    push_one(builder, character, case, rest.len().saturating_add(behind))?;
     Ok(rest)
 }
 
-/// Like `push_one`, but looks for the heap first, and moves there with room for `spare` bytes more: for long texts.
+/// Appends what one character is mapped to. A builder that moves to the heap asks for room for `spare` bytes more.
 #[inline(always)]
-fn push_one_with_spare(
+fn push_one(
     builder: &mut SmolStrBuilder,
     character: char,
     case: AsciiCase,
@@ -253,24 +207,6 @@ fn push_one_with_spare(
         return builder.push_heap_first_with_spare(letter, spare);
     }
     push_letters(builder, character, case, spare)
-}
-
-/// Appends what one character is mapped to.
-#[inline(always)]
-fn push_one(
-    builder: &mut SmolStrBuilder,
-    character: char,
-    case: AsciiCase,
-) -> Result<(), AllocError>
-    requires { builder.old ≡ appended (empty_builder InBuffer) builder.old.text }
-    ensures ok { OnOk result (builder.new ≡ appended builder.old (mapped case (character ∷ []))) }
-    ensures refused { OnErr result
-        ((appended builder.old (mapped case (character ∷ []))).kind ≡ OnHeap) }
-{
-    if let Some(letter) = letter_of(character, case) {
-        return builder.push(letter);
-    }
-    push_letters(builder, character, case, INLINE_CAP)
 }
 
 /// Appends what std maps a character to: at most three letters.

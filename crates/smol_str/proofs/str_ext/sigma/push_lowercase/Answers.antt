@@ -1,33 +1,28 @@
-use Rattle.smol_str.proofs.Common.{refl, sym, ap, ◌∙◌, rules, chars, on_ok_weaker, on_err_weaker}
-use Rattle.smol_str.proofs.TextLemmas.Places.{OnErr-always}
-use Rattle.smol_str.proofs.BuilderLemmas.Push.{new-part}
-use Rattle.smol_str.proofs.CaseLemmas.Sigma.{lowercase-sigma, lowercase-rest}
+use Rattle.smol_str.proofs.Common.{ap, sym, ◌∙◌, refl, on_ok_weaker, on_err_weaker}
+use Rattle.smol_str.proofs.CaseLemmas.Full.{sigma}
+use Rattle.smol_str.proofs.CaseLemmas.Sigma.{lowering-boundary, lowering-last}
 use Rattle.smol_str.proofs.str_ext.sigma.push_lowercase.Goals as goal
 
-pub returns-in_err-push_segment-clause-refused : goal.returns-in_err-push_segment-clause-refused
-returns-in_err-push_segment-clause-refused c =
-    let held = c.loop-before.invariant in
-    let step = rw (lowercase-sigma c.loop-before.in_word _ _ _ c.in-Some.ensures.parts c.in-Some.ensures.first) at held.2 in
-    OnErr-always c.from_residual.result _
-    (rw c.requires ((new-part _ _ _ _ held.1 step).0 c.in_err-push_segment.ensures.refused))
+pub next_match-requires-clause-boundary : goal.next_match-requires-clause-boundary
+next_match-requires-clause-boundary c = λ _. lowering-boundary _ c.utf8.text _ _ c.loop-sigma.invariant
 
-pub loop-before-preserved : goal.loop-before-preserved
-loop-before-preserved c =
-    let held = c.loop-before.invariant in
-    let step = rw (lowercase-sigma c.loop-before.in_word _ _ _ c.in-Some.ensures.parts c.in-Some.ensures.first) at held.2 in
-    let next = (new-part _ _ _ _ held.1 step).1 _ c.in_ok-push_segment.ensures.ok in
-    (search rules, next.0, next.1)
+pub push_segment-requires-clause-next : goal.push_segment-requires-clause-next
+push_segment-requires-clause-next c =
+    λ a b parts at. (rw sigma at (c.next_match.ensures.found a b parts at c.in-Some.sigma)).0 c.in-Some.is
+
+pub range_from-requires : goal.range_from-requires
+range_from-requires c = λ _. lowering-boundary _ c.utf8.text _ _ c.loop-sigma.invariant
 
 pub returns-clause-ok : goal.returns-clause-ok
 returns-clause-ok c =
-    let held = c.loop-before.invariant in
-    let same = lowercase-rest c.args.builder.now c.loop-before.builder c.loop-before.in_word (chars c.args.text.now) (chars c.loop-before.rest.now) c.requires held.1 held.2
-    (c.in_default.ensures.none refl) in
-    on_ok_weaker c.push_parts.result (λ e. e ∙ same) c.push_parts.ensures.ok
+    let h = c.loop-sigma.invariant in
+    let none = (rw sigma at (c.in_default.ensures.none h.done h.rest h.parts h.at)).0 refl in
+    let all = lowering-last _ c.utf8.text _ _ h none in
+    on_ok_weaker c.push_parts.result (λ e. e ∙ all) (rw (c.range_from.ensures.value) at c.push_parts.ensures.ok)
 
 pub returns-clause-refused : goal.returns-clause-refused
 returns-clause-refused c =
-    let held = c.loop-before.invariant in
-    let same = lowercase-rest c.args.builder.now c.loop-before.builder c.loop-before.in_word (chars c.args.text.now) (chars c.loop-before.rest.now) c.requires held.1 held.2
-    (c.in_default.ensures.none refl) in
-    on_err_weaker c.push_parts.result (λ heap. ap (λ b. b.kind) (sym same) ∙ heap) c.push_parts.ensures.refused
+    let h = c.loop-sigma.invariant in
+    let none = (rw sigma at (c.in_default.ensures.none h.done h.rest h.parts h.at)).0 refl in
+    let all = lowering-last _ c.utf8.text _ _ h none in
+    on_err_weaker c.push_parts.result (λ heap. ap (λ b. b.kind) (sym all) ∙ heap) (rw (c.range_from.ensures.value) at c.push_parts.ensures.refused)

@@ -1,14 +1,10 @@
--- The builder has the text of a new one, and with the rest in lower case that of the whole.
-use denote.Shadow.{shadow}
-use denote.Text.{Utf8}
-use Rattle.smol_str.proofs.Common.{◌≡◌, ◌++◌, length, chars, InBuffer, empty_builder, appended, lowercased}
-use Rattle.std.specs.StrCase.Lower.{lowercase_chars}
+-- The builder has what is before the index.
+use Rattle.smol_str.proofs.Common.{◌-◌, length, chars}
+use Rattle.smol_str.specs.CaseParts.{IsLowering}
 use Rattle.smol_str.proofs.str_ext.sigma.push_lowercase.Given as goal
 
-abbrev pub invariant-loop-before : goal.invariant-loop-before
-invariant-loop-before l = shadow (Utf8 l.rest)
-    × (l.builder ≡ appended (empty_builder InBuffer) l.builder.text)
-    × (l.builder.text ++ lowercase_chars l.in_word (chars l.rest) ≡ lowercased (chars l.fn.text))
+abbrev pub invariant-loop-sigma : goal.invariant-loop-sigma
+invariant-loop-sigma l = IsLowering (chars l.text) l.builder l.from
 
-abbrev pub decreases-loop-before : goal.decreases-loop-before
-decreases-loop-before l = length l.rest
+abbrev pub decreases-loop-sigma : goal.decreases-loop-sigma
+decreases-loop-sigma l = length l.text - l.from
