@@ -2,6 +2,7 @@
 ghost use Rattle.std.specs.Prelude.{◌≡◌, ◌<◌, ◌≤◌, ◌/◌, ◌%◌, [], ◌∷◌, ◌++◌, false, length, IfOk, OnOk, IfSome, None, Some, encode_utf8_all};
 ghost use Rattle.std.specs.Char.{digit_char};
 ghost use Rattle.std.specs.List.{list_all};
+ghost use Rattle.std.specs.Str.{IsAscii};
 ghost use Rattle.std.specs.String.{string_bytes};
 ghost use Rattle.json.specs.Print.{escape, escape_byte};
 ghost use Rattle.serde_json.specs.Data.{string};
@@ -150,10 +151,7 @@ fn write_escape(json: &mut String, byte: u8) -> Result<(), AllocError>
     ensures { OnOk result (string_bytes json.new ≡ string_bytes json.old ++ escape_byte byte) }
 {
     match letter_of_byte(byte) {
-        Some(letter) => {
-            json.push('\\')?;
-            json.push(letter)
-        }
+        Some(letter) => write_ascii(json, &[b'\\', letter]),
         None => write_control(json, byte),
     }
 }
@@ -161,7 +159,7 @@ fn write_escape(json: &mut String, byte: u8) -> Result<(), AllocError>
 /// The letter after the backslash in the escape of a byte that is not plain, if there is one.
 #[inline(always)]
 #[tactic(auto, unfolding(json::specs::Print::escape_byte))]
-fn letter_of_byte(byte: u8) -> Option<char>
+fn letter_of_byte(byte: u8) -> Option<u8>
     requires { is_plain byte ≡ false }
     ensures ascii { IfSome result (λ letter. letter < 128) }
     ensures escape { IfSome result (λ letter. escape_byte byte ≡ 92 ∷ letter ∷ []) }
@@ -170,27 +168,47 @@ fn letter_of_byte(byte: u8) -> Option<char>
         92 ∷ 117 ∷ 48 ∷ 48 ∷ digit_char (byte / 16) ∷ digit_char (byte % 16) ∷ [] }
 {
     match byte {
-        b'"' => Some('"'),
-        b'\\' => Some('\\'),
-        8 => Some('b'),
-        b'\t' => Some('t'),
-        b'\n' => Some('n'),
-        12 => Some('f'),
-        b'\r' => Some('r'),
+        b'"' => Some(b'"'),
+        b'\\' => Some(b'\\'),
+        8 => Some(b'b'),
+        b'\t' => Some(b't'),
+        b'\n' => Some(b'n'),
+        12 => Some(b'f'),
+        b'\r' => Some(b'r'),
         _ => None,
     }
 }
 
 /// Appends the escape of a control character by its number.
-#[inline(never)]
+#[inline(always)]
 fn write_control(json: &mut String, byte: u8) -> Result<(), AllocError>
     requires { byte < 32 }
     ensures { OnOk result (string_bytes json.new ≡ string_bytes json.old
         ++ 92 ∷ 117 ∷ 48 ∷ 48 ∷ digit_char (byte / 16) ∷ digit_char (byte % 16) ∷ []) }
 {
-    json.push_str(if byte < 16 { "\\u000" } else { "\\u001" })?;
-    json.push(match byte % 16 {
-        digit @ 0..=9 => (b'0' + digit) as char,
-        digit => (b'a' - 10 + digit) as char,
-    })
+    let (high, low) = (hex_digit(byte / 16), hex_digit(byte % 16));
+    write_ascii(json, &[b'\\', b'u', b'0', b'0', high, low])
+}
+
+/// The hex digit of a number.
+#[inline(always)]
+fn hex_digit(number: u8) -> u8
+    requires { number < 16 }
+    ensures digit { result ≡ digit_char number }
+    ensures ascii { result < 128 }
+{
+    if number < 10 {
+        b'0' + number
+    } else {
+        b'a' - 10 + number
+    }
+}
+
+/// Appends so few ASCII bytes that they are written without a loop.
+#[inline(always)]
+fn write_ascii<const N: usize>(json: &mut String, bytes: &[u8; N]) -> Result<(), AllocError>
+    requires { IsAscii bytes.now }
+    ensures { OnOk result (string_bytes json.new ≡ string_bytes json.old ++ bytes.now) }
+{
+    json.push_str(unsafe { str::from_utf8_unchecked(bytes) })
 }
