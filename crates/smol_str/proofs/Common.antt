@@ -1,7 +1,7 @@
 -- The names that many proofs of this crate cite, passed on from one place. Declares nothing.
 pub use Rattle.std.proofs.Common.{◌≡◌, ℕ, ◌<◌, List, [], ◌∷◌, ◌++◌, Option, refl, sym, ◌∙◌, ap, ◌⊎◌, inl, inr, ◌-◌, ◌≤◌, length, Bool, true, false, ◌&&◌, nat_le, cond, append_assoc, arith, chars, IsUtf8, zero, suc, ◌+◌, ◌^◌, lit<, ⊎_elim, get_or, IsTrue, take, drop, length-append, take-append-drop, w32, All, encode_utf8_all, take_at, drop_at, length-take-le, length-drop, take-add, append-nil, ◌/◌, map, set, replicate, take_all, subst, IsAscii, IsCharBoundary, map-id, ◌*◌, length-take, nat_eq, w64, pow-add, take-take, drop-drop, get_or-drop, get_or-take, MatchOption, Result, Ok, Err, IfOk, slice_get, ◌↔◌, min, Some, None, option_map, unwrap_or, nat_cmp, flat_map, ne_eqb, String, string_bytes, ◌==◌, Global, Bor, OnOk, OnErr, bytes_eq, ◌%◌, leb, ltb, w8, bit_and, not, leb-true, leb-false, ltb-true, ltb-false, IfSome, lt-ltb, le-ltb, MatchBool, drop-cons, slice_range, encode_utf8, is_ok, if◌then◌else◌, rules, le_refl}
 pub use Rattle.smol_str.specs.Buffer.{IsPacked, packed, padded, unpacked, HaveOneBuffer}
-pub use Rattle.smol_str.specs.Case.{front, lower, upper, lowercased, uppercased, IsAsciiText, HasSigma, BeginsPastAscii, letter, converted, letters, full_case, mapped, IsMappedAlone, IsAsciiFront}
+pub use Rattle.smol_str.specs.Case.{front, lower, upper, lowercased, uppercased, IsAsciiText, BeginsPastAscii, letter, converted, letters, full_case, mapped, IsAsciiFront}
 pub use Rattle.smol_str.specs.Cut.{StandsAt, Occurs, IsNextMatch, IsCut, IsOnlyCut, joined_by, IsFirstAfter, IsCutAt, but_last, IsSpelled, IsCutBetween}
 pub use Rattle.smol_str.specs.BuilderState.{BuilderState, OnHeap, empty_builder, kind_for, appended, Kind, InBuffer, kind_with}
 pub use Rattle.smol_str.specs.Joined.{joined, str_text, string_text, joined_strs, joined_strings, joined_string_refs}

@@ -12,8 +12,6 @@
 --     lowercased t          t as `str::to_lowercase` makes it
 --     uppercased t          t as `str::to_uppercase` makes it
 --     full_case case t      t in this case of Unicode
---     HasSigma t            the capital sigma, U+03A3, occurs in t
---     IsMappedAlone case t  no character of t is mapped by its context
 -- `to_ascii_lowercase`, `to_ascii_uppercase` and `is_ascii` of a character are std's.
 use Rattle.std.specs.Prelude.{ℕ, false, ◌<◌, ◌≤◌, List, [], ◌∷◌, ⊤, length, take, map, take_while, All}
 use Rattle.std.specs.List.{flat_map}
@@ -24,7 +22,6 @@ use Rattle.std.specs.Str.{IsAscii}
 use Rattle.std.specs.StrCase.Lower.{lowercase_chars}
 use Rattle.smol_str.specs.declared.bytes.ascii.AsciiCase.{AsciiCase}
 use Rattle.smol_str.specs.declared.bytes.ascii.AsciiCase.TheVariants.{Lower, Upper}
-use Rattle.smol_str.specs.Cut.{Occurs}
 
 -- std's mapping of an ASCII letter
 abbrev pub letter : AsciiCase → ℕ → ℕ
@@ -82,12 +79,3 @@ uppercased t = mapped Upper t
 abbrev pub full_case : AsciiCase → List ℕ → List ℕ
 full_case Lower t = lowercased t
 full_case Upper t = uppercased t
-
--- the one character that lower case maps by its context
-abbrev pub HasSigma : List ℕ → Type 0
-HasSigma t = Occurs (0x3A3 ∷ []) t
-
--- lower case looks around a capital sigma; upper case looks around no character
-abbrev pub IsMappedAlone : AsciiCase → List ℕ → Type 0
-IsMappedAlone Lower t = ¬ HasSigma t
-IsMappedAlone Upper t = ⊤

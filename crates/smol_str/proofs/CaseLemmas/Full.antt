@@ -1,5 +1,5 @@
 -- For `str_ext::ascii_case` and `str_ext::full_case`: the ASCII front of a text and the rest of it, in a case.
-use Rattle.smol_str.proofs.Common.{◌≡◌, ℕ, List, [], ◌++◌, length, take, drop, sym, ap, ◌∙◌, arith, append_assoc, length-append, IsUtf8, IsAscii, IsCharBoundary, IsCharBoundary-from_take, chars, chars-append, take-append-drop, encode_utf8_all, take_at, IsUtf8-from_ascii, chars-IsAscii, encodes-IsAscii, IsAscii-from_all, AsciiCase, Lower, Upper, size, IsShort, padded, front, converted, BuilderState, InBuffer, OnHeap, empty_builder, appended, common_steps, rules, suc, ◌<◌, ◌∷◌, Bool, false, Option, None, flat_map, refl, append-nil, ne_eqb, to_ascii_lowercase, chars-encodes, INLINE_CAP, Occurs, lower, upper, lowercased, uppercased, IsAsciiText, HasSigma, letter, letters, full_case, mapped, IsMappedAlone, length-map, nat_tests, lowercase_is, uppercase_is, map-append, get_or, IsTrue, all_scalars, IsAsciiFront, ◌≤◌}
+use Rattle.smol_str.proofs.Common.{◌≡◌, ℕ, List, [], ◌++◌, length, take, drop, sym, ap, ◌∙◌, arith, append_assoc, length-append, IsUtf8, IsAscii, IsCharBoundary, IsCharBoundary-from_take, chars, chars-append, take-append-drop, encode_utf8_all, take_at, IsUtf8-from_ascii, chars-IsAscii, encodes-IsAscii, IsAscii-from_all, AsciiCase, Lower, Upper, size, IsShort, padded, front, converted, BuilderState, InBuffer, OnHeap, empty_builder, appended, common_steps, rules, suc, ◌<◌, ◌∷◌, Bool, false, Option, None, flat_map, refl, append-nil, ne_eqb, to_ascii_lowercase, chars-encodes, INLINE_CAP, Occurs, lower, upper, lowercased, uppercased, IsAsciiText, letter, letters, full_case, mapped, length-map, nat_tests, lowercase_is, uppercase_is, map-append, get_or, IsTrue, all_scalars, IsAsciiFront, ◌≤◌}
 use Rattle.smol_str.proofs.TextLemmas.Lists.{not_later}
 use Rattle.smol_str.proofs.CaseLemmas.Letters.{lowercase_moves, uppercase_moves}
 use Rattle.smol_str.proofs.CaseLemmas.Ascii.{front-parts, front-length, size-converted, front-append, IsAscii-converted, IsAscii-chars, ascii-converted}
@@ -31,6 +31,10 @@ lowercase_front w (c ∷ a) r h =
 uppercase_front : (a r : List ℕ) → IsAscii a → uppercased (a ++ r) ≡ upper a ++ uppercased r
 uppercase_front [] r h = refl
 uppercase_front (c ∷ a) r h = λ i. letters_ascii Upper c (h 0) i ++ uppercase_front a r (λ k. h (suc k)) i
+
+-- the one character that lower case maps by its context
+abbrev pub HasSigma : List ℕ → Type 0
+HasSigma t = Occurs (0x3A3 ∷ []) t
 
 -- without a capital sigma, lower case maps each character by itself
 pub lowercase-alone : (w : Bool) (t : List ℕ) → ¬ HasSigma t → lowercase_chars w t ≡ flat_map to_lowercase t

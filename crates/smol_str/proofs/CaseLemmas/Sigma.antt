@@ -1,5 +1,5 @@
 -- For `str_ext::sigma`: lower case round a capital sigma.
-use Rattle.smol_str.proofs.Common.{◌≡◌, ℕ, List, [], ◌∷◌, ◌++◌, Bool, true, length, take, refl, sym, ap, ◌∙◌, append_assoc, ne_eqb, chars, encode, IsUtf8, chars-append, take_at, IsCharBoundary-at_seam, IsUtf8-encode, Lower, mapped, HasSigma, lowercased, BuilderState, InBuffer, empty_builder, appended, append-nil, drop, ◌-◌, arith, size, IsCharBoundary, false, IsNextMatch, OnHeap, ◌+◌, ◌≤◌}
+use Rattle.smol_str.proofs.Common.{◌≡◌, ℕ, List, [], ◌∷◌, ◌++◌, Bool, true, length, take, refl, sym, ap, ◌∙◌, append_assoc, ne_eqb, chars, encode, IsUtf8, chars-append, take_at, IsCharBoundary-at_seam, IsUtf8-encode, Lower, mapped, lowercased, BuilderState, InBuffer, empty_builder, appended, append-nil, drop, ◌-◌, arith, size, IsCharBoundary, false, IsNextMatch, OnHeap, ◌+◌, ◌≤◌}
 use Rattle.std.specs.Char.{IsScalar}
 use Rattle.std.specs.Char.Unicode.ToLowercase.{to_lowercase}
 use Rattle.std.specs.Char.Unicode.Rows.{in_ranges}
@@ -8,7 +8,7 @@ use Rattle.std.specs.Char.Unicode.CaseIgnorable.{is_case_ignorable, case_ignorab
 use Rattle.std.specs.StrCase.Lower.{lowercase_chars, lowercase_before, is_in_word_after}
 use Rattle.std.proofs.lemmas.Str.{IsUtf8-take}
 use Rattle.smol_str.specs.CaseParts.{word_after, IsLowering}
-use Rattle.smol_str.proofs.CaseLemmas.Full.{lowercase-alone}
+use Rattle.smol_str.proofs.CaseLemmas.Full.{HasSigma, lowercase-alone}
 use Rattle.smol_str.proofs.BuilderLemmas.State.{appended-twice}
 use Rattle.smol_str.proofs.TextLemmas.Lists.{not_later}
 use Rattle.smol_str.proofs.BuilderLemmas.Push.{appended-heap, new-part}
