@@ -4,6 +4,7 @@ use Rattle.std.proofs.Common.{ap₂, option_and_then, IfErr, IsErrAnd}
 use Rattle.std.specs.List.{prefix_len}
 use Rattle.std.proofs.lemmas.Grind.{flat_map-append}
 use Rattle.std.proofs.lemmas.List.Folds.{list_all-append}
+use Rattle.std.proofs.lemmas.List.{length-drop}
 use Rattle.std.proofs.lemmas.Str.{encode_ascii}
 use Rattle.smol_str.proofs.TextLemmas.Utf8.{form}
 use Rattle.smol_str.proofs.TextLemmas.Places.{IfErr-is}
@@ -80,6 +81,23 @@ pub read-plain-cut : (text inner s rest behind : List ℕ) → drop (prefix_len 
 read-plain-cut text inner s rest behind opened whole is closing closed =
     read-cut text inner s behind opened (rw (whole, closing) (Unescapes-plain s (34 ∷ behind) is)) closed
 
+-- a text of which a string is not known to be plain: it does not begin with a quote, or its plain front ends at no quote
+module _ (text t : List ℕ) (h : IsPlainJson text t) where
+  begins : drop (prefix_len is_space text) text ≡ 34 ∷ (encode_utf8_all t ++ 34 ∷ h.1.1)
+  begins = rw (h.1.4) (cut-run is_space h.1.0 (encode_utf8_all t ++ 34 ∷ h.1.1) 34 h.1.2 refl)
+
+  pub plain-begins : ((rest : List ℕ) → ¬ (drop (prefix_len is_space text) text ≡ 34 ∷ rest)) → ⊥
+  plain-begins other = other _ begins
+
+  pub plain-ends : (inner rest : List ℕ) → drop (prefix_len is_space text) text ≡ 34 ∷ inner → rest ≡ drop (prefix_len is_plain inner) inner
+      → ((behind : List ℕ) → list_all is_space behind ≡ true → ¬ (rest ≡ 34 ∷ behind)) → ⊥
+  plain-ends inner rest opened is unclosed =
+      let inside : inner ≡ encode_utf8_all t ++ 34 ∷ h.1.1 = cc (opened, begins) in
+      unclosed h.1.1 h.1.3 (is ∙ rw inside (cut-run is_plain (encode_utf8_all t) h.1.1 34 (rw (plain-encoded t) h.0) refl))
+
+pub opened-some : (text inner : List ℕ) → drop (prefix_len is_space text) text ≡ 34 ∷ inner → 0 < length text
+opened-some text inner opened = omega (arith, ap length opened, length-drop (prefix_len is_space text) text)
+
 pub ruleset cuts = (cut-run, plain-encoded, read-plain-cut, read-cut, encodes-chars)
 
 -- what is written for a text
@@ -132,4 +150,4 @@ pub AfterJsonFault-memory : {T : Type 0} (r : Result T JsonFault) (bs : List ℕ
     → IsErrAnd r (λ fault. fault ≡ OutOfMemory) → IfErr r (AfterJsonFault bs)
 AfterJsonFault-memory r bs d reads is = IfErr-is (AfterJsonFault bs) r OutOfMemory is (some_bytes bs d reads)
 
-pub ruleset values_read = (read-same, read-plain, AfterJsonFault-memory, some_bytes)
+pub ruleset values_read = (read-same, read-plain, AfterJsonFault-memory, some_bytes, opened-some, read-plain-cut, read-cut, encodes-chars)

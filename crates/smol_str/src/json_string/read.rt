@@ -1,5 +1,5 @@
 //! From JSON to a value.
-ghost use Rattle.std.specs.Prelude.{◌≡◌, ◌↔◌, ◌<◌, ◌≤◌, ℕ, List, ◌∷◌, false, MatchOption, drop, length, true, IsTrue, IfOk, IfErr, OnErr, IsOkAnd, IfSome, None, Some, encode_utf8, encode_utf8_all};
+ghost use Rattle.std.specs.Prelude.{◌≡◌, ◌↔◌, ◌<◌, ◌≤◌, ℕ, List, ◌∷◌, ◌++◌, false, MatchOption, drop, length, true, IsTrue, IfOk, IfErr, OnErr, IsOkAnd, IfSome, None, Some, encode_utf8, encode_utf8_all};
 ghost use Rattle.std.specs.Char.{digit_value};
 ghost use Rattle.std.specs.List.{list_all, prefix_len};
 ghost use Rattle.std.specs.Str.{chars};
@@ -8,7 +8,7 @@ ghost use Rattle.serde_json.specs.View.{view};
 ghost use Rattle.smol_str.specs.Text.{IsResident};
 ghost use Rattle.smol_str.specs.Meaning.{IsValueOf};
 ghost use Rattle.smol_str.specs.BuilderState.{InBuffer, empty_builder};
-ghost use Rattle.smol_str.specs.Plain.{is_space, IsPlainJson};
+ghost use Rattle.smol_str.specs.Plain.{is_plain, is_space, IsPlainJson};
 ghost use Rattle.smol_str.specs.Unescaped.{Unescapes, UnescapesAfterU, BeginsWithUnit, IsSurrogatePair};
 ghost use Rattle.smol_str.specs.Json.{json_value, IsJsonText, IsJsonOf, AfterValueFault, AfterJsonFault};
 
@@ -58,21 +58,14 @@ pub fn from_json(alloc: Global, text: &str) -> Result<SmolStr, JsonFault>
     ensures plain { (t : List ℕ) → IsPlainJson text.now t → IsResident t →
         IsOkAnd result (IsValueOf t) }
 {
-    match read_plain(text) {
-        Some(plain) => Ok(SmolStr::new(alloc, plain)?),
-        None => read_value(alloc, text),
+    let Some(inner) = behind_quote(text) else {
+        return read_any(alloc, text);
+    };
+    let (plain, rest) = split_plain(inner);
+    if is_closed(rest) {
+        return Ok(SmolStr::new(alloc, plain)?);
     }
-}
-
-/// The text in a JSON text that is one plain string, with nothing but white space around it.
-#[inline(always)]
-#[tactic(auto, using(crate::proofs::JsonLemmas::cuts))]
-fn read_plain(text: &str) -> Option<&str>
-    ensures some { IfSome result (λ plain. IsJsonText text.now (chars plain.now)) }
-    ensures none { result ≡ None → (t : List ℕ) → ¬ (IsPlainJson text.now t) }
-{
-    let (plain, rest) = split_plain(behind_quote(text)?);
-    if is_closed(rest) { Some(plain) } else { None }
+    read_escaped(alloc, text, plain, rest)
 }
 
 /// What comes after white space and a quote.
@@ -99,55 +92,45 @@ fn is_closed(rest: &str) -> bool
     }
 }
 
-/// The value of any JSON text. A string is read in place.
+/// The value of any JSON text that begins with a quote. A string is read in place, on from its plain front.
 #[inline(never)]
 #[tactic(auto, using(crate::proofs::JsonLemmas::values_read))]
-fn read_value(alloc: Global, text: &str) -> Result<SmolStr, JsonFault>
+fn read_escaped(alloc: Global, text: &str, plain: &str, rest: &str) -> Result<SmolStr, JsonFault>
+    requires opened { drop (prefix_len is_space text.now) text.now ≡ 34 ∷ (plain.now ++ rest.now) }
+    requires plain { list_all is_plain plain.now ≡ true }
     ensures text { IfOk result (λ v. IsJsonText text.now v.text) }
     ensures of_text { (t : List ℕ) → IsJsonText text.now t → IfOk result (λ v. IsValueOf t v) }
     ensures fault { IfErr result (AfterJsonFault text.now) }
 {
-    match read_escaped(alloc, text)? {
-        Some(value) => Ok(value),
-        None => read_any(alloc, text),
-    }
-}
-
-/// The value of a JSON text that is one string.
-#[tactic(auto, using(crate::proofs::JsonLemmas::cuts))]
-fn read_escaped(alloc: Global, text: &str) -> Result<Option<SmolStr>, AllocError>
-    ensures text { IfOk result (λ read. IfSome read (λ v. IsJsonText text.now v.text)) }
-    ensures place { IfOk result (λ read. IfSome read (λ v. IsValueOf v.text v)) }
-    ensures refused { OnErr result (0 < length text.now) }
-{
-    let Some(inner) = behind_quote(text) else {
-        return Ok(None);
-    };
     let mut builder = SmolStrBuilder::new(alloc);
-    let rest = read_content(&mut builder, inner)?;
+    let rest = read_content(&mut builder, plain, rest)?;
     if is_closed(rest) {
-        Ok(Some(builder.into_value()?))
-    } else {
-        Ok(None)
+        return Ok(builder.into_value()?);
     }
+    read_any(alloc, text)
 }
 
-/// Appends the characters that a JSON string's content spells; returns what comes after them.
+/// Appends the characters that a JSON string's content spells, of which the plain front is known; returns what comes after them.
 #[tactic(auto, using(crate::proofs::JsonLemmas::Unescaped::pieces_read))]
-fn read_content<'a>(builder: &mut SmolStrBuilder, text: &'a str) -> Result<&'a str, AllocError>
-    requires { builder.old ≡ empty_builder InBuffer }
-    ensures { IfOk result (λ rest. Unescapes text.now (encode_utf8_all builder.new.text) rest.now) }
+fn read_content<'a>(
+    builder: &mut SmolStrBuilder,
+    plain: &str,
+    rest: &'a str,
+) -> Result<&'a str, AllocError>
+    requires new { builder.old ≡ empty_builder InBuffer }
+    requires plain { list_all is_plain plain.now ≡ true }
+    ensures { IfOk result (λ after.
+        Unescapes (plain.now ++ rest.now) (encode_utf8_all builder.new.text) after.now) }
 {
-    let mut rest = text;
-    loop {
-        let (plain, behind) = split_plain(rest);
-        builder.push_with_spare(plain, behind.len())?;
-        let Some((character, after)) = split_escape(behind) else {
-            return Ok(behind);
-        };
+    builder.push_with_spare(plain, rest.len())?;
+    let mut rest = rest;
+    while let Some((character, after)) = split_escape(rest) {
         builder.push_heap_first(character)?;
-        rest = read_escapes(builder, after)?;
+        let (plain, behind) = split_plain(read_escapes(builder, after)?);
+        builder.push_with_spare(plain, behind.len())?;
+        rest = behind;
     }
+    Ok(rest)
 }
 
 /// Appends the characters of the escapes that come first, so that a run of them is not searched; returns what comes after
