@@ -68,6 +68,9 @@ fn front_in_case(
     ensures refused { OnErr result
         ((appended (empty_builder InBuffer) (mapped case (take len text.now))).kind ≡ OnHeap) }
 {
+    if len == 0 {
+        return Ok(SmolStrBuilder::new(alloc));
+    }
     let front = &text[..len];
     if len <= INLINE_CAP {
         let short = InlineText::from_short(front).in_case(case);
@@ -95,8 +98,58 @@ fn push_rest(
 {
     match case {
         AsciiCase::Lower => push_lowercase(builder, text, from),
-        AsciiCase::Upper => push_parts(builder, &text[from..], case, 0),
+        AsciiCase::Upper => push_last(builder, &text[from..], case),
     }
+}
+
+/// Appends what each character of a text is mapped to, where nothing comes after it.
+pub(super) fn push_last(
+    builder: &mut SmolStrBuilder,
+    text: &str,
+    case: AsciiCase,
+) -> Result<(), AllocError>
+    requires { builder.old ≡ appended (empty_builder InBuffer) builder.old.text }
+    ensures ok { OnOk result (builder.new ≡ appended builder.old (mapped case (chars text.now))) }
+    ensures refused { OnErr result
+        ((appended builder.old (mapped case (chars text.now))).kind ≡ OnHeap) }
+{
+    // What stays in the buffer most likely takes fewer instructions without runs and room.
+    if text.len() <= INLINE_CAP && builder.len() <= INLINE_CAP - text.len() {
+        return push_mapped(builder, text, case);
+    }
+    push_parts(builder, text, case, 0)
+}
+
+/// Appends what each character of a text is mapped to, one by one: for short texts.
+#[inline(always)]
+fn push_mapped(builder: &mut SmolStrBuilder, text: &str, case: AsciiCase) -> Result<(), AllocError>
+    requires { builder.old ≡ appended (empty_builder InBuffer) builder.old.text }
+    ensures ok { OnOk result (builder.new ≡ appended builder.old (mapped case (chars text.now))) }
+    ensures refused { OnErr result
+        ((appended builder.old (mapped case (chars text.now))).kind ≡ OnHeap) }
+{
+    for character in text.chars() {
+        push_short_one(builder, character, case)?;
+    }
+    Ok(())
+}
+
+/// Like `push_one`, for short texts.
+#[inline(always)]
+fn push_short_one(
+    builder: &mut SmolStrBuilder,
+    character: char,
+    case: AsciiCase,
+) -> Result<(), AllocError>
+    requires { builder.old ≡ appended (empty_builder InBuffer) builder.old.text }
+    ensures ok { OnOk result (builder.new ≡ appended builder.old (mapped case (character ∷ []))) }
+    ensures refused { OnErr result
+        ((appended builder.old (mapped case (character ∷ []))).kind ≡ OnHeap) }
+{
+    if let Some(letter) = letter_of(character, case) {
+        return builder.push(letter);
+    }
+    push_letters(builder, character, case, INLINE_CAP)
 }
 
 /// Appends what each character of a text is mapped to, with room for `behind` bytes after it.

@@ -11,7 +11,7 @@ ghost use Rattle.smol_str.specs.CaseParts.{word_after, IsLowering};
 ghost use Rattle.smol_str.specs.Cut.{IsNextMatch};
 
 use super::case_ranges::is_cased_letter;
-use super::full_case::push_parts;
+use super::full_case::{push_last, push_parts};
 use crate::builder::SmolStrBuilder;
 use crate::kernel::{AsciiCase, next_match};
 use std::alloc::AllocError;
@@ -33,7 +33,7 @@ pub(super) fn push_lowercase(
         push_segment(builder, text, from, sigma)?;
         from = sigma + 2;
     }
-    push_parts(builder, &text[from..], AsciiCase::Lower, 0)
+    push_last(builder, &text[from..], AsciiCase::Lower)
 }
 
 /// Appends the text between two indexes in lower case, and the capital sigma that is the first at the second.

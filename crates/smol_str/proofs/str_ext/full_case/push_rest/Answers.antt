@@ -11,10 +11,10 @@ range_from-requires c = λ _. ascii-boundary c.args.case _ _ c.utf8.text c.requi
 pub returns-in-Upper-clause-ok : goal.returns-in-Upper-clause-ok
 returns-in-Upper-clause-ok c =
     let all = upper-rest _ _ c.utf8.text c.requires.ascii _ (rw c.in-Upper.is at c.requires.front) in
-    rw c.in-Upper.is (on_ok_weaker c.push_parts.result (λ e. e ∙ all) (rw (c.in-Upper.is, c.range_from.ensures.value) at c.push_parts.ensures.ok))
+    rw c.in-Upper.is (on_ok_weaker c.push_last.result (λ e. e ∙ all) (rw (c.in-Upper.is, c.range_from.ensures.value) at c.push_last.ensures.ok))
 
 pub returns-in-Upper-clause-refused : goal.returns-in-Upper-clause-refused
 returns-in-Upper-clause-refused c =
     let all = upper-rest _ _ c.utf8.text c.requires.ascii _ (rw c.in-Upper.is at c.requires.front) in
     rw c.in-Upper.is
-    (on_err_weaker c.push_parts.result (λ heap. ap (λ b. b.kind) (sym all) ∙ heap) (rw (c.in-Upper.is, c.range_from.ensures.value) at c.push_parts.ensures.refused))
+    (on_err_weaker c.push_last.result (λ heap. ap (λ b. b.kind) (sym all) ∙ heap) (rw (c.in-Upper.is, c.range_from.ensures.value) at c.push_last.ensures.refused))

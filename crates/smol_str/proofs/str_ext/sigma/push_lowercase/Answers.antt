@@ -18,11 +18,11 @@ returns-clause-ok c =
     let h = c.loop-sigma.invariant in
     let none = (rw sigma at (c.in_default.ensures.none h.done h.rest h.parts h.at)).0 refl in
     let all = lowering-last _ c.utf8.text _ _ h none in
-    on_ok_weaker c.push_parts.result (λ e. e ∙ all) (rw (c.range_from.ensures.value) at c.push_parts.ensures.ok)
+    on_ok_weaker c.push_last.result (λ e. e ∙ all) (rw (c.range_from.ensures.value) at c.push_last.ensures.ok)
 
 pub returns-clause-refused : goal.returns-clause-refused
 returns-clause-refused c =
     let h = c.loop-sigma.invariant in
     let none = (rw sigma at (c.in_default.ensures.none h.done h.rest h.parts h.at)).0 refl in
     let all = lowering-last _ c.utf8.text _ _ h none in
-    on_err_weaker c.push_parts.result (λ heap. ap (λ b. b.kind) (sym all) ∙ heap) (rw (c.range_from.ensures.value) at c.push_parts.ensures.refused)
+    on_err_weaker c.push_last.result (λ heap. ap (λ b. b.kind) (sym all) ∙ heap) (rw (c.range_from.ensures.value) at c.push_last.ensures.refused)
