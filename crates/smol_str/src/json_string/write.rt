@@ -2,7 +2,6 @@
 ghost use Rattle.std.specs.Prelude.{◌≡◌, ◌<◌, ◌≤◌, ◌/◌, ◌%◌, [], ◌∷◌, ◌++◌, false, length, IfOk, OnOk, IfSome, None, Some, encode_utf8_all};
 ghost use Rattle.std.specs.Char.{digit_char};
 ghost use Rattle.std.specs.List.{list_all};
-ghost use Rattle.std.specs.Str.{IsAscii};
 ghost use Rattle.std.specs.String.{string_bytes};
 ghost use Rattle.json.specs.Print.{escape, escape_byte};
 ghost use Rattle.serde_json.specs.Data.{string};
@@ -97,29 +96,30 @@ fn write_plain(alloc: Global, text: &str) -> Result<String, AllocError>
 fn write_escaped(alloc: Global, text: &str) -> Result<String, AllocError>
     ensures { IfOk result (λ json. string_bytes json ≡ compact_text (string text.now)) }
 {
-    let mut json = String::with_capacity(alloc, text.len() + SPARE)?;
-    json.push('"')?;
+    let mut json = Vec::with_capacity(alloc, text.len() + SPARE)?;
+    json.push_reserved(b'"');
     let mut rest = text;
     loop {
         let (plain, behind) = split_plain(rest);
-        json.push_str(plain)?;
+        json.extend_from_slice(plain.as_bytes())?;
         let Some((byte, after)) = split_ascii(behind) else {
             break;
         };
         write_escape(&mut json, byte)?;
         rest = write_escapes(&mut json, after)?;
     }
-    json.push('"')?;
-    Ok(json)
+    json.reserve(1)?;
+    json.push_reserved(b'"');
+    Ok(unsafe { String::from_utf8_unchecked(json) })
 }
 
 /// Appends the escapes of the bytes that come first and are not plain, so that a run of them is not searched; returns what
 /// comes after them.
 #[inline(always)]
 #[tactic(auto, using(crate::proofs::JsonLemmas::pieces))]
-fn write_escapes<'a>(json: &mut String, text: &'a str) -> Result<&'a str, AllocError>
+fn write_escapes<'a>(json: &mut Vec<u8>, text: &'a str) -> Result<&'a str, AllocError>
     ensures escapes { IfOk result (λ rest.
-        string_bytes json.new ++ escape rest.now ≡ string_bytes json.old ++ escape text.now) }
+        json.new.items ++ escape rest.now ≡ json.old.items ++ escape text.now) }
     ensures shorter { IfOk result (λ rest. length rest.now ≤ length text.now) }
 {
     let mut rest = text;
@@ -146,14 +146,25 @@ fn split_special(text: &str) -> Option<(u8, &str)>
 
 /// Appends the escape of a byte that is not plain.
 #[inline(always)]
-fn write_escape(json: &mut String, byte: u8) -> Result<(), AllocError>
+fn write_escape(json: &mut Vec<u8>, byte: u8) -> Result<(), AllocError>
     requires { is_plain byte ≡ false }
-    ensures { OnOk result (string_bytes json.new ≡ string_bytes json.old ++ escape_byte byte) }
+    ensures { OnOk result (json.new.items ≡ json.old.items ++ escape_byte byte) }
 {
     match letter_of_byte(byte) {
-        Some(letter) => write_ascii(json, &[b'\\', letter]),
+        Some(letter) => write_letter(json, letter),
         None => write_control(json, byte),
     }
+}
+
+/// Appends a backslash and a letter.
+#[inline(always)]
+fn write_letter(json: &mut Vec<u8>, letter: u8) -> Result<(), AllocError>
+    ensures { OnOk result (json.new.items ≡ json.old.items ++ 92 ∷ letter ∷ []) }
+{
+    json.reserve(2)?;
+    json.push_reserved(b'\\');
+    json.push_reserved(letter);
+    Ok(())
 }
 
 /// The letter after the backslash in the escape of a byte that is not plain, if there is one.
@@ -181,34 +192,30 @@ fn letter_of_byte(byte: u8) -> Option<u8>
 
 /// Appends the escape of a control character by its number.
 #[inline(always)]
-fn write_control(json: &mut String, byte: u8) -> Result<(), AllocError>
+fn write_control(json: &mut Vec<u8>, byte: u8) -> Result<(), AllocError>
     requires { byte < 32 }
-    ensures { OnOk result (string_bytes json.new ≡ string_bytes json.old
+    ensures { OnOk result (json.new.items ≡ json.old.items
         ++ 92 ∷ 117 ∷ 48 ∷ 48 ∷ digit_char (byte / 16) ∷ digit_char (byte % 16) ∷ []) }
 {
-    let (high, low) = (hex_digit(byte / 16), hex_digit(byte % 16));
-    write_ascii(json, &[b'\\', b'u', b'0', b'0', high, low])
+    json.reserve(6)?;
+    json.push_reserved(b'\\');
+    json.push_reserved(b'u');
+    json.push_reserved(b'0');
+    json.push_reserved(b'0');
+    json.push_reserved(hex_digit(byte / 16));
+    json.push_reserved(hex_digit(byte % 16));
+    Ok(())
 }
 
 /// The hex digit of a number.
 #[inline(always)]
 fn hex_digit(number: u8) -> u8
     requires { number < 16 }
-    ensures digit { result ≡ digit_char number }
-    ensures ascii { result < 128 }
+    ensures { result ≡ digit_char number }
 {
     if number < 10 {
         b'0' + number
     } else {
         b'a' - 10 + number
     }
-}
-
-/// Appends so few ASCII bytes that they are written without a loop.
-#[inline(always)]
-fn write_ascii<const N: usize>(json: &mut String, bytes: &[u8; N]) -> Result<(), AllocError>
-    requires { IsAscii bytes.now }
-    ensures { OnOk result (string_bytes json.new ≡ string_bytes json.old ++ bytes.now) }
-{
-    json.push_str(unsafe { str::from_utf8_unchecked(bytes) })
 }
