@@ -39,24 +39,21 @@ fn fill_all<R: Read>(reader: &mut R, buffer: &mut [u8]) -> Result<(), DecodeFaul
     Ok(())
 }
 
-/// Reads a body of `size` bytes into a buffer of `N` on the stack, so that memory is asked for the value alone.
+/// Reads a body that fills a buffer, so that memory is asked for the value alone.
 #[inline(always)]
 #[tactic(auto, using(crate::proofs::WireLemmas::Borsh::read_bodies))]
-fn read_on_stack<R: Read, const N: usize>(
+fn read_into<R: Read>(
     alloc: Global,
     reader: &mut R,
-    size: usize,
+    buffer: &mut [u8],
 ) -> Result<SmolStr, DecodeFault>
-    requires room { size ≤ N }
-    requires small { N ≤ STACK_BODY }
-    ensures ok { IfOk result (HasReadBody (R.remaining reader.old) (R.remaining reader.new) size) }
+    ensures ok { IfOk result
+        (HasReadBody (R.remaining reader.old) (R.remaining reader.new) (length buffer.old)) }
     ensures fault { IfErr result
-        (AfterBodyFault (R.remaining reader.old) (R.remaining reader.new) size) }
+        (AfterBodyFault (R.remaining reader.old) (R.remaining reader.new) (length buffer.old)) }
 {
-    let mut buffer = zeros::<N>();
-    let body = &mut buffer[..size];
-    fill_all(reader, body)?;
-    Ok(SmolStr::from_utf8(alloc, body)?)
+    fill_all(reader, buffer)?;
+    Ok(SmolStr::from_utf8(alloc, buffer)?)
 }
 
 /// Reads a body of `size` bytes.
@@ -70,10 +67,12 @@ pub(super) fn read_body<R: Read>(
         (AfterBodyFault (R.remaining reader.old) (R.remaining reader.new) size) }
 {
     if size <= INLINE_CAP {
-        return read_on_stack::<R, INLINE_CAP>(alloc, reader, size);
+        let mut buffer = zeros::<INLINE_CAP>();
+        return read_into(alloc, reader, &mut buffer[..size]);
     }
     if size <= STACK_BODY {
-        return read_on_stack::<R, STACK_BODY>(alloc, reader, size);
+        let mut buffer = zeros::<STACK_BODY>();
+        return read_into(alloc, reader, &mut buffer[..size]);
     }
     // By chunks. UTF-8 is tested when all of it is there, and the value keeps the memory that they were gathered in.
     let body = read_up_to(alloc, reader, size)?;

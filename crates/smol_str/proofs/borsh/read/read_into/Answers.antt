@@ -1,7 +1,7 @@
 use Rattle.smol_str.proofs.Common.{rules}
 use Rattle.smol_str.proofs.TextLemmas.Places.{IfErr-is}
 use Rattle.smol_str.proofs.WireLemmas.Borsh.{AfterBodyFault-of_text}
-use Rattle.smol_str.proofs.borsh.read.read_on_stack.Goals as goal
+use Rattle.smol_str.proofs.borsh.read.read_into.Goals as goal
 
 pub returns-in_err-from_utf8-clause-fault : goal.returns-in_err-from_utf8-clause-fault
 returns-in_err-from_utf8-clause-fault g c =
