@@ -218,7 +218,7 @@ fn fails_at_read<C: Reading>(test: &Test, call: &C, bytes: &[u8], (step, fails_a
     let row = (call.name(), bytes.len(), step, fails_at);
     let mut reader = trickle_of(bytes, step, fails_at);
     start_counts(test.alloc);
-    if let Some(error) = failure_at(place_of(row)) {
+    if let Some(error) = failure_at(number_of(row)) {
         reader.failure = error;
     }
     let wanted = Reason::Io(cause_of(&reader.failure));
@@ -230,7 +230,7 @@ fn fails_at_read<C: Reading>(test: &Test, call: &C, bytes: &[u8], (step, fails_a
 }
 
 /// Another number at the next place, and in the next row.
-fn place_of((_, size, step, fails_at): Row<'_>) -> usize {
+fn number_of((_, size, step, fails_at): Row<'_>) -> usize {
     size.wrapping_add(step).wrapping_add(fails_at)
 }
 
@@ -275,7 +275,7 @@ fn count_writes<C: Writing>(test: &Test, call: &C, bytes: &[u8], step: usize) ->
 /// By single bytes, each call before the failure took one.
 fn fails_at_write<C: Writing>(test: &Test, call: &C, bytes: &[u8], (step, fails_at): At) {
     let row = (call.name(), bytes.len(), step, fails_at);
-    let failure = failure_at(place_of(row));
+    let failure = failure_at(number_of(row));
     let wanted = failure.unwrap_or(io::Error::from(ErrorKind::WriteZero));
     start_counts(test.alloc);
     let mut writer = empty_drip(test.alloc, step, fails_at, failure);

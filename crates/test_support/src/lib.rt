@@ -18,7 +18,7 @@ pub use memory::{
     Count, Refusals, can_refuse, counted, end_refusals, is_at_most, refuse, refuse_all,
     start_counts,
 };
-pub use memory_law::{Asks, Call, Law, Plus, Requests, Texts, check_law};
+pub use memory_law::{Asks, Call, Law, Requests, check_law};
 pub use sampling::samples;
 pub use std::alloc::{AllocError, Global};
 pub use std::test::Fail;

@@ -21,14 +21,6 @@ pub enum Requests {
     Doublings(u32, u32),
 }
 
-/// For how many bytes in all: so many times the longer of its text and its result ..
-#[derive(Clone, Copy)]
-pub struct Texts(pub usize);
-
-/// .. and so many bytes more.
-#[derive(Clone, Copy)]
-pub struct Plus(pub usize);
-
 /// Of which texts a call may make a request.
 #[derive(Clone, Copy)]
 pub enum Asks {
@@ -41,8 +33,25 @@ pub enum Asks {
     ForAny,
 }
 
-/// A call, its name as the library's documentation has it, and what it may ask for.
-pub type Law<C> = (C, &'static str, Requests, Texts, Plus, Asks);
+/// A call, its name as the library's documentation has it, and what it may ask for: so many requests, and in all for so many
+/// times the longer of its text and its result, and so many bytes more.
+#[derive(Clone, Copy)]
+pub struct Law<C> {
+    pub call: C,
+    pub name: &'static str,
+    pub requests: Requests,
+    pub texts: usize,
+    pub plus: usize,
+    pub asks: Asks,
+}
+
+/// A table of calls, a line each: a call and its name, how many requests, for how many bytes, and of which texts.
+#[macro_export]
+macro_rules! laws {
+    ($($call:expr => $name:literal, $requests:expr, $texts:literal * text + $plus:literal, $asks:ident;)+) => {
+        [$(Law { call: $call, name: $name, requests: $requests, texts: $texts, plus: $plus, asks: $asks }),+]
+    };
+}
 
 /// How a call is made.
 pub trait Call: Copy {
@@ -75,52 +84,45 @@ pub trait Call: Copy {
 pub fn check_law<C: Call>(rt: HostRuntime, table: &[Law<C>]) -> Result<(), Fail> {
     let test = Test::begin(rt);
     let texts = samples(&test);
-    for &(call, name, requests, times, plus, asks) in table {
-        let most = (requests, times, plus, asks);
-        let was_refused = check_texts(&test, call, name, most, &texts);
-        let is_asking = !matches!(requests, Requests::Most(0)) && can_refuse(test.alloc);
-        holds(&test, was_refused == is_asking, &(name, "is refused"));
+    for &law in table {
+        let was_refused = check_texts(&test, law, &texts);
+        let is_asking = !matches!(law.requests, Requests::Most(0)) && can_refuse(test.alloc);
+        holds(&test, was_refused == is_asking, &(law.name, "is refused"));
     }
     test.end()
 }
 
 /// Whether a request of the call was refused.
-fn check_texts<C: Call>(
-    test: &Test,
-    call: C,
-    name: &'static str,
-    most: Most,
-    texts: &Vec<&'static str>,
-) -> bool {
+fn check_texts<C: Call>(test: &Test, law: Law<C>, texts: &Vec<&'static str>) -> bool {
     let mut was_refused = false;
     for &text in texts {
-        if call.takes(text) {
-            for way in 0..call.ways() {
-                let wanted = call.wanted(test, text, way);
-                let on = On {
-                    call,
-                    name,
-                    most,
-                    text,
-                    way,
-                    wanted,
-                };
-                was_refused |= check_requests(test, &on);
-            }
+        if law.call.takes(text) {
+            was_refused |= check_ways(test, law, text);
         }
     }
     was_refused
 }
 
-/// The limits of a row.
-type Most = (Requests, Texts, Plus, Asks);
+/// The same on one text.
+fn check_ways<C: Call>(test: &Test, law: Law<C>, text: &'static str) -> bool {
+    let mut was_refused = false;
+    for way in 0..law.call.ways() {
+        let wanted = law.call.wanted(test, text, way);
+        let on = On {
+            law,
+            text,
+            way,
+            wanted,
+        };
+        was_refused |= check_requests(test, &on);
+    }
+    was_refused
+}
 
 /// A call on a text, in a way, and the text that it makes.
 #[derive(Drop)]
 struct On<C> {
-    call: C,
-    name: &'static str,
-    most: Most,
+    law: Law<C>,
     text: &'static str,
     way: usize,
     wanted: String,
@@ -140,7 +142,7 @@ fn check_requests<C: Call>(test: &Test, on: &On<C>) -> bool {
             return nth > 1;
         }
     }
-    test.fail(&(on.name, "makes too many requests"));
+    test.fail(&(on.law.name, "makes too many requests"));
     true
 }
 
@@ -148,32 +150,48 @@ fn check_requests<C: Call>(test: &Test, on: &On<C>) -> bool {
 fn run<C: Call>(test: &Test, on: &On<C>, refusals: Refusals) -> bool {
     let alloc = test.alloc;
     start_counts(alloc);
-    let input = on.call.input(test, on.text, on.way);
+    let input = on.law.call.input(test, on.text, on.way);
     let before = match refusals {
         Refusals::From(_) => counted(alloc, Count::Held),
         _ => 0,
     };
     refuse(alloc, refusals);
-    let returned = on.call.run(alloc, on.text, input);
+    let returned = on.law.call.run(alloc, on.text, input);
     let was_refused = end_refusals(alloc);
-    match returned {
-        Ok(thing) => {
-            check_made(test, on, &thing, was_refused);
-            if !matches!(refusals, Refusals::Smaller) {
-                check_held(test, on, &thing);
-            }
-        }
-        Err(left) => {
-            let is_left = left.may_be_left_by(on.text, on.wanted.as_bytes());
-            check(test, on, is_left, "leaves something else");
-            let has_room = left.is_none() || counted(alloc, Count::Held) >= before;
-            check(test, on, has_room, "leaves less room");
-            check(test, on, was_refused, "gives up unrefused");
-        }
-    }
+    check_returned(test, on, &returned, (refusals, before, was_refused));
+    drop(returned);
     let is_freed = is_at_most(alloc, Count::Blocks, 0) || !can_refuse(alloc);
     check(test, on, is_freed, "leaks");
     was_refused
+}
+
+/// What a run made or left. `before` is how much memory was held before it.
+fn check_returned<C: Call>(
+    test: &Test,
+    on: &On<C>,
+    returned: &Result<Thing, Thing>,
+    (refusals, before, was_refused): (Refusals, u32, bool),
+) {
+    match returned {
+        Ok(thing) => {
+            check_made(test, on, thing, was_refused);
+            if !matches!(refusals, Refusals::Smaller) {
+                check_held(test, on, thing);
+            }
+        }
+        Err(left) => {
+            check_left(test, on, left, before);
+            check(test, on, was_refused, "gives up unrefused");
+        }
+    }
+}
+
+/// A refused call leaves what it may, with no less room.
+fn check_left<C: Call>(test: &Test, on: &On<C>, left: &Thing, before: u32) {
+    let is_left = left.may_be_left_by(on.text, on.wanted.as_bytes());
+    check(test, on, is_left, "leaves something else");
+    let has_room = left.is_none() || counted(test.alloc, Count::Held) >= before;
+    check(test, on, has_room, "leaves less room");
 }
 
 /// The call made what is wanted, and asked for no more than its row says.
@@ -212,18 +230,17 @@ impl<C: Call> On<C> {
     /// What a message says of it: also the first bytes of the text.
     fn told(&self) -> (&'static str, usize, usize, &'static str) {
         let start = self.text.get(..8).unwrap_or("");
-        (self.name, self.way, self.text.len(), start)
+        (self.law.name, self.way, self.text.len(), start)
     }
 
     fn most_requests(&self) -> u32 {
-        let (requests, _, _, asks) = self.most;
-        let is_free = match asks {
+        let is_free = match self.law.asks {
             Asks::UnlessResident => place_of(self.wanted.as_str()) != Place::Heap,
             Asks::UnlessShort => self.wanted.len() <= INLINE_CAP,
             Asks::UnlessEmpty => self.wanted.is_empty(),
             Asks::ForAny => false,
         };
-        match requests {
+        match self.law.requests {
             _ if is_free => 0,
             Requests::Most(most) => most,
             Requests::Doubling(most) => self.most_doubling(most),
@@ -237,8 +254,9 @@ impl<C: Call> On<C> {
     }
 
     fn most_bytes(&self) -> usize {
-        let (_, Texts(times), Plus(plus), _) = self.most;
-        self.size().saturating_mul(times).saturating_add(plus)
+        self.size()
+            .saturating_mul(self.law.texts)
+            .saturating_add(self.law.plus)
     }
 
     /// The longer of the text and the result.

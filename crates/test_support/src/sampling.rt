@@ -56,7 +56,7 @@ fn push_samples(test: &Test, texts: &mut Vec<&'static str>, len: usize) {
         push_text(test, texts, blank_and(test, len));
     }
     for (index, mark) in MARKS.iter().enumerate() {
-        if len <= 2 * INLINE_CAP + 2 || units > 2 && len.wrapping_add(index) % MARKS.len() == 0 {
+        if len <= 2 * INLINE_CAP + 2 || (units > 2 && len.wrapping_add(index) % MARKS.len() == 0) {
             push_marked(test, texts, mark, len);
         }
     }

@@ -24,28 +24,28 @@ use texts::OnText::{self, *};
 use values::OnValue::{self, *};
 
 /// Of a text. A value on the heap is two blocks: its text, and 40 bytes with its count. A text that grows doubles its block.
-static TEXTS: [Law<OnText>; 21] = table! {
-    (New, "SmolStr::new", Most(2), Texts(1), Plus(40), UnlessResident);
-    (FromStr, "SmolStr::from_str", Most(2), Texts(1), Plus(40), UnlessResident);
-    (FromUtf8, "SmolStr::from_utf8", Most(2), Texts(1), Plus(40), UnlessResident);
-    (FromUtf8Unchecked, "SmolStr::from_utf8_unchecked", Most(2), Texts(1), Plus(40), UnlessResident);
-    (FromBorrowed, "SmolStr::from_cow_str", Most(2), Texts(1), Plus(40), UnlessResident);
-    (FromChars, "SmolStr::from_chars", Doubling(2), Texts(4), Plus(40), UnlessShort);
-    (CollectChars, "SmolStr::from_iter", Doubling(2), Texts(4), Plus(40), UnlessShort);
-    (Print, "ToSmolStr::to_smolstr", Most(2), Texts(1), Plus(80), UnlessShort);
-    (PrintByParts, "ToSmolStr::to_smolstr", Doubling(2), Texts(4), Plus(40), UnlessShort);
-    (PrintNumber, "ToSmolStr::to_smolstr", Most(2), Texts(1), Plus(80), UnlessShort);
-    (Format, "format_smolstr!", Most(2), Texts(1), Plus(80), UnlessShort);
-    (FormatParts, "format_smolstr!", Doubling(2), Texts(4), Plus(40), UnlessShort);
-    (WithCapacity, "SmolStrBuilder::with_capacity", Most(1), Texts(1), Plus(0), UnlessShort);
-    (ToBuild, "build", Most(3), Texts(2), Plus(80), UnlessShort);
-    (ToBuildAtOnce, "build", Most(3), Texts(2), Plus(40), UnlessShort);
-    (AsciiLower, "StrExt::to_ascii_lowercase_smolstr", Most(2), Texts(1), Plus(40), UnlessShort);
-    (AsciiUpper, "StrExt::to_ascii_uppercase_smolstr", Most(2), Texts(1), Plus(40), UnlessShort);
-    (LowerOfAscii, "StrExt::to_lowercase_smolstr", Most(2), Texts(1), Plus(40), UnlessShort);
-    (UpperOfAscii, "StrExt::to_uppercase_smolstr", Most(2), Texts(1), Plus(40), UnlessShort);
-    (Lower, "StrExt::to_lowercase_smolstr", Most(3), Texts(3), Plus(40), UnlessShort);
-    (Upper, "StrExt::to_uppercase_smolstr", Most(3), Texts(3), Plus(40), UnlessShort);
+static TEXTS: [Law<OnText>; 21] = laws! {
+    New => "SmolStr::new", Most(2), 1 * text + 40, UnlessResident;
+    FromStr => "SmolStr::from_str", Most(2), 1 * text + 40, UnlessResident;
+    FromUtf8 => "SmolStr::from_utf8", Most(2), 1 * text + 40, UnlessResident;
+    FromUtf8Unchecked => "SmolStr::from_utf8_unchecked", Most(2), 1 * text + 40, UnlessResident;
+    FromBorrowed => "SmolStr::from_cow_str", Most(2), 1 * text + 40, UnlessResident;
+    FromChars => "SmolStr::from_chars", Doubling(2), 4 * text + 40, UnlessShort;
+    CollectChars => "SmolStr::from_iter", Doubling(2), 4 * text + 40, UnlessShort;
+    Print => "ToSmolStr::to_smolstr", Most(2), 1 * text + 80, UnlessShort;
+    PrintByParts => "ToSmolStr::to_smolstr", Doubling(2), 4 * text + 40, UnlessShort;
+    PrintNumber => "ToSmolStr::to_smolstr", Most(2), 1 * text + 80, UnlessShort;
+    Format => "format_smolstr!", Most(2), 1 * text + 80, UnlessShort;
+    FormatParts => "format_smolstr!", Doubling(2), 4 * text + 40, UnlessShort;
+    WithCapacity => "SmolStrBuilder::with_capacity", Most(1), 1 * text + 0, UnlessShort;
+    ToBuild => "build", Most(3), 2 * text + 80, UnlessShort;
+    ToBuildAtOnce => "build", Most(3), 2 * text + 40, UnlessShort;
+    AsciiLower => "StrExt::to_ascii_lowercase_smolstr", Most(2), 1 * text + 40, UnlessShort;
+    AsciiUpper => "StrExt::to_ascii_uppercase_smolstr", Most(2), 1 * text + 40, UnlessShort;
+    LowerOfAscii => "StrExt::to_lowercase_smolstr", Most(2), 1 * text + 40, UnlessShort;
+    UpperOfAscii => "StrExt::to_uppercase_smolstr", Most(2), 1 * text + 40, UnlessShort;
+    Lower => "StrExt::to_lowercase_smolstr", Most(3), 3 * text + 40, UnlessShort;
+    Upper => "StrExt::to_uppercase_smolstr", Most(3), 3 * text + 40, UnlessShort;
 };
 
 #[test]
@@ -54,12 +54,12 @@ fn of_texts(rt: HostRuntime) -> Result<(), Fail> {
 }
 
 /// Of a pattern and a new text.
-static REPLACEMENTS: [Law<Replace>; 5] = table! {
-    (ByteByByte, "StrExt::replace_smolstr", Most(2), Texts(1), Plus(40), UnlessShort);
-    (ByteByMore, "StrExt::replacen_smolstr", Most(2), Texts(1), Plus(40), UnlessShort);
-    (ByLess, "StrExt::replacen_smolstr", Most(2), Texts(1), Plus(40), UnlessShort);
-    (ByMore, "StrExt::replacen_smolstr", Doubling(3), Texts(4), Plus(40), UnlessShort);
-    (Between, "StrExt::replacen_smolstr", Doubling(2), Texts(4), Plus(40), UnlessShort);
+static REPLACEMENTS: [Law<Replace>; 5] = laws! {
+    ByteByByte => "StrExt::replace_smolstr", Most(2), 1 * text + 40, UnlessShort;
+    ByteByMore => "StrExt::replacen_smolstr", Most(2), 1 * text + 40, UnlessShort;
+    ByLess => "StrExt::replacen_smolstr", Most(2), 1 * text + 40, UnlessShort;
+    ByMore => "StrExt::replacen_smolstr", Doubling(3), 4 * text + 40, UnlessShort;
+    Between => "StrExt::replacen_smolstr", Doubling(2), 4 * text + 40, UnlessShort;
 };
 
 #[test]
@@ -68,13 +68,13 @@ fn of_replacements(rt: HostRuntime) -> Result<(), Fail> {
 }
 
 /// Of a `String`, with room and without, and of what is made of one.
-static STRINGS: [Law<OnString>; 6] = table! {
-    (FromStringRef, "SmolStr::from_string_ref", Most(2), Texts(1), Plus(40), UnlessResident);
-    (FromString, "SmolStr::from_string", Most(2), Texts(1), Plus(40), UnlessResident);
-    (FromOwned, "SmolStr::from_owned", Most(1), Texts(0), Plus(40), UnlessResident);
-    (FromCow, "SmolStr::from_cow_str", Most(2), Texts(1), Plus(40), UnlessResident);
-    (FromBoxed, "SmolStr::from_boxed_str", Most(2), Texts(1), Plus(40), UnlessResident);
-    (FromShared, "SmolStr::from_rc_str", Most(0), Texts(0), Plus(0), ForAny);
+static STRINGS: [Law<OnString>; 6] = laws! {
+    FromStringRef => "SmolStr::from_string_ref", Most(2), 1 * text + 40, UnlessResident;
+    FromString => "SmolStr::from_string", Most(2), 1 * text + 40, UnlessResident;
+    FromOwned => "SmolStr::from_owned", Most(1), 0 * text + 40, UnlessResident;
+    FromCow => "SmolStr::from_cow_str", Most(2), 1 * text + 40, UnlessResident;
+    FromBoxed => "SmolStr::from_boxed_str", Most(2), 1 * text + 40, UnlessResident;
+    FromShared => "SmolStr::from_rc_str", Most(0), 0 * text + 0, ForAny;
 };
 
 #[test]
@@ -83,16 +83,16 @@ fn of_strings(rt: HostRuntime) -> Result<(), Fail> {
 }
 
 /// Of pieces: texts, strings and values.
-static PIECES: [Law<OnPieces>; 9] = table! {
-    (FromStrs, "SmolStr::from_strs", Doubling(2), Texts(4), Plus(40), UnlessShort);
-    (FromStrings, "SmolStr::from_strings", Doubling(2), Texts(4), Plus(40), UnlessShort);
-    (FromStringRefs, "SmolStr::from_string_refs", Doubling(2), Texts(4), Plus(40), UnlessShort);
-    (Collect, "SmolStr::from_iter", Doubling(2), Texts(4), Plus(40), UnlessShort);
-    (Join, "SmolStr::join", Doubling(2), Texts(4), Plus(40), UnlessShort);
-    (ExtendStrs, "SmolStrBuilder::extend_strs", Doubling(2), Texts(4), Plus(40), UnlessShort);
-    (ExtendStrings, "SmolStrBuilder::extend_strings", Doubling(2), Texts(4), Plus(40), UnlessShort);
-    (Extend, "SmolStrBuilder::extend", Doubling(2), Texts(4), Plus(40), UnlessShort);
-    (Append, "Piece::append_to", Doubling(2), Texts(4), Plus(40), UnlessShort);
+static PIECES: [Law<OnPieces>; 9] = laws! {
+    FromStrs => "SmolStr::from_strs", Doubling(2), 4 * text + 40, UnlessShort;
+    FromStrings => "SmolStr::from_strings", Doubling(2), 4 * text + 40, UnlessShort;
+    FromStringRefs => "SmolStr::from_string_refs", Doubling(2), 4 * text + 40, UnlessShort;
+    Collect => "SmolStr::from_iter", Doubling(2), 4 * text + 40, UnlessShort;
+    Join => "SmolStr::join", Doubling(2), 4 * text + 40, UnlessShort;
+    ExtendStrs => "SmolStrBuilder::extend_strs", Doubling(2), 4 * text + 40, UnlessShort;
+    ExtendStrings => "SmolStrBuilder::extend_strings", Doubling(2), 4 * text + 40, UnlessShort;
+    Extend => "SmolStrBuilder::extend", Doubling(2), 4 * text + 40, UnlessShort;
+    Append => "Piece::append_to", Doubling(2), 4 * text + 40, UnlessShort;
 };
 
 #[test]
@@ -101,17 +101,17 @@ fn of_pieces(rt: HostRuntime) -> Result<(), Fail> {
 }
 
 /// Of a value, also of a pinned one where nothing else is said.
-static VALUES: [Law<OnValue>; 10] = table! {
-    (Cloned, "SmolStr::clone", Most(0), Texts(0), Plus(0), ForAny);
-    (IntoString, "SmolStr::into_string", Most(1), Texts(1), Plus(0), UnlessEmpty);
-    (IntoRcStr, "SmolStr::into_rc_str", Most(2), Texts(1), Plus(40), ForAny);
-    (IntoRcStrOnHeap, "SmolStr::into_rc_str", Most(0), Texts(0), Plus(0), ForAny);
-    (Write, "BorshSerialize::serialize", Most(0), Texts(0), Plus(0), ForAny);
-    (ToValue, "json_string::to_value", Most(1), Texts(1), Plus(0), UnlessEmpty);
-    (InTree, "ToValue::to_value", Most(1), Texts(1), Plus(0), UnlessEmpty);
-    (ToJson, "json_string::to_json", Most(4), Texts(3), Plus(80), ForAny);
-    (ToJsonOneEscape, "json_string::to_json", Most(1), Texts(1), Plus(8), ForAny);
-    (ToJsonPlain, "json_string::to_json", Most(1), Texts(1), Plus(2), ForAny);
+static VALUES: [Law<OnValue>; 10] = laws! {
+    Cloned => "SmolStr::clone", Most(0), 0 * text + 0, ForAny;
+    IntoString => "SmolStr::into_string", Most(1), 1 * text + 0, UnlessEmpty;
+    IntoRcStr => "SmolStr::into_rc_str", Most(2), 1 * text + 40, ForAny;
+    IntoRcStrOnHeap => "SmolStr::into_rc_str", Most(0), 0 * text + 0, ForAny;
+    Write => "BorshSerialize::serialize", Most(0), 0 * text + 0, ForAny;
+    ToValue => "json_string::to_value", Most(1), 1 * text + 0, UnlessEmpty;
+    InTree => "ToValue::to_value", Most(1), 1 * text + 0, UnlessEmpty;
+    ToJson => "json_string::to_json", Most(4), 3 * text + 80, ForAny;
+    ToJsonOneEscape => "json_string::to_json", Most(1), 1 * text + 8, ForAny;
+    ToJsonPlain => "json_string::to_json", Most(1), 1 * text + 2, ForAny;
 };
 
 #[test]
@@ -120,25 +120,25 @@ fn of_values(rt: HostRuntime) -> Result<(), Fail> {
 }
 
 /// Of a builder.
-static BUILDERS: [Law<OnBuilder>; 18] = table! {
-    (CloneSmall, "SmolStrBuilder::clone", Most(1), Texts(1), Plus(0), UnlessShort);
-    (CloneLarge, "SmolStrBuilder::clone", Most(1), Texts(1), Plus(0), ForAny);
-    (Emptied, "SmolStrBuilder::emptied", Most(0), Texts(0), Plus(0), ForAny);
-    (Finish, "SmolStrBuilder::finish", Most(2), Texts(1), Plus(40), UnlessResident);
-    (FromBuilder, "SmolStr::from_builder", Most(2), Texts(1), Plus(40), UnlessResident);
-    (IntoValue, "SmolStrBuilder::into_value", Most(1), Texts(0), Plus(40), UnlessResident);
-    (ValueOf, "ValueAlloc::value_of", Most(1), Texts(0), Plus(40), UnlessResident);
-    (Push, "SmolStrBuilder::push", Most(1), Texts(2), Plus(0), UnlessShort);
-    (PushWide, "SmolStrBuilder::push", Most(1), Texts(2), Plus(0), UnlessShort);
-    (PushWithin, "SmolStrBuilder::push", Most(0), Texts(0), Plus(0), ForAny);
-    (PushStr, "SmolStrBuilder::push_str", Most(1), Texts(2), Plus(0), UnlessShort);
-    (PushStrWithin, "SmolStrBuilder::push_str", Most(0), Texts(0), Plus(0), ForAny);
-    (ExtendWithin, "SmolStrBuilder::extend_strs", Most(0), Texts(0), Plus(0), ForAny);
-    (PushWithSpare, "SmolStrBuilder::push_with_spare", Most(1), Texts(2), Plus(0), UnlessShort);
-    (PushBlank, "SmolStrBuilder::push_blank", Most(1), Texts(2), Plus(0), UnlessShort);
-    (WriteStr, "SmolStrBuilder::write_str", Most(1), Texts(2), Plus(0), UnlessShort);
-    (WriteFmt, "SmolStrBuilder::write_fmt", Most(1), Texts(2), Plus(0), UnlessShort);
-    (ExtendChars, "SmolStrBuilder::extend_chars", Doubling(2), Texts(4), Plus(40), UnlessShort);
+static BUILDERS: [Law<OnBuilder>; 18] = laws! {
+    CloneSmall => "SmolStrBuilder::clone", Most(1), 1 * text + 0, UnlessShort;
+    CloneLarge => "SmolStrBuilder::clone", Most(1), 1 * text + 0, ForAny;
+    Emptied => "SmolStrBuilder::emptied", Most(0), 0 * text + 0, ForAny;
+    Finish => "SmolStrBuilder::finish", Most(2), 1 * text + 40, UnlessResident;
+    FromBuilder => "SmolStr::from_builder", Most(2), 1 * text + 40, UnlessResident;
+    IntoValue => "SmolStrBuilder::into_value", Most(1), 0 * text + 40, UnlessResident;
+    ValueOf => "ValueAlloc::value_of", Most(1), 0 * text + 40, UnlessResident;
+    Push => "SmolStrBuilder::push", Most(1), 2 * text + 0, UnlessShort;
+    PushWide => "SmolStrBuilder::push", Most(1), 2 * text + 0, UnlessShort;
+    PushWithin => "SmolStrBuilder::push", Most(0), 0 * text + 0, ForAny;
+    PushStr => "SmolStrBuilder::push_str", Most(1), 2 * text + 0, UnlessShort;
+    PushStrWithin => "SmolStrBuilder::push_str", Most(0), 0 * text + 0, ForAny;
+    ExtendWithin => "SmolStrBuilder::extend_strs", Most(0), 0 * text + 0, ForAny;
+    PushWithSpare => "SmolStrBuilder::push_with_spare", Most(1), 2 * text + 0, UnlessShort;
+    PushBlank => "SmolStrBuilder::push_blank", Most(1), 2 * text + 0, UnlessShort;
+    WriteStr => "SmolStrBuilder::write_str", Most(1), 2 * text + 0, UnlessShort;
+    WriteFmt => "SmolStrBuilder::write_fmt", Most(1), 2 * text + 0, UnlessShort;
+    ExtendChars => "SmolStrBuilder::extend_chars", Doubling(2), 4 * text + 40, UnlessShort;
 };
 
 #[test]
@@ -147,18 +147,18 @@ fn of_builders(rt: HostRuntime) -> Result<(), Fail> {
 }
 
 /// Of bytes: a wire form of the text, or the text itself.
-static FORMS: [Law<OnForm>; 11] = table! {
-    (FromWire, "borsh::from_wire", Most(2), Texts(1), Plus(40), UnlessResident);
-    (SplitWire, "borsh::split_wire", Most(2), Texts(1), Plus(40), UnlessResident);
-    (ReadChunk, "BorshDeserialize::deserialize_reader", Most(2), Texts(1), Plus(40), UnlessShort);
-    (ReadForm, "BorshDeserialize::deserialize_reader", Doubling(0), Texts(4), Plus(40), UnlessShort);
-    (ReadLimited, "borsh::deserialize_limited", Doubling(2), Texts(5), Plus(40), UnlessShort);
-    (ReadUpTo, "stream::read_up_to", Doubling(1), Texts(4), Plus(8), UnlessEmpty);
-    (ReadAll, "stream::read_all", Doubling(1), Texts(4), Plus(8), UnlessEmpty);
-    (Fill, "stream::fill", Most(0), Texts(0), Plus(0), ForAny);
-    (WriteFully, "stream::write_fully", Most(0), Texts(0), Plus(0), ForAny);
-    (NotUtf8, "SmolStr::from_utf8", Most(0), Texts(0), Plus(0), ForAny);
-    (EndsEarly, "borsh::deserialize_limited", Doubling(1), Texts(4), Plus(8), UnlessShort);
+static FORMS: [Law<OnForm>; 11] = laws! {
+    FromWire => "borsh::from_wire", Most(2), 1 * text + 40, UnlessResident;
+    SplitWire => "borsh::split_wire", Most(2), 1 * text + 40, UnlessResident;
+    ReadChunk => "BorshDeserialize::deserialize_reader", Most(2), 1 * text + 40, UnlessShort;
+    ReadForm => "BorshDeserialize::deserialize_reader", Doubling(0), 4 * text + 40, UnlessShort;
+    ReadLimited => "borsh::deserialize_limited", Doubling(2), 5 * text + 40, UnlessShort;
+    ReadUpTo => "stream::read_up_to", Doubling(1), 4 * text + 8, UnlessEmpty;
+    ReadAll => "stream::read_all", Doubling(1), 4 * text + 8, UnlessEmpty;
+    Fill => "stream::fill", Most(0), 0 * text + 0, ForAny;
+    WriteFully => "stream::write_fully", Most(0), 0 * text + 0, ForAny;
+    NotUtf8 => "SmolStr::from_utf8", Most(0), 0 * text + 0, ForAny;
+    EndsEarly => "borsh::deserialize_limited", Doubling(1), 4 * text + 8, UnlessShort;
 };
 
 #[test]
@@ -167,19 +167,19 @@ fn of_forms(rt: HostRuntime) -> Result<(), Fail> {
 }
 
 /// Of JSON: the text in quotes, with white space around, or a tree. serde's reader copies the JSON, of up to six bytes for one.
-static JSON: [Law<OnJson>; 12] = table! {
-    (FromValue, "json_string::from_value", Most(2), Texts(1), Plus(40), UnlessResident);
-    (FromPlain, "json_string::from_json", Most(2), Texts(1), Plus(40), UnlessResident);
-    (FromEscape, "json_string::from_json", Most(3), Texts(1), Plus(200), UnlessShort);
-    (FromEscapes, "json_string::from_json", Doubling(2), Texts(4), Plus(40), UnlessShort);
-    (BehindNumbers, "json_string::from_json", Most(2), Texts(1), Plus(140), UnlessShort);
-    (NumbersAndMore, "json_string::from_json", Most(2), Texts(2), Plus(140), UnlessShort);
-    (NotString, "json_string::from_json", Most(3), Texts(2), Plus(140), ForAny);
-    (Object, "json_string::from_json", Most(5), Texts(3), Plus(880), ForAny);
-    (Serialize, "SmolStr::serialize", Doubling(1), Texts(4), Plus(120), ForAny);
-    (Deserialize, "SmolStr::deserialize", Most(3), Texts(2), Plus(48), ForAny);
-    (DeserializeEscaped, "SmolStr::deserialize", Most(3), Texts(7), Plus(48), ForAny);
-    (DeserializeOwned, "SmolStr::deserialize_owned", Doubling(4), Texts(4), Plus(180), ForAny);
+static JSON: [Law<OnJson>; 12] = laws! {
+    FromValue => "json_string::from_value", Most(2), 1 * text + 40, UnlessResident;
+    FromPlain => "json_string::from_json", Most(2), 1 * text + 40, UnlessResident;
+    FromEscape => "json_string::from_json", Most(3), 1 * text + 200, UnlessShort;
+    FromEscapes => "json_string::from_json", Doubling(2), 4 * text + 40, UnlessShort;
+    BehindNumbers => "json_string::from_json", Most(2), 1 * text + 140, UnlessShort;
+    NumbersAndMore => "json_string::from_json", Most(2), 2 * text + 140, UnlessShort;
+    NotString => "json_string::from_json", Most(3), 2 * text + 140, ForAny;
+    Object => "json_string::from_json", Most(5), 3 * text + 880, ForAny;
+    Serialize => "SmolStr::serialize", Doubling(1), 4 * text + 120, ForAny;
+    Deserialize => "SmolStr::deserialize", Most(3), 2 * text + 48, ForAny;
+    DeserializeEscaped => "SmolStr::deserialize", Most(3), 7 * text + 48, ForAny;
+    DeserializeOwned => "SmolStr::deserialize_owned", Doubling(4), 4 * text + 180, ForAny;
 };
 
 #[test]

@@ -27,17 +27,17 @@ enum OnLine {
     NoSum,
 }
 
-static MODES: [Law<OnLine>; 10] = table! {
-    (Show, "run::run, show", Doubling(10), Texts(8), Plus(0), ForAny);
-    (Join, "run::run, join", Doubling(6), Texts(9), Plus(0), ForAny);
-    (Lower, "run::run, lower", Doubling(10), Texts(8), Plus(0), ForAny);
-    (Upper, "run::run, upper", Doubling(10), Texts(8), Plus(0), ForAny);
-    (Replace("a", "é"), "run::run, replace", Doubling(10), Texts(8), Plus(0), ForAny);
-    (Replace("aa", "bbb"), "run::run, replace", Doubling(11), Texts(8), Plus(0), ForAny);
-    (Replace("", "-"), "run::run, replace", Doublings(3, 4), Texts(10), Plus(0), ForAny);
-    (Tokens, "run::run_with_hasher, tokens", Doubling(10), Texts(14), Plus(640), ForAny);
-    (Merge, "run::run_with_hasher, merge", Doubling(11), Texts(8), Plus(640), ForAny);
-    (NoSum, "run::run_with_hasher, merge", Doubling(11), Texts(12), Plus(760), ForAny);
+static MODES: [Law<OnLine>; 10] = laws! {
+    Show => "run::run, show", Doubling(10), 8 * text + 0, ForAny;
+    Join => "run::run, join", Doubling(6), 9 * text + 0, ForAny;
+    Lower => "run::run, lower", Doubling(10), 8 * text + 0, ForAny;
+    Upper => "run::run, upper", Doubling(10), 8 * text + 0, ForAny;
+    Replace("a", "é") => "run::run, replace", Doubling(10), 8 * text + 0, ForAny;
+    Replace("aa", "bbb") => "run::run, replace", Doubling(11), 8 * text + 0, ForAny;
+    Replace("", "-") => "run::run, replace", Doublings(3, 4), 10 * text + 0, ForAny;
+    Tokens => "run::run_with_hasher, tokens", Doubling(10), 14 * text + 640, ForAny;
+    Merge => "run::run_with_hasher, merge", Doubling(11), 8 * text + 640, ForAny;
+    NoSum => "run::run_with_hasher, merge", Doubling(11), 12 * text + 760, ForAny;
 };
 
 #[test]
@@ -185,9 +185,9 @@ enum Add {
     Again,
 }
 
-static ADDS: [Law<Add>; 2] = table! {
-    (Add::New, "Tally::add", Most(4), Texts(0), Plus(640), ForAny);
-    (Add::Again, "Tally::add", Most(0), Texts(0), Plus(0), ForAny);
+static ADDS: [Law<Add>; 2] = laws! {
+    Add::New => "Tally::add", Most(4), 0 * text + 640, ForAny;
+    Add::Again => "Tally::add", Most(0), 0 * text + 0, ForAny;
 };
 
 static OTHERS: [u64; 8] = [0, 1, 3, 4, 7, 8, 14, 28];
