@@ -16,14 +16,14 @@ pub fn steps_about(chunk: usize) -> [usize; 7] {
     [1, 2, 7, below, chunk, above, usize::MAX]
 }
 
-/// What a stream does where it fails, another thing at each place: it returns an error of its own, or EINTR, EIO, EAGAIN,
-/// ENOSPC, EPIPE, ECONNRESET or ETIMEDOUT of the system; or it takes no byte. Upstream's calls go on after EINTR, ours do not.
+/// What a stream does where it fails, another thing at each place: it takes no byte, or returns an error of its own, of a
+/// kind or of one of the system's codes, as 4 is EINTR. Upstream's calls go on after that, ours do not.
 fn failure_at(place: usize) -> Option<io::Error> {
-    match place % 10 {
+    match place % 8 {
         0 => None,
         1 => Some(io::Error::from(ErrorKind::UnexpectedEof)),
         2 => Some(io::Error::other("words of its own")),
-        nth => Some(io::Error::from_raw_os_error([4, 5, 11, 28, 32, 104, 110][nth - 3])),
+        _ => Some(io::Error::from_raw_os_error((place / 8 % 133) as i32 + 1)),
     }
 }
 

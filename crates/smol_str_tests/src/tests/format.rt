@@ -118,7 +118,7 @@ fn two_pieces(rt: HostRuntime) -> Result<(), Fail> {
     test.end()
 }
 
-static PAST_ASCII: [&str; 4] = ["é\n", "🦀\"", "\u{301}", "a\u{7f}\u{200b}"];
+static PAST_ASCII: [&str; 5] = ["é\n", "🦀\"", "\u{301}", "a\u{301}'\\é", "a\u{7f}\u{200b}"];
 
 // As their texts do; of text past ASCII no contract says what that is.
 #[test]
@@ -127,7 +127,9 @@ fn debug_past_ascii(rt: HostRuntime) -> Result<(), Fail> {
     for text in &PAST_ASCII {
         check_debug(&test, text);
     }
-    check_debug(&test, test.repeated("é", 1000).as_str());
+    for times in [1000, 70_000] {
+        check_debug(&test, test.repeated("é", times).as_str());
+    }
     test.end()
 }
 
