@@ -19,11 +19,11 @@ pub fn steps_about(chunk: usize) -> [usize; 7] {
 /// What a stream does where it fails, another thing at each place: it takes no byte, or returns an error of its own, of a
 /// kind or of one of the system's codes, as 4 is EINTR. Upstream's calls go on after that, ours do not.
 fn failure_at(place: usize) -> Option<io::Error> {
-    match place % 8 {
+    match place % 11 {
         0 => None,
         1 => Some(io::Error::from(ErrorKind::UnexpectedEof)),
         2 => Some(io::Error::other("words of its own")),
-        _ => Some(io::Error::from_raw_os_error((place / 8 % 133) as i32 + 1)),
+        _ => Some(io::Error::from_raw_os_error((place % 133) as i32 + 1)),
     }
 }
 

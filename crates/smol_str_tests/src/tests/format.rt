@@ -128,7 +128,7 @@ fn debug_past_ascii(rt: HostRuntime) -> Result<(), Fail> {
         check_debug(&test, text);
     }
     for times in [1000, 70_000] {
-        check_debug(&test, test.repeated("é", times).as_str());
+        check_debug(&test, test.repeated("é\n", times).as_str());
     }
     test.end()
 }
