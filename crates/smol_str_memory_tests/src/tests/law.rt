@@ -101,7 +101,7 @@ fn of_pieces(rt: HostRuntime) -> Result<(), Fail> {
 }
 
 /// Of a value, also of a pinned one where nothing else is said.
-static VALUES: [Law<OnValue>; 10] = laws! {
+static VALUES: [Law<OnValue>; 11] = laws! {
     Cloned => "SmolStr::clone", Most(0), 0 * text + 0, ForAny;
     IntoString => "SmolStr::into_string", Most(1), 1 * text + 0, UnlessEmpty;
     IntoRcStr => "SmolStr::into_rc_str", Most(2), 1 * text + 40, ForAny;
@@ -110,6 +110,7 @@ static VALUES: [Law<OnValue>; 10] = laws! {
     ToValue => "json_string::to_value", Most(1), 1 * text + 0, UnlessEmpty;
     InTree => "ToValue::to_value", Most(1), 1 * text + 0, UnlessEmpty;
     ToJson => "json_string::to_json", Most(4), 3 * text + 80, ForAny;
+    ToJsonDoubled => "json_string::to_json", Most(2), 2 * text + 40, ForAny;
     ToJsonOneEscape => "json_string::to_json", Most(1), 1 * text + 8, ForAny;
     ToJsonPlain => "json_string::to_json", Most(1), 1 * text + 2, ForAny;
 };

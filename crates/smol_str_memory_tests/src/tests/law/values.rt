@@ -18,6 +18,8 @@ pub enum OnValue {
     /// As `json!` makes one.
     InTree,
     ToJson,
+    /// Of a text whose every character takes two.
+    ToJsonDoubled,
     ToJsonOneEscape,
     ToJsonPlain,
 }
@@ -39,6 +41,7 @@ impl Call for OnValue {
             IntoRcStr => place_of(text) != Place::Heap,
             IntoRcStrOnHeap => place_of(text) == Place::Heap,
             ToJson => escapes(text) > 1,
+            ToJsonDoubled => escapes(text) == text.len() && !text.contains('\u{1}'),
             ToJsonOneEscape => escapes(text) == 1,
             ToJsonPlain => is_plain(text),
             _ => true,
@@ -71,14 +74,16 @@ impl Call for OnValue {
             Write => written(&value, out),
             ToValue => tree(to_value(alloc, &value)),
             InTree => tree(serde_json::ToValue::to_value(&value, alloc)),
-            ToJson | ToJsonOneEscape | ToJsonPlain => made(to_json(alloc, &value)),
+            _ => made(to_json(alloc, &value)),
         }
     }
 
     fn wanted(self, test: &Test, text: &'static str, _way: usize) -> String {
         match self {
-            ToJson | ToJsonOneEscape | ToJsonPlain => json_of(test, text),
-            _ => test.string(text),
+            Cloned | IntoString | IntoRcStr | IntoRcStrOnHeap | Write | ToValue | InTree => {
+                test.string(text)
+            }
+            _ => json_of(test, text),
         }
     }
 }
