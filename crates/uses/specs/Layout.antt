@@ -2,9 +2,8 @@
 --     untabbed t            t with four spaces in place of each tab
 --     line_text line        four spaces for each level, the tokens without tabs and with a space between each two, and a newline
 --     right_aligned w n     the number n, with spaces in front of it up to w characters
-use Rattle.std.specs.Prelude.{ℕ, ◌*◌, ◌-◌, ◌^◌, ◌==◌, List, [], ◌∷◌, ◌++◌, replicate, if◌then◌else◌}
+use Rattle.std.specs.Prelude.{ℕ, ◌*◌, ◌-◌, ◌^◌, ◌==◌, List, [], ◌∷◌, ◌++◌, replicate, if◌then◌else◌, flat_map}
 use Rattle.std.specs.Fmt.{format_spec, styled_decimal}
-use Rattle.std.specs.List.{flat_map}
 use Rattle.smol_str.specs.Cut.{joined_by}
 use Rattle.smol_str.specs.Meaning.{texts}
 use Rattle.uses.specs.declared.making.Line.{Line}

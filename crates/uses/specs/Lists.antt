@@ -4,8 +4,7 @@
 --     BeginsWithList bytes   the bytes begin with the form of a list of texts
 --     AfterListFault         what holds where no list was read
 --     AfterUnlisted          what holds where none was written
-use Rattle.std.specs.Prelude.{◌≡◌, ℕ, ◌<◌, ◌^◌, List, ◌++◌, length, All, IsTrue, ⊤}
-use Rattle.std.specs.List.{flat_map}
+use Rattle.std.specs.Prelude.{◌≡◌, ℕ, ◌<◌, ◌^◌, List, ◌++◌, length, All, IsTrue, ⊤, flat_map}
 use Rattle.std.specs.Str.{all_scalars}
 use Rattle.std.specs.Int.{w32, to_le_bytes}
 use Rattle.smol_str.specs.Wire.{HasWire, wire}

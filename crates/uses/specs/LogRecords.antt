@@ -3,8 +3,7 @@
 --     forms records                  the forms one after another
 --     texts record                   its level's and its message's text
 --     AfterRecordFault, AfterNextFault, AfterReadFault    a record was not read, or not kept; not all were
-use Rattle.std.specs.Prelude.{◌≡◌, ℕ, ◌<◌, ◌⊎◌, List, ◌++◌, length, All, Option}
-use Rattle.std.specs.List.{flat_map}
+use Rattle.std.specs.Prelude.{◌≡◌, ℕ, ◌<◌, ◌⊎◌, List, ◌++◌, length, All, Option, flat_map}
 use Rattle.std.specs.Io.KnownBytes.{Consumes}
 use Rattle.smol_str.specs.declared.borsh.fault.LimitedFault.{LimitedFault}
 use Rattle.smol_str.specs.declared.borsh.fault.LimitedFault.TheVariants.{Decode}

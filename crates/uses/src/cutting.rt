@@ -1,13 +1,12 @@
 //! Lines cut at a separator, and joined again; what a caller does with an index or a buffer that a call returns.
 ghost use Rattle.std.specs.List.{enumerate_from, filter_map, prefix_len};
-ghost use Rattle.std.specs.Prelude.{get_or, ◌≡◌, ◌≢◌, ◌<◌, ◌≤◌, ◌↔◌, ◌+◌, ◌++◌, ◌∷◌, ◌-◌, [], ℕ, List, codes, drop, length, map, set, take, IfNone, IfOk, IfSome, IsTrue, MatchBool, OnErr, encode_utf8_all, String, All, None, Some, ◌==◌, if◌then◌else◌};
+ghost use Rattle.std.specs.Prelude.{get_or, ◌≡◌, ◌≢◌, ◌<◌, ◌≤◌, ◌↔◌, ◌+◌, ◌++◌, ◌∷◌, ◌-◌, [], ℕ, List, codes, drop, length, map, set, take, IfNone, IfOk, IfSome, IsTrue, MatchBool, OnErr, encode_utf8_all, String, All, None, Some, ◌==◌, if◌then◌else◌, string_bytes};
 ghost use Rattle.std.specs.Str.{IsCharBoundary, chars, skip_leading_whitespace, drop_trailing_whitespace};
 ghost use Rattle.std.specs.Str.Lines.{lines};
 ghost use Rattle.smol_str.specs.Cut.{IsFirstAfter, Occurs, joined_by};
 ghost use Rattle.smol_str.specs.Meaning.{AreValuesOf, IsValueOf, texts, ArePairsOf};
 ghost use Rattle.smol_str.specs.Replace.{cut, each_replaced, no_limit};
 ghost use Rattle.smol_str.specs.Text.{IsShort, place_of};
-ghost use Rattle.std.specs.String.{string_bytes};
 ghost use Rattle.serde.specs.Event.{text};
 
 use crate::headline::line_of;

@@ -1,9 +1,7 @@
 //! The headline of the library: a contract for every way to make a value, and what any two values have in common.
 //! Clause `value` says that the value has exactly the expected text, in the place of that text, and `refused` that memory
 //! may be refused only for text that is not resident, or not short where it comes in parts.
-ghost use Rattle.std.specs.Prelude.{◌≡◌, ◌<◌, ◌≤◌, ◌⊎◌, ◌↔◌, ◌++◌, [], ◌∷◌, length, codes, encode_utf8_all, IfOk, IsOk, OnOk, OnErr, IsTrue, ◌-◌, map};
-ghost use Rattle.std.specs.Str.{chars, IsUtf8};
-ghost use Rattle.std.specs.String.{string_bytes};
+ghost use Rattle.std.specs.Prelude.{◌≡◌, ◌<◌, ◌≤◌, ◌⊎◌, ◌↔◌, ◌++◌, [], ◌∷◌, length, codes, encode_utf8_all, IfOk, IsOk, OnOk, OnErr, IsTrue, ◌-◌, map, chars, IsUtf8, string_bytes};
 ghost use Rattle.std.specs.Ordering.{nat_cmp};
 ghost use Rattle.std.specs.Cmp.Lexicographic.{slice_cmp};
 ghost use Rattle.std.specs.Box.{boxed_str_bytes};

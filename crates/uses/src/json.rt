@@ -1,7 +1,5 @@
 //! A value there and back through JSON.
-ghost use Rattle.std.specs.Prelude.{◌∷◌, ◌++◌, ◌≡◌, [], Some, codes, IfOk, IfErr, IfSome, OnErr, encode_utf8_all};
-ghost use Rattle.std.specs.Str.{chars};
-ghost use Rattle.std.specs.String.{string_bytes};
+ghost use Rattle.std.specs.Prelude.{◌∷◌, ◌++◌, ◌≡◌, [], Some, codes, IfOk, IfErr, IfSome, OnErr, encode_utf8_all, chars, string_bytes};
 ghost use Rattle.serde_json.specs.Find.{get};
 ghost use Rattle.serde_json.specs.View.{view};
 ghost use Rattle.smol_str.specs.Json.{json_value, IsJsonText, IsOther};

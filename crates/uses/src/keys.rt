@@ -1,7 +1,6 @@
 //! Values sorted, looked up in lists and maps, and in maps one inside another.
-ghost use Rattle.std.specs.Str.{chars};
 ghost use Rattle.std.specs.Map.{lookup};
-ghost use Rattle.std.specs.Prelude.{◌≡◌, ◌<◌, IfNone, IfSome, IsSomeAnd, ◌↔◌, OnOk, OnErr, IfOk, IsTrue, Some, false, option_copied, slice_get, ◌≢◌, ℕ, List, true, bytes_eq, option_map, ◌++◌, ◌∷◌, [], if◌then◌else◌};
+ghost use Rattle.std.specs.Prelude.{◌≡◌, ◌<◌, IfNone, IfSome, IsSomeAnd, ◌↔◌, OnOk, OnErr, IfOk, IsTrue, Some, false, option_copied, slice_get, ◌≢◌, ℕ, List, true, bytes_eq, option_map, ◌++◌, ◌∷◌, [], if◌then◌else◌, chars};
 ghost use Rattle.std.specs.Ordering.{nat_cmp};
 ghost use Rattle.std.specs.Cmp.Lexicographic.{slice_cmp};
 ghost use Rattle.std.specs.List.Sorted.{IsPermutation, IsSorted, IsStrictlySortedBy};
@@ -119,7 +118,6 @@ pub fn kept_fields(alloc: Global, line: &str, old: &str) -> Result<Vec<SmolStr>,
     seen_again(alloc, &new, &old)
 }
 
-/// The fields of a line that an old one lacks.
 /// The fields of a line that an old one lacks.
 #[tactic(auto, using(smol_str::proofs::CallerLemmas::among))]
 pub fn new_fields(alloc: Global, line: &str, old: &str) -> Result<Vec<SmolStr>, AllocError>

@@ -1,17 +1,13 @@
 //! Values made piece by piece, by printing, and of what a program has at hand.
-ghost use Rattle.std.specs.Prelude.{◌≡◌, ◌+◌, ◌*◌, ◌≤◌, ◌++◌, ◌∷◌, [], codes, length, IfOk, IsOk, OnErr, OnOk, Some, encode_utf8_all, ◌↔◌, String, IsTrue, filter};
-ghost use Rattle.std.specs.List.{flat_map};
+ghost use Rattle.std.specs.Prelude.{◌≡◌, ◌+◌, ◌*◌, ◌≤◌, ◌++◌, ◌∷◌, [], codes, length, IfOk, IsOk, OnErr, OnOk, Some, encode_utf8_all, ◌↔◌, String, IsTrue, filter, flat_map, chars, decimal, string_bytes};
 ghost use Rattle.std.specs.Char.{is_ascii_digit as digit};
 ghost use Rattle.uses.specs.Names.{dashed};
-ghost use Rattle.std.specs.Str.{chars};
 ghost use Rattle.smol_str.specs.BuilderState.{OnHeap, appended};
 ghost use Rattle.smol_str.specs.Text.{IsShort, blank_run, place_of, IsResident};
 ghost use Rattle.smol_str.specs.Meaning.{IsValueOf, texts};
-ghost use Rattle.std.specs.Fmt.{decimal};
 ghost use Rattle.std.specs.Io.Cursor.{cursor_remaining};
 ghost use Rattle.std.specs.Path.{path_buf_bytes, path_bytes, path_join};
 ghost use Rattle.uses.specs.Layout.{untabbed, margin, line_text, right_aligned};
-ghost use Rattle.std.specs.String.{string_bytes};
 ghost use Rattle.serde.specs.Event.{text};
 ghost use Rattle.smol_str.specs.Cut.{joined_by};
 ghost use Rattle.smol_str.specs.Joined.{joined};

@@ -1,8 +1,7 @@
 //! Wire forms written and read back, by both calls; readers that are read to their end; bytes that are not UTF-8.
-ghost use Rattle.std.specs.Prelude.{◌≡◌, ◌<◌, ◌+◌, ◌≤◌, ◌++◌, [], drop, length, take, Some, IfOk, IfErr, IfSome, OnOk, OnErr, IsTrue};
+ghost use Rattle.std.specs.Prelude.{◌≡◌, ◌<◌, ◌+◌, ◌≤◌, ◌++◌, [], drop, length, take, Some, IfOk, IfErr, IfSome, OnOk, OnErr, IsTrue, IsUtf8, chars};
 ghost use Rattle.std.specs.Io.KnownBytes.{Keeps};
 ghost use Rattle.smol_str.specs.Stream.{Gave};
-ghost use Rattle.std.specs.Str.{IsUtf8, chars};
 ghost use Rattle.std.specs.Str.Lossy.{utf8_invalid_len};
 ghost use Rattle.smol_str.specs.Text.{size, IsResident, place_of};
 ghost use Rattle.smol_str.specs.Meaning.{IsValueOf};

@@ -1,7 +1,6 @@
 //! Values with other crates of the kit, a few lines each.
-ghost use Rattle.std.specs.Prelude.{◌≡◌, ◌≢◌, ◌||◌, ℕ, List, Some, None, true, bytes_eq, ◌∷◌, ◌++◌, [], IfOk, OnOk, codes, decimal, encode_utf8_all};
+ghost use Rattle.std.specs.Prelude.{◌≡◌, ◌≢◌, ◌||◌, ℕ, List, Some, None, true, bytes_eq, ◌∷◌, ◌++◌, [], IfOk, OnOk, codes, decimal, encode_utf8_all, chars};
 ghost use Rattle.std.specs.List.{list_all, list_any};
-ghost use Rattle.std.specs.Str.{chars};
 ghost use Rattle.regex.specs.Patterns.{find_all_str};
 ghost use Rattle.regex.specs.Strings.{matcher_pattern, with_replaced};
 ghost use Rattle.indexmap.specs.IndexSet.{insert_key};

@@ -1,6 +1,5 @@
 //! A header store: the last value that was set for a name, whose letters of ASCII may be in either case.
-ghost use Rattle.std.specs.Prelude.{◌≡◌, ◌≢◌, ℕ, List, None, Some, IfOk, OnOk, OnErr, option_copied};
-ghost use Rattle.std.specs.Str.{chars};
+ghost use Rattle.std.specs.Prelude.{◌≡◌, ◌≢◌, ℕ, List, None, Some, IfOk, OnOk, OnErr, option_copied, chars};
 ghost use Rattle.smol_str.specs.Text.{IsShort};
 ghost use Rattle.smol_str.specs.Case.{lower};
 ghost use Rattle.uses.specs.Headers.{header_of};

@@ -1,6 +1,5 @@
 //! Paths as lists of segments, from the one at hand upwards.
-ghost use Rattle.std.specs.Prelude.{◌≡◌, ◌-◌, List, ◌≤◌, OnOk, bytes_eq, length, slice_get, take};
-ghost use Rattle.std.specs.Str.{chars};
+ghost use Rattle.std.specs.Prelude.{◌≡◌, ◌-◌, List, ◌≤◌, OnOk, bytes_eq, length, slice_get, take, chars};
 ghost use Rattle.smol_str.specs.Meaning.{texts};
 ghost use Rattle.uses.specs.Names.{above, dots, segment_kind};
 

@@ -1,6 +1,5 @@
 //! Settings of a file of lines `key = value`, by their keys, in the order of the keys' first lines.
-ghost use Rattle.std.specs.Prelude.{◌≡◌, ℕ, List, [], Some, bytes_eq, option_map, IfOk, OnOk, OnErr};
-ghost use Rattle.std.specs.Str.{chars};
+ghost use Rattle.std.specs.Prelude.{◌≡◌, ℕ, List, [], Some, bytes_eq, option_map, IfOk, OnOk, OnErr, chars};
 ghost use Rattle.std.specs.Str.Lines.{lines};
 ghost use Rattle.std.specs.Map.{lookup};
 ghost use Rattle.uses.specs.Settings.{with_setting, setting, settings, last_value};

@@ -1,8 +1,7 @@
 //! A symbol table of std's types: a list has the name of each id, and a map the id of each name.
 #![tactic(auto, using(smol_str::proofs::CallerLemmas::interning))]
 
-ghost use Rattle.std.specs.Prelude.{◌≡◌, ◌<◌, ◌++◌, ◌∷◌, [], length, IfOk, OnOk, OnErr, slice_get, None, Some};
-ghost use Rattle.std.specs.Str.{chars};
+ghost use Rattle.std.specs.Prelude.{◌≡◌, ◌<◌, ◌++◌, ◌∷◌, [], length, IfOk, OnOk, OnErr, slice_get, None, Some, chars};
 ghost use Rattle.smol_str.specs.Keys.{id_of, interned};
 
 use smol_str::SmolStr;

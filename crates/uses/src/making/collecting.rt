@@ -1,7 +1,6 @@
 //! Texts collected from iterators whose items the caller knows, through adapters of std too.
-ghost use Rattle.std.specs.Prelude.{◌≡◌, ◌<◌, ◌==◌, ◌++◌, ◌∷◌, [], ℕ, String, drop, length, map, not, reverse, take, IfOk, OnOk, OnErr, List, None, Some, if◌then◌else◌};
+ghost use Rattle.std.specs.Prelude.{◌≡◌, ◌<◌, ◌==◌, ◌++◌, ◌∷◌, [], ℕ, String, drop, length, map, not, reverse, take, IfOk, OnOk, OnErr, List, None, Some, if◌then◌else◌, chars};
 ghost use Rattle.std.specs.List.{filter, filter_map, prefix_len, slice_split};
-ghost use Rattle.std.specs.Str.{chars};
 ghost use Rattle.std.specs.Str.Lines.{lines};
 ghost use Rattle.smol_str.specs.Text.{IsShort};
 ghost use Rattle.smol_str.specs.Meaning.{AreValuesOf, IsValueOf, texts};

@@ -10,6 +10,7 @@ use std::alloc::{AllocFailed, Global};
 use std::io::{self, Write};
 
 /// The form of a list.
+#[tactic(auto, using(smol_str::proofs::CallerLemmas::items))]
 pub fn write_list(alloc: Global, values: &[SmolStr]) -> Result<Vec<u8>, EncodeFault>
     ensures listed { IfOk result (λ bytes. CanBeListed (texts values.now)) }
     ensures form { IfOk result (λ bytes. bytes.items ≡ list_form (texts values.now)) }

@@ -1,7 +1,6 @@
 //! Log records on the wire, and as lines of JSON.
-ghost use Rattle.std.specs.Prelude.{◌≡◌, ◌∷◌, [], ◌++◌, length, map, All, codes, IfOk, IfErr, IfSome, OnOk, OnErr};
+ghost use Rattle.std.specs.Prelude.{◌≡◌, ◌∷◌, [], ◌++◌, length, map, All, codes, IfOk, IfErr, IfSome, OnOk, OnErr, string_bytes};
 ghost use Rattle.std.specs.Io.KnownBytes.{Appends};
-ghost use Rattle.std.specs.String.{string_bytes};
 ghost use Rattle.smol_str.specs.Json.{compact_text, json_value};
 ghost use Rattle.smol_str.specs.Stream.{Gave, AppendsBeginning};
 ghost use Rattle.uses.specs.declared.wire.log_records.Record.{Record};
@@ -24,6 +23,7 @@ pub struct Record {
 }
 
 /// Writes a record.
+#[tactic(auto, using(smol_str::proofs::CallerLemmas::parts))]
 pub fn write_record<W: Write>(writer: &mut W, entry: &Record) -> Result<(), EncodeFault>
     ensures sized { OnOk result (HasForm entry.now) }
     ensures ok { OnOk result (Appends (W.contents writer.old) (W.contents writer.new) (form entry.now)) }
@@ -34,6 +34,7 @@ pub fn write_record<W: Write>(writer: &mut W, entry: &Record) -> Result<(), Enco
 }
 
 /// Reads a record whose message has at most `limit` bytes.
+#[tactic(auto, using(smol_str::proofs::CallerLemmas::parts))]
 pub fn read_record<R: Read>(
     alloc: Global,
     reader: &mut R,
@@ -50,6 +51,7 @@ pub fn read_record<R: Read>(
 }
 
 /// Reads so many records, and no byte behind them.
+#[tactic(auto, using(std::proofs::lemmas::Grind::common_steps))]
 pub fn read_all<R: Read>(
     alloc: Global,
     reader: &mut R,

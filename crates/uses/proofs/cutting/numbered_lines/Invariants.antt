@@ -1,6 +1,4 @@
-use Rattle.std.proofs.Common.{◌≡◌, ◌+◌, ◌==◌, ℕ, List, None, Some, length, map, if◌then◌else◌}
-use Rattle.std.specs.List.{filter_map}
-use Rattle.std.specs.Str.{chars}
+use Rattle.std.proofs.Common.{◌≡◌, ◌+◌, ◌==◌, ℕ, List, None, Some, length, map, if◌then◌else◌, filter_map, chars}
 use Rattle.uses.proofs.cutting.numbered_lines.Given as goal
 
 abbrev pub invariant-loop-number : goal.invariant-loop-number

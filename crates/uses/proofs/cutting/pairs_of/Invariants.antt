@@ -1,5 +1,4 @@
-use Rattle.std.proofs.Common.{map, take}
-use Rattle.std.specs.Str.{chars}
+use Rattle.std.proofs.Common.{map, take, chars}
 use Rattle.smol_str.specs.Meaning.{ArePairsOf}
 use Rattle.uses.proofs.cutting.pairs_of.Given as goal
 

@@ -1,5 +1,4 @@
-use Rattle.std.proofs.Common.{◌≡◌, take}
-use Rattle.std.specs.List.{filter}
+use Rattle.std.proofs.Common.{◌≡◌, take, filter}
 use Rattle.smol_str.specs.Keys.{has_text}
 use Rattle.uses.proofs.keys.seen_again.Given as goal
 

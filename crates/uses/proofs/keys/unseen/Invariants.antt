@@ -1,5 +1,4 @@
-use Rattle.std.proofs.Common.{◌≡◌, not, take}
-use Rattle.std.specs.List.{filter}
+use Rattle.std.proofs.Common.{◌≡◌, not, take, filter}
 use Rattle.smol_str.specs.Keys.{has_text}
 use Rattle.uses.proofs.keys.unseen.Given as goal
 

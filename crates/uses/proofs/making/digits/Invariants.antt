@@ -1,5 +1,4 @@
-use Rattle.std.proofs.Common.{◌≡◌}
-use Rattle.std.specs.List.{filter}
+use Rattle.std.proofs.Common.{◌≡◌, filter}
 use Rattle.std.specs.Char.{is_ascii_digit}
 use Rattle.smol_str.specs.BuilderState.{appended}
 use Rattle.uses.proofs.making.digits.Given as goal

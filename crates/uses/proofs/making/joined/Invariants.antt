@@ -1,5 +1,4 @@
-use Rattle.std.proofs.Common.{◌≡◌, take}
-use Rattle.std.specs.List.{flat_map}
+use Rattle.std.proofs.Common.{◌≡◌, take, flat_map}
 use Rattle.smol_str.specs.BuilderState.{appended}
 use Rattle.uses.proofs.making.joined.Given as goal
 

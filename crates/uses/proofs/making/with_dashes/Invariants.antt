@@ -1,5 +1,4 @@
-use Rattle.std.proofs.Common.{◌≡◌}
-use Rattle.std.specs.List.{flat_map}
+use Rattle.std.proofs.Common.{◌≡◌, flat_map}
 use Rattle.smol_str.specs.BuilderState.{appended}
 use Rattle.uses.specs.Names.{dashed}
 use Rattle.uses.proofs.making.with_dashes.Given as goal

@@ -1,7 +1,6 @@
 -- The bytes are the number of the values, and the forms of the values so far.
-use Rattle.std.proofs.Common.{◌≡◌, ◌++◌, length, take, All}
+use Rattle.std.proofs.Common.{◌≡◌, ◌++◌, length, take, All, flat_map}
 use Rattle.std.specs.Int.{w32, to_le_bytes}
-use Rattle.std.specs.List.{flat_map}
 use Rattle.smol_str.specs.Wire.{HasWire, wire}
 use Rattle.smol_str.specs.Meaning.{texts}
 use Rattle.uses.proofs.wire.lists.write_list.Given as goal
