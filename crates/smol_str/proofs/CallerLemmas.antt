@@ -26,8 +26,8 @@ pub mod Wire
 pub mod Messages
 pub mod Crates
 pub use Rattle.smol_str.proofs.CallerLemmas.Texts.{texts, compared, tested, replacing, prints, chars-as_str}
-pub use Rattle.smol_str.proofs.CallerLemmas.Builders.{builders, passed_builders, OnHeap-front}
-pub use Rattle.smol_str.proofs.CallerLemmas.Values.{texts-push, text_at, listed, stacked, among}
+pub use Rattle.smol_str.proofs.CallerLemmas.Builders.{builders, passed_builders}
+pub use Rattle.smol_str.proofs.CallerLemmas.Values.{texts-push, listed, stacked, among}
 pub use Rattle.smol_str.proofs.CallerLemmas.Sorting.{sorting}
 pub use Rattle.smol_str.proofs.CallerLemmas.Interning.{interning}
 pub use Rattle.smol_str.proofs.CallerLemmas.Maps.{updates, lookups, inserts, put_and_asked, scopes, stands_for-text, lookup-with_entry}
@@ -35,21 +35,14 @@ pub use Rattle.smol_str.proofs.CallerLemmas.Groups.{grouped, counted}
 pub use Rattle.smol_str.proofs.CallerLemmas.Loops.{by_line, by_char, by_char_some, by_item, by_text, side_by_side}
 pub use Rattle.smol_str.proofs.CallerLemmas.Collecting.{collecting_chars, collecting_strs, collecting_pieces, collecting_strings, chars_by_std, strings_by_std, texts_collected}
 pub use Rattle.smol_str.proofs.CallerLemmas.Cuts.{cutting, joining, pieces_lack}
-pub use Rattle.smol_str.proofs.CallerLemmas.CutOnce.{cut_once, stripped, cut_at_texts, cut_alike, not_taken, trimmed}
+pub use Rattle.smol_str.proofs.CallerLemmas.CutOnce.{cut_once, stripped, stripped_both, cut_at_texts, cut_alike, not_taken, trimmed}
 pub use Rattle.smol_str.proofs.CallerLemmas.Wire.{forms, parts, items, items-apart, lists-apart, form_is_whole, form-cut-utf8, AreRead, one_read, all_read, next_form}
 -- for an answer in a loop over wire forms: what is left after a value, after an early end, and where memory was refused
 pub use Rattle.smol_str.proofs.CallerLemmas.Messages.{left-of_value, left-of_ended, left-of_refused}
 pub use Rattle.smol_str.proofs.CallerLemmas.Crates.{owned, chars_cut}
--- each front of a short text is short; the size of the text that bytes spell, and of two texts, one after the other
-pub use Rattle.smol_str.proofs.TextLemmas.Places.{IsShort-front, size-chars, size-append}
--- what holds of an `Err` where it holds whatever came, or of the one fault that came
-pub use Rattle.smol_str.proofs.TextLemmas.Places.{OnErr-always, IfErr-is}
--- for an answer at an early return from a loop over `lines().enumerate()`: the lines so far, and the one at hand
-pub use Rattle.smol_str.proofs.CallerLemmas.Loops.{lines_so_far, line_here}
+-- the size of the text that bytes spell, and of two texts, one after the other
+pub use Rattle.smol_str.proofs.TextLemmas.Places.{size-chars, size-append}
 -- bytes of a text in two parts, at the size of the first: they may be cut there, into these
 pub use Rattle.smol_str.proofs.TextLemmas.Split.{boundary-parts, chars-take, chars-drop}
--- appending twice is appending the joined text, and nothing changes nothing; a new builder leaves its buffer only for a
--- text that is not short
-pub use Rattle.smol_str.proofs.BuilderLemmas.State.{appended-twice, appended-nothing, OnHeap-long}
--- cuts: the one there is, a first match in front of a cut, a text without a match, and what joins pieces
-pub use Rattle.smol_str.proofs.CutLemmas.Cut.{same_parts, joined_more, IsCut-cut, IsCut-unique, IsCutAt-step, IsCutAt-unmatched}
+-- cuts: the one there is, and what joins pieces
+pub use Rattle.smol_str.proofs.CutLemmas.Cut.{joined_more, IsCut-cut, IsCut-unique}

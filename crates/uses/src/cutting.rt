@@ -7,7 +7,6 @@ ghost use Rattle.smol_str.specs.Cut.{IsFirstAfter, Occurs, joined_by};
 ghost use Rattle.smol_str.specs.Meaning.{AreValuesOf, IsValueOf, texts, ArePairsOf};
 ghost use Rattle.smol_str.specs.Replace.{cut, each_replaced, no_limit};
 ghost use Rattle.smol_str.specs.Text.{IsShort, place_of};
-ghost use Rattle.serde.specs.Event.{text};
 
 use crate::headline::line_of;
 use smol_str::kernel::{AsciiCase, convert_while_ascii, next_match};
@@ -187,6 +186,14 @@ pub fn unquoted(token: &str) -> Option<&str>
 #[tactic(auto, using(smol_str::proofs::CallerLemmas::cut_once))]
 pub fn between<'a>(token: &'a str, front: &str, back: &str) -> Option<&'a str>
     ensures { IfSome result (λ it. chars token.now ≡ chars front.now ++ (chars it.now ++ chars back.now)) }
+{
+    token.strip_prefix(front)?.strip_suffix(back)
+}
+
+/// The same; `None` says that the token does not begin and end with these marks.
+#[tactic(auto, using(smol_str::proofs::CallerLemmas::cut_once, smol_str::proofs::CallerLemmas::stripped_both))]
+pub fn marked<'a>(token: &'a str, front: &str, back: &str) -> Option<&'a str>
+    ensures { IfNone result ((m : List ℕ) → chars token.now ≢ chars front.now ++ (m ++ chars back.now)) }
 {
     token.strip_prefix(front)?.strip_suffix(back)
 }
@@ -403,9 +410,19 @@ pub fn halves(text: &str, at: usize) -> Option<(&str, &str)>
 /// What comes after a comment's opening; `None` says that the line does not begin with it.
 #[tactic(auto, using(smol_str::proofs::CallerLemmas::stripped))]
 pub fn after_todo(line: &str) -> Option<&str>
-    ensures { IfNone result ((rest : List ℕ) → chars line.now ≢ chars (codes "// TODO(someone): ") ++ rest) }
+    ensures said { IfSome result (λ it. chars line.now ≡ chars (codes "// TODO(someone): ") ++ chars it.now) }
+    ensures none { IfNone result ((rest : List ℕ) → chars line.now ≢ chars (codes "// TODO(someone): ") ++ rest) }
 {
     line.strip_prefix("// TODO(someone): ")
+}
+
+/// The name of a file that was generated, without its long ending.
+#[tactic(auto, using(smol_str::proofs::CallerLemmas::stripped))]
+pub fn generated(name: &str) -> Option<&str>
+    ensures stem { IfSome result (λ it. chars name.now ≡ chars it.now ++ chars (codes ".generated_by_us.rs")) }
+    ensures none { IfNone result ((front : List ℕ) → chars name.now ≢ front ++ chars (codes ".generated_by_us.rs")) }
+{
+    name.strip_suffix(".generated_by_us.rs")
 }
 
 /// The lines of a text that are not empty, with their numbers, from 1.

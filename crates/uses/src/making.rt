@@ -8,7 +8,6 @@ ghost use Rattle.smol_str.specs.Meaning.{IsValueOf, texts};
 ghost use Rattle.std.specs.Io.Cursor.{cursor_remaining};
 ghost use Rattle.std.specs.Path.{path_buf_bytes, path_bytes, path_join};
 ghost use Rattle.uses.specs.Layout.{untabbed, margin, line_text, right_aligned};
-ghost use Rattle.serde.specs.Event.{text};
 ghost use Rattle.smol_str.specs.Cut.{joined_by};
 ghost use Rattle.smol_str.specs.Joined.{joined};
 

@@ -6,7 +6,6 @@ ghost use Rattle.std.specs.Str.Lossy.{utf8_invalid_len};
 ghost use Rattle.smol_str.specs.Text.{size, IsResident, place_of};
 ghost use Rattle.smol_str.specs.Meaning.{IsValueOf};
 ghost use Rattle.smol_str.specs.Wire.{HasWire, body, prefix_size, wire, HasEndedEarly};
-ghost use Rattle.serde.specs.Event.{text};
 
 pub mod lists;
 pub mod log_records;

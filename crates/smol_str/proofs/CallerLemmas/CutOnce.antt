@@ -1,11 +1,12 @@
 -- Texts that std searches and cuts once: `split_once`, `strip_prefix`, `strip_suffix`, `starts_with`, `ends_with` and `contains`.
-use Rattle.smol_str.proofs.Common.{arith, zero, suc, ◌≡◌, ℕ, ◌+◌, ◌-◌, ◌<◌, ◌≤◌, Bool, true, false, List, [], ◌∷◌, ◌++◌, ◌==◌, length, take, drop, Bor, Option, Some, None, MatchOption, refl, sym, ap, ◌∙◌, subst, IsTrue, all_scalars, IsUtf8, chars, chars-nil, chars-append, chars-encodes, chars_from_encodes, encode_utf8, encode_utf8_all, encodes-append, encodes-chars, append-nil, size, Occurs, IsFirstAfter, IfSome, replicate, length-append, length-replicate, len_utf8_bounds}
+use Rattle.smol_str.proofs.Common.{Bor, ◌≡◌, Bool, true, false, Option, Some, None, MatchOption, refl, sym, ap, ◌∙◌, subst, IsTrue, IfSome, arith, zero, suc, ℕ, ◌+◌, ◌-◌, ◌<◌, ◌≤◌, ◌==◌, List, [], ◌∷◌, ◌++◌, length, take, drop, append-nil, replicate}
+use Rattle.smol_str.proofs.Common.{all_scalars, IsUtf8, chars, chars-nil, chars-append, chars-encodes, chars_from_encodes, encode_utf8, encode_utf8_all, encodes-append, encodes-chars, len_utf8_bounds, size, Occurs, IsFirstAfter}
 use Rattle.std.proofs.Common.{◌≢◌, MatchBool}
 use Rattle.std.specs.Str.{IsCharBoundary, NonePass, trim, trim_start, trim_end, skip_leading_whitespace, drop_trailing_whitespace}
-use Rattle.std.specs.Str.Pattern.{CutsPrefixes, FindsCharPrefix, FindsChar, FindsText, FindsTextPrefix, FindsTextSuffix, HasCharAt, HasMatch, HasPrefixMatch, HasSuffixMatch, HasTextAt, LacksTextAt}
+use Rattle.std.specs.Str.Pattern.{CutsPrefixes, FindsCharPrefix, FindsChar, FindsText, FindsTextPrefix, FindsTextSuffix, HasCharAt, HasMatch, HasPrefixMatch, HasSuffixMatch, HasTextAt, LacksTextAt, StripsPrefix, StripsSuffix}
 use Rattle.std.proofs.Math.Seq.{drop-length}
-use Rattle.std.proofs.lemmas.Str.{IsUtf8-drop, IsUtf8-from_ascii, IsUtf8-take, encode_ascii}
-use Rattle.std.proofs.lemmas.List.{take_more}
+use Rattle.std.proofs.lemmas.Str.{IsUtf8-drop, IsUtf8-take, encode_ascii}
+use Rattle.std.proofs.lemmas.List.{append_cancel_left, take_more}
 use Rattle.std.proofs.Math.Seq.{take-length}
 use Rattle.std.proofs.Common.{get_or}
 use Rattle.smol_str.proofs.CallerLemmas.Texts.{IsLiteral, encodes-literal, literal-utf8}
@@ -203,6 +204,48 @@ module _ (nd bs : List ℕ) (u : IsUtf8 bs) where
     pub strip_suffix-none : MatchOption o (FindsTextSuffix nd bs None) P → IfNone o ((front : List ℕ) → chars bs ≢ front ++ chars nd)
     strip_suffix-none said = none_weaker P o (lacks_end (literal-utf8 nd low)) said
 
+-- what `strip_prefix` and `strip_suffix` give, at a text or a literal of any length
+module _ (o : Option (Bor (List ℕ))) (q bs : List ℕ) (u : IsUtf8 bs) where
+  module _ (said : MatchOption o (FindsTextPrefix q bs None) (λ x. StripsPrefix (FindsTextPrefix q) bs x.now)) where
+    pub strip_prefix-some : IsUtf8 q → IfSome o (λ x. chars bs ≡ chars q ++ chars x.now)
+    strip_prefix-some v = given o said where
+      given : (o : Option (Bor (List ℕ))) → MatchOption o (FindsTextPrefix q bs None) (λ x. StripsPrefix (FindsTextPrefix q) bs x.now)
+          → IfSome o (λ x. chars bs ≡ chars q ++ chars x.now)
+      given None said = tt
+      given (Some x) (n, (long, is, cut), same, ends) =
+          (text_in_front q bs u n is cut long v).0 ∙ ap (λ b. chars q ++ chars b) (sym same)
+
+    pub strip_literal-some : IsLiteral q → IfSome o (λ x. chars bs ≡ chars q ++ chars x.now)
+    strip_literal-some low = strip_prefix-some (literal-utf8 q low)
+
+  pub strip_suffix-some : MatchOption o (FindsTextSuffix q bs None) (λ x. StripsSuffix (FindsTextSuffix q) bs x.now)
+      → IfSome o (λ x. chars bs ≡ chars x.now ++ chars q)
+  strip_suffix-some said = given o said where
+    given : (o : Option (Bor (List ℕ))) → MatchOption o (FindsTextSuffix q bs None) (λ x. StripsSuffix (FindsTextSuffix q) bs x.now)
+        → IfSome o (λ x. chars bs ≡ chars x.now ++ chars q)
+    given None said = tt
+    given (Some x) (n, (long, is, cut), same, ends) =
+        (text_at_end q bs u (length bs - n) is (subst (λ k. IsCharBoundary bs (length bs - k)) (sym long) cut)).0
+        ∙ ap (λ b. chars b ++ chars q) (sym same)
+
+-- where what is behind p does not end with q, the whole does not read as p, anything and q
+module _ {T : Type 0} (o : Option T) (P : T → Type 0) (p q bs rest : List ℕ) (u : IsUtf8 bs)
+    (said : MatchOption o (FindsTextSuffix q rest None) P) (is : bs ≡ p ++ rest) where
+  pub strip_both-none : IsUtf8 p → IsUtf8 q → IfNone o ((m : List ℕ) → chars bs ≢ chars p ++ (m ++ chars q))
+  strip_both-none v w =
+      none_weaker P o (λ none m e. none (encode_utf8_all m) (append_cancel_left p _ _ (cc (
+        is,
+        encodes-chars bs u,
+        ap encode_utf8_all e,
+        encodes-append (chars p) (m ++ chars q),
+        encodes-append m (chars q),
+        encodes-chars p v,
+        encodes-chars q w,
+      )))) said
+
+  pub strip_literals-none : IsLiteral p → IsLiteral q → IfNone o ((m : List ℕ) → chars bs ≢ chars p ++ (m ++ chars q))
+  strip_literals-none low small = strip_both-none (literal-utf8 p low) (literal-utf8 q small)
+
 pub ruleset cut_once = (
   append-nil,
   chars_from_encodes,
@@ -229,8 +272,22 @@ pub ruleset cut_once = (
   split_once-none,
 )
 
--- where `strip_prefix` or `strip_suffix` finds no literal, of any length: apart, since `cut_once` has no room for more
-pub ruleset stripped = (strip_prefix-none, strip_suffix-none)
+-- `strip_prefix` or `strip_suffix` at a literal, of any length: apart, since `cut_once` has no room for more
+pub ruleset stripped = (strip_prefix-some, strip_literal-some, strip_suffix-some, strip_prefix-none, strip_suffix-none)
+
+-- beside `cut_once`: where `strip_suffix` finds none behind what `strip_prefix` took
+pub ruleset stripped_both = (
+  encodes-append,
+  encodes-chars,
+  encodes-literal,
+  text_in_front,
+  literal_in_front,
+  text_at_end,
+  strip_prefix-none,
+  strip_suffix-none,
+  strip_both-none,
+  strip_literals-none,
+)
 
 -- a text cut at several literals or texts, one after another
 pub ruleset cut_at_texts = (text_between, literal_between)

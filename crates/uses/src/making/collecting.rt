@@ -9,7 +9,6 @@ ghost use Rattle.smol_str.specs.Joined.{joined, str_text, string_text};
 ghost use Rattle.smol_str.specs.Case.{upper};
 ghost use Rattle.smol_str.specs.Replace.{replaced_all};
 ghost use Rattle.std.specs.Iterator.{Drains, IsFinite};
-ghost use Rattle.serde.specs.Event.{text};
 ghost use Rattle.smol_str.specs.Collect.{Outgrown, StoppedAt};
 
 use crate::headline::of_any_strs;

@@ -1,4 +1,3 @@
--- The scopes that are left decide, since none so far binds the name.
 use Rattle.std.proofs.Common.{◌≡◌}
 use Rattle.smol_str.specs.Keys.{innermost, entry_lists}
 use Rattle.uses.proofs.keys.find.Given as goal

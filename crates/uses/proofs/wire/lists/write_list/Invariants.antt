@@ -1,4 +1,3 @@
--- The bytes are the number of the values, and the forms of the values so far.
 use Rattle.std.proofs.Common.{◌≡◌, ◌++◌, length, take, All, flat_map}
 use Rattle.std.specs.Int.{w32, to_le_bytes}
 use Rattle.smol_str.specs.Wire.{HasWire, wire}

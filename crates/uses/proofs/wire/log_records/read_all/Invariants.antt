@@ -1,4 +1,3 @@
--- The records so far were read, and no more.
 use Rattle.std.proofs.Common.{◌≡◌, length, All}
 use Rattle.std.specs.Io.KnownBytes.{Consumes}
 use Rattle.uses.specs.LogRecords.{HasForm, forms}

@@ -1,4 +1,3 @@
--- The settings are those of the lines so far.
 use Rattle.std.proofs.Common.{◌≡◌, map}
 use Rattle.uses.specs.Settings.{settings}
 use Rattle.uses.proofs.keys.settings.Settings.read.Given as goal
