@@ -1,5 +1,8 @@
 -- The names that many proofs of this crate cite, passed on from one place. Declares nothing.
-pub use Rattle.std.proofs.Common.{◌≡◌, ℕ, ◌<◌, List, [], ◌∷◌, ◌++◌, Option, refl, sym, ◌∙◌, ap, ◌⊎◌, inl, inr, ◌-◌, ◌≤◌, length, Bool, true, false, ◌&&◌, nat_le, cond, append_assoc, arith, chars, IsUtf8, zero, suc, ◌+◌, ◌^◌, lit<, ⊎_elim, get_or, IsTrue, take, drop, length-append, take-append-drop, w32, All, encode_utf8_all, take_at, drop_at, length-take-le, length-drop, take-add, append-nil, ◌/◌, map, set, replicate, take_all, subst, IsAscii, IsCharBoundary, map-id, ◌*◌, length-take, nat_eq, w64, pow-add, take-take, drop-drop, get_or-drop, get_or-take, MatchOption, Result, Ok, Err, IfOk, slice_get, ◌↔◌, min, Some, None, option_map, unwrap_or, nat_cmp, flat_map, ne_eqb, String, string_bytes, ◌==◌, Global, Bor, OnOk, OnErr, bytes_eq, ◌%◌, leb, ltb, w8, bit_and, not, leb-true, leb-false, ltb-true, ltb-false, IfSome, lt-ltb, le-ltb, MatchBool, drop-cons, slice_range, encode_utf8, is_ok, if◌then◌else◌, rules, le_refl}
+pub use Rattle.std.proofs.Common.{◌≡◌, Option, refl, sym, ◌∙◌, ap, ◌⊎◌, inl, inr, Bool, true, false, ◌&&◌, cond, ⊎_elim, IsTrue, subst, MatchOption, Result, Ok, Err, IfOk, ◌↔◌, Some, None, option_map, unwrap_or, Global, Bor, OnOk, OnErr, not, IfSome, MatchBool, is_ok, if◌then◌else◌, rules}
+pub use Rattle.std.proofs.Common.{ℕ, ◌<◌, ◌-◌, ◌≤◌, nat_le, arith, zero, suc, ◌+◌, ◌^◌, lit<, w32, ◌/◌, ◌*◌, nat_eq, w64, pow-add, min, nat_cmp, ne_eqb, ◌==◌, ◌%◌, leb, ltb, w8, bit_and, leb-true, leb-false, ltb-true, ltb-false, lt-ltb, le-ltb, le_refl}
+pub use Rattle.std.proofs.Common.{List, [], ◌∷◌, ◌++◌, length, append_assoc, get_or, take, drop, length-append, take-append-drop, All, take_at, drop_at, length-take-le, length-drop, take-add, append-nil, map, set, replicate, take_all, map-id, length-take, take-take, drop-drop, get_or-drop, get_or-take, slice_get, flat_map, bytes_eq, drop-cons, slice_range}
+pub use Rattle.std.proofs.Common.{chars, IsUtf8, encode_utf8_all, IsAscii, IsCharBoundary, String, string_bytes, encode_utf8}
 pub use Rattle.smol_str.specs.Buffer.{IsPacked, packed, padded, unpacked, HaveOneBuffer}
 pub use Rattle.smol_str.specs.Case.{front, lower, upper, lowercased, uppercased, IsAsciiText, BeginsPastAscii, letter, converted, letters, full_case, mapped, IsAsciiFront}
 pub use Rattle.smol_str.specs.Cut.{StandsAt, Occurs, IsNextMatch, IsCut, IsOnlyCut, joined_by, IsFirstAfter, IsCutAt, but_last, IsSpelled, IsCutBetween}
@@ -24,7 +27,8 @@ pub use Rattle.std.proofs.lemmas.List.Elements.{All-head, All-tail, All-nil, All
 pub use Rattle.std.proofs.lemmas.Nat.{from_le_bytes-to_le_bytes_4, le_bytes_4, le_bytes_8}
 pub use Rattle.std.proofs.lemmas.Result.{err_from_is_err_and, on_err_weaker, on_ok_weaker, IfOk-weaker, IfErr-weaker}
 pub use Rattle.std.proofs.lemmas.Simd.{put_chunk_is, mask_l-mod, tops_compared}
-pub use Rattle.std.proofs.lemmas.Str.{encodes_same, chars-encodes, encodes-chars, scalars-chars, IsUtf8-from_ascii, chars-IsAscii, encodes-IsAscii, cons_from_encodes, encodes-append, length-encode, length-le-encodes, chars-nil, chars-append, IsUtf8-append, IsUtf8-string_bytes, IsAscii-append, chars_from_encodes, IsCharBoundary-at_seam, IsAscii-take, IsAscii-drop, IsUtf8-drop, IsCharBoundary-from_take, IsUtf8-nil, len_utf8_bounds, IsCharBoundary-from_ascii, IsCharBoundary-start, IsUtf8-encode}
+pub use Rattle.std.proofs.lemmas.Str.{encodes_same, chars-encodes, encodes-chars, scalars-chars, IsUtf8-from_ascii, chars-IsAscii, encodes-IsAscii, cons_from_encodes, encodes-append, length-encode, length-le-encodes, chars-nil, chars-append, IsUtf8-append, IsUtf8-string_bytes, IsAscii-append, chars_from_encodes, IsCharBoundary-at_seam, IsAscii-take, IsAscii-drop, IsUtf8-drop}
+pub use Rattle.std.proofs.lemmas.Str.{IsCharBoundary-from_take, IsUtf8-nil, len_utf8_bounds, IsCharBoundary-from_ascii, IsCharBoundary-start, IsUtf8-encode}
 pub use Rattle.std.proofs.lemmas.Str.Ascii.{lowercase_ascii, uppercase_ascii, lowercase_is, uppercase_is, IsAscii-from_all, IsAscii-cons, IsAscii-nil, IsAscii-map, All-from_ascii, IsAscii-more, IsAscii-push}
 pub use Rattle.std.specs.Char.{to_ascii_lowercase, to_ascii_uppercase, len_utf8, is_ascii, IsAsciiUppercase, IsAsciiLowercase}
 pub use Rattle.std.specs.Cmp.Lexicographic.{pointwise, bytes_decides, slice_cmp, nat_list_cmp_total}

@@ -1,5 +1,7 @@
 -- JSON strings: what is written for a text, what is read as it, and when each fault comes.
-use Rattle.smol_str.proofs.Common.{nil_from_length, ◌≡◌, ◌<◌, ℕ, List, [], ◌∷◌, ◌++◌, true, Some, refl, sym, ap, ◌∙◌, rules, arith, list_all, length, take, drop, append-nil, common_steps, nat_tests, encode_utf8_all, take-append-drop, chars, encodes-chars, encodes_same, encodes-append, append_assoc, IsUtf8-string_bytes, IsResident, place_of, Meaning, IsValueOf, Result, IfOk, String, Global, string_bytes, IfOk-weaker}
+use Rattle.smol_str.proofs.Common.{◌≡◌, true, Some, refl, sym, ap, ◌∙◌, rules, Result, IfOk, Global, IfOk-weaker, ◌<◌, ℕ, arith, nat_tests, nil_from_length, List, [], ◌∷◌, ◌++◌, list_all, length, take, drop, append-nil, common_steps, take-append-drop, append_assoc}
+use Rattle.smol_str.proofs.Common.{encode_utf8_all, chars, encodes-chars, encodes_same, encodes-append, IsUtf8-string_bytes, String, string_bytes}
+use Rattle.smol_str.proofs.Common.{IsResident, place_of, Meaning, IsValueOf}
 use Rattle.std.proofs.Common.{ap₂, option_and_then, IfErr, IsErrAnd}
 use Rattle.std.specs.List.{prefix_len}
 use Rattle.std.proofs.lemmas.Grind.{flat_map-append}

@@ -1,5 +1,6 @@
 -- What `split` of a text at a character or at another text gives: the pieces of the cut.
-use Rattle.smol_str.proofs.Common.{◌≡◌, ℕ, ◌+◌, ◌<◌, ◌≤◌, ◌==◌, Bool, true, cond, List, [], ◌∷◌, ◌++◌, length, take, drop, Bor, Option, Some, None, MatchOption, refl, sym, ap, ◌∙◌, subst, arith, nat_tests, length-append, length-take, append-nil, take-append-drop, IsUtf8, chars, encode_utf8, encode_utf8_all, flat_map, YieldsList, length-drop, length-le-encodes, chars-encodes, chars_from_encodes, encodes-append, encodes-chars, scalars-chars, false, size, Occurs, IsFirstAfter, joined_by, cut, no_limit, match_count}
+use Rattle.smol_str.proofs.Common.{◌≡◌, Bool, true, cond, Bor, Option, Some, None, MatchOption, refl, sym, ap, ◌∙◌, subst, false, ℕ, ◌+◌, ◌<◌, ◌≤◌, ◌==◌, arith, nat_tests, List, [], ◌∷◌, ◌++◌, length, take, drop, length-append, length-take, append-nil, take-append-drop, flat_map, YieldsList, length-drop}
+use Rattle.smol_str.proofs.Common.{IsUtf8, chars, encode_utf8, encode_utf8_all, length-le-encodes, chars-encodes, chars_from_encodes, encodes-append, encodes-chars, scalars-chars, size, Occurs, IsFirstAfter, joined_by, cut, no_limit, match_count}
 use Rattle.std.specs.Str.{NonePass}
 use Rattle.std.specs.Str.Pattern.{FindsText, FindsChar}
 use Rattle.std.specs.Str.Iter.{split_steps, split_text, split_has_more, split_pattern}

@@ -1,5 +1,6 @@
 -- For `InlineText` and equality: a short text in its buffer, with its length behind it.
-use Rattle.smol_str.proofs.Common.{◌≡◌, ℕ, ◌+◌, ◌-◌, ◌≤◌, List, [], ◌∷◌, ◌++◌, length, take, drop, set, get_or, replicate, sym, ◌∙◌, ap, arith, encode_utf8_all, append_assoc, length-append, refl, nat_eq, ◌↔◌, Bool, IsTrue, chars, IsUtf8, pointwise, bytes_decides, encodes-chars, encodes_same, chars-append, IsUtf8-append, drop-drop, drop-replicate, take_at, drop_at, get_or_at, set_at, length-replicate, drop-append-le, INLINE_CAP, size, IsShort, IsPacked, HaveOneBuffer, padded, packed, unpacked, put_at, common_steps, rules}
+use Rattle.smol_str.proofs.Common.{◌≡◌, sym, ◌∙◌, ap, refl, ◌↔◌, Bool, IsTrue, rules, ℕ, ◌+◌, ◌-◌, ◌≤◌, arith, nat_eq, List, [], ◌∷◌, ◌++◌, length, take, drop, set, get_or, replicate, append_assoc, length-append, pointwise, bytes_decides, drop-drop, drop-replicate, take_at, drop_at, get_or_at, set_at, length-replicate, drop-append-le, common_steps}
+use Rattle.smol_str.proofs.Common.{encode_utf8_all, chars, IsUtf8, encodes-chars, encodes_same, chars-append, IsUtf8-append, INLINE_CAP, size, IsShort, IsPacked, HaveOneBuffer, padded, packed, unpacked, put_at}
 
 pub length-padded : (bytes : List ℕ) → length bytes ≤ INLINE_CAP → length (padded bytes) ≡ INLINE_CAP
 length-padded bytes h = omega (arith, length-append {A = ℕ}, length-replicate {A = ℕ} (INLINE_CAP - length bytes) 0)

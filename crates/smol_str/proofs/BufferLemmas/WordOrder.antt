@@ -1,5 +1,7 @@
 -- For `order_words` and `InlineText::order`: the order of packed texts is that of their words.
-use Rattle.smol_str.proofs.Common.{◌≡◌, ℕ, suc, ◌+◌, ◌-◌, ◌*◌, ◌^◌, ◌<◌, ◌≤◌, List, [], ◌∷◌, ◌++◌, length, take, drop, get_or, replicate, sym, ◌∙◌, ap, arith, refl, ⊎_elim, length-drop, w64, from_be_bytes, chars, nat_cmp, ordering_then, ordering_reverse, slice_cmp, nat_list_cmp_total, cases_lt, cases_order, drop_more, drop_all, drop-drop, take-append-drop, encodes-chars, INLINE_CAP, IsPacked, unpacked, tied_itself, common_steps, rules}
+use Rattle.smol_str.proofs.Common.{◌≡◌, sym, ◌∙◌, ap, refl, ⊎_elim, rules, ℕ, suc, ◌+◌, ◌-◌, ◌*◌, ◌^◌, ◌<◌, ◌≤◌, arith, w64, from_be_bytes, nat_cmp, ordering_then, ordering_reverse, cases_lt, cases_order, tied_itself}
+use Rattle.smol_str.proofs.Common.{List, [], ◌∷◌, ◌++◌, length, take, drop, get_or, replicate, length-drop, slice_cmp, nat_list_cmp_total, drop_more, drop_all, drop-drop, take-append-drop, common_steps}
+use Rattle.smol_str.proofs.Common.{chars, encodes-chars, INLINE_CAP, IsPacked, unpacked}
 use Rattle.std.specs.declared.cmp.Ordering.TheVariants.{Less}
 use Rattle.std.specs.declared.cmp.Ordering.{Ordering}
 use Rattle.std.proofs.Math.Nat.{mul-le-mul_right, pow-succ'}

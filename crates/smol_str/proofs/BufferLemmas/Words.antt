@@ -1,5 +1,8 @@
 -- For `bytes::words` and `buffer::packing`: bytes as words, read, packed and overwritten.
-use Rattle.smol_str.proofs.Common.{◌≡◌, ℕ, zero, suc, ◌+◌, ◌-◌, ◌*◌, ◌^◌, ◌/◌, ◌<◌, ◌≤◌, List, [], ◌∷◌, ◌++◌, length, take, drop, get_or, replicate, ◌∙◌, ap, arith, refl, length-take, length-drop, nat_eq, ◌&&◌, Bool, true, set, length-append, w64, w32, to_le_bytes, from_le_bytes, pointwise, bytes_decides, take-add, take-append-add, drop-append-add, le_bytes_8, pow-add, cases_lt, Decides-and, Decides-like, Decides-eqb, same_from_decides, take_at, drop_at, take_all, take-take, drop-take, drop-drop, take-append-le, take-append-drop, append_assoc, length-take-le, get_or-drop, get_or-take, get_or_past, set_at, length-replicate, drop-replicate, INLINE_CAP, packed, padded, put_at, encode, replicate_more, common_steps, rules, ⊎_elim, PACKED_LEN}
+use Rattle.smol_str.proofs.Common.{◌≡◌, ◌∙◌, ap, refl, ◌&&◌, Bool, true, rules, ⊎_elim, ℕ, zero, suc, ◌+◌, ◌-◌, ◌*◌, ◌^◌, ◌/◌, ◌<◌, ◌≤◌, arith, nat_eq, w64, w32, to_le_bytes, from_le_bytes, le_bytes_8, pow-add, cases_lt, Decides-and, Decides-like, Decides-eqb, same_from_decides}
+use Rattle.smol_str.proofs.Common.{List, [], ◌∷◌, ◌++◌, length, take, drop, get_or, replicate, length-take, length-drop, set, length-append, pointwise, bytes_decides, take-add, take-append-add, drop-append-add, take_at, drop_at, take_all, take-take, drop-take, drop-drop, take-append-le, take-append-drop, append_assoc, length-take-le, get_or-drop, get_or-take, get_or_past, set_at}
+use Rattle.smol_str.proofs.Common.{length-replicate}
+use Rattle.smol_str.proofs.Common.{drop-replicate, replicate_more, common_steps, encode, INLINE_CAP, packed, padded, put_at, PACKED_LEN}
 use Rattle.std.proofs.Math.Nat.{div-div-eq-div-mul, pow-succ', mul-le-mul_left}
 use Rattle.smol_str.specs.Words.{word}
 use Rattle.smol_str.proofs.BufferLemmas.Packed.{length-padded}

@@ -1,5 +1,7 @@
 -- For collecting, extending and building by steps: items drawn and appended one after another.
-use Rattle.smol_str.proofs.Common.{String, Global, string_bytes, chars, true, false, false≢true, ◌⊎◌, inr, ◌≡◌, ℕ, ◌<◌, List, [], ◌∷◌, ◌++◌, length, take, drop, map, Option, Some, Result, Ok, Err, IfOk, OnOk, OnErr, refl, ap, ◌∙◌, subst, arith, rules, inl, length-append, length-take, YieldsList, items_from_drains, append-nil, length-map, IsShort, IsResident, but_last, BuilderState, InBuffer, OnHeap, empty_builder, appended, joined, Meaning, IsValueOf, on_err_weaker, IfOk-weaker}
+use Rattle.smol_str.proofs.Common.{Global, true, false, ◌⊎◌, inr, ◌≡◌, Option, Some, Result, Ok, Err, IfOk, OnOk, OnErr, refl, ap, ◌∙◌, subst, rules, inl, on_err_weaker, IfOk-weaker, false≢true, ℕ, ◌<◌, arith, List, [], ◌∷◌, ◌++◌, length, take, drop, map, length-append, length-take, YieldsList, items_from_drains, append-nil, length-map}
+use Rattle.smol_str.proofs.Common.{String, string_bytes, chars}
+use Rattle.smol_str.proofs.Common.{IsShort, IsResident, but_last, BuilderState, InBuffer, OnHeap, empty_builder, appended, joined, Meaning, IsValueOf}
 use Rattle.smol_str.proofs.TextLemmas.Lists.{length_but_last}
 use Rattle.std.specs.Iterator.{Yields, YieldsThen, Drains, DrainsIf, ExtendsWithItems}
 use Rattle.std.specs.Iterator.Runs.{Run}

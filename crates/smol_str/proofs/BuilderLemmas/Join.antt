@@ -1,5 +1,5 @@
 -- For joining: a text, and then others behind a separator.
-use Rattle.smol_str.proofs.Common.{◌≡◌, ℕ, ◌+◌, ◌<◌, List, [], ◌∷◌, ◌++◌, length, get_or, map, take, flat_map, ap, ◌∙◌, arith, append-nil, common_steps, joined_by, BuilderState, OnHeap, empty_builder, appended, kind_for, IsShort, IsUtf8, chars, size, ◌%◌, ◌≤◌, ⊎_elim, INLINE_CAP}
+use Rattle.smol_str.proofs.Common.{◌≡◌, ℕ, ◌+◌, ◌<◌, List, ◌∷◌, ◌++◌, length, get_or, map, take, flat_map, ap, ◌∙◌, arith, append-nil, common_steps, joined_by, BuilderState, OnHeap, empty_builder, appended, kind_for, IsShort, IsUtf8, chars, size, ◌%◌, ◌≤◌, ⊎_elim}
 use Rattle.std.proofs.lemmas.Grind.{take_at_read, flat_map-append}
 use Rattle.std.proofs.lemmas.List.Folds.{flat_map-map}
 use Rattle.std.proofs.Math.Nat.{mod-le}

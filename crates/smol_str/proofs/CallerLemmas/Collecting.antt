@@ -1,5 +1,6 @@
 -- Collecting and extending from an iterator that gives a list.
-use Rattle.smol_str.proofs.Common.{append-nil, ◌≡◌, ℕ, ◌<◌, ◌++◌, String, Global, Bor, true, Option, Result, Ok, Err, IfOk, OnOk, OnErr, subst, List, [], length, take, drop, map, refl, sym, ap, ◌∙◌, arith, chars, IsUtf8, YieldsList, chars-encodes, take-append-drop, INLINE_CAP, size, IsShort, Meaning, IsValueOf, BuilderState, OnHeap, appended, joined, joined_strs, joined_strings, joined_string_refs, str_text, string_text, replaced_all, cut, no_limit, map-id, items_from_drains, None, place_of, rules, on_err_weaker, on_ok_weaker}
+use Rattle.smol_str.proofs.Common.{◌≡◌, Global, Bor, true, Option, Result, IfOk, OnOk, OnErr, subst, refl, sym, ap, ◌∙◌, None, rules, on_err_weaker, on_ok_weaker, ℕ, ◌<◌, arith, append-nil, List, [], length, take, map, YieldsList, take-append-drop, map-id, items_from_drains, String, chars, IsUtf8, chars-encodes}
+use Rattle.smol_str.proofs.Common.{INLINE_CAP, size, IsShort, Meaning, IsValueOf, BuilderState, OnHeap, appended, joined, joined_strs, joined_strings, joined_string_refs, str_text, string_text, replaced_all, cut, no_limit, place_of}
 use denote.Param.Members.{Mut}
 use Rattle.std.specs.Fn.{Called}
 use Rattle.std.specs.List.{filter_map}

@@ -1,5 +1,5 @@
 -- Texts that std cuts into pieces, by `split`, and joins, at the level of texts.
-use Rattle.smol_str.proofs.Common.{arith, flat_map, items_from_drains, YieldsList, rules, ◌≡◌, ℕ, ◌-◌, ◌+◌, ◌<◌, ◌≤◌, Bool, true, false, List, [], ◌∷◌, ◌++◌, ◌==◌, length, take, drop, map, str_text, Bor, Option, Some, None, MatchOption, refl, sym, ap, ◌∙◌, subst, IsTrue, all_scalars, IsUtf8, chars, chars-nil, chars-append, encode_utf8, encode_utf8_all, append-nil, encodes-append, encodes-chars, chars-encodes, chars_from_encodes, Occurs, IsFirstAfter, joined_by, cut, no_limit, Meaning}
+use Rattle.smol_str.proofs.Common.{arith, flat_map, items_from_drains, YieldsList, ◌≡◌, ℕ, ◌-◌, ◌+◌, ◌<◌, ◌≤◌, true, List, [], ◌∷◌, ◌++◌, length, map, str_text, Bor, Option, None, refl, sym, ap, ◌∙◌, subst, IsUtf8, chars, chars-nil, encode_utf8_all, encodes-append, encodes-chars, chars_from_encodes, Occurs, IsFirstAfter, joined_by, cut, no_limit, Meaning}
 use Rattle.std.specs.List.{join_by}
 use Rattle.std.specs.Str.Iter.{split_steps, split_text, split_has_more, split_pattern}
 use Rattle.std.specs.Str.Pattern.{FindsChar, FindsText}

@@ -1,5 +1,7 @@
 -- Loops over what std's iterators lend, and what `map` and `try_collect` make of it.
-use Rattle.smol_str.proofs.Common.{Bool, cond, get_or, take, ◌<◌, ◌+◌, subst, Ok, Err, IfOk, refl, sym, map, ◌≡◌, ℕ, List, [], ◌∷◌, ◌++◌, length, Some, None, ap, ◌∙◌, arith, length-append, Meaning, Result, encode_utf8_all, append-nil, append_assoc, Option, IsValueOf, place_of, chars, str_text, Bor, items_from_drains, FoldsTo, All-nil, All-cons, IsUtf8, YieldsList-from_chars, encode_utf8, map-id, size, ◌≤◌, All, YieldsList, YieldsList-from_slice, chars-nil, flat_map, length-map, nat_tests, nil_from_length, take_all, take_more, pointwise, nat_eq, true}
+use Rattle.smol_str.proofs.Common.{Bool, cond, subst, Ok, Err, IfOk, refl, sym, ◌≡◌, Some, None, ap, ◌∙◌, Result, Option, Bor, true, ◌<◌, ◌+◌, ℕ, arith, ◌≤◌, nat_tests, nat_eq}
+use Rattle.smol_str.proofs.Common.{get_or, take, map, List, [], ◌∷◌, ◌++◌, length, length-append, append-nil, append_assoc, items_from_drains, FoldsTo, All-nil, All-cons, YieldsList-from_chars, map-id, All, YieldsList, YieldsList-from_slice, flat_map, length-map, nil_from_length, take_all, take_more, pointwise, encode_utf8_all, chars, IsUtf8, encode_utf8, chars-nil}
+use Rattle.smol_str.proofs.Common.{Meaning, IsValueOf, place_of, str_text, size}
 use Rattle.smol_str.proofs.CallerLemmas.Builders.{size-cons}
 use Rattle.smol_str.proofs.BuilderLemmas.State.{appended-twice, OnHeap-long}
 use Rattle.smol_str.specs.Meaning.{AreValuesOf, texts}
@@ -7,7 +9,7 @@ use Rattle.std.specs.Prelude.{Vec}
 use Rattle.std.specs.Vec.{vec_items}
 use Rattle.std.specs.List.{AllZip}
 use Rattle.std.specs.Iterator.{Yields, AlwaysYields}
-use Rattle.std.specs.Iterator.Adapters.{map_source, map_callee, enumerate_source, enumerate_count, enumerate_steps}
+use Rattle.std.specs.Iterator.Adapters.{map_source, map_callee, enumerate_source, enumerate_count}
 use Rattle.std.specs.declared.iter.Enumerate.{Enumerate}
 use Rattle.std.specs.List.{enumerate_from, filter, fold}
 use Rattle.std.specs.Str.Iter.{chars_rest, chars_steps, lines_rest, lines_steps}
@@ -18,7 +20,6 @@ use Rattle.std.specs.declared.slice.Iter.{Iter}
 use Rattle.std.specs.Str.Lines.{lines}
 use Rattle.std.specs.declared.str.Lines.{Lines}
 use Rattle.std.proofs.lemmas.Iterator.Splits.{YieldsList-from_lines}
-use Rattle.std.proofs.lemmas.Iterator.Consumers.{YieldsList-so_far, YieldsList-turn, YieldsList-from_enumerate}
 use Rattle.std.proofs.lemmas.Grind.{fold-append, flat_map-append}
 use Rattle.std.proofs.lemmas.List.Elements.{filter-append, filter_map-append, filter_more}
 use Rattle.std.proofs.lemmas.List.{get_or-map}
@@ -173,20 +174,6 @@ pub lines_numbered : {A : Type 0} (steps : Enumerate Lines → Option A → Enum
     → map g xs ≡ enumerate_from 0 (lines (lines_rest (enumerate_source s))))
 lines_numbered steps xs s t run ends first =
     (refl, λ g last by. items_from_drains xs (t, run, λ _. ends) (all_numbered steps last g by s first))
-
--- at an early return from such a loop: the lines so far, and the one at hand
-module _ (s : Enumerate Lines) (bs : List ℕ) (rest : lines_rest (enumerate_source s) ≡ bs) (first : enumerate_count s ≡ 0) where
-  numbered : YieldsList {B = ℕ × List ℕ} (enumerate_steps lines_steps) (λ p. (p.0, p.1.now)) s (enumerate_from 0 (lines bs))
-  numbered = YieldsList-from_enumerate (YieldsList-from_lines bs rest) first
-
-  module _ (xs : List (ℕ × Bor (List ℕ))) (t : Enumerate Lines) (run : Yields (enumerate_steps lines_steps) s xs t) where
-    pub lines_so_far : map {B = ℕ × List ℕ} (λ x. (x.0, x.1.now)) xs ≡ take (length xs) (enumerate_from 0 (lines bs))
-    lines_so_far = YieldsList-so_far numbered xs t run
-
-    pub line_here : (r : Option (ℕ × Bor (List ℕ))) (u : Enumerate Lines) (n : ℕ) (line : Bor (List ℕ)) → r ≡ Some (n, line)
-        → enumerate_steps lines_steps t r u → (length xs < length (enumerate_from 0 (lines bs)))
-        × (◌≡◌ {A = ℕ × List ℕ} (n, line.now) (get_or (enumerate_from 0 (lines bs)) (length xs) (n, line.now)))
-    line_here r u n line is step = YieldsList-turn numbered xs t run r u (n, line) is step
 
 -- a loop whose invariant folds, maps or filters what was yielded goes on by `fold-append` and the like
 pub ruleset by_line = (

@@ -1,5 +1,6 @@
 -- Maps with values as keys, at texts.
-use Rattle.smol_str.proofs.Common.{◌≡◌, ◌+◌, ◌≤◌, ◌++◌, ◌∙◌, ℕ, Bor, Option, None, Some, List, [], ◌∷◌, length, length-map, map, take, get_or, Bool, true, false, cond, false≢true, refl, sym, ap, arith, common_steps, IsUtf8, bytes_eq, chars, encodes-chars, encodes_same, encode_utf8_all, false_from_ne_true, option_map, if◌then◌else◌, Meaning, rules, nat_cmp, slice_cmp}
+use Rattle.smol_str.proofs.Common.{◌≡◌, ◌∙◌, Bor, Option, None, Some, Bool, true, false, cond, refl, sym, ap, option_map, if◌then◌else◌, rules, ◌+◌, ◌≤◌, ℕ, false≢true, arith, false_from_ne_true, nat_cmp, ◌++◌, List, [], ◌∷◌, length, length-map, map, take, get_or, common_steps, bytes_eq, slice_cmp}
+use Rattle.smol_str.proofs.Common.{IsUtf8, chars, encodes-chars, encodes_same, encode_utf8_all, Meaning}
 use Rattle.std.proofs.Common.{set, ◌||◌}
 use Rattle.std.proofs.lemmas.List.{take_more_set, take-map, take-set-le}
 use Rattle.std.specs.BTreeMap.{BTreeMap, is_at}

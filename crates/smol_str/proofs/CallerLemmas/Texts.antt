@@ -1,5 +1,6 @@
 -- Texts: their bytes and sizes, builders, and one character in place of another.
-use Rattle.smol_str.proofs.Common.{bytes_eq, same_from_decides, ◌^◌, encodes-IsAscii, get_or, list_all, ltb, ltb-true, IsAscii-from_all, IsUtf8-from_ascii, ◌≡◌, ◌∷◌, ◌++◌, sym, BuilderState, OnHeap, appended, kind_with, ℕ, ◌+◌, ◌<◌, ◌≤◌, Result, IfOk, OnErr, subst, List, [], length, take, encode_utf8_all, refl, ap, ◌∙◌, inl, IsTrue, arith, flat_map, chars, all_scalars, IsUtf8, chars-encodes, chars_from_encodes, encodes-chars, encodes_same, chars-IsAscii, INLINE_CAP, size, IsShort, IsResident, place_of, Meaning, IsValueOf, IsAscii, replaced_all, each_with, each_replaced, rules, nat_tests, append-nil, append_assoc, encodes-append, IsAscii-cons, IsAscii-nil, nat_eq, pointwise, true}
+use Rattle.smol_str.proofs.Common.{◌≡◌, sym, Result, IfOk, OnErr, subst, refl, ap, ◌∙◌, inl, IsTrue, rules, true, same_from_decides, ◌^◌, ltb, ltb-true, ℕ, ◌+◌, ◌<◌, ◌≤◌, arith, nat_eq, bytes_eq, get_or, list_all, ◌∷◌, ◌++◌, List, [], length, pointwise}
+use Rattle.smol_str.proofs.Common.{encodes-IsAscii, IsAscii-from_all, IsUtf8-from_ascii, encode_utf8_all, chars, all_scalars, IsUtf8, chars-encodes, chars_from_encodes, encodes-chars, encodes_same, chars-IsAscii, IsAscii, encodes-append, IsAscii-cons, IsAscii-nil, INLINE_CAP, size, IsShort, IsResident, place_of, Meaning, IsValueOf, replaced_all, each_with, each_replaced}
 use Rattle.std.proofs.lemmas.Fmt.{IsAscii-decimal}
 use Rattle.std.proofs.lemmas.List.Sums.{AllPass-from_list_all}
 use Rattle.std.proofs.lemmas.Slice.Eq.{bytes_eq-Decides}
@@ -7,7 +8,7 @@ use Rattle.std.specs.Fmt.{decimal}
 use Rattle.std.proofs.lemmas.Str.{chars-append, chars-nil, encode_ascii}
 use Rattle.smol_str.proofs.CaseLemmas.Ascii.{size-mapped}
 use Rattle.smol_str.proofs.CutLemmas.Bytes.{each-moves, replaced_all-each, replaced_all-character}
-use Rattle.smol_str.proofs.TextLemmas.Places.{IsShort-chars, IsShort-front, size-append, size-chars}
+use Rattle.smol_str.proofs.TextLemmas.Places.{IsShort-chars, IsShort-front, size-chars}
 
 -- ---- texts
 

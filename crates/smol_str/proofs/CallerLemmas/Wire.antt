@@ -1,5 +1,7 @@
 -- Wire forms in bytes.
-use Rattle.smol_str.proofs.Common.{◌≡◌, ◌∷◌, ℕ, ◌+◌, ◌<◌, ◌≤◌, ◌^◌, All, List, [], ◌++◌, append_assoc, map, map-id, Option, length, drop, refl, sym, ap, ◌∙◌, subst, inl, inr, IsTrue, arith, flat_map, to_le_bytes, from_le_bytes-to_le_bytes_4, w32, chars, all_scalars, IsUtf8, take-append-le, chars-encodes, length-append, All-head, All-tail, size, HasWire, wire, Holds, HasEndedEarly, body, common_steps, rules, append-nil, length-take, Result, OnErr, Appends, get_or, Meaning, map-append, length-map, scalars-chars}
+use Rattle.smol_str.proofs.Common.{◌≡◌, Option, refl, sym, ◌∙◌, subst, inl, inr, IsTrue, rules, Result, OnErr, ℕ, ◌+◌, ◌<◌, ◌≤◌, ◌^◌, arith, to_le_bytes, from_le_bytes-to_le_bytes_4, w32}
+use Rattle.smol_str.proofs.Common.{◌∷◌, All, List, [], ◌++◌, append_assoc, map, map-id, length, flat_map, take-append-le, length-append, All-head, All-tail, common_steps, append-nil, length-take, get_or, map-append, length-map}
+use Rattle.smol_str.proofs.Common.{chars, all_scalars, IsUtf8, chars-encodes, scalars-chars, Appends, size, HasWire, wire, Holds, HasEndedEarly, body, Meaning}
 use Rattle.smol_str.specs.Wire.{prefix_size}
 use Rattle.smol_str.specs.Stream.{AppendsBeginning}
 use Rattle.smol_str.specs.WireFaults.{AfterEncodeFault}

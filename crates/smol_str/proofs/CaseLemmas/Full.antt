@@ -1,8 +1,10 @@
 -- For `str_ext::ascii_case` and `str_ext::full_case`: the ASCII front of a text and the rest of it, in a case.
-use Rattle.smol_str.proofs.Common.{◌≡◌, ℕ, List, [], ◌++◌, length, take, drop, sym, ap, ◌∙◌, arith, append_assoc, length-append, IsUtf8, IsAscii, IsCharBoundary, IsCharBoundary-from_take, chars, chars-append, take-append-drop, encode_utf8_all, take_at, IsUtf8-from_ascii, chars-IsAscii, encodes-IsAscii, IsAscii-from_all, AsciiCase, Lower, Upper, size, IsShort, padded, front, converted, BuilderState, InBuffer, OnHeap, empty_builder, appended, common_steps, rules, suc, ◌<◌, ◌∷◌, Bool, false, Option, None, flat_map, refl, append-nil, ne_eqb, to_ascii_lowercase, chars-encodes, INLINE_CAP, Occurs, lower, upper, lowercased, uppercased, IsAsciiText, letter, letters, full_case, mapped, length-map, nat_tests, lowercase_is, uppercase_is, map-append, get_or, IsTrue, all_scalars, IsAsciiFront, ◌≤◌}
+use Rattle.smol_str.proofs.Common.{◌≡◌, ℕ, List, [], ◌++◌, length, take, drop, sym, ap, ◌∙◌, arith, append_assoc, length-append, take-append-drop, take_at, padded, common_steps, rules, suc, ◌<◌, ◌∷◌, Bool, false, Option, None, flat_map, refl, append-nil, ne_eqb, lowercased, length-map, nat_tests, map-append, get_or, IsTrue, ◌≤◌}
+use Rattle.smol_str.proofs.Common.{IsUtf8, IsAscii, IsCharBoundary, IsCharBoundary-from_take, chars, chars-append, encode_utf8_all, IsUtf8-from_ascii, chars-IsAscii, encodes-IsAscii, IsAscii-from_all, to_ascii_lowercase, chars-encodes, lowercase_is, uppercase_is, all_scalars}
+use Rattle.smol_str.proofs.Common.{AsciiCase, Lower, Upper, size, IsShort, front, converted, BuilderState, InBuffer, OnHeap, empty_builder, appended, INLINE_CAP, Occurs, lower, upper, uppercased, IsAsciiText, letter, letters, full_case, mapped, IsAsciiFront}
 use Rattle.smol_str.proofs.TextLemmas.Lists.{not_later}
 use Rattle.smol_str.proofs.CaseLemmas.Letters.{lowercase_moves, uppercase_moves}
-use Rattle.smol_str.proofs.CaseLemmas.Ascii.{front-parts, front-length, size-converted, front-append, IsAscii-converted, IsAscii-chars, ascii-converted}
+use Rattle.smol_str.proofs.CaseLemmas.Ascii.{front-parts, front-length, size-converted, IsAscii-converted, IsAscii-chars, ascii-converted}
 use Rattle.smol_str.proofs.BuilderLemmas.Push.{appended-heap, new-appended}
 use Rattle.smol_str.specs.CaseParts.{IsPartOf, IsLowering, word_after}
 use Rattle.std.specs.Char.Unicode.ToLowercase.{to_lowercase}
@@ -85,15 +87,6 @@ pub part-heap : (case : AsciiCase) (old : BuilderState) (first rest t : List ℕ
     → (appended old (mapped case first)).kind ≡ OnHeap → (appended old (mapped case t)).kind ≡ OnHeap
 part-heap case old first rest t whole heap =
     cc (appended-heap old (mapped case first) (mapped case rest) heap, mapped-append case first rest, whole)
-
--- no part yet
-pub part-none : (case : AsciiCase) (old : BuilderState) (t : List ℕ) → old ≡ appended (empty_builder InBuffer) old.text
-    → IsPartOf case old old t t
-part-none case old t new = record {
-  first = [];
-  whole = refl;
-  put = cc (new, appended-twice (empty_builder InBuffer) old.text [], append-nil old.text);
-}
 
 -- the parts so far, in a builder that was new
 module _ (case : AsciiCase) (old now : BuilderState) (t rest : List ℕ) (h : IsPartOf case old now t rest) where

@@ -1,6 +1,7 @@
 -- For the lanes of `kernel`: side by side they give what a map over the bytes gives.
 use Rattle.std.proofs.lemmas.Simd.{zip2_splat_left}
-use Rattle.smol_str.proofs.Common.{zero, ◌≡◌, ◌↔◌, ℕ, ◌+◌, ◌-◌, ◌%◌, ◌^◌, ◌≤◌, ◌<◌, List, [], ◌∷◌, false, cond, leb, ltb, length, map, replicate, refl, arith, w8, bit_and, nat_eq, not, zip2, sel_l, mask_l, top, Each1, to_ascii_lowercase, to_ascii_uppercase, lowercase_is, uppercase_is, mask_l-mod, tops_compared, length-map, common_steps, suc, IsAscii, IsAscii-nil, IsAscii-cons, nat_tests}
+use Rattle.smol_str.proofs.Common.{◌≡◌, ◌↔◌, false, cond, refl, not, zero, ℕ, ◌+◌, ◌-◌, ◌%◌, ◌^◌, ◌≤◌, ◌<◌, leb, ltb, arith, w8, bit_and, nat_eq, zip2, sel_l, mask_l, top, Each1, mask_l-mod, tops_compared, suc, nat_tests, List, [], ◌∷◌, length, map, replicate, length-map, common_steps}
+use Rattle.smol_str.proofs.Common.{to_ascii_lowercase, to_ascii_uppercase, lowercase_is, uppercase_is, IsAscii, IsAscii-nil, IsAscii-cons}
 
 abbrev pub at_most_mask : ℕ → ℕ → ℕ
 at_most_mask a b = cond (leb a b) 255 0

@@ -1,5 +1,6 @@
 -- For `str_ext::replace`: each of one ASCII character replaced by another, byte for byte.
-use Rattle.smol_str.proofs.Common.{nat_tests, ◌≡◌, ℕ, zero, suc, ◌<◌, ◌≤◌, List, [], ◌∷◌, ◌++◌, nat_eq, length, get_or, take, refl, sym, ap, ◌∙◌, arith, append-nil, length-append, if◌then◌else◌, IsUtf8, chars, encode_utf8_all, Decides-eqb, length-map, take_at, encodes-chars, length-le-encodes, INLINE_CAP, IsShort, no_limit, replaced, replaced_all, each_with, each_replaced, not_from_Decides, rules, common_steps}
+use Rattle.smol_str.proofs.Common.{◌≡◌, refl, sym, ap, ◌∙◌, if◌then◌else◌, rules, nat_tests, ℕ, zero, suc, ◌<◌, ◌≤◌, nat_eq, arith, Decides-eqb, not_from_Decides, List, [], ◌∷◌, ◌++◌, length, get_or, take, append-nil, length-append, length-map, take_at, common_steps, IsUtf8, chars, encode_utf8_all, encodes-chars, length-le-encodes}
+use Rattle.smol_str.proofs.Common.{INLINE_CAP, IsShort, no_limit, replaced, replaced_all, each_with, each_replaced}
 use Rattle.smol_str.proofs.CaseLemmas.Ascii.{MovesAscii, IsUtf8-map, chars-map, size-mapped}
 use Rattle.smol_str.proofs.TextLemmas.Places.{OnErr-always, size-chars}
 use Rattle.smol_str.proofs.TextLemmas.Utf8.{form}

@@ -1,5 +1,6 @@
 -- For the laws of cuts and first matches: each text has one cut at a pattern, and `cut` is it.
-use Rattle.smol_str.proofs.Common.{◌≡◌, ◌↔◌, ℕ, ◌+◌, ◌-◌, ◌<◌, ◌≤◌, zero, suc, min, List, [], ◌∷◌, ◌++◌, Bool, true, false, cond, Option, Some, None, ◌⊎◌, inl, inr, ⊎_elim, length, drop, option_map, unwrap_or, MatchOption, refl, sym, ap, ◌∙◌, arith, length-append, append_assoc, append-nil, take-append-drop, nat_eq, concat, starts_with, flat_map, false≢true, false_from_ne_true, Decides-eqb, take_at, take-append-le, append_cancel_left, All, All-nil, All-cons, All-head, All-tail, Occurs, but_last, IsFirstAfter, joined_by, IsCutAt, IsSpelled, IsCutBetween, IsCut, split_at_first, cut_at, spell, cut_between, cut, rules}
+use Rattle.smol_str.proofs.Common.{◌≡◌, ◌↔◌, Bool, true, false, cond, Option, Some, None, ◌⊎◌, inl, inr, ⊎_elim, option_map, unwrap_or, MatchOption, refl, sym, ap, ◌∙◌, rules, ℕ, ◌+◌, ◌-◌, ◌<◌, ◌≤◌, zero, suc, min, arith, nat_eq, false≢true, false_from_ne_true, Decides-eqb}
+use Rattle.smol_str.proofs.Common.{List, [], ◌∷◌, ◌++◌, length, drop, length-append, append_assoc, append-nil, take-append-drop, concat, starts_with, flat_map, take_at, take-append-le, append_cancel_left, All, All-nil, All-cons, All-head, All-tail, Occurs, but_last, IsFirstAfter, joined_by, IsCutAt, IsSpelled, IsCutBetween, IsCut, split_at_first, cut_at, spell, cut_between, cut}
 use Rattle.std.proofs.lemmas.Slice.Eq.{starts_is}
 pub use Rattle.smol_str.proofs.TextLemmas.Lists.{head_same, tail_same}
 use Rattle.smol_str.proofs.TextLemmas.Lists.{not_later, length_but_last}

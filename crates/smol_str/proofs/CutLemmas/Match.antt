@@ -1,5 +1,6 @@
 -- For `kernel::next_match`: the first place of a pattern's bytes is the first match of its characters.
-use Rattle.smol_str.proofs.Common.{◌≡◌, ◌↔◌, get_or, ℕ, ◌+◌, ◌<◌, List, [], ◌++◌, Option, None, Some, length, take, drop, refl, sym, ap, ◌∙◌, subst, arith, length-append, append_assoc, take-append-drop, length-take-le, IsUtf8, chars, encode_utf8_all, encodes-append, encodes-chars, length-le-encodes, take_at, drop_at, length-drop, take-append-le, size, Occurs, StandsAt, IsCharBoundary, but_last, IsNextMatch, same_Some, ⊎_elim, cases_lt, ◌≤◌, ◌-◌, IsFirstAfter, IsCharBoundary-start, IsUtf8-drop, chars-append, common_steps, rules}
+use Rattle.smol_str.proofs.Common.{◌≡◌, ◌↔◌, Option, None, Some, refl, sym, ap, ◌∙◌, subst, same_Some, ⊎_elim, rules, ℕ, ◌+◌, ◌<◌, arith, cases_lt, ◌≤◌, ◌-◌, get_or, List, [], ◌++◌, length, take, drop, length-append, append_assoc, take-append-drop, length-take-le, take_at, drop_at, length-drop, take-append-le, common_steps}
+use Rattle.smol_str.proofs.Common.{IsUtf8, chars, encode_utf8_all, encodes-append, encodes-chars, length-le-encodes, IsCharBoundary, IsCharBoundary-start, IsUtf8-drop, chars-append, size, Occurs, StandsAt, but_last, IsNextMatch, IsFirstAfter}
 use Rattle.smol_str.specs.Needle.{needle_bytes, IsSoundNeedle}
 use Rattle.smol_str.specs.declared.bytes.search.Needle.{Needle}
 use Rattle.smol_str.specs.declared.bytes.search.Needle.TheVariants.{One, Two, Long}

@@ -1,5 +1,7 @@
 -- For `str_ext::replace`: replacing match by match.
-use Rattle.smol_str.proofs.Common.{◌≡◌, ℕ, ◌+◌, ◌-◌, ◌<◌, ◌≤◌, List, [], ◌∷◌, ◌++◌, length, take, drop, None, Some, refl, sym, ap, ◌∙◌, subst, arith, append_assoc, append-nil, length-append, Option, MatchOption, Bool, true, not, Result, IfOk, IsUtf8, IsCharBoundary, chars, encode_utf8_all, len_utf8, slice_get, encode, length-encode, length-le-encodes, chars-nil, size, IsShort, Occurs, IsNextMatch, IsOnlyCut, joined_by, cut, Meaning, IsValueOf, replaced, replaced_all, IsReplacing, BuilderState, InBuffer, OnHeap, empty_builder, appended, nil_from_length, IfOk-weaker, nat_tests, common_steps, rules}
+use Rattle.smol_str.proofs.Common.{◌≡◌, None, Some, refl, sym, ap, ◌∙◌, Option, MatchOption, Bool, true, not, Result, IfOk, IfOk-weaker, rules, ℕ, ◌+◌, ◌-◌, ◌<◌, ◌≤◌, arith, nat_tests, List, [], ◌∷◌, ◌++◌, length, take, drop, append_assoc, append-nil, length-append, slice_get, common_steps}
+use Rattle.smol_str.proofs.Common.{IsUtf8, IsCharBoundary, chars, encode_utf8_all, len_utf8, encode, length-encode, length-le-encodes}
+use Rattle.smol_str.proofs.Common.{size, IsShort, IsNextMatch, IsOnlyCut, joined_by, cut, Meaning, IsValueOf, replaced, replaced_all, IsReplacing, BuilderState, InBuffer, OnHeap, empty_builder, appended}
 use Rattle.smol_str.proofs.TextLemmas.Places.{size-append, size-chars, IsShort-front, OnErr-always, chars-empty}
 use Rattle.std.specs.Option.{is_some}
 use Rattle.std.proofs.lemmas.Bool.{true≢false}

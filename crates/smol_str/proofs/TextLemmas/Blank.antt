@@ -1,5 +1,7 @@
 -- For `blank_slice` and the places: the constant's slices, and the test for a run.
-use Rattle.smol_str.proofs.Common.{◌≡◌, ℕ, zero, suc, ◌+◌, ◌-◌, ◌≤◌, List, [], ◌∷◌, length, take, drop, replicate, refl, true, ◌==◌, arith, length-append, ◌++◌, take_at, take-append-drop, length-drop, get_or-take, All-replicate, All-from_get_or, list_all, IsAscii, IsAscii-append, IsCharBoundary, IsCharBoundary-from_ascii, nat_tests, drop_at, blank_run, leading_newlines, all_spaces, IsBlankRun, and_parts, common_steps, ◌⊎◌, rules}
+use Rattle.smol_str.proofs.Common.{◌≡◌, refl, true, ◌⊎◌, rules, ℕ, zero, suc, ◌+◌, ◌-◌, ◌≤◌, ◌==◌, arith, nat_tests, and_parts, List, [], ◌∷◌, length, take, drop, replicate, length-append, ◌++◌, take_at, take-append-drop, length-drop, get_or-take, All-replicate, All-from_get_or, list_all, drop_at, common_steps}
+use Rattle.smol_str.proofs.Common.{IsAscii, IsAscii-append, IsCharBoundary, IsCharBoundary-from_ascii}
+use Rattle.smol_str.proofs.Common.{blank_run, leading_newlines, all_spaces, IsBlankRun}
 use Rattle.std.proofs.Math.ListN.{length-replicate}
 use Rattle.std.proofs.lemmas.List.{replicate-append-replicate}
 use Rattle.std.proofs.lemmas.List.Folds.{length-prefix_len}

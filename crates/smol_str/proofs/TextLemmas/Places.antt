@@ -1,5 +1,7 @@
 -- For makers, conversions and comparisons: texts, their bytes and their places.
-use Rattle.smol_str.proofs.Common.{nil_from_length, ◌≡◌, ◌↔◌, ℕ, ◌+◌, ◌<◌, ◌≤◌, List, [], ◌∷◌, ◌++◌, length, encode_utf8, encode_utf8_all, length-append, length-le-encodes, true, false, nat_le, nat_eq, Result, OnOk, OnErr, is_ok, sym, ap, arith, chars, IsUtf8, pointwise, bytes_decides, encodes-chars, chars-IsAscii, encodes-IsAscii, encodes_same, encodes-append, chars_from_encodes, length-encode, len_utf8_bounds, IsUtf8-string_bytes, append-nil, nat_tests, Decides-and, Decides-like, same_from_decides, String, Global, string_bytes, INLINE_CAP, size, is_short, IsShort, IsBlankRun, IsResident, ◌⊎◌, common_steps, rules, cases_lt, chars-nil, err_from_is_err_and, ⊎_elim, ◌∙◌}
+use Rattle.smol_str.proofs.Common.{◌≡◌, ◌↔◌, true, false, Result, OnOk, OnErr, is_ok, sym, ap, Global, ◌⊎◌, rules, err_from_is_err_and, ⊎_elim, ◌∙◌, ℕ, ◌+◌, ◌<◌, ◌≤◌, nat_le, nat_eq, arith, nat_tests, Decides-and, Decides-like, same_from_decides, cases_lt}
+use Rattle.smol_str.proofs.Common.{nil_from_length, List, [], ◌∷◌, ◌++◌, length, length-append, pointwise, bytes_decides, append-nil, common_steps}
+use Rattle.smol_str.proofs.Common.{encode_utf8, encode_utf8_all, length-le-encodes, chars, IsUtf8, encodes-chars, chars-IsAscii, encodes-IsAscii, encodes_same, encodes-append, chars_from_encodes, length-encode, len_utf8_bounds, IsUtf8-string_bytes, String, string_bytes, chars-nil, INLINE_CAP, size, is_short, IsShort, IsBlankRun, IsResident}
 use Rattle.std.specs.Result.{IsErrAnd, IfErr}
 use Rattle.std.specs.Bool.{Decides}
 use Rattle.smol_str.specs.Shared.{SharedText, shared_bytes}

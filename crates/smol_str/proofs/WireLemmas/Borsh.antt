@@ -1,5 +1,7 @@
 -- A wire form in two parts, its size and its text, for the calls that write and read one part after the other.
-use Rattle.smol_str.proofs.Common.{cases_lt, ◌≡◌, ℕ, ◌+◌, ◌<◌, ◌≤◌, ◌^◌, List, ◌++◌, Option, IfSome, length, take, sym, ap, ◌∙◌, subst, arith, append_assoc, append-nil, to_le_bytes, from_le_bytes, w32, encode_utf8_all, from_le_bytes-to_le_bytes_4, encodes-chars, take_at, drop_at, length-drop, drop, [], refl, length-append, Appends, Consumes, Appends-trans, Consumes-trans, INLINE_CAP, size, place_of, Meaning, HasWire, HasEndedEarly, body, common_steps, rules, padded}
+use Rattle.smol_str.proofs.Common.{◌≡◌, Option, IfSome, sym, ap, ◌∙◌, subst, refl, rules, cases_lt, ℕ, ◌+◌, ◌<◌, ◌≤◌, ◌^◌, arith, to_le_bytes, from_le_bytes, w32, from_le_bytes-to_le_bytes_4, List, ◌++◌, length, take, append_assoc, append-nil, take_at, drop_at, length-drop, drop, [], length-append, common_steps, encode_utf8_all, encodes-chars}
+use Rattle.smol_str.proofs.Common.{Appends, Consumes, Appends-trans, Consumes-trans}
+use Rattle.smol_str.proofs.Common.{INLINE_CAP, size, place_of, Meaning, HasWire, HasEndedEarly, body, padded}
 use Rattle.smol_str.specs.declared.borsh.fault.DecodeFault.{DecodeFault}
 use Rattle.smol_str.specs.declared.borsh.fault.DecodeFault.TheVariants.{Ended, NotUtf8, OutOfMemory, Io}
 use Rattle.smol_str.specs.declared.borsh.fault.LimitedFault.TheVariants.{TooLong, Decode}

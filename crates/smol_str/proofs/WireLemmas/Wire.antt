@@ -1,5 +1,6 @@
 -- For the laws of the wire form: none begins another, and bytes hold the form that they say.
-use Rattle.smol_str.proofs.Common.{◌≡◌, ℕ, zero, suc, ◌+◌, ◌<◌, ◌≤◌, ◌^◌, inl, inr, lit<, List, [], ◌∷◌, ◌++◌, get_or, IsTrue, length, take, drop, refl, sym, ap, ◌∙◌, arith, length-append, append_assoc, take-append-drop, to_le_bytes, from_le_bytes, w32, All, encode_utf8_all, all_scalars, from_le_bytes-to_le_bytes_4, le_bytes_4, encodes_same, take_at, drop_at, append_cancel_left, length-take-le, length-drop, All-head, All-tail, take-add, size, HasWire, Holds, HasEndedEarly, body, All-take, rules}
+use Rattle.smol_str.proofs.Common.{◌≡◌, inl, inr, IsTrue, refl, sym, ap, ◌∙◌, rules, ℕ, zero, suc, ◌+◌, ◌<◌, ◌≤◌, ◌^◌, lit<, arith, to_le_bytes, from_le_bytes, w32, from_le_bytes-to_le_bytes_4, le_bytes_4}
+use Rattle.smol_str.proofs.Common.{List, [], ◌∷◌, ◌++◌, get_or, length, take, drop, length-append, append_assoc, take-append-drop, All, take_at, drop_at, append_cancel_left, length-take-le, length-drop, All-head, All-tail, take-add, All-take, encode_utf8_all, all_scalars, encodes_same, size, HasWire, Holds, HasEndedEarly, body}
 use Rattle.smol_str.specs.Wire.{wire, prefix_size}
 
 pub length-wire : (t : List ℕ) → length (wire t) ≡ size t + 4
