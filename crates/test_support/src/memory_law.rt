@@ -35,7 +35,6 @@ pub enum Asks {
 
 /// A call, its name as the library's documentation has it, and what it may ask for: so many requests, and in all for so many
 /// times the longer of its text and its result, and so many bytes more.
-#[derive(Clone, Copy)]
 pub struct Law<C> {
     pub call: C,
     pub name: &'static str,
@@ -84,7 +83,7 @@ pub trait Call: Copy {
 pub fn check_law<C: Call>(rt: HostRuntime, table: &[Law<C>]) -> Result<(), Fail> {
     let test = Test::begin(rt);
     let texts = samples(&test);
-    for &law in table {
+    for law in table {
         let was_refused = check_texts(&test, law, &texts);
         let is_asking = !matches!(law.requests, Requests::Most(0)) && can_refuse(test.alloc);
         holds(&test, was_refused == is_asking, &(law.name, "is refused"));
@@ -93,7 +92,7 @@ pub fn check_law<C: Call>(rt: HostRuntime, table: &[Law<C>]) -> Result<(), Fail>
 }
 
 /// Whether a request of the call was refused.
-fn check_texts<C: Call>(test: &Test, law: Law<C>, texts: &Vec<&'static str>) -> bool {
+fn check_texts<C: Call>(test: &Test, law: &Law<C>, texts: &Vec<&'static str>) -> bool {
     let mut was_refused = false;
     for &text in texts {
         if law.call.takes(text) {
@@ -104,7 +103,7 @@ fn check_texts<C: Call>(test: &Test, law: Law<C>, texts: &Vec<&'static str>) -> 
 }
 
 /// The same on one text.
-fn check_ways<C: Call>(test: &Test, law: Law<C>, text: &'static str) -> bool {
+fn check_ways<C: Call>(test: &Test, law: &Law<C>, text: &'static str) -> bool {
     let mut was_refused = false;
     for way in 0..law.call.ways() {
         let wanted = law.call.wanted(test, text, way);
@@ -121,8 +120,8 @@ fn check_ways<C: Call>(test: &Test, law: Law<C>, text: &'static str) -> bool {
 
 /// A call on a text, in a way, and the text that it makes.
 #[derive(Drop)]
-struct On<C> {
-    law: Law<C>,
+struct On<'a, C> {
+    law: &'a Law<C>,
     text: &'static str,
     way: usize,
     wanted: String,
@@ -130,7 +129,7 @@ struct On<C> {
 
 /// The call with ample memory; with no block made smaller, which is no reason to give up; and with each of its requests
 /// refused in turn, that one alone and that one with all after it. Returns whether one was refused.
-fn check_requests<C: Call>(test: &Test, on: &On<C>) -> bool {
+fn check_requests<C: Call>(test: &Test, on: &On<'_, C>) -> bool {
     run(test, on, Refusals::One(0));
     if is_at_most(test.alloc, Count::Requests, 0) || !can_refuse(test.alloc) {
         return false;
@@ -147,7 +146,7 @@ fn check_requests<C: Call>(test: &Test, on: &On<C>) -> bool {
 }
 
 /// One run with these requests refused. Returns whether one was.
-fn run<C: Call>(test: &Test, on: &On<C>, refusals: Refusals) -> bool {
+fn run<C: Call>(test: &Test, on: &On<'_, C>, refusals: Refusals) -> bool {
     let alloc = test.alloc;
     start_counts(alloc);
     let input = on.law.call.input(test, on.text, on.way);
@@ -168,7 +167,7 @@ fn run<C: Call>(test: &Test, on: &On<C>, refusals: Refusals) -> bool {
 /// What a run made or left. `before` is how much memory was held before it.
 fn check_returned<C: Call>(
     test: &Test,
-    on: &On<C>,
+    on: &On<'_, C>,
     returned: &Result<Thing, Thing>,
     (refusals, before, was_refused): (Refusals, u32, bool),
 ) {
@@ -187,7 +186,7 @@ fn check_returned<C: Call>(
 }
 
 /// A refused call leaves what it may, with no less room.
-fn check_left<C: Call>(test: &Test, on: &On<C>, left: &Thing, before: u32) {
+fn check_left<C: Call>(test: &Test, on: &On<'_, C>, left: &Thing, before: u32) {
     let is_left = left.may_be_left_by(on.text, on.wanted.as_bytes());
     check(test, on, is_left, "leaves something else");
     let has_room = left.is_none() || counted(test.alloc, Count::Held) >= before;
@@ -195,7 +194,7 @@ fn check_left<C: Call>(test: &Test, on: &On<C>, left: &Thing, before: u32) {
 }
 
 /// The call made what is wanted, and asked for no more than its row says.
-fn check_made<C: Call>(test: &Test, on: &On<C>, thing: &Thing, was_refused: bool) {
+fn check_made<C: Call>(test: &Test, on: &On<'_, C>, thing: &Thing, was_refused: bool) {
     let is_wanted = thing.reads(on.wanted.as_bytes());
     check(test, on, is_wanted, "makes something else");
     check(test, on, !was_refused, "hides a refusal");
@@ -208,25 +207,25 @@ fn check_made<C: Call>(test: &Test, on: &On<C>, thing: &Thing, was_refused: bool
 }
 
 /// A value keeps its text and no more.
-fn check_held<C: Call>(test: &Test, on: &On<C>, thing: &Thing) {
+fn check_held<C: Call>(test: &Test, on: &On<'_, C>, thing: &Thing) {
     match thing.most_held() {
         Some(held) if can_refuse(test.alloc) => check_count(test, on, Count::Held, held),
         _ => {}
     }
 }
 
-fn check_count<C: Call>(test: &Test, on: &On<C>, count: Count, most: usize) {
+fn check_count<C: Call>(test: &Test, on: &On<'_, C>, count: Count, most: usize) {
     if !is_at_most(test.alloc, count, u32::try_from(most).unwrap_or(u32::MAX)) {
         let found = counted(test.alloc, count);
         test.fail(&(on.told(), count, found, most));
     }
 }
 
-fn check<C: Call>(test: &Test, on: &On<C>, is_so: bool, what: &str) {
+fn check<C: Call>(test: &Test, on: &On<'_, C>, is_so: bool, what: &str) {
     holds(test, is_so, &(on.told(), what));
 }
 
-impl<C: Call> On<C> {
+impl<C: Call> On<'_, C> {
     /// What a message says of it: also the first bytes of the text.
     fn told(&self) -> (&'static str, usize, usize, &'static str) {
         let start = self.text.get(..8).unwrap_or("");
