@@ -10,7 +10,7 @@ ghost use Rattle.smol_str.specs.Text.{IsShort, place_of};
 
 use crate::headline::line_of;
 use smol_str::kernel::{AsciiCase, convert_while_ascii, next_match};
-use smol_str::{INLINE_CAP, SmolStr, SmolStrBuilder, StrExt};
+use smol_str::{INLINE_CAP, Place, SmolStr, SmolStrBuilder, StrExt};
 use std::alloc::{AllocError, Global};
 
 /// The fields of a line, which commas separate.
@@ -390,6 +390,16 @@ pub fn pairs_of(
         values.push(pair_of(alloc, pair)?)?;
     }
     Ok(values)
+}
+
+/// Where a name lies that is kept with its value: it follows from its text.
+pub fn name_place(alloc: Global, name: &str, value: &str) -> Option<Place>
+    ensures { IfSome result (λ place. place ≡ place_of (chars name.now)) }
+{
+    match pairs_of(alloc, &[(name, value)]).ok()?.as_slice() {
+        [pair] => Some(pair.0.place()),
+        _ => None,
+    }
 }
 
 fn pair_of(alloc: Global, pair: &(&str, &str)) -> Result<(SmolStr, SmolStr), AllocError>
