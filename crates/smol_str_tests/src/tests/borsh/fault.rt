@@ -114,8 +114,8 @@ fn same_fault(test: &Test, found: Option<DecodeFault>, reason: Reason, row: (usi
 }
 
 /// A body, and how many of its bytes are UTF-8.
-static INVALID: [(&[u8], usize); 5] = table! {
-    (b"ab\xff", 2); (b"\xe9ab", 0); (b"abc\xf0\x9f", 3); (&[b'a'; 41], 40); (&[b'a'; 301], 300);
+static INVALID: [(&[u8], usize); 6] = table! {
+    (b"ab\xff", 2); (b"\xe9ab", 0); (b"abc\xf0\x9f", 3); (&[b'a'; 41], 40); (&[b'a'; 301], 300); (&[b'a'; 9001], 9000);
 };
 
 // The fault has std's error, which says where the bytes are not UTF-8.
