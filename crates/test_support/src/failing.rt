@@ -16,8 +16,8 @@ pub fn steps_about(chunk: usize) -> [usize; 7] {
     [1, 2, 7, below, chunk, above, usize::MAX]
 }
 
-/// What a stream does where it fails, another thing at each place: it takes no byte, or returns an error of its own, of a
-/// kind or of one of the system's codes, as 4 is EINTR. Upstream's calls go on after that, ours do not.
+/// What a stream does where it fails, another thing at each place: it takes no byte, or returns an error with words of its own,
+/// with a kind alone, or with a code of the system. Code 4 is EINTR: upstream's calls go on after it, ours do not.
 fn failure_at(place: usize) -> Option<io::Error> {
     match place % 11 {
         0 => None,

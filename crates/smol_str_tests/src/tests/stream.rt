@@ -211,7 +211,6 @@ fn fails_at_each_write_call(rt: HostRuntime) -> Result<(), Fail> {
         fails_at_each_write(&test, CHUNK, &Writes::Serialize(value), form);
         fails_at_each_write(&test, CHUNK, &Writes::WriteFully(form), form);
     }
-    fails_at_each_write(&test, CHUNK, &Writes::WriteFully(b""), b"");
     test.end()
 }
 
