@@ -1,5 +1,5 @@
 //! The builder of a text.
-ghost use Rattle.std.specs.Prelude.{◌≡◌, ◌↔◌, ◌<◌, ◌≤◌, [], ◌∷◌, length, IsSome, IfSome, IfOk, OnOk, OnErr, IsTrue, encode_utf8_all};
+ghost use Rattle.std.specs.Prelude.{◌≡◌, ◌↔◌, ◌<◌, ◌≤◌, [], ◌∷◌, length, IsSome, IfSome, IfOk, OnOk, OnErr, IsTrue, false, encode_utf8_all};
 ghost use Rattle.std.specs.Str.{chars, all_scalars};
 ghost use Rattle.std.specs.String.{string_bytes};
 ghost use Rattle.smol_str.specs.Text.{size, IsShort, blank_run};
@@ -223,6 +223,22 @@ impl SmolStrBuilder {
             return Ok(());
         }
         self.push_on_heap(text, spare)
+    }
+
+    /// Appends a text with which the builder stays in its buffer; `false` where it would not.
+    #[inline(always)]
+    pub(crate) fn push_in_buffer(&mut self, text: &str) -> bool
+        ensures done { IsTrue result → self.new ≡ appended self.old (chars text.now) }
+        ensures unchanged { result ≡ false → self.new ≡ self.old }
+        ensures outgrown { result ≡ false → (appended self.old (chars text.now)).kind ≡ OnHeap }
+    {
+        if let BuilderRepr::Inline(short) = &mut self.repr {
+            if text.len() <= INLINE_CAP - short.len() {
+                short.push_str(text);
+                return true;
+            }
+        }
+        false
     }
 
     /// Appends `newlines` newlines and then `spaces` spaces.

@@ -10,8 +10,7 @@ ghost use Rattle.smol_str.specs.Cut.{Occurs, StandsAt, IsFirstAfter, IsNextMatch
 use crate::buffer::{INLINE_CAP, InlineBuffer, InlineText};
 pub use crate::bytes::ascii::AsciiCase;
 use crate::bytes::ascii::front_len;
-use crate::bytes::bytes_from;
-use crate::bytes::search::find;
+use crate::bytes::search::{bytes_from, find};
 
 /// The ASCII front of a short text in a case: its bytes and then zeros, and how many bytes it has.
 ///

@@ -1,8 +1,8 @@
 //! The immutable text.
-ghost use Rattle.std.specs.Prelude.{◌≡◌, ◌≤◌, ◌↔◌, ◌⊎◌, [], length, IfOk, OnErr, IsSome, IfSome, IsTrue, encode_utf8_all};
+ghost use Rattle.std.specs.Prelude.{◌≡◌, ◌≤◌, ◌↔◌, ◌⊎◌, [], length, IfOk, OnErr, IsSome, IfSome, IsTrue, MatchOption, encode_utf8_all};
 ghost use Rattle.std.specs.Str.{chars, all_scalars};
 ghost use Rattle.smol_str.specs.Shared.{shared_bytes};
-ghost use Rattle.smol_str.specs.Text.{size, IsShort, IsResident, blank_run, place_of};
+ghost use Rattle.smol_str.specs.Text.{size, IsShort, IsResident, place_of};
 ghost use Rattle.smol_str.specs.Buffer.{padded};
 ghost use Rattle.smol_str.specs.Case.{IsAsciiText, converted};
 ghost use Rattle.smol_str.specs.Meaning.{IsValueOf};
@@ -17,7 +17,7 @@ mod print;
 use crate::buffer::{INLINE_CAP, InlineBuffer, InlineText};
 use crate::bytes::ascii::AsciiCase;
 use crate::shared::SharedText;
-use blank::{BLANK_NEWLINES, BLANK_SPACES, blank_text};
+use blank::blank_slice;
 use place::Place;
 use std::alloc::{AllocError, Global};
 use std::marker::Model;
@@ -110,27 +110,6 @@ impl SmolStr {
         ensures { IsValueOf (converted case (chars text.now)) result }
     {
         SmolStr::from_inline(InlineText::from_short(text).in_case(case))
-    }
-
-    /// A value of `newlines` newlines and then `spaces` spaces, which needs no memory.
-    ///
-    /// ```
-    /// let indent = SmolStr::blank(1, 8);
-    /// assert_eq!(rt; indent.as_str(), "\n        ");
-    /// ```
-    #[inline(always)]
-    pub fn blank(newlines: usize, spaces: usize) -> SmolStr
-        requires few_newlines { newlines ≤ BLANK_NEWLINES }
-        requires few_spaces { spaces ≤ BLANK_SPACES }
-        ensures { IsValueOf (blank_run newlines spaces) result }
-    {
-        let run = blank_text(newlines, spaces);
-        if run.len() <= INLINE_CAP {
-            return SmolStr::new_inline(run);
-        }
-        SmolStr {
-            repr: Repr::Static(run),
-        }
     }
 
     /// A value that refers to `text` itself, without a copy: in place Static whatever its length.
@@ -248,12 +227,43 @@ impl SmolStr {
             Repr::Static(_) | Repr::Heap(_) => None,
         }
     }
-}
 
-/// For `?` in a function that returns [`AllocError`]; the value that a refused conversion gives back is dropped.
-impl From<SmolStr> for AllocError {
-    fn from(_value: SmolStr) -> AllocError {
-        AllocError
+    /// The value of a resident text, which takes no memory.
+    #[inline(always)]
+    pub(crate) fn resident(text: &str) -> Option<SmolStr>
+        ensures { MatchOption result (¬ (IsResident (chars text.now))) (λ v. IsValueOf (chars text.now) v) }
+    {
+        if text.len() <= INLINE_CAP {
+            return Some(SmolStr {
+                repr: Repr::Inline(InlineText::from_short(text)),
+            });
+        }
+        let run = blank_slice(text)?;
+        Some(SmolStr {
+            repr: Repr::Static(run),
+        })
+    }
+
+    /// The value that keeps a short text in its buffer.
+    #[inline(always)]
+    pub(crate) fn from_inline(text: InlineText) -> SmolStr
+        requires { IsShort text }
+        ensures { IsValueOf text result }
+    {
+        SmolStr {
+            repr: Repr::Inline(text),
+        }
+    }
+
+    /// The value that keeps a text on the heap.
+    #[inline(always)]
+    pub(crate) fn from_heap(text: SharedText) -> SmolStr
+        requires { ¬ (IsResident (chars (shared_bytes text))) }
+        ensures { IsValueOf (chars (shared_bytes text)) result }
+    {
+        SmolStr {
+            repr: Repr::Heap(text),
+        }
     }
 }
 

@@ -1,5 +1,5 @@
-//! Appending to the buffer, and to the heap.
-ghost use Rattle.std.specs.Prelude.{◌≡◌, ◌<◌, [], ◌∷◌, IfOk, OnOk, OnErr, IsTrue, false};
+//! Appending on the heap: for loops that look for it first, and where a text leaves its buffer.
+ghost use Rattle.std.specs.Prelude.{◌≡◌, ◌<◌, [], ◌∷◌, IfOk, OnOk, OnErr};
 ghost use Rattle.std.specs.Str.{chars};
 ghost use Rattle.std.specs.String.{string_bytes};
 ghost use Rattle.smol_str.specs.BuilderState.{OnHeap, appended};
@@ -52,22 +52,6 @@ impl SmolStrBuilder {
             return heap.push_str(text);
         }
         self.push_with_spare(text, spare)
-    }
-
-    /// Appends a text with which the builder stays in its buffer; `false` where it would not.
-    #[inline(always)]
-    pub(crate) fn push_in_buffer(&mut self, text: &str) -> bool
-        ensures done { IsTrue result → self.new ≡ appended self.old (chars text.now) }
-        ensures unchanged { result ≡ false → self.new ≡ self.old }
-        ensures outgrown { result ≡ false → (appended self.old (chars text.now)).kind ≡ OnHeap }
-    {
-        if let BuilderRepr::Inline(short) = &mut self.repr {
-            if text.len() <= INLINE_CAP - short.len() {
-                short.push_str(text);
-                return true;
-            }
-        }
-        false
     }
 
     /// Slow path of [`SmolStrBuilder::push`]; only here is the byte spilled to memory.

@@ -1,6 +1,6 @@
 //! Searches for bytes. The needle's first byte is looked for first, since preparing a search for the
 //! whole needle has a cost of its own.
-ghost use Rattle.std.specs.Prelude.{◌≡◌, ◌↔◌, ◌<◌, ◌≤◌, ◌+◌, ℕ, None, length};
+ghost use Rattle.std.specs.Prelude.{◌≡◌, ◌↔◌, ◌<◌, ◌≤◌, ◌+◌, ℕ, None, length, drop};
 ghost use Rattle.std.specs.Int.{bit_at};
 ghost use Rattle.smol_str.specs.Needle.{needle_bytes, IsSoundNeedle};
 ghost use Rattle.memchr.specs.Find.{FindsNeedle, OccursAt, IsFirst, IsFirstByte, Passes, is_byte};
@@ -15,6 +15,15 @@ const NEAR: usize = 64;
 
 /// How many of them are tested at once.
 pub(crate) const LANES: usize = 32;
+
+/// `text[from..]` as bytes, stated with `drop`.
+#[inline(always)]
+pub(crate) fn bytes_from(text: &str, from: usize) -> &[u8]
+    requires { from ≤ length text.now }
+    ensures { result.now ≡ drop from text.now }
+{
+    &text.as_bytes()[from..]
+}
 
 /// The index of the first match of the needle.
 pub(crate) fn find(bytes: &[u8], needle: &[u8]) -> Option<usize>

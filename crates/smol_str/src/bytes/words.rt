@@ -17,55 +17,12 @@ pub(crate) fn load<const N: usize>(bytes: &[u8], at: usize) -> Simd<u8, N>
     Simd::from_slice(&bytes[at..])
 }
 
-/// Eight bytes from `at` on, with zeros past the end.
-#[inline(always)]
-pub(crate) fn word_at(bytes: &[u8], at: usize) -> u64
-    requires { 8 ≤ length bytes.now }
-    ensures { result ≡ word 8 bytes.now at }
-{
-    let len = bytes.len();
-    // First, so that a whole word takes one test.
-    if at <= len - 8 {
-        return read_u64(bytes, at);
-    }
-    if at >= len {
-        return 0;
-    }
-    read_u64(bytes, len - 8) >> (8 * (8 - (len - at)))
-}
-
-/// All of the bytes, which are fewer than eight.
-#[inline(always)]
-pub(crate) fn front_word(bytes: &[u8]) -> u64
-    requires { length bytes.now < 8 }
-    ensures { result ≡ word 8 bytes.now 0 }
-{
-    let len = bytes.len();
-    if len >= 4 {
-        return read_u32(bytes, 0) + ((read_u32(bytes, len - 4) >> (8 * (8 - len))) << 32);
-    }
-    match len {
-        0 => 0,
-        1 => bytes[0] as u64,
-        2 => bytes[0] as u64 + bytes[1] as u64 * 0x100,
-        _ => bytes[0] as u64 + bytes[1] as u64 * 0x100 + bytes[2] as u64 * 0x1_0000,
-    }
-}
-
 #[inline(always)]
 pub(crate) fn read_u64(bytes: &[u8], at: usize) -> u64
     requires { at + 8 ≤ length bytes.now }
     ensures { result ≡ word 8 bytes.now at }
 {
     u64::from_le_bytes(*bytes[at..].first_chunk::<8>().unwrap())
-}
-
-#[inline(always)]
-fn read_u32(bytes: &[u8], at: usize) -> u64
-    requires { at + 4 ≤ length bytes.now }
-    ensures { result ≡ word 4 bytes.now at }
-{
-    u32::from_le_bytes(*bytes[at..].first_chunk::<4>().unwrap()) as u64
 }
 
 /// Whether the texts are equal. From 8 to 128 bytes they are compared by blocks that may overlap, which takes fewer

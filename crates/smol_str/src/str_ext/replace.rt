@@ -11,8 +11,7 @@ ghost use Rattle.smol_str.specs.Replacing.{IsReplacing};
 
 use crate::buffer::INLINE_CAP;
 use crate::builder::SmolStrBuilder;
-use crate::bytes::bytes_from;
-use crate::bytes::search::{LANES, Needle, count_byte, first_byte};
+use crate::bytes::search::{LANES, Needle, bytes_from, count_byte, first_byte};
 use crate::value::SmolStr;
 use std::alloc::{AllocError, Global};
 

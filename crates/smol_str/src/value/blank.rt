@@ -4,6 +4,10 @@
 ghost use Rattle.std.specs.Prelude.{◌≡◌, ◌≤◌, length, IfSome, MatchOption};
 ghost use Rattle.std.specs.Str.{chars};
 ghost use Rattle.smol_str.specs.Text.{IsBlankRun, blank_run, leading_newlines};
+ghost use Rattle.smol_str.specs.Meaning.{IsValueOf};
+
+use super::{Repr, SmolStr};
+use crate::buffer::INLINE_CAP;
 
 /// The most newlines of a blank run that needs no memory.
 pub const BLANK_NEWLINES: usize = 64;
@@ -13,6 +17,29 @@ pub const BLANK_SPACES: usize = 256;
 
 const BLANK: &str =
     "\n\n\n\n\n\n\n\n\n\n\n\n\n\n\n\n\n\n\n\n\n\n\n\n\n\n\n\n\n\n\n\n\n\n\n\n\n\n\n\n\n\n\n\n\n\n\n\n\n\n\n\n\n\n\n\n\n\n\n\n\n\n\n\n                                                                                                                                                                                                                                                                ";
+
+impl SmolStr {
+    /// A value of `newlines` newlines and then `spaces` spaces, which needs no memory.
+    ///
+    /// ```
+    /// let indent = SmolStr::blank(1, 8);
+    /// assert_eq!(rt; indent.as_str(), "\n        ");
+    /// ```
+    #[inline(always)]
+    pub fn blank(newlines: usize, spaces: usize) -> SmolStr
+        requires few_newlines { newlines ≤ BLANK_NEWLINES }
+        requires few_spaces { spaces ≤ BLANK_SPACES }
+        ensures { IsValueOf (blank_run newlines spaces) result }
+    {
+        let run = blank_text(newlines, spaces);
+        if run.len() <= INLINE_CAP {
+            return SmolStr::new_inline(run);
+        }
+        SmolStr {
+            repr: Repr::Static(run),
+        }
+    }
+}
 
 /// The slice of the blank constant that equals the text; `None` exactly where the text is not a
 /// blank run.

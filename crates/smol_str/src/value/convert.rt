@@ -234,6 +234,13 @@ impl From<SharedText> for SmolStr {
     }
 }
 
+/// For `?` in a function that returns [`AllocError`]; the value that a refused conversion gives back is dropped.
+impl From<SmolStr> for AllocError {
+    fn from(_value: SmolStr) -> AllocError {
+        AllocError
+    }
+}
+
 /// The empty text, inline.
 impl Default for SmolStr {
     ghost is_default = { λ value. IsValueOf [] value };

@@ -1,7 +1,7 @@
 use Rattle.smol_str.proofs.Common.{◌≡◌, ◌*◌, ◌+◌, ◌%◌, ◌^◌, ◌<◌, arith, ℕ, sym, rules}
 use Rattle.smol_str.specs.Words.{word}
 use Rattle.smol_str.proofs.BufferLemmas.Words.{word-halves, word-below, word-none, word-few}
-use Rattle.smol_str.proofs.bytes.words.front_word.Goals as goal
+use Rattle.smol_str.proofs.buffer.packing.front_word.Goals as goal
 
 -- the two halves
 halves : (low high whole : ℕ) → whole ≡ low + 4294967296 * high → whole < 2 ^ 64 →
