@@ -180,12 +180,14 @@ module _ (text : List ℕ) (n : ℕ) (u : IsUtf8 text) (f : IsAsciiFront text n)
 
   pub lower-rest : b ≡ appended (empty_builder InBuffer) (mapped Lower (take n text)) → IsLowering (chars text) b n
   lower-rest is = record {
-    done = take n text;
     rest = chars (drop n text);
-    parts = sym (ascii-whole Lower text n u f);
+    front = record {
+      done = take n text;
+      parts = sym (ascii-whole Lower text n u f);
+      grown = new-appended (empty_builder InBuffer) b (mapped Lower (take n text)) refl is;
+      text =
+          let front = lowercase_front false (take n text) (chars (drop n text)) f.low in
+          cc (is, mapped-ascii Lower (take n text) f.low, front, ascii-whole Lower text n u f);
+    };
     at = begun-size Lower text n u f;
-    grown = new-appended (empty_builder InBuffer) b (mapped Lower (take n text)) refl is;
-    text =
-        let front = lowercase_front false (take n text) (chars (drop n text)) f.low in
-        cc (is, mapped-ascii Lower (take n text) f.low, front, ascii-whole Lower text n u f);
   }

@@ -7,7 +7,7 @@ use Rattle.std.specs.Char.Unicode.Cased.{is_cased, cased_ranges}
 use Rattle.std.specs.Char.Unicode.CaseIgnorable.{is_case_ignorable, case_ignorable_ranges}
 use Rattle.std.specs.StrCase.Lower.{lowercase_chars, lowercase_before, is_in_word_after}
 use Rattle.std.proofs.lemmas.Str.{IsUtf8-take}
-use Rattle.smol_str.specs.CaseParts.{word_after, IsLowering}
+use Rattle.smol_str.specs.CaseParts.{word_after, IsLowered, IsLowering}
 use Rattle.smol_str.proofs.CaseLemmas.Full.{HasSigma, lowercase-alone}
 use Rattle.smol_str.proofs.BuilderLemmas.State.{appended-twice}
 use Rattle.smol_str.proofs.TextLemmas.Lists.{not_later}
@@ -63,34 +63,93 @@ size-sigma : size (0x3A3 ∷ []) ≡ 2
 unfolding lib.Utf8.encode
 size-sigma = refl
 
+-- where a capital sigma lies, by what follows it
+module _ (text after : List ℕ) (u : IsUtf8 text) (v : IsUtf8 after) (done : List ℕ) (parts : chars text ≡ done ++ 0x3A3 ∷ chars after) where
+  sigma-size : length text ≡ size done + (2 + length after)
+  sigma-size =
+      omega (
+        arith,
+        size-chars text u,
+        size-chars after v,
+        ap size parts,
+        size-append done (0x3A3 ∷ chars after),
+        size-append (0x3A3 ∷ []) (chars after),
+        size-sigma,
+      )
+
+  pub sigma-behind : length after ≤ length text
+  sigma-behind = omega (arith, sigma-size)
+
+  pub sigma-room : 2 ≤ length text - length after
+  sigma-room = omega (arith, sigma-size)
+
+  sigma-index : size done ≡ length text - length after - 2
+  sigma-index = omega (arith, sigma-size)
+
+  pub sigma-boundary : IsCharBoundary text (length text - length after - 2)
+  sigma-boundary = boundary-parts text done (0x3A3 ∷ chars after) (length text - length after - 2) u parts sigma-index
+
+  pub sigma-before : chars (take (length text - length after - 2) text) ≡ done
+  sigma-before = chars-take text done (0x3A3 ∷ chars after) (length text - length after - 2) u parts sigma-index
+
+-- a text that is lowered up to a character
+module _ (t : List ℕ) (c : ℕ) (r : List ℕ) (b : BuilderState) (h : IsLowered t b (c ∷ r)) where
+  abbrev letter_here : List ℕ
+  letter_here = lowercase_before (word_after false h.done) c r
+
+  lowered-part : ((appended b letter_here).kind ≡ OnHeap → (appended (empty_builder InBuffer) (lowercased t)).kind ≡ OnHeap)
+      × ((e : BuilderState) → e ≡ appended b letter_here → (e ≡ appended (empty_builder InBuffer) e.text)
+      × (e.text ++ lowercase_chars (is_in_word_after (word_after false h.done) c) r ≡ lowercased t))
+  lowered-part = new-part b letter_here (lowercase_chars (is_in_word_after (word_after false h.done) c) r) (lowercased t) h.grown h.text
+
+  pub lowered-refused : (appended b letter_here).kind ≡ OnHeap → (appended (empty_builder InBuffer) (lowercased t)).kind ≡ OnHeap
+  lowered-refused = lowered-part.0
+
+  pub lowered-more : (e : BuilderState) → e ≡ appended b letter_here → IsLowered t e r
+  lowered-more e put =
+      let more = lowered-part.1 e put in
+      record {
+        done = h.done ++ c ∷ [];
+        parts = h.parts ∙ sym (append_assoc h.done (c ∷ []) r);
+        grown = more.0;
+        text = rw (word_after-last false h.done c) more.1;
+      }
+
+  pub lowered-alone : ¬ (c ≡ 0x3A3) → letter_here ≡ mapped Lower (c ∷ [])
+  lowered-alone other = rw (ne_eqb c 0x3A3 other) (sym (append-nil (to_lowercase c)))
+
+-- all of a text is lowered
+pub lowered-all : (t : List ℕ) (b : BuilderState) → IsLowered t b [] → b ≡ appended (empty_builder InBuffer) (lowercased t)
+lowered-all t b h = cc (h.grown, append-nil b.text, h.text)
+
 -- a text that is lowered up to an index
 module _ (text : List ℕ) (u : IsUtf8 text) (b : BuilderState) (from : ℕ) (h : IsLowering (chars text) b from) where
   pub lowering-boundary : IsCharBoundary text from
-  lowering-boundary = boundary-parts text h.done h.rest from u h.parts h.at
+  lowering-boundary = boundary-parts text h.front.done h.rest from u h.front.parts h.at
 
   pub lowering-rest : chars (drop from text) ≡ h.rest
-  lowering-rest = chars-drop text h.done h.rest from u h.parts h.at
+  lowering-rest = chars-drop text h.front.done h.rest from u h.front.parts h.at
 
   -- behind the last capital sigma each character is mapped by itself
   pub lowering-last : ¬ HasSigma h.rest
       → appended b (mapped Lower (chars (drop from text))) ≡ appended (empty_builder InBuffer) (lowercased (chars text))
   lowering-last none =
-      let all = sym (ap (λ s. b.text ++ s) (lowercase-alone (word_after false h.done) h.rest none)) ∙ h.text in
-      cc (lowering-rest, h.grown, appended-twice (empty_builder InBuffer) b.text (mapped Lower h.rest), all)
+      let all = sym (ap (λ s. b.text ++ s) (lowercase-alone (word_after false h.front.done) h.rest none)) ∙ h.front.text in
+      cc (lowering-rest, h.front.grown, appended-twice (empty_builder InBuffer) b.text (mapped Lower h.rest), all)
 
   -- before the next capital sigma, too, and its own letter follows from what is on both sides of it
-  module _ (sigma : ℕ) (next : IsNextMatch h.done h.rest (0x3A3 ∷ []) sigma) where
+  module _ (sigma : ℕ) (next : IsNextMatch h.front.done h.rest (0x3A3 ∷ []) sigma) where
     abbrev to_sigma : List ℕ
-    to_sigma = h.done ++ next.before
+    to_sigma = h.front.done ++ next.before
 
     abbrev past_sigma : List ℕ
     past_sigma = to_sigma ++ 0x3A3 ∷ []
 
-    whole : chars text ≡ h.done ++ (next.before ++ 0x3A3 ∷ next.after)
-    whole = h.parts ∙ ap (λ r. h.done ++ r) next.reads
+    whole : chars text ≡ h.front.done ++ (next.before ++ 0x3A3 ∷ next.after)
+    whole = h.front.parts ∙ ap (λ r. h.front.done ++ r) next.reads
 
     whole_to : chars text ≡ to_sigma ++ 0x3A3 ∷ next.after
-    whole_to = whole ∙ sym (append_assoc h.done next.before (0x3A3 ∷ next.after))
+    whole_to = whole ∙ sym (append_assoc h.front.done next.before (0x3A3 ∷ next.after))
 
     whole_past : chars text ≡ past_sigma ++ next.after
     whole_past = whole_to ∙ sym (append_assoc to_sigma (0x3A3 ∷ []) next.after)
@@ -99,7 +158,7 @@ module _ (text : List ℕ) (u : IsUtf8 text) (b : BuilderState) (from : ℕ) (h 
     at_past = size-append to_sigma (0x3A3 ∷ []) ∙ ap (λ k. k + size (0x3A3 ∷ [])) next.index ∙ ap (λ k. sigma + k) size-sigma
 
     pub segment-start : from ≤ sigma
-    segment-start = omega (arith, h.at, next.index, size-append h.done next.before)
+    segment-start = omega (arith, h.at, next.index, size-append h.front.done next.before)
 
     pub segment-end : sigma + 2 ≤ length text
     segment-end = omega (arith, at_past, size-append past_sigma next.after, ap size whole_past, size-chars text u)
@@ -112,7 +171,7 @@ module _ (text : List ℕ) (u : IsUtf8 text) (b : BuilderState) (from : ℕ) (h 
     segment-before = chars-take text to_sigma (0x3A3 ∷ next.after) sigma u whole_to next.index
 
     segment-between : chars (take (sigma - from) (drop from text)) ≡ next.before
-    segment-between = chars-middle text h.done next.before (0x3A3 ∷ next.after) from sigma u whole h.at next.index
+    segment-between = chars-middle text h.front.done next.before (0x3A3 ∷ next.after) from sigma u whole h.at next.index
 
     segment-after : chars (drop (sigma + 2) text) ≡ next.after
     segment-after = chars-drop text past_sigma next.after (sigma + 2) u whole_past at_past
@@ -128,30 +187,27 @@ module _ (text : List ℕ) (u : IsUtf8 text) (b : BuilderState) (from : ℕ) (h 
 
     step : b.text ++ ((between ++ letter) ++ lowercase_chars true next.after) ≡ lowercased (chars text)
     step =
-        let parts = lowercase-sigma (word_after false h.done) next.before next.after h.rest next.reads none in
-        rw (segment-between, segment-before, segment-after, word_after-append false h.done next.before)
-        (ap (λ s. b.text ++ s) (sym parts) ∙ h.text)
+        let parts = lowercase-sigma (word_after false h.front.done) next.before next.after h.rest next.reads none in
+        rw (segment-between, segment-before, segment-after, word_after-append false h.front.done next.before)
+        (ap (λ s. b.text ++ s) (sym parts) ∙ h.front.text)
 
     -- what is appended is refused only where the whole is
     pub segment-first : (appended b between).kind ≡ OnHeap → (appended (empty_builder InBuffer) (lowercased (chars text))).kind ≡ OnHeap
-    segment-first heap = (new-part b (between ++ letter) (lowercase_chars true next.after) (lowercased (chars text)) h.grown step).0 (appended-heap b between letter heap)
+    segment-first heap = (new-part b (between ++ letter) (lowercase_chars true next.after) (lowercased (chars text)) h.front.grown step).0 (appended-heap b between letter heap)
 
     module _ (d : BuilderState) (put : d ≡ appended b between) where
       both : appended d letter ≡ appended b (between ++ letter)
       both = cc (put, appended-twice b between letter)
 
       pub segment-refused : (appended d letter).kind ≡ OnHeap → (appended (empty_builder InBuffer) (lowercased (chars text))).kind ≡ OnHeap
-      segment-refused heap = (new-part b (between ++ letter) (lowercase_chars true next.after) (lowercased (chars text)) h.grown step).0 (cc (both, heap))
+      segment-refused heap = (new-part b (between ++ letter) (lowercase_chars true next.after) (lowercased (chars text)) h.front.grown step).0 (cc (both, heap))
 
       pub segment-more : (e : BuilderState) → e ≡ appended d letter → IsLowering (chars text) e (sigma + 2)
       segment-more e is =
-          let more = (new-part b (between ++ letter) (lowercase_chars true next.after) (lowercased (chars text)) h.grown step).1 e (is ∙ both) in
+          let more = (new-part b (between ++ letter) (lowercase_chars true next.after) (lowercased (chars text)) h.front.grown step).1 e (is ∙ both) in
           let on : word_after false past_sigma ≡ true = word_after-last false to_sigma 0x3A3 ∙ sigma-in_word (word_after false to_sigma) in
           record {
-            done = past_sigma;
             rest = next.after;
-            parts = whole_past;
+            front = record { done = past_sigma; parts = whole_past; grown = more.0; text = rw on more.1 };
             at = at_past;
-            grown = more.0;
-            text = rw on more.1;
           }

@@ -1,5 +1,5 @@
-//! Full case. The ASCII front of a text takes ASCII case. Behind it each character is mapped by itself, unless it is mapped by its
-//! context, and runs of ASCII by lanes.
+//! Full case. The ASCII front of a text takes ASCII case. Behind it, runs of ASCII are mapped by lanes, and each other character by
+//! itself. Only a capital sigma is mapped by its context: `sigma` does that.
 ghost use Rattle.std.specs.Prelude.{◌≡◌, ◌<◌, [], ◌∷◌, length, take, IfOk, OnOk, OnErr};
 ghost use Rattle.std.specs.Str.{chars};
 ghost use Rattle.smol_str.specs.Text.{IsShort};
@@ -10,7 +10,7 @@ ghost use Rattle.smol_str.specs.CaseParts.{IsPartOf};
 
 use super::ascii_case::to_ascii_case;
 use super::case_ranges::letter_of;
-use super::sigma::push_lowercase;
+use super::sigma::{push_lowercase, push_short_lowercase};
 use crate::buffer::{INLINE_CAP, InlineText};
 use crate::builder::SmolStrBuilder;
 use crate::bytes::ascii::{begins_ascii, convert_all, front_len};
@@ -97,6 +97,7 @@ fn push_rest(
         ((appended (empty_builder InBuffer) (full_case case (chars text.now))).kind ≡ OnHeap) }
 {
     match case {
+        AsciiCase::Lower if text.len() <= INLINE_CAP => push_short_lowercase(builder, text, from),
         AsciiCase::Lower => push_lowercase(builder, text, from),
         AsciiCase::Upper => push_last(builder, &text[from..], case),
     }
@@ -129,14 +130,14 @@ fn push_mapped(builder: &mut SmolStrBuilder, text: &str, case: AsciiCase) -> Res
         ((appended builder.old (mapped case (chars text.now))).kind ≡ OnHeap) }
 {
     for character in text.chars() {
-        push_short_one(builder, character, case)?;
+        push_one_buffer_first(builder, character, case)?;
     }
     Ok(())
 }
 
-/// Like `push_one`, for short texts.
+/// Appends what one character is mapped to. It looks for the buffer first: for short texts.
 #[inline(always)]
-fn push_short_one(
+pub(super) fn push_one_buffer_first(
     builder: &mut SmolStrBuilder,
     character: char,
     case: AsciiCase,
@@ -239,13 +240,13 @@ fn push_first<'a>(
         return Ok(text);
     };
     let rest = characters.as_str();
-    push_one(builder, character, case, rest.len().saturating_add(behind))?;
+    push_one_heap_first(builder, character, case, rest.len().saturating_add(behind))?;
     Ok(rest)
 }
 
-/// Appends what one character is mapped to. A builder that moves to the heap asks for room for `spare` bytes more.
+/// Like `push_one_buffer_first`, but looks for the heap first. A builder that moves there asks for room for `spare` bytes more.
 #[inline(always)]
-fn push_one(
+fn push_one_heap_first(
     builder: &mut SmolStrBuilder,
     character: char,
     case: AsciiCase,

@@ -7,11 +7,11 @@ ghost use Rattle.std.specs.StrCase.Lower.{starts_with_cased, lowercase_before};
 ghost use Rattle.smol_str.specs.Text.{size};
 ghost use Rattle.smol_str.specs.BuilderState.{InBuffer, OnHeap, empty_builder, appended};
 ghost use Rattle.smol_str.specs.Case.{lowercased};
-ghost use Rattle.smol_str.specs.CaseParts.{word_after, IsLowering};
+ghost use Rattle.smol_str.specs.CaseParts.{word_after, IsLowered, IsLowering};
 ghost use Rattle.smol_str.specs.Cut.{IsNextMatch};
 
 use super::case_ranges::is_cased_letter;
-use super::full_case::{push_last, push_parts};
+use super::full_case::{push_last, push_one_buffer_first, push_parts};
 use crate::builder::SmolStrBuilder;
 use crate::kernel::{AsciiCase, next_match};
 use std::alloc::AllocError;
@@ -52,6 +52,44 @@ fn push_segment(
     let behind = text.len() - sigma;
     push_parts(builder, &text[from..sigma], AsciiCase::Lower, behind)?;
     push_sigma(builder, &text[..sigma], &text[sigma + 2..])
+}
+
+/// Like `push_lowercase`, character by character. In a short text a search for capital sigmas would cost more.
+pub(super) fn push_short_lowercase(
+    builder: &mut SmolStrBuilder,
+    text: &str,
+    from: usize,
+) -> Result<(), AllocError>
+    requires { IsLowering (chars text.now) builder.old from }
+    ensures ok { OnOk result (builder.new ≡ appended (empty_builder InBuffer) (lowercased (chars text.now))) }
+    ensures refused { OnErr result
+        ((appended (empty_builder InBuffer) (lowercased (chars text.now))).kind ≡ OnHeap) }
+{
+    let mut rest = text[from..].chars();
+    while let Some(character) = rest.next() {
+        push_in_context(builder, text, character, rest.as_str())?;
+    }
+    Ok(())
+}
+
+/// Appends a character of a text in lower case, where `after` is what follows it.
+#[inline(always)]
+fn push_in_context(
+    builder: &mut SmolStrBuilder,
+    text: &str,
+    character: char,
+    after: &str,
+) -> Result<(), AllocError>
+    requires { IsLowered (chars text.now) builder.old (character ∷ chars after.now) }
+    ensures ok { OnOk result (IsLowered (chars text.now) builder.new (chars after.now)) }
+    ensures refused { OnErr result
+        ((appended (empty_builder InBuffer) (lowercased (chars text.now))).kind ≡ OnHeap) }
+{
+    if character == 'Σ' {
+        let sigma = text.len() - after.len() - 2;
+        return push_sigma(builder, &text[..sigma], after);
+    }
+    push_one_buffer_first(builder, character, AsciiCase::Lower)
 }
 
 /// Appends a capital sigma between two texts in lower case.

@@ -5,6 +5,9 @@ use Rattle.smol_str.proofs.str_ext.full_case.push_rest.Goals as goal
 pub push_lowercase-requires : goal.push_lowercase-requires
 push_lowercase-requires c = lower-rest _ _ c.utf8.text c.requires.ascii _ (rw c.in-Lower.is at c.requires.front)
 
+pub push_short_lowercase-requires : goal.push_short_lowercase-requires
+push_short_lowercase-requires c = lower-rest _ _ c.utf8.text c.requires.ascii _ (rw c.in-Lower.is at c.requires.front)
+
 pub range_from-requires : goal.range_from-requires
 range_from-requires c = λ _. ascii-boundary c.args.case _ _ c.utf8.text c.requires.ascii
 

@@ -16,13 +16,13 @@ range_from-requires c = λ _. lowering-boundary _ c.utf8.text _ _ c.loop-sigma.i
 pub returns-clause-ok : goal.returns-clause-ok
 returns-clause-ok c =
     let h = c.loop-sigma.invariant in
-    let none = (rw sigma at (c.in_default.ensures.none h.done h.rest h.parts h.at)).0 refl in
+    let none = (rw sigma at (c.in_default.ensures.none h.front.done h.rest h.front.parts h.at)).0 refl in
     let all = lowering-last _ c.utf8.text _ _ h none in
     on_ok_weaker c.push_last.result (λ e. e ∙ all) (rw (c.range_from.ensures.value) at c.push_last.ensures.ok)
 
 pub returns-clause-refused : goal.returns-clause-refused
 returns-clause-refused c =
     let h = c.loop-sigma.invariant in
-    let none = (rw sigma at (c.in_default.ensures.none h.done h.rest h.parts h.at)).0 refl in
+    let none = (rw sigma at (c.in_default.ensures.none h.front.done h.rest h.front.parts h.at)).0 refl in
     let all = lowering-last _ c.utf8.text _ _ h none in
     on_err_weaker c.push_last.result (λ heap. ap (λ b. b.kind) (sym all) ∙ heap) (rw (c.range_from.ensures.value) at c.push_last.ensures.refused)
