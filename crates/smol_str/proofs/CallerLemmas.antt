@@ -26,8 +26,8 @@ pub mod Wire
 pub mod Messages
 pub mod Crates
 pub use Rattle.smol_str.proofs.CallerLemmas.Texts.{texts, compared, tested, replacing, prints, chars-as_str}
-pub use Rattle.smol_str.proofs.CallerLemmas.Builders.{builders, passed_builders}
-pub use Rattle.smol_str.proofs.CallerLemmas.Values.{texts-push, listed, stacked, among}
+pub use Rattle.smol_str.proofs.CallerLemmas.Builders.{builders, passed_builders, OnHeap-front}
+pub use Rattle.smol_str.proofs.CallerLemmas.Values.{texts-push, text_at, listed, stacked, among}
 pub use Rattle.smol_str.proofs.CallerLemmas.Sorting.{sorting}
 pub use Rattle.smol_str.proofs.CallerLemmas.Interning.{interning}
 pub use Rattle.smol_str.proofs.CallerLemmas.Maps.{updates, lookups, inserts, put_and_asked, scopes, stands_for-text, lookup-with_entry}
@@ -40,9 +40,14 @@ pub use Rattle.smol_str.proofs.CallerLemmas.Wire.{forms, parts, items, items-apa
 -- for an answer in a loop over wire forms: what is left after a value, after an early end, and where memory was refused
 pub use Rattle.smol_str.proofs.CallerLemmas.Messages.{left-of_value, left-of_ended, left-of_refused}
 pub use Rattle.smol_str.proofs.CallerLemmas.Crates.{owned, chars_cut}
--- the size of the text that bytes spell, and of two texts, one after the other
-pub use Rattle.smol_str.proofs.TextLemmas.Places.{size-chars, size-append}
+-- each front of a short text is short; the size of the text that bytes spell, and of two texts, one after the other
+pub use Rattle.smol_str.proofs.TextLemmas.Places.{IsShort-front, size-chars, size-append}
+-- what holds of an `Err` where it holds whatever came, or of the one fault that came
+pub use Rattle.smol_str.proofs.TextLemmas.Places.{OnErr-always, IfErr-is}
 -- bytes of a text in two parts, at the size of the first: they may be cut there, into these
 pub use Rattle.smol_str.proofs.TextLemmas.Split.{boundary-parts, chars-take, chars-drop}
--- cuts: the one there is, and what joins pieces
-pub use Rattle.smol_str.proofs.CutLemmas.Cut.{joined_more, IsCut-cut, IsCut-unique}
+-- appending twice is appending the joined text, and nothing changes nothing; a new builder leaves its buffer only for a
+-- text that is not short
+pub use Rattle.smol_str.proofs.BuilderLemmas.State.{appended-twice, appended-nothing, OnHeap-long}
+-- cuts: the one there is, a first match in front of a cut, a text without a match, and what joins pieces
+pub use Rattle.smol_str.proofs.CutLemmas.Cut.{same_parts, joined_more, IsCut-cut, IsCut-unique, IsCutAt-step, IsCutAt-unmatched}
