@@ -11,6 +11,7 @@
 --       `insert_entry`, `KeepsOthers` or `if`, which its first part repeats; its second part is a function, which is found by
 --       `chars bs`.
 --     - An equation has `chars` on its left side, and shows each variable there.
+pub mod Common
 pub mod Texts
 pub mod Builders
 pub mod Values

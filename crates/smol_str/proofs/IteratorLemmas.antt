@@ -1,28 +1,12 @@
 -- What std's iterators give as lists of texts: characters from the end of a text, an array by value, a text split at
 -- another.
 use Rattle.smol_str.proofs.Common.{◌≡◌, ◌<◌, ◌==◌, ℕ, Bool, true, false, Bor, List, [], ◌∷◌, ◌++◌, length, map, take, drop, flat_map, Option, None, Some, refl, sym, ap, ◌∙◌, subst, arith, append-nil, rules, IsUtf8, chars, encode_utf8_all, encode_utf8, chars-nil, encodes-chars, chars_from_encodes, scalars-chars, length-le-encodes}
-use Rattle.std.proofs.Common.{reverse}
-use Rattle.std.specs.Str.Lines.{lines}
-use Rattle.std.specs.Str.Pattern.{FindsChar}
-use denote.Param.Members.{Mut}
-use Rattle.std.specs.Fn.{Called}
-use Rattle.std.specs.List.{slice_split}
-use Rattle.std.specs.Iterator.{AlwaysYields}
-use Rattle.std.specs.Slice.Iter.{iter_rest, iter_steps, iter_steps_back}
-use Rattle.std.specs.Str.Iter.{chars_rest, chars_steps, chars_steps_back, lines_rest, lines_steps, split_text, split_has_more, split_pattern, split_steps}
-use Rattle.std.specs.Iterator.Adapters.{rev_source, rev_steps, take_source, take_count, take_steps, skip_source, skip_count, skip_steps, map_source, map_callee, map_steps, copied_source, copied_steps, flatten_source, flatten_front, flatten_back, flatten_done, flatten_steps}
-use Rattle.std.specs.Array.Iter.{array_steps, array_into_iter_items}
-use Rattle.std.specs.declared.array.IntoIter.{IntoIter}
-use Rattle.std.specs.declared.str.Chars.{Chars}
-use Rattle.std.specs.declared.str.Split.{Split}
-use Rattle.std.specs.declared.slice.Iter.{Iter}
+use Rattle.smol_str.proofs.CallerLemmas.Common.{reverse, lines, FindsChar, Mut, Called, slice_split, AlwaysYields, iter_rest, iter_steps, iter_steps_back, chars_rest, chars_steps, chars_steps_back, lines_rest, lines_steps, split_text, split_has_more, split_pattern, split_steps, rev_source, rev_steps, take_source, take_count, take_steps, skip_source, skip_count, skip_steps, map_source}
+use Rattle.smol_str.proofs.CallerLemmas.Common.{map_callee, map_steps, copied_source, copied_steps, flatten_source, flatten_front, flatten_back, flatten_done, flatten_steps, array_steps, array_into_iter_items, IntoIter, Chars, Split, Iter, YieldsList-from_skip, YieldsList-from_flat_map, YieldsList-from_shown, YieldsList-at, YieldsList-from_copied, YieldsList-from_shown_while}
+use Rattle.smol_str.proofs.CallerLemmas.Common.{YieldsList-from_lines, YieldsList-from_str_split, reverse-append, length-reverse, nil_from_length}
 use Rattle.std.specs.declared.iter.Rev.{Rev}
 use Rattle.std.specs.declared.iter.Copied.{Copied}
 use Rattle.std.proofs.lemmas.Iterator.{YieldsList, YieldsList-from_slice, YieldsList-from_chars, YieldsList-from_take, YieldsList-from_map_by}
-use Rattle.std.proofs.lemmas.Iterator.Adapters.{YieldsList-from_skip, YieldsList-from_flat_map}
-use Rattle.std.proofs.lemmas.Iterator.Consumers.{YieldsList-from_shown, YieldsList-at, YieldsList-from_copied}
-use Rattle.std.proofs.lemmas.Iterator.Splits.{YieldsList-from_shown_while, YieldsList-from_lines, YieldsList-from_str_split}
-use Rattle.std.proofs.lemmas.List.{reverse-append, length-reverse, nil_from_length}
 use Rattle.smol_str.proofs.TextLemmas.Split.{scalars_parts}
 use Rattle.smol_str.proofs.CutLemmas.Sync.{StandsBetween-bytes}
 
@@ -72,12 +56,10 @@ pub gives-rev_chars : {s t : _} (bs : List ℕ) → IsUtf8 bs → rev_source s �
 gives-rev_chars {s} bs u e f =
     let rest = λ (t : _). chars_rest (rev_source t) in
     let is : rest s ≡ bs = ap chars_rest e ∙ f in
-    let all = YieldsList-from_shown_while (rev_steps chars_steps_back) (λ c. c) (λ t. reverse (chars (rest t))) (λ t. IsUtf8 (rest t))
+    rw (← is) (YieldsList-from_shown_while (rev_steps chars_steps_back) (λ c. c) (λ t. reverse (chars (rest t))) (λ t. IsUtf8 (rest t))
     (λ t u h k. cc (nil_from_length (rest t) k.0, chars-nil))
-    (λ t c u h k.
-    let off = last_off (rest t) (rest u) c h k in
-    (off.0, cc (off.1, reverse-append (chars (rest u)) (c ∷ [])))) s (rw is u) in
-    subst (λ b. YieldsList (rev_steps chars_steps_back) (λ c. c) s (reverse (chars b))) is all
+    (λ t c u h k. let off = last_off (rest t) (rest u) c h k in (off.0, cc (off.1, reverse-append (chars (rest u)) (c ∷ []))))
+    s (rw is u))
 
 pub gives-lines : {s : _} (all : List (List ℕ)) → all ≡ lines (lines_rest s) → YieldsList lines_steps (λ x. x.now) s all
 gives-lines {s} all e = rw e (YieldsList-from_lines (lines_rest s) refl)

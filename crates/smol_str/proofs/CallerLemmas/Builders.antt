@@ -1,9 +1,9 @@
 -- Builders: appends one after another, and when a builder leaves its buffer.
-use Rattle.smol_str.proofs.Common.{BuilderState, OnHeap, appended, kind_with, ◌++◌, drop, sym, ap, ◌∙◌, ◌≡◌, ◌∷◌, ℕ, ◌+◌, ◌≤◌, List, [], take, take_all, refl, arith, flat_map, size, nat_tests, append-nil, append_assoc}
-use Rattle.std.proofs.lemmas.Grind.{take_at_read, flat_map-append}
-use Rattle.std.proofs.lemmas.List.Folds.{flat_map-map}
+use Rattle.smol_str.proofs.Common.{BuilderState, OnHeap, appended, ◌++◌, drop, ◌≡◌, ◌∷◌, ℕ, ◌+◌, ◌≤◌, List, [], take, take_all, refl, arith, flat_map, size, nat_tests, append-nil, append_assoc}
+use Rattle.smol_str.proofs.CallerLemmas.Common.{take_at_read, flat_map-append, flat_map-map}
 use Rattle.smol_str.proofs.TextLemmas.Lists.{flat_map-parts}
 use Rattle.smol_str.proofs.TextLemmas.Places.{size-append}
+use Rattle.smol_str.proofs.BuilderLemmas.Push.{appended-heap}
 use Rattle.smol_str.proofs.BuilderLemmas.State.{appended-twice, appended-nothing, OnHeap-long}
 use Rattle.smol_str.proofs.CallerLemmas.Texts.{texts}
 
@@ -16,26 +16,13 @@ size-front f xs i = (refl, rw (flat_map-parts f xs (i + 1)) (omega (arith, size-
 pub size-cons : (c : ℕ) (t : List ℕ) → size (c ∷ t) ≡ size (c ∷ []) + size t
 size-cons c t = size-append (c ∷ []) t
 
-pub ruleset builders = (
-  texts,
-  size-cons,
-  appended-twice,
-  appended-nothing,
-  OnHeap-long,
-  nat_tests,
-  size-append,
-  size-front,
-  take_at_read,
-  take_all,
-  flat_map-append,
-  append-nil,
-  append_assoc,
-)
+pub ruleset in_loops = (take_at_read, take_all, flat_map-append, append-nil, append_assoc)
+
+pub ruleset builders = (texts, size-cons, appended-twice, appended-nothing, OnHeap-long, nat_tests, size-append, size-front, in_loops)
 
 -- a builder that a text takes to the heap is there whatever follows
 pub OnHeap-front : (b : BuilderState) (t u : List ℕ) → (appended b t).kind ≡ OnHeap → (appended b (t ++ u)).kind ≡ OnHeap
-OnHeap-front b t u heap =
-    ap (λ d. d.kind) (sym (appended-twice b t u)) ∙ ap (λ k. kind_with k ((b.text ++ t) ++ u)) heap
+OnHeap-front b t u heap = appended-heap b t u heap
 
 -- the same where a character comes first
 pub OnHeap-cons : (b : BuilderState) (c : ℕ) (t : List ℕ) → (appended b (c ∷ [])).kind ≡ OnHeap → (appended b (c ∷ t)).kind ≡ OnHeap
@@ -51,18 +38,4 @@ pub pieces-front : {X : Type 0} (f : X → List ℕ) (xs : List X) (i : ℕ) →
 pieces-front f xs i = (refl, flat_map-parts f xs (i + 1))
 
 -- of a builder that is passed in, whose text is not known
-pub ruleset passed_builders = (
-  texts,
-  appended-twice,
-  appended-nothing,
-  OnHeap-front,
-  OnHeap-cons,
-  OnHeap-cons_front,
-  pieces-front,
-  take_at_read,
-  take_all,
-  flat_map-append,
-  flat_map-map,
-  append-nil,
-  append_assoc,
-)
+pub ruleset passed_builders = (texts, appended-twice, appended-nothing, OnHeap-front, OnHeap-cons, OnHeap-cons_front, pieces-front, flat_map-map, in_loops)

@@ -1,23 +1,12 @@
 -- Collecting and extending from an iterator that gives a list.
-use Rattle.smol_str.proofs.Common.{◌≡◌, Global, Bor, true, Option, Result, IfOk, OnOk, OnErr, subst, refl, sym, ap, ◌∙◌, None, rules, on_err_weaker, on_ok_weaker, ℕ, ◌<◌, arith, append-nil, List, [], length, take, map, YieldsList, take-append-drop, map-id, items_from_drains, String, chars, IsUtf8, chars-encodes}
-use Rattle.smol_str.proofs.Common.{INLINE_CAP, size, IsShort, Meaning, IsValueOf, BuilderState, OnHeap, appended, joined, joined_strs, joined_strings, joined_string_refs, str_text, string_text, replaced_all, cut, no_limit, place_of}
-use denote.Param.Members.{Mut}
-use Rattle.std.specs.Fn.{Called}
-use Rattle.std.specs.List.{filter_map}
-use Rattle.std.specs.Iterator.{Yields, DrainsIf}
-use Rattle.std.specs.Iterator.Adapters.{filter_map_source, filter_map_callee, filter_map_steps}
-use Rattle.std.specs.Array.Iter.{array_steps, array_into_iter_items}
-use Rattle.std.specs.declared.array.IntoIter.{IntoIter}
-use Rattle.std.specs.declared.str.Split.{Split}
-use Rattle.std.specs.Str.Iter.{split_text, split_has_more, split_pattern, split_steps}
-use Rattle.std.specs.Str.Pattern.{FindsText}
-use Rattle.std.proofs.lemmas.List.Folds.{flat_map-map}
+use Rattle.smol_str.proofs.Common.{◌≡◌, Global, Bor, true, Option, Result, IfOk, OnOk, OnErr, subst, refl, sym, ap, ◌∙◌, None, rules, on_err_weaker, on_ok_weaker, ℕ, ◌<◌, arith, append-nil, List, [], length, take, map, YieldsList, take-append-drop, map-id, items_from_drains, String, chars, IsUtf8, chars-encodes, INLINE_CAP, size, IsShort, Meaning, IsValueOf, BuilderState, OnHeap}
+use Rattle.smol_str.proofs.Common.{appended, joined, joined_strs, joined_strings, joined_string_refs, str_text, string_text, replaced_all, cut, no_limit, place_of}
+use Rattle.smol_str.proofs.CallerLemmas.Common.{Mut, Called, filter_map, Yields, DrainsIf, filter_map_source, filter_map_callee, filter_map_steps, array_steps, array_into_iter_items, IntoIter, Split, split_text, split_has_more, split_pattern, split_steps, FindsText, flat_map-map, YieldsList-from_repeat_n, YieldsList-from_vec, YieldsList-from_skip_while, YieldsList-from_chain}
+use Rattle.smol_str.proofs.CallerLemmas.Common.{YieldsList-from_filter, YieldsList-from_filter_map}
 use Rattle.smol_str.specs.Collect.{AppendedAll, StoppedAt, Collected, Outgrown}
 use Rattle.smol_str.specs.JoinedLaws.{joined-strs}
 use Rattle.smol_str.proofs.BuilderLemmas.Collect.{Reads, collected, made, not_short-outgrown, text-appended, heap-stopped, front-stopped}
 use Rattle.smol_str.proofs.IteratorLemmas.{YieldsList-from_array, gives-chars, gives-rev_chars, gives-slice, gives-lines, gives-split_char, gives-copied, gives-rev_copied, gives-map, gives-map_lent, gives-flat_chars, gives-take_chars, gives-skip_chars, gives-take_slice, gives-skip_slice}
-use Rattle.std.proofs.lemmas.Iterator.Adapters.{YieldsList-from_repeat_n, YieldsList-from_vec, YieldsList-from_skip_while}
-use Rattle.std.proofs.lemmas.Iterator.Consumers.{YieldsList-from_chain, YieldsList-from_filter, YieldsList-from_filter_map}
 use Rattle.std.proofs.lemmas.Iterator.Search.{YieldsList-from_take_while}
 use Rattle.smol_str.proofs.PieceLemmas.{joined-nothing, gives-split, gives-split_at}
 use Rattle.smol_str.proofs.TextLemmas.Lists.{flat_map-parts}
@@ -253,73 +242,33 @@ pub gives-filter_map : {S F A C : Type 0} {s : _} {ys : List A} {f : F} {steps :
     → YieldsList (filter_map_steps steps g) (λ y. y) s (filter_map h ys)
 gives-filter_map h g gives c k = YieldsList-from_filter_map g h gives c k
 
--- for `#[tactic(auto, using(..))]` at a caller, and for `search (rules, collecting_chars)` at its goal: of characters,
-pub ruleset collecting_chars = (
-  gives-slice,
-  gives-chars,
-  gives-rev_chars,
-  gives-map,
-  gives-filter_map,
-  gives-flat_chars,
-  gives-take_chars,
-  gives-skip_chars,
-  YieldsList-from_repeat_n,
-  YieldsList-from_array,
-  YieldsList-from_take_while,
-  YieldsList-from_skip_while,
-  YieldsList-from_chain,
-  YieldsList-from_filter,
-  chars-encodes,
-  append-nil,
-  chars_collected,
-  chars_refused,
-  chars_extended,
-  chars_extend_refused,
-  chars_extend_stopped,
-  array_chars_long,
-)
+-- for `#[tactic(auto, using(..))]` at a caller, and for `search (rules, collecting_chars)` at its goal; before each its parts.
+-- Of characters,
+pub ruleset char_sources = (gives-slice, gives-chars, gives-rev_chars, gives-map, gives-filter_map, gives-flat_chars, gives-take_chars, gives-skip_chars)
+
+pub ruleset repeated_sources = (YieldsList-from_repeat_n, YieldsList-from_array)
+
+pub ruleset cut_sources = (YieldsList-from_take_while, YieldsList-from_skip_while, YieldsList-from_chain, YieldsList-from_filter)
+
+pub ruleset made_of_chars = (chars_collected, chars_refused, chars_extended, chars_extend_refused, chars_extend_stopped, array_chars_long)
+
+pub ruleset collecting_chars = (char_sources, repeated_sources, cut_sources, chars-encodes, append-nil, made_of_chars)
 
 -- of `&str`s,
-pub ruleset collecting_strs = (
-  gives-slice,
-  gives-lines,
-  gives-split_char,
-  gives-copied,
-  gives-rev_copied,
-  gives-map_lent,
-  chars-encodes,
-  append-nil,
-  strs_collected,
-  strs_refused,
-  strs_extended,
-  strs_extend_refused,
-  strs_made,
-  mapped_collected,
-  mapped_refused,
-  mapped_extended,
-  mapped_extend_refused,
-  items_collected,
-  items_refused,
-  items_extended,
-  array_strs_long,
-  array_strs_collected,
-)
+pub ruleset str_sources = (gives-slice, gives-lines, gives-split_char, gives-copied, gives-rev_copied, gives-map_lent)
+
+pub ruleset made_of_strs = (strs_collected, strs_refused, strs_extended, strs_extend_refused, strs_made)
+
+pub ruleset made_of_mapped = (mapped_collected, mapped_refused, mapped_extended, mapped_extend_refused)
+
+pub ruleset made_of_items = (items_collected, items_refused, items_extended, array_strs_long, array_strs_collected)
+
+pub ruleset collecting_strs = (str_sources, chars-encodes, append-nil, made_of_strs, made_of_mapped, made_of_items)
 
 -- of the pieces of a `split`,
 pub ruleset collecting_pieces = (gives-split, gives-split_at, split_collected, split_refused, split_long)
 
 -- and of `String`s
-pub ruleset collecting_strings = (
-  gives-slice,
-  gives-take_slice,
-  gives-skip_slice,
-  YieldsList-from_vec,
-  strings_collected,
-  strings_refused,
-  strings_made,
-  string_refs_collected,
-  string_refs_refused,
-  string_refs_extended,
-  string_refs_extend_refused,
-  string_refs_made,
-)
+pub ruleset made_of_refs = (string_refs_collected, string_refs_refused, string_refs_extended, string_refs_extend_refused, string_refs_made)
+
+pub ruleset collecting_strings = (gives-slice, gives-take_slice, gives-skip_slice, YieldsList-from_vec, strings_collected, strings_refused, strings_made, made_of_refs)

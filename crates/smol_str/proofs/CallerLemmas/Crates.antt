@@ -1,6 +1,6 @@
 -- What other crates say of bytes, said of texts.
 use Rattle.smol_str.proofs.Common.{◌≡◌, ◌++◌, ℕ, List, String, Global, Result, IfOk, IsAscii, IsUtf8, IsValueOf, Meaning, ap, subst, sym, ◌∙◌, chars, chars-IsAscii, chars_from_encodes, drop, encode_utf8_all, encodes-chars, string_bytes, take, take-append-drop}
-use Rattle.std.proofs.lemmas.Str.{IsUtf8-string_bytes, chars-append}
+use Rattle.smol_str.proofs.CallerLemmas.Common.{IsUtf8-string_bytes, chars-append}
 
 -- a `String` whose bytes are the UTF-8 of a text has that text,
 pub text_owned : (s : String Global) (t : List ℕ) → string_bytes s ≡ encode_utf8_all t → chars (string_bytes s) ≡ t

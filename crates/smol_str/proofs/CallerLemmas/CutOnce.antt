@@ -1,19 +1,11 @@
 -- Texts that std searches and cuts once: `split_once`, `strip_prefix`, `strip_suffix`, `starts_with`, `ends_with` and `contains`.
-use Rattle.smol_str.proofs.Common.{Bor, ◌≡◌, Bool, true, false, Option, Some, None, MatchOption, refl, sym, ap, ◌∙◌, subst, IsTrue, IfSome, arith, zero, suc, ℕ, ◌+◌, ◌-◌, ◌<◌, ◌≤◌, ◌==◌, List, [], ◌∷◌, ◌++◌, length, take, drop, append-nil, replicate}
-use Rattle.smol_str.proofs.Common.{all_scalars, IsUtf8, chars, chars-nil, chars-append, chars-encodes, chars_from_encodes, encode_utf8, encode_utf8_all, encodes-append, encodes-chars, len_utf8_bounds, size, Occurs, IsFirstAfter}
-use Rattle.std.proofs.Common.{◌≢◌, MatchBool}
-use Rattle.std.specs.Str.{IsCharBoundary, NonePass, trim, trim_start, trim_end, skip_leading_whitespace, drop_trailing_whitespace}
-use Rattle.std.specs.Str.Pattern.{CutsPrefixes, FindsCharPrefix, FindsChar, FindsText, FindsTextPrefix, FindsTextSuffix, HasCharAt, HasMatch, HasPrefixMatch, HasSuffixMatch, HasTextAt, LacksTextAt, StripsPrefix, StripsSuffix}
-use Rattle.std.proofs.Math.Seq.{drop-length}
-use Rattle.std.proofs.lemmas.Str.{IsUtf8-drop, IsUtf8-take, encode_ascii}
-use Rattle.std.proofs.lemmas.List.{append_cancel_left, take_more}
-use Rattle.std.proofs.Math.Seq.{take-length}
-use Rattle.std.proofs.Common.{get_or}
+use Rattle.smol_str.proofs.Common.{Bor, ◌≡◌, Bool, true, false, Option, Some, None, MatchOption, refl, sym, ap, ◌∙◌, subst, IsTrue, IfSome, arith, zero, suc, ℕ, ◌+◌, ◌-◌, ◌<◌, ◌≤◌, ◌==◌, List, [], ◌∷◌, ◌++◌, length, take, drop, append-nil, replicate, all_scalars, IsUtf8, chars, chars-nil, chars-append, chars-encodes, chars_from_encodes, encode_utf8, encode_utf8_all, encodes-append, false_from_ne_true}
+use Rattle.smol_str.proofs.Common.{encodes-chars, len_utf8_bounds, size, Occurs, IsFirstAfter, take_all, nat_tests, common_steps, and_parts, scalars-chars}
+use Rattle.smol_str.proofs.CallerLemmas.Common.{◌≢◌, MatchBool, get_or, IsCharBoundary, NonePass, trim, skip_leading_whitespace, drop_trailing_whitespace, CutsPrefixes, FindsCharPrefix, FindsChar, FindsText, FindsTextPrefix, FindsTextSuffix, HasCharAt, HasMatch, HasPrefixMatch, HasSuffixMatch, HasTextAt, LacksTextAt, StripsPrefix, StripsSuffix, drop-length, IsUtf8-drop, IsUtf8-take}
+use Rattle.smol_str.proofs.CallerLemmas.Common.{encode_ascii, append_cancel_left, take_more, prefix_len, IfNone}
+use Rattle.std.specs.Str.{trim_start, trim_end}
 use Rattle.smol_str.proofs.CallerLemmas.Texts.{IsLiteral, encodes-literal, literal-utf8}
 use Rattle.smol_str.proofs.CutLemmas.Cut.{same_parts}
-use Rattle.std.specs.List.{prefix_len}
-use Rattle.std.specs.Option.{IfNone}
-use Rattle.smol_str.proofs.Common.{cond, nat_tests, common_steps, and_parts, scalars-chars}
 use Rattle.smol_str.proofs.PieceLemmas.{bytes_there, found_char, found_parts, found_text}
 use Rattle.smol_str.proofs.TextLemmas.Places.{size-append, size-chars, some_char}
 
@@ -54,13 +46,14 @@ repeated-next : (k c : ℕ) (t : List ℕ) → replicate k c ++ (c ∷ t) ≡ re
 repeated-next zero c t = refl
 repeated-next (suc k) c t = ap (λ l. c ∷ l) (repeated-next k c t)
 
+differs : (d c : ℕ) (t : List ℕ) → d ∷ t ≢ c ∷ t → (d == c) ≡ false
+differs d c t other =
+    false_from_ne_true (d == c) (λ e. let same : d ≡ c = grind (arith, nat_tests) in other (ap (λ x. x ∷ t) same))
+
 past_repeated : (k c : ℕ) (t : List ℕ) → ((rest : List ℕ) → t ≢ c ∷ rest)
     → drop (prefix_len (λ d. d == c) (replicate k c ++ t)) (replicate k c ++ t) ≡ t
 past_repeated zero c [] other = refl
-past_repeated zero c (d ∷ t) other = by (d == c) refl where
-  by : (b : Bool) → (d == c) ≡ b → drop (cond b (1 + prefix_len (λ d. d == c) t) 0) (d ∷ t) ≡ d ∷ t
-  by true e = let same : d ≡ c = grind (arith, nat_tests) in absurd (other t (ap (λ x. x ∷ t) same))
-  by false e = refl
+past_repeated zero c (d ∷ t) other = rw (differs d c t (other t))
 past_repeated (suc k) c t other =
     let same : (c == c) ≡ true = grind (arith, nat_tests) in
     let more : 1 + prefix_len (λ d. d == c) (replicate k c ++ t) ≡ suc (prefix_len (λ d. d == c) (replicate k c ++ t)) = omega arith in
@@ -97,25 +90,16 @@ scalars-drop_trailing : (t : List ℕ) → IsTrue (all_scalars t) → IsTrue (al
 scalars-drop_trailing [] scalars = scalars
 scalars-drop_trailing (c ∷ t) scalars = grind (arith, common_steps, and_parts, scalars-drop_trailing t)
 
-module _ (t : List ℕ) (scalars : IsTrue (all_scalars t)) where
-  trim_start-text : trim_start (encode_utf8_all t) ≡ encode_utf8_all (skip_leading_whitespace t)
-  unfolding trim_start
-  trim_start-text = ap (λ t. encode_utf8_all (skip_leading_whitespace t)) (chars-encodes t scalars)
-
-  trim_end-text : trim_end (encode_utf8_all t) ≡ encode_utf8_all (drop_trailing_whitespace t)
-  unfolding trim_end
-  trim_end-text = ap (λ t. encode_utf8_all (drop_trailing_whitespace t)) (chars-encodes t scalars)
-
-module _ (t : List ℕ) (scalars : IsTrue (all_scalars t)) where
-  pub trim-text : trim (encode_utf8_all t) ≡ encode_utf8_all (drop_trailing_whitespace (skip_leading_whitespace t))
-  trim-text = ap trim_end (trim_start-text t scalars) ∙ trim_end-text (skip_leading_whitespace t) (scalars-skip t scalars)
-
-  pub chars-trim_text : chars (trim (encode_utf8_all t)) ≡ drop_trailing_whitespace (skip_leading_whitespace t)
-  chars-trim_text =
-      ap chars trim-text ∙ chars-encodes _ (scalars-drop_trailing (skip_leading_whitespace t) (scalars-skip t scalars))
-
 pub chars-trim : (bs : List ℕ) → IsUtf8 bs → chars (trim bs) ≡ drop_trailing_whitespace (skip_leading_whitespace (chars bs))
-chars-trim bs u = rw (encodes-chars bs u) at (chars-trim_text (chars bs) (scalars-chars bs u))
+unfolding trim_start trim_end
+chars-trim bs u =
+    let front = skip_leading_whitespace (chars bs) in
+    let scalars = scalars-skip (chars bs) (scalars-chars bs u) in
+    rw (chars-encodes front scalars) (chars-encodes _ (scalars-drop_trailing front scalars))
+
+pub chars-trim_text : (t : List ℕ) → IsTrue (all_scalars t)
+    → chars (trim (encode_utf8_all t)) ≡ drop_trailing_whitespace (skip_leading_whitespace t)
+chars-trim_text t scalars = rw (chars-encodes t scalars) at (chars-trim (encode_utf8_all t) (t, (scalars, refl)))
 
 pub ruleset trimmed = (char_trimmed, chars-trim, chars-trim_text)
 
@@ -163,26 +147,20 @@ module _ (nd bs : List ℕ) (u : IsUtf8 bs) where
   lacks_end v none front e = none (encode_utf8_all front)
       (cc (encodes-chars bs u, ap encode_utf8_all e, encodes-append front (chars nd), encodes-chars nd v))
 
-  begins-text : (b : Bool) → MatchBool b (HasPrefixMatch (FindsTextPrefix nd) bs) (FindsTextPrefix nd bs None) → IsUtf8 nd
-      → MatchBool b ((rest : List ℕ) × (chars bs ≡ chars nd ++ rest)) ((rest : List ℕ) → chars bs ≢ chars nd ++ rest)
-  begins-text true (n, (long, parts, boundary), at) v = (chars (drop n bs), (text_in_front n parts boundary long v).0)
-  begins-text false none v = lacks_front v none
-
   pub starts_with-text : (b : Bool) → MatchBool b (HasPrefixMatch (FindsTextPrefix nd) bs) (FindsTextPrefix nd bs None)
       → (IsUtf8 nd → MatchBool b ((rest : List ℕ) × (chars bs ≡ chars nd ++ rest)) ((rest : List ℕ) → chars bs ≢ chars nd ++ rest))
       × (IsLiteral nd → MatchBool b ((rest : List ℕ) × (chars bs ≡ chars nd ++ rest)) ((rest : List ℕ) → chars bs ≢ chars nd ++ rest))
-  starts_with-text b said = (begins-text b said, λ low. begins-text b said (literal-utf8 nd low))
-
-  ended-text : (b : Bool) → MatchBool b (HasSuffixMatch (FindsTextSuffix nd) bs) (FindsTextSuffix nd bs None) → IsUtf8 nd
-      → MatchBool b ((front : List ℕ) × (chars bs ≡ front ++ chars nd)) ((front : List ℕ) → chars bs ≢ front ++ chars nd)
-  ended-text true (n, (long, parts, boundary), within, cut) v =
-      (chars (take (length bs - n) bs), (text_at_end (length bs - n) parts cut).0)
-  ended-text false none v = lacks_end v none
+  starts_with-text true (n, (long, is, cut), at) =
+      (λ v. (chars (drop n bs), (text_in_front n is cut long v).0), λ low. (chars (drop n bs), (literal_in_front n is cut long low).0))
+  starts_with-text false none = (λ v. lacks_front v none, λ low. lacks_front (literal-utf8 nd low) none)
 
   pub ends_with-text : (b : Bool) → MatchBool b (HasSuffixMatch (FindsTextSuffix nd) bs) (FindsTextSuffix nd bs None)
       → (IsUtf8 nd → MatchBool b ((front : List ℕ) × (chars bs ≡ front ++ chars nd)) ((front : List ℕ) → chars bs ≢ front ++ chars nd))
       × (IsLiteral nd → MatchBool b ((front : List ℕ) × (chars bs ≡ front ++ chars nd)) ((front : List ℕ) → chars bs ≢ front ++ chars nd))
-  ends_with-text b said = (ended-text b said, λ low. ended-text b said (literal-utf8 nd low))
+  ends_with-text true (n, (long, is, boundary), within, cut) =
+      let front = chars (take (length bs - n) bs) in
+      let ends = (text_at_end (length bs - n) is cut).0 in (λ v. (front, ends), λ low. (front, ends))
+  ends_with-text false none = (λ v. lacks_end v none, λ low. lacks_end (literal-utf8 nd low) none)
 
   pub contains-text : (b : Bool) → 0 < length nd → IsUtf8 nd → MatchBool b (HasMatch (FindsText nd) bs) (FindsText nd bs None)
       → MatchBool b (Occurs (chars nd) (chars bs)) (¬ Occurs (chars nd) (chars bs))
@@ -205,28 +183,23 @@ module _ (nd bs : List ℕ) (u : IsUtf8 bs) where
     strip_suffix-none said = none_weaker P o (lacks_end (literal-utf8 nd low)) said
 
 -- what `strip_prefix` and `strip_suffix` give, at a text or a literal of any length
-module _ (o : Option (Bor (List ℕ))) (q bs : List ℕ) (u : IsUtf8 bs) where
-  module _ (said : MatchOption o (FindsTextPrefix q bs None) (λ x. StripsPrefix (FindsTextPrefix q) bs x.now)) where
-    pub strip_prefix-some : IsUtf8 q → IfSome o (λ x. chars bs ≡ chars q ++ chars x.now)
-    strip_prefix-some v = given o said where
-      given : (o : Option (Bor (List ℕ))) → MatchOption o (FindsTextPrefix q bs None) (λ x. StripsPrefix (FindsTextPrefix q) bs x.now)
-          → IfSome o (λ x. chars bs ≡ chars q ++ chars x.now)
-      given None said = tt
-      given (Some x) (n, (long, is, cut), same, ends) =
-          (text_in_front q bs u n is cut long v).0 ∙ ap (λ b. chars q ++ chars b) (sym same)
+pub strip_prefix-some : (o : Option (Bor (List ℕ))) (q bs : List ℕ) → IsUtf8 bs
+    → MatchOption o (FindsTextPrefix q bs None) (λ x. StripsPrefix (FindsTextPrefix q) bs x.now) → IsUtf8 q
+    → IfSome o (λ x. chars bs ≡ chars q ++ chars x.now)
+strip_prefix-some None q bs u said v = tt
+strip_prefix-some (Some x) q bs u (n, (long, is, cut), same, ends) v = rw same (text_in_front q bs u n is cut long v).0
 
-    pub strip_literal-some : IsLiteral q → IfSome o (λ x. chars bs ≡ chars q ++ chars x.now)
-    strip_literal-some low = strip_prefix-some (literal-utf8 q low)
+pub strip_literal-some : (o : Option (Bor (List ℕ))) (q bs : List ℕ) → IsUtf8 bs
+    → MatchOption o (FindsTextPrefix q bs None) (λ x. StripsPrefix (FindsTextPrefix q) bs x.now) → IsLiteral q
+    → IfSome o (λ x. chars bs ≡ chars q ++ chars x.now)
+strip_literal-some o q bs u said low = strip_prefix-some o q bs u said (literal-utf8 q low)
 
-  pub strip_suffix-some : MatchOption o (FindsTextSuffix q bs None) (λ x. StripsSuffix (FindsTextSuffix q) bs x.now)
-      → IfSome o (λ x. chars bs ≡ chars x.now ++ chars q)
-  strip_suffix-some said = given o said where
-    given : (o : Option (Bor (List ℕ))) → MatchOption o (FindsTextSuffix q bs None) (λ x. StripsSuffix (FindsTextSuffix q) bs x.now)
-        → IfSome o (λ x. chars bs ≡ chars x.now ++ chars q)
-    given None said = tt
-    given (Some x) (n, (long, is, cut), same, ends) =
-        (text_at_end q bs u (length bs - n) is (subst (λ k. IsCharBoundary bs (length bs - k)) (sym long) cut)).0
-        ∙ ap (λ b. chars b ++ chars q) (sym same)
+pub strip_suffix-some : (o : Option (Bor (List ℕ))) (q bs : List ℕ) → IsUtf8 bs
+    → MatchOption o (FindsTextSuffix q bs None) (λ x. StripsSuffix (FindsTextSuffix q) bs x.now)
+    → IfSome o (λ x. chars bs ≡ chars x.now ++ chars q)
+strip_suffix-some None q bs u said = tt
+strip_suffix-some (Some x) q bs u (n, (long, is, cut), same, ends) =
+    rw same (text_at_end q bs u (length bs - n) is (subst (λ k. IsCharBoundary bs (length bs - k)) (sym long) cut)).0
 
 -- where what is behind p does not end with q, the whole does not read as p, anything and q
 module _ {T : Type 0} (o : Option T) (P : T → Type 0) (p q bs rest : List ℕ) (u : IsUtf8 bs)
@@ -246,48 +219,24 @@ module _ {T : Type 0} (o : Option T) (P : T → Type 0) (p q bs rest : List ℕ)
   pub strip_literals-none : IsLiteral p → IsLiteral q → IfNone o ((m : List ℕ) → chars bs ≢ chars p ++ (m ++ chars q))
   strip_literals-none low small = strip_both-none (literal-utf8 p low) (literal-utf8 q small)
 
-pub ruleset cut_once = (
-  append-nil,
-  chars_from_encodes,
-  encodes-append,
-  encodes-chars,
-  encodes-literal,
-  char_between,
-  char_first,
-  char_nowhere,
-  char_in_front,
-  char_at_end,
-  text_between,
-  literal_between,
-  text_first,
-  text_nowhere,
-  text_in_front,
-  literal_in_front,
-  text_at_end,
-  starts_with-text,
-  ends_with-text,
-  contains-char,
-  contains-text,
-  contains-literal,
-  split_once-none,
-)
+-- a search at a character, and at a text; what is at the ends, and what was asked
+pub ruleset at_char = (char_between, char_first, char_nowhere, char_in_front, char_at_end)
+
+pub ruleset at_ends = (text_in_front, literal_in_front, text_at_end)
+
+pub ruleset at_text = (text_between, literal_between, text_first, text_nowhere, at_ends)
+
+pub ruleset asked = (starts_with-text, ends_with-text, contains-char, contains-text, contains-literal, split_once-none)
+
+pub ruleset cut_once = (append-nil, chars_from_encodes, encodes-append, encodes-chars, encodes-literal, at_char, at_text, asked)
 
 -- `strip_prefix` or `strip_suffix` at a literal, of any length: apart, since `cut_once` has no room for more
-pub ruleset stripped = (strip_prefix-some, strip_literal-some, strip_suffix-some, strip_prefix-none, strip_suffix-none)
+pub ruleset none_stripped = (strip_prefix-none, strip_suffix-none)
+
+pub ruleset stripped = (strip_prefix-some, strip_literal-some, strip_suffix-some, none_stripped)
 
 -- beside `cut_once`: where `strip_suffix` finds none behind what `strip_prefix` took
-pub ruleset stripped_both = (
-  encodes-append,
-  encodes-chars,
-  encodes-literal,
-  text_in_front,
-  literal_in_front,
-  text_at_end,
-  strip_prefix-none,
-  strip_suffix-none,
-  strip_both-none,
-  strip_literals-none,
-)
+pub ruleset stripped_both = (encodes-append, encodes-chars, encodes-literal, at_ends, none_stripped, strip_both-none, strip_literals-none)
 
 -- a text cut at several literals or texts, one after another
 pub ruleset cut_at_texts = (text_between, literal_between)
@@ -296,23 +245,15 @@ pub ruleset cut_at_texts = (text_between, literal_between)
 
 no_first : (c : ℕ) (bs : List ℕ) → 0 < c → ((rest : List ℕ) → bs ≢ c ∷ rest) → (get_or bs 0 0 == c) ≡ false
 no_first c [] some none = grind (arith, nat_tests)
-no_first c (b ∷ bs) some none = by (b == c) refl where
-  by : (t : Bool) → (b == c) ≡ t → (b == c) ≡ false
-  by true e = let same : b ≡ c = grind (arith, nat_tests) in absurd (none bs (ap (λ x. x ∷ bs) same))
-  by false e = e
+no_first c (b ∷ bs) some none = differs b c bs (none bs)
 
 no_last : (c : ℕ) (bs : List ℕ) → 0 < c → ((front : List ℕ) → bs ≢ front ++ (c ∷ [])) → (get_or bs (length bs - 1) 0 == c) ≡ false
 no_last c [] some none = grind (arith, nat_tests)
-no_last c (b ∷ bs) some none = by (get_or (b ∷ bs) (length (b ∷ bs) - 1) 0 == c) refl where
-  by : (t : Bool) → (get_or (b ∷ bs) (length (b ∷ bs) - 1) 0 == c) ≡ t → (get_or (b ∷ bs) (length (b ∷ bs) - 1) 0 == c) ≡ false
-  by true e =
-      let whole = b ∷ bs in
-      let at = length whole - 1 in
-      let same : get_or whole at 0 ≡ c = grind (arith, nat_tests) in
-      let cut = take_more whole at 0 (omega arith) in
-      let n : at + 1 ≡ length whole = omega arith in
-      absurd (none (take at whole) (sym (take-length whole) ∙ ap (λ n. take n whole) (sym n) ∙ cut ∙ ap (λ x. take at whole ++ (x ∷ [])) same))
-  by false e = e
+no_last c (b ∷ bs) some none = false_from_ne_true _ (λ e.
+    let whole = b ∷ bs in
+    let at = length whole - 1 in
+    let same : get_or whole at 0 ≡ c = grind (arith, nat_tests) in
+    none (take at whole) (cc (take_more whole at 0 (omega arith), take_all (at + 1) whole (omega arith), same)))
 
 pub begins_not : (c : ℕ) (bs : List ℕ) → 0 < c → c < 128 → ((rest : List ℕ) → bs ≢ encode_utf8 c ++ rest) → (get_or bs 0 0 == c) ≡ false
 begins_not c bs some low none = no_first c bs some (λ rest e. none rest (e ∙ ap (λ front. front ++ rest) (sym (encode_ascii c low))))

@@ -1,27 +1,16 @@
 -- Texts that std cuts into pieces, by `split`, and joins, at the level of texts.
-use Rattle.smol_str.proofs.Common.{arith, flat_map, items_from_drains, YieldsList, ◌≡◌, ℕ, ◌-◌, ◌+◌, ◌<◌, ◌≤◌, true, List, [], ◌∷◌, ◌++◌, length, map, str_text, Bor, Option, None, refl, sym, ap, ◌∙◌, subst, IsUtf8, chars, chars-nil, encode_utf8_all, encodes-append, encodes-chars, chars_from_encodes, Occurs, IsFirstAfter, joined_by, cut, no_limit, Meaning}
-use Rattle.std.specs.List.{join_by}
-use Rattle.std.specs.Str.Iter.{split_steps, split_text, split_has_more, split_pattern}
-use Rattle.std.specs.Str.Pattern.{FindsChar, FindsText}
-use Rattle.std.specs.declared.str.Split.{Split}
-use Rattle.std.proofs.lemmas.List.{drop-map, length-map, map-set, set_past, take-map}
-use Rattle.std.specs.Iterator.Adapters.{map_source, map_callee}
-use Rattle.std.specs.declared.iter.Map.{Map}
-use Rattle.smol_str.specs.Meaning.{texts, IsValueOf}
+use Rattle.smol_str.proofs.Common.{arith, flat_map, items_from_drains, YieldsList, ◌≡◌, ℕ, ◌-◌, ◌+◌, ◌<◌, ◌≤◌, true, List, [], ◌∷◌, ◌++◌, length, map, str_text, Bor, Option, None, refl, sym, ap, ◌∙◌, subst, IsUtf8, chars, chars-nil, encode_utf8_all, encodes-append, encodes-chars, chars_from_encodes, Occurs, IsFirstAfter, joined_by, cut, no_limit, Meaning, All, All-cons, All-head}
+use Rattle.smol_str.proofs.Common.{All-nil, All-tail, IfSome, Result, append_assoc, but_last, get_or}
+use Rattle.smol_str.proofs.CallerLemmas.Common.{join_by, last_or, split_steps, split_text, split_has_more, split_pattern, FindsChar, FindsText, Split, drop-map, length-map, map-set, set_past, take-map, get_or-map, map_source, map_callee, Map, texts, IsValueOf, ◌≢◌, Yields}
 use Rattle.smol_str.specs.Text.{place_of}
-use Rattle.smol_str.proofs.Common.{All, All-cons, All-head, All-nil, All-tail, IfSome, Result, append_assoc, but_last, get_or}
-use Rattle.std.proofs.Common.{◌≢◌}
-use Rattle.std.proofs.lemmas.List.{get_or-map}
 use Rattle.smol_str.proofs.TextLemmas.Places.{some_char}
-use Rattle.std.specs.List.{last_or}
 use Rattle.smol_str.proofs.CutLemmas.Cut.{IsCut-cut}
-use Rattle.smol_str.proofs.CallerLemmas.Loops.{AreOk, MapsBy, collected_oks, mapped, oks, texts_made}
+use Rattle.smol_str.proofs.CallerLemmas.Loops.{AreOk, MapsBy, collected_oks, mapped, oks}
 use Rattle.smol_str.proofs.CallerLemmas.Values.{map-texts}
 use Rattle.smol_str.proofs.CallerLemmas.Texts.{IsLiteral, IsUtf8-one, chars-cons, literal-utf8}
 use Rattle.smol_str.proofs.CallerLemmas.Wire.{items}
 use Rattle.smol_str.proofs.CutLemmas.Replace.{few_pieces, replaced-itself}
 use Rattle.smol_str.proofs.PieceLemmas.{gives-split, gives-split_at}
-use Rattle.std.specs.Iterator.{Yields}
 
 -- ---- a loop over `split` that makes a value of each piece, where `AreValuesOf (map str_text l.yielded) l.values.items`
 
@@ -71,7 +60,20 @@ pub split_at_literal : {steps : Split (Bor (List ℕ)) → Option (Bor (List ℕ
 split_at_literal xs s t bs nd runs ends f more text is u low some =
     (split_at_text xs s t runs ends f more).1 bs nd text is u (literal-utf8 nd low) some
 
--- the pieces where `map` and `try_collect` make the values, at a character
+-- the pieces where `map` and `try_collect` make the values
+tried_pieces : {S F E : Type 0} (steps : S → Option (Bor (List ℕ)) → S → Type 0) (more : Map S F → Option (Result Meaning E) → Map S F → Type 0)
+    (rs : List (Result Meaning E)) (s t : Map S F) → Yields more s rs t → ((u : Map S F) × more t None u)
+    → MapsBy steps (λ bs v. IsValueOf (chars bs) v) more (map_callee s)
+    → ((p q : Map S F) → more p None q → steps (map_source p) None (map_source q)) → AreOk rs
+    → ((ps : List (List ℕ)) → YieldsList steps str_text (map_source s) ps → texts (oks rs) ≡ ps) × All (λ v. v.place ≡ place_of v.text) (oks rs)
+tried_pieces steps more rs s t run ends by last all =
+    let made = mapped steps (λ bs v. IsValueOf (chars bs) v) (λ v. v.text) chars (λ v. v.place ≡ place_of v.text)
+    (λ bs v is. (is.text, is.place ∙ ap place_of (sym is.text))) more (map_callee s) rs s t run refl by all in (
+      λ ps gives. made.2 ∙ items_from_drains made.0 (map_source t, made.1, λ _. (map_source ends.0, last t ends.0 ends.1)) gives,
+      made.3,
+    )
+
+-- at a character
 pub tried_at_char : {F E : Type 0} (more : Map (Split ℕ) F → Option (Result Meaning E) → Map (Split ℕ) F → Type 0)
     (rs : List (Result Meaning E)) (s t : Map (Split ℕ) F) → Yields more s rs t → ((u : Map (Split ℕ) F) × more t None u)
     → MapsBy (split_steps FindsChar (λ a b. b ≡ a)) (λ bs v. IsValueOf (chars bs) v) more (map_callee s)
@@ -81,16 +83,10 @@ pub tried_at_char : {F E : Type 0} (more : Map (Split ℕ) F → Option (Result 
     → texts (oks rs) ≡ cut (chars bs) (c ∷ []) (no_limit (chars bs)))
     × All (λ v. v.place ≡ place_of v.text) (oks rs)
 tried_at_char more rs s t run ends by last live all =
-    let made = mapped (split_steps FindsChar (λ a b. b ≡ a)) (λ bs v. IsValueOf (chars bs) v) more (map_callee s) rs s t run refl by all in
-    let values = texts_made made.0 (oks rs) made.2 in (
-      refl,
-      λ bs c text is u. values.text
-          ∙ (are_pieces (split_steps FindsChar (λ a b. b ≡ a)) made.0 (map_source s) (map_source t) (chars bs) (c ∷ []) made.1
-          (map_source ends.0, last t ends.0 ends.1) (gives-split_at c bs (λ s o t h. h) u text live is)).0,
-      values.place,
-    )
+    let made = tried_pieces (split_steps FindsChar (λ a b. b ≡ a)) more rs s t run ends by last all in
+    (refl, λ bs c text is u. made.0 _ (gives-split_at c bs (λ s o t h. h) u text live is), made.1)
 
--- the pieces where `map` and `try_collect` make the values, at a text
+-- and at a text
 pub tried_at_text : {F E : Type 0} (more : Map (Split (Bor (List ℕ))) F → Option (Result Meaning E) → Map (Split (Bor (List ℕ))) F → Type 0)
     (rs : List (Result Meaning E)) (s t : Map (Split (Bor (List ℕ))) F) → Yields more s rs t → ((u : Map (Split (Bor (List ℕ))) F) × more t None u)
     → MapsBy (split_steps (λ (n : Bor (List ℕ)). FindsText n.now) (λ n m. m.now ≡ n.now)) (λ bs v. IsValueOf (chars bs) v) more (map_callee s)
@@ -100,15 +96,8 @@ pub tried_at_text : {F E : Type 0} (more : Map (Split (Bor (List ℕ))) F → Op
     → texts (oks rs) ≡ cut (chars bs) (chars nd) (no_limit (chars bs)))
     × All (λ v. v.place ≡ place_of v.text) (oks rs)
 tried_at_text more rs s t run ends by last live all =
-    let steps = split_steps (λ (n : Bor (List ℕ)). FindsText n.now) (λ n m. m.now ≡ n.now) in
-    let made = mapped steps (λ bs v. IsValueOf (chars bs) v) more (map_callee s) rs s t run refl by all in
-    let values = texts_made made.0 (oks rs) made.2 in (
-      refl,
-      λ bs nd text is u v some. values.text
-          ∙ (are_pieces steps made.0 (map_source s) (map_source t) (chars bs) (chars nd) made.1 (map_source ends.0, last t ends.0 ends.1)
-          (gives-split (split_pattern (map_source s)) bs nd (λ s o t h. h) u v some is text live refl)).0,
-      values.place,
-    )
+    let made = tried_pieces (split_steps (λ (n : Bor (List ℕ)). FindsText n.now) (λ n m. m.now ≡ n.now)) more rs s t run ends by last all in
+    (refl, λ bs nd text is u v some. made.0 _ (gives-split (split_pattern (map_source s)) bs nd (λ s o t h. h) u v some is text live refl), made.1)
 
 -- joined where they were cut
 pub joined-cut : (p t : List ℕ) (n : ℕ) → joined_by p (cut t p n) ≡ t
@@ -116,12 +105,7 @@ joined-cut p t n = replaced-itself t p n
 
 -- what the text was cut at occurs in no piece
 pub first-lacks : (p q : List ℕ) → IsFirstAfter p q → ¬ Occurs p q
-first-lacks p q first (a, r, e) = first (
-  a,
-  r ++ but_last p,
-  ap (λ t. t ++ but_last p) e ∙ append_assoc a (p ++ r) (but_last p)
-      ∙ ap (λ t. a ++ t) (append_assoc p r (but_last p)),
-)
+first-lacks p q first (a, r, e) = first (a, r ++ but_last p, rw e (simp append_assoc))
 
 all_lack : (p : List ℕ) (pieces : List (List ℕ)) → 1 ≤ length pieces → All (λ q. IsFirstAfter p q) (but_last pieces)
     → IfSome (last_or None pieces) (λ q. ¬ Occurs p q) → All (λ q. ¬ Occurs p q) pieces
@@ -135,9 +119,8 @@ pub pieces-lack : (t p : List ℕ) → 0 < length p → All (λ q. ¬ Occurs p q
 pieces-lack t [] some = absurd (omega arith)
 pieces-lack t (c ∷ p) some =
     let h = IsCut-cut t (c ∷ p) (no_limit t) in
-    let few : length (cut t (c ∷ p) (no_limit t)) < no_limit t + 1 =
-    omega (arith, few_pieces (c ∷ p) (cut t (c ∷ p) (no_limit t)) (omega arith), ap length h.joined) in
-    all_lack (c ∷ p) (cut t (c ∷ p) (no_limit t)) h.some h.first (h.complete few)
+    let few = few_pieces (c ∷ p) (cut t (c ∷ p) (no_limit t)) (omega arith) in
+    all_lack (c ∷ p) _ h.some h.first (h.complete (omega (arith, few, ap length h.joined)))
 
 -- so of values that are these pieces: at a character, and at a text, which may be a literal of ASCII
 module _ (values : List Meaning) (k : ℕ) (d : Meaning) (a r : List ℕ) (within : k < length values) where
@@ -176,33 +159,11 @@ module _ (p : List ℕ) (u : IsUtf8 p) where
 -- no piece of a cut has what it was cut at
 pub ruleset pieces_lack = (char_lacked, text_lacked, literal_lacked)
 
-pub ruleset cutting = (
-  items,
-  chars-cons,
-  chars-nil,
-  split_at_char,
-  split_at_text,
-  split_at_literal,
-  IsUtf8-one,
-  tried_at_char,
-  tried_at_text,
-  collected_oks,
-)
+pub ruleset all_split = (split_at_char, split_at_text, split_at_literal)
+
+pub ruleset cutting = (items, chars-cons, chars-nil, all_split, IsUtf8-one, tried_at_char, tried_at_text, collected_oks)
 
 -- values joined, also those that a text was cut into, and some of them, or with one changed
-pub ruleset joining = (
-  IsUtf8-one,
-  chars-cons,
-  chars-nil,
-  map-set,
-  take-map,
-  drop-map,
-  length-map,
-  map-texts,
-  set_past,
-  joined-cut,
-  joined-bytes,
-  chars_from_encodes,
-  encodes-append,
-  encodes-chars,
-)
+pub ruleset changed_lists = (map-set, take-map, drop-map, length-map, map-texts, set_past)
+
+pub ruleset joining = (IsUtf8-one, chars-cons, chars-nil, changed_lists, joined-cut, joined-bytes, chars_from_encodes, encodes-append, encodes-chars)

@@ -1,32 +1,15 @@
 -- Loops over what std's iterators lend, and what `map` and `try_collect` make of it.
-use Rattle.smol_str.proofs.Common.{Bool, cond, subst, Ok, Err, IfOk, refl, sym, ◌≡◌, Some, None, ap, ◌∙◌, Result, Option, Bor, true, ◌<◌, ◌+◌, ℕ, arith, ◌≤◌, nat_tests, nat_eq}
-use Rattle.smol_str.proofs.Common.{get_or, take, map, List, [], ◌∷◌, ◌++◌, length, length-append, append-nil, append_assoc, items_from_drains, FoldsTo, All-nil, All-cons, YieldsList-from_chars, map-id, All, YieldsList, YieldsList-from_slice, flat_map, length-map, nil_from_length, take_all, take_more, pointwise, encode_utf8_all, chars, IsUtf8, encode_utf8, chars-nil}
-use Rattle.smol_str.proofs.Common.{Meaning, IsValueOf, place_of, str_text, size}
+use Rattle.smol_str.proofs.Common.{Bool, cond, Ok, Err, IfOk, refl, sym, ◌≡◌, Some, None, ap, ◌∙◌, Result, Option, Bor, true, ◌<◌, ◌+◌, ℕ, arith, ◌≤◌, nat_tests, nat_eq, get_or, take, map, List, [], ◌∷◌, ◌++◌, length, length-append, append-nil, append_assoc, items_from_drains, FoldsTo, All-nil, All-cons, YieldsList-from_chars, map-id, All, YieldsList, YieldsList-from_slice, flat_map}
+use Rattle.smol_str.proofs.Common.{length-map, nil_from_length, take_all, take_more, pointwise, encode_utf8_all, chars, IsUtf8, encode_utf8, chars-nil, Meaning, size, map-append}
+use Rattle.smol_str.proofs.CallerLemmas.Common.{texts, Vec, Yields, AlwaysYields, map_source, map_callee, enumerate_source, enumerate_count, enumerate_from, filter, fold, chars_rest, chars_steps, lines_rest, lines_steps, Chars, iter_rest, iter_steps, Iter, lines, YieldsList-from_lines, fold-append, flat_map-append, filter-append, filter_map-append, filter_more, get_or-map, map-map, Map}
 use Rattle.smol_str.proofs.CallerLemmas.Builders.{size-cons}
 use Rattle.smol_str.proofs.BuilderLemmas.State.{appended-twice, OnHeap-long}
-use Rattle.smol_str.specs.Meaning.{AreValuesOf, texts}
-use Rattle.std.specs.Prelude.{Vec}
 use Rattle.std.specs.Vec.{vec_items}
-use Rattle.std.specs.List.{AllZip}
-use Rattle.std.specs.Iterator.{Yields, AlwaysYields}
-use Rattle.std.specs.Iterator.Adapters.{map_source, map_callee, enumerate_source, enumerate_count}
 use Rattle.std.specs.declared.iter.Enumerate.{Enumerate}
-use Rattle.std.specs.List.{enumerate_from, filter, fold}
-use Rattle.std.specs.Str.Iter.{chars_rest, chars_steps, lines_rest, lines_steps}
-use Rattle.std.specs.declared.str.Chars.{Chars}
 use Rattle.smol_str.proofs.TextLemmas.Places.{size-append, size-chars}
-use Rattle.std.specs.Slice.Iter.{iter_rest, iter_steps}
-use Rattle.std.specs.declared.slice.Iter.{Iter}
-use Rattle.std.specs.Str.Lines.{lines}
 use Rattle.std.specs.declared.str.Lines.{Lines}
-use Rattle.std.proofs.lemmas.Iterator.Splits.{YieldsList-from_lines}
-use Rattle.std.proofs.lemmas.Grind.{fold-append, flat_map-append}
-use Rattle.std.proofs.lemmas.List.Elements.{filter-append, filter_map-append, filter_more}
-use Rattle.std.proofs.lemmas.List.{get_or-map}
 use Rattle.smol_str.proofs.CallerLemmas.Texts.{chars-cons, same_bytes}
-use Rattle.smol_str.proofs.Common.{map-append}
 use Rattle.smol_str.proofs.IteratorLemmas.{weaker}
-use Rattle.std.specs.declared.iter.Map.{Map}
 
 -- ---- what `map` and `try_collect` make of what an iterator lends
 
@@ -42,28 +25,16 @@ AreOk (Ok y ∷ rs) = AreOk rs
 AreOk (Err e ∷ rs) = ⊥
 
 -- what was collected are the values that the items held
-module _ {A E Z : Type 0} (adds : Vec A Z → Result A E → Vec A Z → Type 0)
-    (one : (p : Vec A Z) (r : Result A E) (q : Vec A Z) → adds p r q → (y : A) × (Ok y ≡ r) × (vec_items q ≡ vec_items p ++ y ∷ [])) where
-  held : (rs : List (Result A E)) (b w : Vec A Z) → FoldsTo adds b rs w → AreOk rs × (vec_items w ≡ vec_items b ++ oks rs)
-  held [] b w e = (tt, ap vec_items (sym e) ∙ sym (append-nil (vec_items b)))
-  held (Ok y ∷ rs) b w (j, added, rest) =
-      let others = held rs j w rest in
-      let this = one b (Ok y) j added in
-      let same : this.0 ≡ y = cc this.1 in
-      (others.0, others.1 ∙ ap (λ l. l ++ oks rs) (cc (this.2, same)) ∙ append_assoc (vec_items b) (y ∷ []) (oks rs))
-  held (Err e ∷ rs) b w (j, added, rest) = let this = one b (Err e) j added in absurd (cc this.1)
-
 pub collected_oks : {A E Z : Type 0} {adds : Vec A Z → Result A E → Vec A Z → Type 0} (rs : List (Result A E)) (b w : Vec A Z)
     → FoldsTo adds b rs w
     → ((p : Vec A Z) (r : Result A E) (q : Vec A Z) → adds p r q → (y : A) × (Ok y ≡ r) × (vec_items q ≡ vec_items p ++ y ∷ []))
     → (FoldsTo adds b rs w ≡ FoldsTo adds b rs w) × AreOk rs × (vec_items w ≡ vec_items b ++ oks rs)
-collected_oks {adds = adds} rs b w folds one = let h = held adds one rs b w folds in (refl, h.0, h.1)
-
-made_all : {A C : Type 0} (R : C → Type 0) (xs : List A) (cs : List C) → AllZip (λ x c. R c) xs cs → All R cs
-made_all R [] [] h = All-nil R
-made_all R [] (c ∷ cs) h = absurd h
-made_all R (x ∷ xs) [] h = absurd h
-made_all R (x ∷ xs) (c ∷ cs) h = All-cons R c cs h.0 (made_all R xs cs h.1)
+collected_oks [] b w same one = (refl, tt, ap vec_items (sym same) ∙ sym (append-nil (vec_items b)))
+collected_oks (Ok y ∷ rs) b w (j, added, rest) one =
+    let others = collected_oks rs j w rest one in
+    let this = one b (Ok y) j added in
+    (refl, others.1, cc (others.2, this.1, this.2, append_assoc (vec_items b) (y ∷ []) (oks rs)))
+collected_oks (Err e ∷ rs) b w (j, added, rest) one = let this = one b (Err e) j added in absurd (cc this.1)
 
 -- those of a `map`, whose step is one of its source, and gives of what is lent what P says
 module _ {S F A C E : Type 0} (steps : S → Option (Bor A) → S → Type 0) (P : A → C → Type 0) where
@@ -71,38 +42,25 @@ module _ {S F A C E : Type 0} (steps : S → Option (Bor A) → S → Type 0) (P
   MapsBy more f = (p : Map S F) (r : Result C E) (q : Map S F) → more p (Some r) q → map_callee p ≡ f
       → (x : Bor A) × steps (map_source p) (Some x) (map_source q) × (map_callee q ≡ f) × IfOk r (λ c. P x.now c)
 
-  pub mapped : (more : Map S F → Option (Result C E) → Map S F → Type 0) (f : F) (rs : List (Result C E)) (s t : Map S F)
-      → Yields more s rs t → map_callee s ≡ f → MapsBy more f → AreOk rs
-      → (xs : List (Bor A)) × Yields steps (map_source s) xs (map_source t) × AllZip P (map (λ x. x.now) xs) (oks rs)
-  mapped more f [] s t same e by all = ([], ap map_source same, tt)
-  mapped more f (Ok c ∷ rs) s t (j, on, run) e by all =
-      let this = by s (Ok c) j on e in
-      let others = mapped more f rs j t run this.2 by all in
-      (this.0 ∷ others.0, (map_source j, this.1, others.1), (this.3, others.2))
-  mapped more f (Err x ∷ rs) s t run e by all = absurd all
+  -- so w reads of them what h says of what was lent, and R holds of each
+  module _ {D : Type 0} (w : C → D) (h : A → D) (R : C → Type 0) (tells : (y : A) (c : C) → P y c → (w c ≡ h y) × R c) where
+    pub mapped : (more : Map S F → Option (Result C E) → Map S F → Type 0) (f : F) (rs : List (Result C E)) (s t : Map S F)
+        → Yields more s rs t → map_callee s ≡ f → MapsBy more f → AreOk rs
+        → (xs : List (Bor A)) × Yields steps (map_source s) xs (map_source t) × (map w (oks rs) ≡ map (λ x. h x.now) xs) × All R (oks rs)
+    mapped more f [] s t same e by all = ([], ap map_source same, refl, All-nil R)
+    mapped more f (Ok c ∷ rs) s t (j, on, run) e by all =
+        let this = by s (Ok c) j on e in
+        let others = mapped more f rs j t run this.2 by all in
+        let told = tells this.0.now c this.3 in
+        (this.0 ∷ others.0, (map_source j, this.1, others.1), cc (told.0, others.2), All-cons R c (oks rs) told.1 others.3)
+    mapped more f (Err x ∷ rs) s t run e by all = absurd all
 
 -- each of them is as R says
 pub all_tried : {S F A C E : Type 0} (steps : S → Option (Bor A) → S → Type 0) (R : C → Type 0)
     (more : Map S F → Option (Result C E) → Map S F → Type 0) (rs : List (Result C E)) (s t : Map S F) → Yields more s rs t
     → AreOk rs → MapsBy steps (λ x c. R c) more (map_callee s) → All R (oks rs)
-all_tried steps R more rs s t run all by = made_all R _ (oks rs) (mapped steps (λ x c. R c) more (map_callee s) rs s t run refl by all).2
-
-pub texts_made : (xs : List (Bor (List ℕ))) (vs : List Meaning) → AllZip (λ bs v. IsValueOf (chars bs) v) (map (λ x. x.now) xs) vs
-    → AreValuesOf (map str_text xs) vs
-texts_made [] [] h = record { text = refl; place = All-nil (λ v. v.place ≡ place_of v.text) }
-texts_made [] (v ∷ vs) h = absurd h
-texts_made (x ∷ xs) [] h = absurd h
-texts_made (x ∷ xs) (v ∷ vs) (this, others) =
-    let rest = texts_made xs vs others in record {
-      text = cc (this.text, rest.text);
-      place = All-cons (λ v. v.place ≡ place_of v.text) v vs (this.place ∙ ap place_of (sym this.text)) rest.place;
-    }
-
-made_same : {A C D : Type 0} (w : C → D) (h : A → D) (ys : List A) (cs : List C) → AllZip (λ y c. w c ≡ h y) ys cs → map w cs ≡ map h ys
-made_same w h [] [] same = refl
-made_same w h [] (c ∷ cs) same = absurd same
-made_same w h (y ∷ ys) [] same = absurd same
-made_same w h (y ∷ ys) (c ∷ cs) same = cc (same.0, made_same w h ys cs same.1)
+all_tried steps R more rs s t run all by =
+    (mapped steps (λ x c. R c) (λ c. tt {0}) (λ x. tt {0}) R (λ y c holds. (refl, holds)) more (map_callee s) rs s t run refl by all).3
 
 -- of a source that gives ys, where what w reads of each thing that is made is h of its item
 tried : {S F A C D E : Type 0} (steps : S → Option (Bor A) → S → Type 0) (ys : List A)
@@ -110,10 +68,10 @@ tried : {S F A C D E : Type 0} (steps : S → Option (Bor A) → S → Type 0) (
     → YieldsList steps (λ x. x.now) (map_source s) ys → Yields more s rs t → ((u : Map S F) × more t None u)
     → ((p q : Map S F) → more p None q → steps (map_source p) None (map_source q)) → AreOk rs
     → MapsBy steps (λ y c. w c ≡ h y) more (map_callee s) → map w (oks rs) ≡ map h ys
-tried steps ys more rs s t w h gives run ends last all by =
-    let made = mapped steps (λ y c. w c ≡ h y) more (map_callee s) rs s t run refl by all in
+tried {A = A} steps ys more rs s t w h gives run ends last all by =
+    let made = mapped steps (λ y c. w c ≡ h y) w h (λ c. Unit {0}) (λ y c same. (same, tt)) more (map_callee s) rs s t run refl by all in
     let them = items_from_drains made.0 (map_source t, made.1, λ _. (map_source ends.0, last t ends.0 ends.1)) gives in
-    made_same w h (map (λ x. x.now) made.0) (oks rs) made.2 ∙ ap (map h) them
+    made.2 ∙ sym (map-map h (λ (x : Bor A). x.now) made.0) ∙ ap (map h) them
 
 -- a loop over the lines of a text, and `map` and `try_collect` of them
 pub lines_yielded : {steps : Lines → Option (Bor (List ℕ)) → Lines → Type 0} (xs : List (Bor (List ℕ))) (s t : Lines)
@@ -145,25 +103,16 @@ module _ {A : Type 0} (steps : Enumerate Lines → Option A → Enumerate Lines 
     (last : (s t : Enumerate Lines) → steps s None t → lines_steps (enumerate_source s) None (enumerate_source t))
     (g : A → ℕ × List ℕ)
     (by : (s : Enumerate Lines) (x : A) (t : Enumerate Lines) → steps s (Some x) t → IsNumbered s (g x) t) where
-  number_each : (s : Enumerate Lines) (ys : List (List ℕ)) → AlwaysYields lines_steps (λ x. x.now) (enumerate_source s) ys
-      → AlwaysYields steps g s (enumerate_from (enumerate_count s) ys)
-  number_each s [] h = λ x t step. h (as_lent s (g x).1) (enumerate_source t) (by s x t step).2
-  number_each s (y ∷ ys) h = (
+  number_each : (n : ℕ) (s : Enumerate Lines) (ys : List (List ℕ)) → enumerate_count s ≡ n
+      → AlwaysYields lines_steps (λ x. x.now) (enumerate_source s) ys → AlwaysYields steps g s (enumerate_from n ys)
+  number_each n s [] at h = λ x t step. h (as_lent s (g x).1) (enumerate_source t) (by s x t step).2
+  number_each n s (y ∷ ys) at h = (
     λ t step. h.0 (enumerate_source t) (last s t step),
     λ x t step.
         let this = by s x t step in
-        let rest = h.1 (as_lent s (g x).1) (enumerate_source t) this.2 in (
-          λ i. (this.0 i, rest.0 i),
-          subst (λ n. AlwaysYields steps g t (enumerate_from n ys)) this.1 (number_each t ys rest.1),
-        ),
+        let rest = h.1 (as_lent s (g x).1) (enumerate_source t) this.2 in
+        ((λ i. ((this.0 ∙ at) i, rest.0 i)), number_each (n + 1) t ys (this.1 ∙ ap (λ m. m + 1) at) rest.1),
   )
-
-  all_numbered : (s : Enumerate Lines) → enumerate_count s ≡ 0
-      → YieldsList steps g s (enumerate_from 0 (lines (lines_rest (enumerate_source s))))
-  all_numbered s first =
-      let rest = lines_rest (enumerate_source s) in
-      subst (λ n. YieldsList steps g s (enumerate_from n (lines rest))) first
-      (record { runs = number_each s (lines rest) (YieldsList-from_lines rest refl).runs })
 
 pub lines_numbered : {A : Type 0} (steps : Enumerate Lines → Option A → Enumerate Lines → Type 0) (xs : List A)
     (s t : Enumerate Lines) → Yields steps s xs t → ((u : Enumerate Lines) × steps t None u) → enumerate_count s ≡ 0
@@ -172,20 +121,17 @@ pub lines_numbered : {A : Type 0} (steps : Enumerate Lines → Option A → Enum
     → ((s t : Enumerate Lines) → steps s None t → lines_steps (enumerate_source s) None (enumerate_source t))
     → ((s : Enumerate Lines) (x : A) (t : Enumerate Lines) → steps s (Some x) t → IsNumbered s (g x) t)
     → map g xs ≡ enumerate_from 0 (lines (lines_rest (enumerate_source s))))
-lines_numbered steps xs s t run ends first =
-    (refl, λ g last by. items_from_drains xs (t, run, λ _. ends) (all_numbered steps last g by s first))
+lines_numbered steps xs s t run ends first = (
+  refl,
+  λ g last by.
+      let rest = lines_rest (enumerate_source s) in
+      let gives : YieldsList steps g s (enumerate_from 0 (lines rest)) =
+      record { runs = number_each steps last g by 0 s (lines rest) first (YieldsList-from_lines rest refl).runs } in
+      items_from_drains xs (t, run, λ _. ends) gives,
+)
 
 -- a loop whose invariant folds, maps or filters what was yielded goes on by `fold-append` and the like
-pub ruleset by_line = (
-  lines_yielded,
-  lines_tried,
-  lines_numbered,
-  collected_oks,
-  map-append,
-  filter_map-append,
-  append-nil,
-  fold-append,
-)
+pub ruleset by_line = (lines_yielded, lines_tried, lines_numbered, collected_oks, map-append, filter_map-append, append-nil, fold-append)
 
 -- a loop over the characters of a text: all of them at its end, and in it no more than all
 module _ {steps : Chars → Option ℕ → Chars → Type 0} (xs : List ℕ) (s t : Chars) (run : Yields steps s xs t)
@@ -210,16 +156,8 @@ module _ {steps : Chars → Option ℕ → Chars → Type 0} (xs : List ℕ) (s 
   chars_begun = (
     refl,
     λ bs w c rest u next.
-        omega (
-          arith,
-          size-append xs (c ∷ []),
-          ap length (append-nil (encode_utf8 c)),
-          size-chars bs u,
-          ap length (sym rest ∙ read_off xs s run),
-          ap length next,
-          length-append (encode_utf8_all xs) (chars_rest t),
-          length-append (encode_utf8 c) w,
-        ),
+        let read = ap length (sym rest ∙ read_off xs s run ∙ ap (λ b. encode_utf8_all xs ++ b) next) in
+        omega (arith, size-append xs (c ∷ []), ap length (append-nil (encode_utf8 c)), size-chars bs u, read, length-append {A = ℕ}),
   )
 
 pub ruleset by_char = (arith, chars_yielded, chars_begun, appended-twice, OnHeap-long, size-cons, size-append)
@@ -234,20 +172,10 @@ flat_map-push f xs x = flat_map-append f xs (x ∷ []) ∙ ap (λ l. flat_map f 
 pub filter-push : {X : Type 0} (p : X → Bool) (xs : List X) (x : X) → filter p (xs ++ x ∷ []) ≡ filter p xs ++ cond (p x) (x ∷ []) []
 filter-push p xs x = filter-append p xs (x ∷ [])
 
+pub ruleset pushes = (fold-push, flat_map-push, filter-push)
+
 -- a loop over characters that pushes some, or something for each
-pub ruleset by_char_some = (
-  chars_yielded,
-  fold-push,
-  flat_map-push,
-  filter-push,
-  appended-twice,
-  append-nil,
-  append_assoc,
-  nil_from_length,
-  chars-cons,
-  chars-nil,
-  nat_tests,
-)
+pub ruleset by_char_some = (chars_yielded, pushes, appended-twice, append-nil, append_assoc, nil_from_length, chars-cons, chars-nil, nat_tests)
 
 -- and of the items of a slice
 pub items_tried : {A F C D E : Type 0} (more : Map (Iter A) F → Option (Result C E) → Map (Iter A) F → Type 0) (rs : List (Result C E))
@@ -272,9 +200,7 @@ texts_more vs i = (
   refl,
   λ v within at.
       let long : i < length (texts vs) = omega (arith, within, length-map vs (λ (v : Meaning). v.text)) in
-      take_more (texts vs) i v.text long
-      ∙ ap (λ (t : List ℕ). take i (texts vs) ++ t ∷ [])
-      (get_or-map (λ (v : Meaning). v.text) vs i v v.text within ∙ ap (λ (v : Meaning). v.text) (sym at)),
+      cc (take_more (texts vs) i v.text long, get_or-map (λ (v : Meaning). v.text) vs i v v.text within, at),
 )
 
 pub texts_all : (vs : List Meaning) (n : ℕ) → n ≡ length vs → take n (texts vs) ≡ texts vs
@@ -286,8 +212,6 @@ pub ruleset by_text = (texts_more, texts_all, fold-push, same_bytes)
 pub same_front : (vs ws : List Meaning) (i : ℕ) (v w : Meaning) → take i (texts vs) ≡ take i (texts ws) → i < length vs → i < length ws
     → v ≡ get_or vs i v → w ≡ get_or ws i w → pointwise nat_eq v.text w.text ≡ true → take (i + 1) (texts vs) ≡ take (i + 1) (texts ws)
 same_front vs ws i v w front left right at there same =
-    (texts_more vs i).1 v left at
-    ∙ ap (λ l. l ++ v.text ∷ []) front ∙ ap (λ (t : List ℕ). take i (texts ws) ++ t ∷ []) (same_bytes v.text w.text same)
-    ∙ sym ((texts_more ws i).1 w right there)
+    cc ((texts_more vs i).1 v left at, front, same_bytes v.text w.text same, (texts_more ws i).1 w right there)
 
 pub ruleset side_by_side = (same_front)

@@ -1,23 +1,13 @@
 -- Maps with values as keys, at texts.
-use Rattle.smol_str.proofs.Common.{◌≡◌, ◌∙◌, Bor, Option, None, Some, Bool, true, false, cond, refl, sym, ap, option_map, if◌then◌else◌, rules, ◌+◌, ◌≤◌, ℕ, false≢true, arith, false_from_ne_true, nat_cmp, ◌++◌, List, [], ◌∷◌, length, length-map, map, take, get_or, common_steps, bytes_eq, slice_cmp}
-use Rattle.smol_str.proofs.Common.{IsUtf8, chars, encodes-chars, encodes_same, encode_utf8_all, Meaning}
-use Rattle.std.proofs.Common.{set, ◌||◌}
-use Rattle.std.proofs.lemmas.List.{take_more_set, take-map, take-set-le}
+use Rattle.smol_str.proofs.Common.{◌≡◌, ◌∙◌, Bor, Option, None, Some, Bool, true, false, cond, refl, sym, ap, option_map, if◌then◌else◌, rules, ◌+◌, ◌≤◌, ℕ, false≢true, arith, false_from_ne_true, nat_cmp, ◌++◌, List, [], ◌∷◌, length, length-map, map, take, get_or, common_steps, bytes_eq, slice_cmp, IsUtf8, chars, encodes-chars, encodes_same, encode_utf8_all, Meaning}
+use Rattle.smol_str.proofs.CallerLemmas.Common.{set, ◌||◌, take_more_set, take-map, take-set-le, Vec, is_eq, eq_by_cmp, list_any, texts, lookup, KeepsOthers, option_copied, option_or, bytes_eq-Decides, value_at, ordered_value_at, innermost, entry_lists, same_key, stands_for, with_entry, entry_texts, list_any-append}
 use Rattle.std.specs.BTreeMap.{BTreeMap, is_at}
 use Rattle.std.specs.HashMap.{HashMap}
-use Rattle.std.specs.Prelude.{Vec}
-use Rattle.std.specs.Ordering.{is_eq, eq_by_cmp}
 use Rattle.std.specs.declared.cmp.Ordering.{Ordering}
 use Rattle.indexmap.specs.IndexMap.{IndexMap, insert_entry}
-use Rattle.std.specs.List.{list_any}
-use Rattle.smol_str.specs.Meaning.{texts}
-use Rattle.smol_str.proofs.CallerLemmas.Values.{texts-push}
-use Rattle.std.specs.Map.{lookup, KeepsOthers}
-use Rattle.std.specs.Option.{option_copied, option_or}
+use Rattle.smol_str.proofs.CallerLemmas.Values.{list_any-map, texts-push}
 use Rattle.std.proofs.lemmas.Map.Text.{is_eq-slice_cmp}
-use Rattle.std.proofs.lemmas.Slice.Eq.{bytes_eq-Decides}
 use Rattle.smol_str.specs.declared.value.place.Place.TheVariants.{Inline}
-use Rattle.smol_str.specs.Keys.{value_at, ordered_value_at, innermost, entry_lists, same_key, stands_for, with_entry, entry_texts}
 
 -- ---- maps with values as keys
 
@@ -59,53 +49,47 @@ stands_for-other bs t other u =
 
 pub ruleset updates = (text-kept, same_key-other, text-kept_ordered, same_text-other, stands_for-other)
 
--- so a look-up by a `&str` is one of its text, in the entries seen as texts
+-- a look-up by a key is one of its text, in the entries seen as texts; so is one by a `&str`
+lookup-keyed : {V W : Type 0} (g : V → W) (t : List ℕ) (es : List (Meaning × V))
+    → option_map g (lookup (λ key. bytes_eq t key.text) es) ≡ lookup (bytes_eq t) (entry_texts g es)
+lookup-keyed g t [] = refl
+lookup-keyed g t (e ∷ es) = search (rules, lookup-keyed g t es)
+
+stands_for-is : (bs : List ℕ) → IsUtf8 bs → stands_for bs ≡ (λ key. bytes_eq (chars bs) key.text)
+stands_for-is bs u = λ i key. stands_for-text bs key u i
+
+found-at : {V : Type 0} (bs : List ℕ) (es : List (Meaning × V)) → IsUtf8 bs
+    → lookup (stands_for bs) es ≡ lookup (λ key. bytes_eq (chars bs) key.text) es
+found-at bs es u = ap (λ (test : Meaning → Bool). lookup test es) (stands_for-is bs u)
+
 pub lookup-stands_for : {V W : Type 0} (g : V → W) (bs : List ℕ) (es : List (Meaning × V)) → IsUtf8 bs
     → option_map g (lookup (stands_for bs) es) ≡ lookup (bytes_eq (chars bs)) (entry_texts g es)
-lookup-stands_for g bs [] u = refl
-lookup-stands_for g bs (e ∷ es) u = search (rules, stands_for-text, lookup-stands_for g bs es u)
+lookup-stands_for g bs es u = ap (option_map g) (found-at bs es u) ∙ lookup-keyed g (chars bs) es
 
--- and so is what such a look-up lends
-pub lookup-lent : {V W : Type 0} (g : V → W) (r : Option (Bor V)) (bs : List ℕ) (es : List (Meaning × V)) → IsUtf8 bs
-    → option_copied r ≡ lookup (stands_for bs) es
-    → option_map (λ v. g v.now) r ≡ lookup (bytes_eq (chars bs)) (entry_texts g es)
-lookup-lent g r bs es u found =
-    let copied : option_map (λ v. g v.now) r ≡ option_map g (option_copied r) = search rules in
-    cc (copied, lookup-stands_for g bs es u)
+-- and so is what such a look-up lends, of values as what is kept
+lent : (r : Option (Bor Meaning)) → option_map (λ v. v.now.text) r ≡ option_map (λ (v : Meaning). v.text) (option_copied r)
+lent r = search rules
 
-lookup-keyed : {V W : Type 0} (g : V → W) (key : Meaning) (es : List (Meaning × V))
-    → option_map g (lookup (same_key key) es) ≡ lookup (bytes_eq key.text) (entry_texts g es)
-lookup-keyed g key [] = refl
-lookup-keyed g key (e ∷ es) = search (rules, lookup-keyed g key es)
-
--- of values as what is kept: for `#[tactic(auto, using(..))]`
 pub value-lent : (r : Option (Bor Meaning)) (bs : List ℕ) (es : List (Meaning × Meaning)) → IsUtf8 bs
     → option_copied r ≡ lookup (stands_for bs) es
     → option_map (λ v. v.now.text) r ≡ lookup (bytes_eq (chars bs)) (entry_texts (λ (v : Meaning). v.text) es)
-value-lent r bs es u found = lookup-lent (λ (v : Meaning). v.text) r bs es u found
+value-lent r bs es u found = lent r ∙ ap (option_map (λ (v : Meaning). v.text)) found ∙ lookup-stands_for (λ (v : Meaning). v.text) bs es u
 
 -- and the same of a look-up by a key of that text
 pub value-keyed : (r : Option (Bor Meaning)) (key : Meaning) (es : List (Meaning × Meaning))
     → option_copied r ≡ lookup (same_key key) es
     → option_map (λ v. v.now.text) r ≡ lookup (bytes_eq key.text) (entry_texts (λ (v : Meaning). v.text) es)
-value-keyed r key es found =
-    let copied : option_map (λ v. v.now.text) r ≡ option_map (λ (v : Meaning). v.text) (option_copied r) = search rules in
-    cc (copied, found, lookup-keyed (λ (v : Meaning). v.text) key es)
+value-keyed r key es found = lent r ∙ ap (option_map (λ (v : Meaning). v.text)) found ∙ lookup-keyed (λ (v : Meaning). v.text) key.text es
 
 -- a look-up by a `&str`, as what the map has at its text
-value_at-over : {V : Type 0} (bs : List ℕ) (es : List (Meaning × V)) → IsUtf8 bs
-    → lookup (stands_for bs) es ≡ lookup (λ key. bytes_eq (chars bs) key.text) es
-value_at-over bs [] u = refl
-value_at-over bs (e ∷ es) u = grind (arith, value_at-over bs es u, stands_for-text bs e.0 u)
-
 pub value_at-found : {V S : Type 0} (r : Option V) (bs : List ℕ) (m : IndexMap Meaning V S) → IsUtf8 bs
     → r ≡ lookup (stands_for bs) m.entries → r ≡ value_at (chars bs) m
-value_at-found r bs m u found = found ∙ value_at-over bs m.entries u
+value_at-found r bs m u found = found ∙ found-at bs m.entries u
 
 -- and what is left there
 pub value_at-left : {V S : Type 0} (r : Option V) (bs : List ℕ) (m : IndexMap Meaning V S) → IsUtf8 bs
     → lookup (stands_for bs) m.entries ≡ r → value_at (chars bs) m ≡ r
-value_at-left r bs m u left = sym (value_at-over bs m.entries u) ∙ left
+value_at-left r bs m u left = sym (found-at bs m.entries u) ∙ left
 
 pub ruleset lookups = (value-lent, value-keyed, lookup-stands_for, value_at-found, value_at-left)
 
@@ -139,13 +123,12 @@ texts-kept true ks k = refl
 texts-kept false ks k = texts-push ks k
 
 pub among-keyed : (k : Meaning) (ks : List Meaning) → list_any (bytes_eq k.text) (texts ks) ≡ list_any (same_key k) ks
-among-keyed k [] = refl
-among-keyed k (x ∷ ks) = search (rules, among-keyed k ks)
+among-keyed k ks = sym (list_any-map (λ (v : Meaning). v.text) (bytes_eq k.text) ks)
 
 -- a set that is asked by a `&str`
 pub among-lent : (bs : List ℕ) (ks : List Meaning) → IsUtf8 bs → list_any (bytes_eq (chars bs)) (texts ks) ≡ list_any (stands_for bs) ks
-among-lent bs [] u = refl
-among-lent bs (k ∷ ks) u = search (rules, stands_for-text, among-lent bs ks u)
+among-lent bs ks u =
+    sym (list_any-map (λ (v : Meaning). v.text) (bytes_eq (chars bs)) ks) ∙ ap (λ (test : Meaning → Bool). list_any test ks) (sym (stands_for-is bs u))
 
 -- a set with one more, as std's and `indexmap`'s say it
 pub has-added : (old new : List Meaning) (k : Meaning)
@@ -155,54 +138,48 @@ has-added old new k added t =
     grind (arith, added (key_of t), among-keyed (key_of t) new, among-keyed (key_of t) old, bytes_eq-Decides)
 
 -- an insert, and then a look-up by a `&str` of the same text. `grind` takes the second part at each `chars bs` in sight
-module _ (k : Meaning) (bs : List ℕ) (same : k.text ≡ chars bs) (u : IsUtf8 bs) where
-  stands_for-keyed : (x : Meaning) → stands_for bs x ≡ same_key k x
-  stands_for-keyed x = stands_for-text bs x u ∙ (λ i. bytes_eq (sym same i) x.text)
+itself : (k : Meaning) → same_key k k ≡ true
+itself k = (bytes_eq-Decides k.text k.text).1 refl
 
-  itself : same_key k k ≡ true
-  itself = (bytes_eq-Decides k.text k.text).1 refl
+put_found : {V : Type 0} (eq : Meaning → Meaning → Bool) (es : List (Meaning × V)) (k : Meaning) (v : V)
+    → ((x y : Meaning) → eq x y ≡ same_key x y) → lookup (same_key k) (insert_entry eq es k v) ≡ Some v
+put_found eq [] k v is = search (rules, itself)
+put_found eq (e ∷ es) k v is = search (rules, is, put_found eq es k v is)
 
-  put_found : {V : Type 0} (eq : Meaning → Meaning → Bool) (es : List (Meaning × V)) (v : V) → ((x y : Meaning) → eq x y ≡ same_key x y)
-      → lookup (stands_for bs) (insert_entry eq es k v) ≡ Some v
-  put_found eq [] v is = search (rules, stands_for-keyed, itself)
-  put_found eq (e ∷ es) v is = by (same_key k e.0) refl (put_found eq es v is) where
-    by : (b : Bool) → same_key k e.0 ≡ b → lookup (stands_for bs) (insert_entry eq es k v) ≡ Some v
-        → lookup (stands_for bs) (insert_entry eq (e ∷ es) k v) ≡ Some v
-    by true h rest = search (rules, is k e.0, h, stands_for-keyed)
-    by false h rest = search (rules, is k e.0, h, stands_for-keyed, rest)
+kept_found : (b : Bool) (ks : List Meaning) (k : Meaning) → b ≡ list_any (same_key k) ks
+    → list_any (same_key k) (if b then ks else ks ++ k ∷ []) ≡ true
+kept_found true ks k there = sym there
+kept_found false ks k there = grind (arith, common_steps, list_any-append (same_key k) ks (k ∷ []), itself)
 
-  last_found : (ks : List Meaning) → list_any (stands_for bs) (ks ++ k ∷ []) ≡ true
-  last_found [] = search (rules, stands_for-keyed, itself)
-  last_found (x ∷ ks) = search (rules, last_found ks)
-
-  kept_found : (b : Bool) (ks : List Meaning) → b ≡ list_any (same_key k) ks
-      → list_any (stands_for bs) (if b then ks else ks ++ k ∷ []) ≡ true
-  kept_found true ks there =
-      sym (among-lent bs ks u) ∙ (λ i. list_any (bytes_eq (sym same i)) (texts ks)) ∙ among-keyed k ks ∙ sym there
-  kept_found false ks there = last_found ks
+-- a `&str` of a key's text matches the keys that it equals
+stands_for-keyed : (k : Meaning) (bs : List ℕ) → k.text ≡ chars bs → IsUtf8 bs → stands_for bs ≡ same_key k
+stands_for-keyed k bs same u = stands_for-is bs u ∙ (λ i key. bytes_eq (sym same i) key.text)
 
 pub entry-put : {V : Type 0} (eq : Meaning → Meaning → Bool) (es : List (Meaning × V)) (k : Meaning) (v : V)
     → ((x y : Meaning) → eq x y ≡ same_key x y) → (insert_entry eq es k v ≡ insert_entry eq es k v)
     × ((bs : List ℕ) → k.text ≡ chars bs → IsUtf8 bs
     → (chars bs ≡ chars bs) × (lookup (stands_for bs) (insert_entry eq es k v) ≡ Some v))
-entry-put eq es k v is = (refl, λ bs same u. (refl, put_found k bs same u eq es v is))
+entry-put eq es k v is =
+    (refl, λ bs same u. (refl, ap (λ (test : Meaning → Bool). lookup test (insert_entry eq es k v)) (stands_for-keyed k bs same u) ∙ put_found eq es k v is))
 
 pub key-put : (b : Bool) (ks : List Meaning) (k : Meaning) → b ≡ list_any (same_key k) ks
     → ((if b then ks else ks ++ k ∷ []) ≡ (if b then ks else ks ++ k ∷ []))
     × ((bs : List ℕ) → k.text ≡ chars bs → IsUtf8 bs
     → (chars bs ≡ chars bs) × (list_any (stands_for bs) (if b then ks else ks ++ k ∷ []) ≡ true))
-key-put b ks k there = (refl, λ bs same u. (refl, kept_found k bs same u b ks there))
+key-put b ks k there =
+    let asked = λ (test : Meaning → Bool). list_any test (if b then ks else ks ++ k ∷ []) in
+    (refl, λ bs same u. (refl, ap asked (stands_for-keyed k bs same u) ∙ kept_found b ks k there))
 
 pub ruleset inserts = (values-inserted, entries-inserted, texts-kept, among-keyed, among-lent, has-added)
 
 pub ruleset put_and_asked = (entry-put, key-put)
 
 -- an entry that is set is found at its text, and leaves what is found at others
-module _ {V : Type 0} (key t : List ℕ) (v : V) where
-  pub lookup-with_entry : (es : List (List ℕ × V))
-      → lookup (bytes_eq key) (with_entry es t v) ≡ cond (bytes_eq key t) (Some v) (lookup (bytes_eq key) es)
-  lookup-with_entry [] = refl
-  lookup-with_entry (e ∷ es) = search (rules, arith, bytes_eq-Decides, false≢true, false_from_ne_true, lookup-with_entry es)
+pub lookup-with_entry : {V : Type 0} (key t : List ℕ) (v : V) (es : List (List ℕ × V))
+    → lookup (bytes_eq key) (with_entry es t v) ≡ cond (bytes_eq key t) (Some v) (lookup (bytes_eq key) es)
+lookup-with_entry key t v [] = refl
+lookup-with_entry key t v (e ∷ es) =
+    search (rules, arith, bytes_eq-Decides, false≢true, false_from_ne_true, lookup-with_entry key t v es)
 
 -- ---- maps one inside another, the innermost last
 
@@ -212,9 +189,6 @@ option_or-assoc (Some v) b c = refl
 
 set-last : {M : Type 0} (xs : List M) (i : ℕ) (m : M) → i + 1 ≡ length xs → set xs i m ≡ take i xs ++ m ∷ []
 set-last xs i m e = let more = take_more_set xs i m (omega arith) in grind (arith, common_steps, more)
-
-same-last : {M : Type 0} (xs : List M) (i : ℕ) (m : M) → i + 1 ≡ length xs → m ≡ get_or xs i m → xs ≡ take i xs ++ m ∷ []
-same-last xs i m e h = grind (arith, common_steps)
 
 -- one map more, a change of the last, and what this leaves
 module _ {V S : Type 0} (t : List ℕ) where
@@ -233,8 +207,8 @@ module _ {V S : Type 0} (t : List ℕ) where
       → m ≡ get_or ms i m → value_at t n ≡ value_at t m
       → innermost t (entry_lists (set ms i n)) ≡ innermost t (entry_lists ms)
   innermost-kept ms i m n e is same =
-      innermost-set ms i n e ∙ ap (λ o. option_or o (innermost t (entry_lists (take i ms)))) same
-      ∙ sym (ap (λ ms. innermost t (entry_lists ms)) (same-last ms i m e is) ∙ innermost-push (take i ms) m)
+      let last : ms ≡ take i ms ++ m ∷ [] = grind (arith, common_steps) in
+      cc (innermost-set ms i n e, ap (λ ms. innermost t (entry_lists ms)) last, innermost-push (take i ms) m)
 
 -- seen as lists, the others stay
 pub take-changed : {M N : Type 0} (f : M → N) (ms : List M) (n i : ℕ) (m : M) → n ≤ i

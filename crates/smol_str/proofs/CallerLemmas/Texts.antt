@@ -1,11 +1,9 @@
 -- Texts: their bytes and sizes, builders, and one character in place of another.
-use Rattle.smol_str.proofs.Common.{◌≡◌, sym, Result, IfOk, OnErr, subst, refl, ap, ◌∙◌, inl, IsTrue, rules, true, same_from_decides, ◌^◌, ltb, ltb-true, ℕ, ◌+◌, ◌<◌, ◌≤◌, arith, nat_eq, bytes_eq, get_or, list_all, ◌∷◌, ◌++◌, List, [], length, pointwise}
-use Rattle.smol_str.proofs.Common.{encodes-IsAscii, IsAscii-from_all, IsUtf8-from_ascii, encode_utf8_all, chars, all_scalars, IsUtf8, chars-encodes, chars_from_encodes, encodes-chars, encodes_same, chars-IsAscii, IsAscii, encodes-append, IsAscii-cons, IsAscii-nil, INLINE_CAP, size, IsShort, IsResident, place_of, Meaning, IsValueOf, replaced_all, each_with, each_replaced}
+use Rattle.smol_str.proofs.Common.{◌≡◌, sym, Result, IfOk, OnErr, subst, refl, ap, ◌∙◌, inl, IsTrue, rules, true, same_from_decides, ◌^◌, ltb, ltb-true, ℕ, ◌+◌, ◌<◌, ◌≤◌, arith, nat_eq, bytes_eq, get_or, list_all, ◌∷◌, ◌++◌, List, [], length, pointwise, encodes-IsAscii, IsAscii-from_all, IsUtf8-from_ascii, encode_utf8_all, chars, all_scalars, IsUtf8, chars-encodes, chars_from_encodes}
+use Rattle.smol_str.proofs.Common.{encodes-chars, encodes_same, chars-IsAscii, IsAscii, encodes-append, IsAscii-cons, IsAscii-nil, INLINE_CAP, size, IsShort, IsResident, place_of, Meaning, IsValueOf, replaced_all, each_with, each_replaced}
+use Rattle.smol_str.proofs.CallerLemmas.Common.{AllPass-from_list_all, bytes_eq-Decides, chars-append, chars-nil, encode_ascii}
 use Rattle.std.proofs.lemmas.Fmt.{IsAscii-decimal}
-use Rattle.std.proofs.lemmas.List.Sums.{AllPass-from_list_all}
-use Rattle.std.proofs.lemmas.Slice.Eq.{bytes_eq-Decides}
 use Rattle.std.specs.Fmt.{decimal}
-use Rattle.std.proofs.lemmas.Str.{chars-append, chars-nil, encode_ascii}
 use Rattle.smol_str.proofs.CaseLemmas.Ascii.{size-mapped}
 use Rattle.smol_str.proofs.CutLemmas.Bytes.{each-moves, replaced_all-each, replaced_all-character}
 use Rattle.smol_str.proofs.TextLemmas.Places.{IsShort-chars, IsShort-front, size-chars}
@@ -60,18 +58,9 @@ module _ (bs cs : List ℕ) (same : chars bs ≡ chars cs) (u : IsUtf8 bs) where
   pub literal_same : IsLiteral cs → pointwise nat_eq bs cs ≡ true
   literal_same low = str_same (literal-utf8 cs low)
 
-pub ruleset texts = (
-  chars-cons,
-  chars-nil,
-  chars-encodes,
-  chars_from_encodes,
-  encodes-chars,
-  chars-as_str,
-  length-as_str,
-  size-chars,
-  IsResident-few,
-  IsShort-front,
-)
+pub ruleset spelled = (chars-cons, chars-nil, chars-encodes, chars_from_encodes, encodes-chars)
+
+pub ruleset texts = (spelled, chars-as_str, length-as_str, size-chars, IsResident-few, IsShort-front)
 
 -- two texts compared by `==` or `match`
 pub ruleset compared = (same_bytes, str_same, literal_same, chars-as_str, chars-nil)
@@ -102,9 +91,8 @@ pub replaced-each_with : (t : List ℕ) (x : ℕ) (bs : List ℕ) → x < 128 �
     → replaced_all t (chars (x ∷ [])) (chars bs) ≡ each_with x bs t
 replaced-each_with t x bs low ascii = search (rules, chars-one, chars-IsAscii, replaced_all-each)
 
-module _ (x y : ℕ) (low : x < 128) (small : y < 128) where
-  replaced_each : (t : List ℕ) → replaced_all t (chars (x ∷ [])) (chars (y ∷ [])) ≡ each_replaced x y t
-  replaced_each t = (λ i. replaced_all t (chars-one x low i) (chars-one y small i)) ∙ replaced_all-character t x y
+replaced_each : (x y : ℕ) → x < 128 → y < 128 → (t : List ℕ) → replaced_all t (chars (x ∷ [])) (chars (y ∷ [])) ≡ each_replaced x y t
+replaced_each x y low small t = (λ i. replaced_all t (chars-one x low i) (chars-one y small i)) ∙ replaced_all-character t x y
 
 -- the clauses `ok` and `refused` as a caller says them
 pub each_replaced-value : {E : Type 0} (r : Result Meaning E) (t : List ℕ) (x y : ℕ)

@@ -1,12 +1,8 @@
 -- Lists of values, as texts.
-use Rattle.smol_str.proofs.Common.{Bool, true, false, cond, not, map, refl, bytes_eq, place_of, get_or, sym, ◌≡◌, ℕ, ◌<◌, List, [], ◌∷◌, ◌++◌, length, Some, ap, ◌∙◌, arith, length-map, map-append, slice_get, option_map, Meaning, IsTrue, all_scalars, encode_utf8_all, chars, chars-nil}
-use Rattle.std.proofs.lemmas.Option.{slice_get-map, slice_get-get_or}
-use Rattle.smol_str.specs.Meaning.{AreValuesOf, texts}
-use Rattle.smol_str.specs.Keys.{has_text, without, within, values_without, values_within}
-use Rattle.std.specs.List.{filter, list_any}
-use Rattle.std.proofs.lemmas.List.Elements.{All-filter, filter_agree}
+use Rattle.smol_str.proofs.Common.{Bool, not, map, refl, bytes_eq, place_of, get_or, ◌≡◌, ℕ, ◌<◌, List, [], ◌∷◌, ◌++◌, length, Some, ap, ◌∙◌, arith, length-map, map-append, slice_get, option_map, Meaning, IsTrue, all_scalars, encode_utf8_all, chars, chars-nil, rules}
+use Rattle.smol_str.proofs.CallerLemmas.Common.{slice_get-map, slice_get_read, map-map, AreValuesOf, texts, has_text, filter, list_any, All-filter, filter_agree, take-map}
+use Rattle.smol_str.specs.Keys.{without, within, values_without, values_within}
 use Rattle.smol_str.proofs.CallerLemmas.Texts.{chars-as_str, chars-cons}
-use Rattle.std.proofs.lemmas.List.{take-map}
 
 -- one value more
 pub texts-push : (values : List Meaning) (v : Meaning) → texts (values ++ v ∷ []) ≡ texts values ++ v.text ∷ []
@@ -14,8 +10,7 @@ texts-push values v = map-append (λ (v : Meaning). v.text) values (v ∷ [])
 
 -- what is made of the text of each
 pub map-texts : {B : Type 0} (f : List ℕ → B) (vs : List Meaning) → map f (texts vs) ≡ map (λ v. f v.text) vs
-map-texts f [] = refl
-map-texts f (v ∷ vs) = ap (λ l. f v.text ∷ l) (map-texts f vs)
+map-texts f vs = map-map f (λ (v : Meaning). v.text) vs
 
 -- the name at a place, as a text
 pub text_at : (keys : List Meaning) (id : ℕ) (name : Meaning) → slice_get keys id ≡ Some name →
@@ -28,8 +23,7 @@ pub text_lent : (ts : List (List ℕ)) (vs : List Meaning) (i : ℕ) (v : Meanin
     → v ≡ get_or vs i v → bs ≡ encode_utf8_all v.text → IsTrue (all_scalars v.text) → slice_get ts i ≡ Some (chars bs)
 text_lent ts vs i v bs are within at lent scalars =
     let there : i < length vs = omega (arith, within, ap length are, length-map vs (λ (v : Meaning). v.text)) in
-    ap (λ ts. slice_get ts i) (sym are) ∙ text_at vs i v (slice_get-get_or vs i v there ∙ ap Some (sym at))
-    ∙ ap Some (sym (chars-as_str v.text bs scalars lent))
+    rw (← are, chars-as_str v.text bs scalars lent) (text_at vs i v (slice_get_read vs (length vs) i v refl there at))
 
 pub ruleset listed = (text_lent)
 
@@ -40,11 +34,9 @@ pub ruleset stacked = (slice_get-map, take-map, length-map, texts-push, chars-as
 
 map-filter : {A B : Type 0} (f : A → B) (p : B → Bool) (xs : List A) → map f (filter (λ x. p (f x)) xs) ≡ filter p (map f xs)
 map-filter f p [] = refl
-map-filter f p (x ∷ xs) =
-    elim (p (f x)) as (λ b. map f (cond b (x ∷ filter (λ x. p (f x)) xs) (filter (λ x. p (f x)) xs)) ≡ cond b (f x ∷ filter p (map f xs)) (filter p (map f xs)))
-    [ true ↦ ap (λ ys. f x ∷ ys) (map-filter f p xs) | false ↦ map-filter f p xs ]
+map-filter f p (x ∷ xs) = search (rules, map-filter f p xs)
 
-list_any-map : {A B : Type 0} (f : A → B) (p : B → Bool) (xs : List A) → list_any (λ x. p (f x)) xs ≡ list_any p (map f xs)
+pub list_any-map : {A B : Type 0} (f : A → B) (p : B → Bool) (xs : List A) → list_any (λ x. p (f x)) xs ≡ list_any p (map f xs)
 list_any-map f p [] = refl
 list_any-map f p (x ∷ xs) = rw (list_any-map f p xs)
 

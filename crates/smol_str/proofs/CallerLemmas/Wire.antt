@@ -1,15 +1,11 @@
 -- Wire forms in bytes.
-use Rattle.smol_str.proofs.Common.{◌≡◌, Option, refl, sym, ◌∙◌, subst, inl, inr, IsTrue, rules, Result, OnErr, ℕ, ◌+◌, ◌<◌, ◌≤◌, ◌^◌, arith, to_le_bytes, from_le_bytes-to_le_bytes_4, w32}
-use Rattle.smol_str.proofs.Common.{◌∷◌, All, List, [], ◌++◌, append_assoc, map, map-id, length, flat_map, take-append-le, length-append, All-head, All-tail, common_steps, append-nil, length-take, get_or, map-append, length-map}
-use Rattle.smol_str.proofs.Common.{chars, all_scalars, IsUtf8, chars-encodes, scalars-chars, Appends, size, HasWire, wire, Holds, HasEndedEarly, body, Meaning}
+use Rattle.smol_str.proofs.Common.{◌≡◌, Option, refl, sym, ◌∙◌, inl, inr, IsTrue, rules, Result, OnErr, ℕ, ◌+◌, ◌<◌, ◌≤◌, ◌^◌, arith, to_le_bytes, from_le_bytes-to_le_bytes_4, w32, ◌∷◌, All, List, [], ◌++◌, append_assoc, map, map-id, length, flat_map, take-append-le, length-append, All-head, All-tail, common_steps, append-nil, length-take, get_or, map-append, length-map, chars, ap}
+use Rattle.smol_str.proofs.Common.{all_scalars, IsUtf8, chars-encodes, scalars-chars, Appends, size, HasWire, wire, Holds, HasEndedEarly, body, Meaning}
+use Rattle.smol_str.proofs.CallerLemmas.Common.{AfterEncodeFault, take_at_read, flat_map-append, flat_map_more, get_or-map, get_or_append_left, get_or_push, All-push}
 use Rattle.smol_str.specs.Wire.{prefix_size}
 use Rattle.smol_str.specs.Stream.{AppendsBeginning}
-use Rattle.smol_str.specs.WireFaults.{AfterEncodeFault}
 use Rattle.smol_str.specs.declared.borsh.fault.EncodeFault.{EncodeFault}
 use Rattle.std.proofs.KnownBytes.{Appends-nil, Appends-kept}
-use Rattle.std.proofs.lemmas.Grind.{take_at_read, flat_map-append}
-use Rattle.std.proofs.lemmas.List.{flat_map_more, get_or-map, get_or_append_left, get_or_push}
-use Rattle.std.proofs.lemmas.List.Elements.{All-push}
 use Rattle.smol_str.proofs.TextLemmas.Places.{OnErr-always}
 use Rattle.smol_str.proofs.WireLemmas.Stream.{beginning-of_first, beginning-of_second}
 use Rattle.smol_str.proofs.WireLemmas.Wire.{length-wire, prefix_size-wire, wire-apart, Holds-one, Holds-whole, body-Holds, Holds-written}
@@ -17,60 +13,38 @@ use Rattle.smol_str.proofs.WireLemmas.Wire.{length-wire, prefix_size-wire, wire-
 -- ---- wire forms
 
 -- bytes that are the form of t, and what follows it
-module _ (b t x : List ℕ) (sized : HasWire t) (scalars : IsTrue (all_scalars t)) (is : b ≡ wire t ++ x) where
-  form_is_held : Holds b t (size t + 4)
-  form_is_held = subst (λ s. Holds s t (size t + 4)) (sym is) (Holds-written t x sized scalars)
+pub form_is_whole : (b t x : List ℕ) → HasWire t → IsTrue (all_scalars t) → b ≡ wire t ++ x → ¬ HasEndedEarly b
+form_is_whole b t x sized scalars is = rw is (Holds-whole (wire t ++ x) t _ (Holds-written t x sized scalars))
 
-  pub form_is_whole : ¬ HasEndedEarly b
-  form_is_whole = Holds-whole b t (size t + 4) form_is_held
-
-  pub form-utf8 : IsUtf8 (body b)
-  form-utf8 = (t, (scalars, sym (body-Holds b t (size t + 4) form_is_held)))
-
-  pub form-text : chars (body b) ≡ t
-  form-text = cc (body-Holds b t (size t + 4) form_is_held, chars-encodes t scalars)
-
-  -- what `from_wire` finds in them
-  pub form-held : (u : List ℕ) (n : ℕ) → Holds b u n → (u ≡ t) × (n ≡ size t + 4)
-  form-held u n h = Holds-one b u t n (size t + 4) h form_is_held
-
-  -- what `deserialize_reader` consumes of them, and leaves
-  pub form-read : (u r : List ℕ) → HasWire u → b ≡ wire u ++ r → (u ≡ t) × (r ≡ x)
-  form-read u r fits e = wire-apart u t r x fits sized (sym e ∙ is)
-
--- all of that at once, for `#[tactic(auto, using(..))]`
+-- all that they say: the text of the body, what `from_wire` finds, and what `deserialize_reader` consumes and leaves
 pub form-known : (t x : List ℕ) → HasWire t → IsTrue (all_scalars t) → (wire t ++ x ≡ wire t ++ x)
     × (¬ HasEndedEarly (wire t ++ x)) × IsUtf8 (body (wire t ++ x)) × (chars (body (wire t ++ x)) ≡ t)
     × ((u : List ℕ) (n : ℕ) → Holds (wire t ++ x) u n → (u ≡ t) × (n ≡ size t + 4))
     × ((u r : List ℕ) → HasWire u → wire t ++ x ≡ wire u ++ r → (u ≡ t) × (r ≡ x))
-form-known t x sized scalars = (
-  refl,
-  form_is_whole _ t x sized scalars refl,
-  form-utf8 _ t x sized scalars refl,
-  form-text _ t x sized scalars refl,
-  form-held _ t x sized scalars refl,
-  form-read _ t x sized scalars refl,
-)
+form-known t x sized scalars =
+    let held = Holds-written t x sized scalars in
+    let is = body-Holds (wire t ++ x) t (size t + 4) held in (
+      refl,
+      Holds-whole _ t _ held,
+      (t, (scalars, sym is)),
+      ap chars is ∙ chars-encodes t scalars,
+      λ u n h. Holds-one _ u t n _ h held,
+      λ u r fits e. wire-apart u t r x fits sized (sym e),
+    )
 
 pub ruleset forms = (form-known, scalars-chars)
 
 -- bytes that with more are the form of t and what follows it: where they have not ended early, the form is all there
-module _ (b more t x : List ℕ) (sized : HasWire t) (scalars : IsTrue (all_scalars t)) (is : b ++ more ≡ wire t ++ x)
-    (whole : ¬ HasEndedEarly b) where
-  states : prefix_size b ≡ size t
-  unfolding prefix_size
-  states =
-      let four : 4 ≤ length b = omega (arith, λ (h : length b < 4). whole (inl h)) in
-      cc (take-append-le 4 b more four, prefix_size-wire t x sized)
-
-  within : size t + 4 ≤ length b
-  within = let says = states in omega (arith, λ (h : length b < 4 + prefix_size b). whole (inr h))
-
-  pub form-cut-utf8 : IsUtf8 (body b)
-  form-cut-utf8 =
-      let written = Holds-written t x sized scalars in
-      let held : Holds b t (size t + 4) = search (rules, within, take-append-le) in
-      (t, (scalars, sym (body-Holds b t (size t + 4) held)))
+pub form-cut-utf8 : (b more t x : List ℕ) → HasWire t → IsTrue (all_scalars t) → b ++ more ≡ wire t ++ x → ¬ HasEndedEarly b
+    → IsUtf8 (body b)
+unfolding prefix_size
+form-cut-utf8 b more t x sized scalars is whole =
+    let written = Holds-written t x sized scalars in
+    let four : 4 ≤ length b = omega (arith, λ (h : length b < 4). whole (inl h)) in
+    let states : prefix_size b ≡ size t = cc (take-append-le 4 b more four, prefix_size-wire t x sized) in
+    let within : size t + 4 ≤ length b = omega (arith, λ (h : length b < 4 + prefix_size b). whole (inr h)) in
+    let held : Holds b t (size t + 4) = search (rules, within, take-append-le) in
+    (t, (scalars, sym (body-Holds b t (size t + 4) held)))
 
 -- ---- wire forms one after another, and how many they are
 
@@ -91,19 +65,13 @@ module _ {X Y : Type 0} (form : X → List ℕ) (P : X → Type 0) (key : X → 
       (cc (first.0, others.0), others.1)
   items-apart xs ys s t h k l e = absurd (omega arith)
 
--- of equal texts
-pub forms-apart : (ss ts : List (List ℕ)) (x y : List ℕ) → All HasWire ss → All HasWire ts → length ss ≡ length ts
-    → flat_map wire ss ++ x ≡ flat_map wire ts ++ y → (ss ≡ ts) × (x ≡ y)
-forms-apart ss ts x y h k l e =
-    simp map-id at (items-apart wire HasWire (λ t. t) wire-apart ss ts x y h k l e)
-
 -- so lists whose forms are one, with their numbers before them
 pub lists-apart : (ss ts : List (List ℕ)) (x y : List ℕ) → length ss < 2 ^ 32 → length ts < 2 ^ 32 → All HasWire ss
     → All HasWire ts → (to_le_bytes w32 (length ss) ++ flat_map wire ss) ++ x ≡ (to_le_bytes w32 (length ts) ++ flat_map wire ts) ++ y
     → (ss ≡ ts) × (x ≡ y)
 lists-apart ss ts x y few less h k e =
     let parts = count-apart (length ss) (length ts) (flat_map wire ss ++ x) (flat_map wire ts ++ y) few less e in
-    forms-apart ss ts x y h k parts.0 parts.1
+    simp map-id at (items-apart wire HasWire (λ t. t) wire-apart ss ts x y h k parts.0 parts.1)
 
 -- more forms: behind the fewer comes the next
 pub forms-next : (ss ts : List (List ℕ)) (x y : List ℕ) → All HasWire ss → All HasWire ts
@@ -174,16 +142,6 @@ pub text-at : (values : List Meaning) (i : ℕ) (v : Meaning) → i < length val
 text-at values i v here = (refl, get_or-map (λ (v : Meaning). v.text) values i v v.text here)
 
 -- a loop that writes the items of a list, or reads some into one
-pub ruleset items = (
-  append_assoc,
-  append-nil,
-  flat_map-append,
-  map-append,
-  take_at_read,
-  length-take,
-  length-append,
-  length-map,
-  get_or_append_left,
-  get_or_push,
-  text-at,
-)
+pub ruleset lengths = (length-take, length-append, length-map)
+
+pub ruleset items = (append_assoc, append-nil, flat_map-append, map-append, take_at_read, lengths, get_or_append_left, get_or_push, text-at)
