@@ -1,7 +1,8 @@
--- The text of lines of tokens, and of numbers in columns.
+-- The text of lines of tokens, of numbers in columns, and of names with dashes.
 --     untabbed t            t with four spaces in place of each tab
 --     line_text line        four spaces for each level, the tokens without tabs and with a space between each two, and a newline
 --     right_aligned w n     the number n, with spaces in front of it up to w characters
+--     dashed c              what is written for a character: two dashes for an underscore, else itself
 use Rattle.std.specs.Prelude.{ℕ, ◌*◌, ◌-◌, ◌^◌, ◌==◌, List, [], ◌∷◌, ◌++◌, replicate, if◌then◌else◌, flat_map}
 use Rattle.std.specs.Fmt.{format_spec, styled_decimal}
 use Rattle.smol_str.specs.Cut.{joined_by}
@@ -20,3 +21,6 @@ line_text line = margin line.level ++ (untabbed (joined_by (32 ∷ []) (texts li
 -- with spaces as fill, and without a precision
 abbrev pub right_aligned : ℕ → ℕ → List ℕ
 right_aligned w n = styled_decimal (format_spec 32 3 0 w (2 ^ 64 - 1)) n
+
+abbrev pub dashed : ℕ → List ℕ
+dashed c = if c == 95 then 45 ∷ 45 ∷ [] else c ∷ []

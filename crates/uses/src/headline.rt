@@ -1,7 +1,7 @@
 //! The headline of the library: a contract for every way to make a value, and what any two values have in common.
 //! Clause `value` says that the value has exactly the expected text, in the place of that text, and `refused` that memory
 //! may be refused only for text that is not resident, or not short where it comes in parts.
-ghost use Rattle.std.specs.Prelude.{◌≡◌, ◌<◌, ◌≤◌, ◌⊎◌, ◌↔◌, ◌++◌, [], ◌∷◌, length, codes, encode_utf8_all, IfOk, IsOk, OnOk, OnErr, IsTrue, ◌-◌, map, chars, IsUtf8, string_bytes};
+ghost use Rattle.std.specs.Prelude.{◌≡◌, ◌<◌, ◌≤◌, ◌⊎◌, ◌↔◌, ◌++◌, [], ◌∷◌, length, codes, encode_utf8_all, IfOk, IsOk, OnOk, OnErr, IsTrue, ◌-◌, chars, IsUtf8, string_bytes};
 ghost use Rattle.std.specs.Ordering.{nat_cmp};
 ghost use Rattle.std.specs.Cmp.Lexicographic.{slice_cmp};
 ghost use Rattle.std.specs.Box.{boxed_str_bytes};
@@ -9,7 +9,7 @@ ghost use Rattle.std.specs.Cow.{cow_str_bytes};
 ghost use Rattle.std.specs.Iterator.{IsFinite};
 ghost use Rattle.std.specs.Rc.{rc_str_bytes};
 ghost use Rattle.smol_str.specs.Text.{IsShort, IsResident, blank_run, place_of};
-ghost use Rattle.smol_str.specs.Meaning.{IsValueOf, texts};
+ghost use Rattle.smol_str.specs.Meaning.{IsValueOf};
 ghost use Rattle.smol_str.specs.BuilderState.{InBuffer, empty_builder};
 ghost use Rattle.smol_str.specs.Joined.{joined, joined_strs, joined_strings, joined_string_refs, string_text, str_text};
 ghost use Rattle.smol_str.specs.Collect.{Collected, Outgrown, AppendedAll, StoppedAt};
@@ -17,7 +17,6 @@ ghost use Rattle.smol_str.specs.Steps.{step_text};
 ghost use Rattle.smol_str.specs.Case.{IsAsciiText, lower, upper, lowercased, uppercased, converted};
 ghost use Rattle.smol_str.specs.declared.value.place.Place.TheVariants.{Heap};
 ghost use Rattle.smol_str.specs.Replace.{replaced, replaced_all};
-ghost use Rattle.smol_str.specs.Cut.{joined_by};
 
 use smol_str::kernel::AsciiCase;
 use smol_str::{
@@ -208,6 +207,15 @@ pub fn of_any_strs<'a, A: ValueAlloc, I: Iterator<Item = &'a str>>(
     ensures refused { OnErr result (Outgrown joined_strs I.next_gives iter) }
 {
     SmolStr::from_strs(alloc, iter)
+}
+
+/// The texts of a list as one, by a function that is generic in an iterator and speaks of its run.
+#[tactic(auto, using(smol_str::proofs::CallerLemmas::collecting_strs))]
+pub fn of_list(alloc: Global, parts: &[&str]) -> Result<SmolStr, AllocError>
+    ensures value { IfOk result (λ v. IsValueOf (joined str_text parts.now) v) }
+    ensures refused { OnErr result (¬ (IsShort (joined str_text parts.now))) }
+{
+    of_any_strs(alloc, parts.iter().copied())
 }
 
 /// The `String`s of any iterator that ends.
@@ -491,21 +499,4 @@ pub fn owned(alloc: Global, value: SmolStr) -> Result<String, SmolStr>
     ensures refused { OnErr result (¬ (value.text ≡ [])) }
 {
     value.into_string(alloc)
-}
-
-/// The line of some fields.
-pub fn line_of(alloc: Global, fields: &[SmolStr], separator: &str) -> Result<SmolStr, AllocError>
-    ensures value { IfOk result (λ v. IsValueOf (joined_by (chars separator.now) (texts fields.now)) v) }
-    ensures refused { OnErr result (¬ (IsShort (joined_by (chars separator.now) (texts fields.now)))) }
-{
-    SmolStr::join(alloc, fields, separator)
-}
-
-/// The line of some `&str`s, with a comma between each two.
-#[tactic(auto, using(smol_str::proofs::CallerLemmas::texts))]
-pub fn line_of_strs(alloc: Global, fields: &[&str]) -> Result<SmolStr, AllocError>
-    ensures value { IfOk result (λ v. IsValueOf (joined_by (44 ∷ []) (map str_text fields.now)) v) }
-    ensures refused { OnErr result (¬ (IsShort (joined_by (44 ∷ []) (map str_text fields.now)))) }
-{
-    SmolStr::join(alloc, fields, ",")
 }

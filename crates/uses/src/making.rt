@@ -1,19 +1,13 @@
 //! Values made piece by piece, by printing, and of what a program has at hand.
 ghost use Rattle.std.specs.Prelude.{◌≡◌, ◌+◌, ◌*◌, ◌≤◌, ◌++◌, ◌∷◌, [], codes, length, IfOk, IsOk, OnErr, OnOk, Some, encode_utf8_all, ◌↔◌, String, IsTrue, filter, flat_map, chars, decimal, string_bytes};
 ghost use Rattle.std.specs.Char.{is_ascii_digit as digit};
-ghost use Rattle.uses.specs.Names.{dashed};
 ghost use Rattle.smol_str.specs.BuilderState.{OnHeap, appended};
 ghost use Rattle.smol_str.specs.Text.{IsShort, blank_run, place_of, IsResident};
 ghost use Rattle.smol_str.specs.Meaning.{IsValueOf, texts};
 ghost use Rattle.std.specs.Io.Cursor.{cursor_remaining};
 ghost use Rattle.std.specs.Path.{path_buf_bytes, path_bytes, path_join};
-ghost use Rattle.uses.specs.Layout.{untabbed, margin, line_text, right_aligned};
-ghost use Rattle.smol_str.specs.Cut.{joined_by};
-ghost use Rattle.smol_str.specs.Joined.{joined};
+ghost use Rattle.uses.specs.Layout.{untabbed, margin, line_text, right_aligned, dashed};
 
-pub mod collecting;
-
-use crate::cutting::row;
 use smol_str::{
     FormatError, INLINE_CAP, SmolStr, SmolStrBuilder, StrExt, ToSmolStr, format_smolstr,
 };
@@ -254,14 +248,6 @@ pub fn reader_of(text: SmolStr) -> Cursor<SmolStr>
 pub struct Lexer {
     pub at: usize,
     pub word: SmolStrBuilder,
-}
-
-/// Tokens on one line, as a value, by std's `join` and the memory that it asked for.
-#[tactic(auto, using(smol_str::proofs::CallerLemmas::owned))]
-pub fn row_value(alloc: Global, tokens: &[SmolStr]) -> Result<SmolStr, AllocError>
-    ensures { IfOk result (λ v. IsValueOf (joined_by (chars (codes " ")) (texts tokens.now)) v) }
-{
-    SmolStr::from_owned(row(alloc, tokens)?)
 }
 
 /// A value of a `String` has its bytes.

@@ -1,12 +1,9 @@
 //! Values with other crates of the kit, a few lines each.
-ghost use Rattle.std.specs.Prelude.{◌≡◌, ◌≢◌, ◌||◌, ℕ, List, Some, None, true, bytes_eq, ◌∷◌, ◌++◌, [], IfOk, OnOk, codes, decimal, encode_utf8_all, chars};
+ghost use Rattle.std.specs.Prelude.{◌≡◌, ◌≢◌, ◌||◌, ℕ, List, Some, None, true, bytes_eq, ◌∷◌, ◌++◌, [], IfOk, OnOk, decimal, encode_utf8_all, chars};
 ghost use Rattle.std.specs.List.{list_all, list_any};
 ghost use Rattle.regex.specs.Patterns.{find_all_str};
 ghost use Rattle.regex.specs.Strings.{matcher_pattern, with_replaced};
 ghost use Rattle.indexmap.specs.IndexSet.{insert_key};
-ghost use Rattle.serde_json.specs.Find.{get};
-ghost use Rattle.serde_json.specs.View.{view};
-ghost use Rattle.smol_str.specs.Json.{json_value};
 ghost use Rattle.smol_str.specs.Keys.{value_at, entry_texts, with_entry};
 ghost use Rattle.serde.specs.Event.{Logs, text};
 ghost use Rattle.smol_str.specs.Meaning.{IsValueOf, texts};
@@ -20,7 +17,6 @@ use itertools::Itertools;
 use itoa::Buffer;
 use regex::{Matcher, Template};
 use serde::{Deserialize, DeserializeOwned, Deserializer, Format, Serialize, Serializer};
-use serde_json::{Value, json};
 use smallvec::SmallVec;
 use smol_str::SmolStr;
 use std::alloc::{AllocError, AllocFailed, Global};
@@ -65,13 +61,6 @@ pub struct Package {
 /// A package from JSON.
 pub fn read_package(alloc: Global, json: &str) -> Result<Package, serde_json::Error> {
     serde_json::from_str(alloc, json)
-}
-
-/// A package as a value of JSON.
-pub fn named(alloc: Global, name: &SmolStr) -> Result<Value, AllocError>
-    ensures { IfOk result (λ json. get (codes "name") (view json) ≡ Some (json_value name.now.text)) }
-{
-    json!(in alloc; {"name": name, "version": 1})
 }
 
 /// Whether a set has a name; no value is made to look it up.
