@@ -31,7 +31,7 @@ fn failure_at(place: usize) -> Option<io::Error> {
 pub type Cause = (ErrorKind, Option<i32>, u64);
 
 pub fn cause_of(error: &io::Error) -> Cause {
-    let printed: InlineText<80> = InlineText::of(format_args!("{error}"));
+    let printed: InlineText<80> = InlineText::of(*error);
     let mut hasher = DefaultHasher::default();
     printed.as_str().hash(&mut hasher);
     (error.kind(), error.raw_os_error(), hasher.finish())
@@ -195,38 +195,50 @@ pub fn fails_at_each_read<C: Reading>(
 fn count_reads<C: Reading>(test: &Test, call: &C, mut reader: Trickle<'_>, wanted: &[u8]) -> usize {
     let row = (call.name(), reader.rest.len(), reader.step, 0);
     start_counts(test.alloc);
-    match call.read(test, &mut reader) {
-        Ok(made) => holds(test, made.as_slice() == wanted, &row),
-        Err(reason) => test.fail(&(row, reason)),
-    }
-    has_read(test, call, &reader, &row);
-    if row.2 == 1 {
-        let at_end = usize::from(call.reads_the_end());
-        same(test, &reader.calls.saturating_sub(at_end), &row.1, &row);
-    }
-    no_blocks(test, &row);
+    let read = call.read(test, &mut reader);
+    has_made(test, read, wanted, &row);
+    has_read(test, &reader, call.largest_buffer(), &row);
+    by_single_bytes(test, reader.calls, usize::from(call.reads_the_end()), &row);
     reader.calls
 }
 
+/// The bytes that a call made, which are freed here.
+fn has_made(test: &Test, read: Result<Vec<u8>, Reason>, wanted: &[u8], row: &Row<'_>) {
+    match read {
+        Ok(made) => holds(test, made.as_slice() == wanted, row),
+        Err(reason) => test.fail(&(row, reason)),
+    }
+    no_blocks(test, row);
+}
+
+/// By single bytes, a call moves one.
+fn by_single_bytes(test: &Test, calls: usize, at_end: usize, row: &Row<'_>) {
+    if row.2 == 1 {
+        same(test, &calls.saturating_sub(at_end), &row.1, row);
+    }
+}
+
 /// No buffer was empty or too large.
-fn has_read<C: Reading>(test: &Test, call: &C, reader: &Trickle<'_>, row: &Row<'_>) {
-    let is_within = reader.least >= 1 && reader.most <= call.largest_buffer();
+fn has_read(test: &Test, reader: &Trickle<'_>, largest: usize, row: &Row<'_>) {
+    let is_within = reader.least >= 1 && reader.most <= largest;
     holds(test, is_within, row);
 }
 
 fn fails_at_read<C: Reading>(test: &Test, call: &C, bytes: &[u8], (step, fails_at): At) {
     let row = (call.name(), bytes.len(), step, fails_at);
     let mut reader = trickle_of(bytes, step, fails_at);
+    reader.failure = failure_at(number_of(row)).unwrap_or(reader.failure);
     start_counts(test.alloc);
-    if let Some(error) = failure_at(number_of(row)) {
-        reader.failure = error;
-    }
-    let wanted = Reason::Io(cause_of(&reader.failure));
     let reason = call.read(test, &mut reader).err();
-    same(test, &reason, &Some(wanted), &row);
+    has_failed(test, &reason, &reader.failure, &row);
     same(test, &reader.calls, &fails_at, &row);
-    has_read(test, call, &reader, &row);
+    has_read(test, &reader, call.largest_buffer(), &row);
     no_blocks(test, &row);
+}
+
+/// The call gave up with the stream's own error.
+fn has_failed(test: &Test, reason: &Option<Reason>, failure: &io::Error, row: &Row<'_>) {
+    same(test, reason, &Some(Reason::Io(cause_of(failure))), row);
 }
 
 /// Another number at the next place, and in the next row.
@@ -263,28 +275,29 @@ fn count_writes<C: Writing>(test: &Test, call: &C, bytes: &[u8], step: usize) ->
     let mut writer = empty_drip(test.alloc, step, 0, None);
     same(test, &call.write(test, &mut writer), &None, &row);
     holds(test, writer.taken.as_slice() == bytes, &row);
-    if step == 1 {
-        same(test, &writer.calls, &bytes.len(), &row);
-    }
     let calls = writer.calls;
     drop(writer);
+    by_single_bytes(test, calls, 0, &row);
     no_blocks(test, &row);
     calls
 }
 
-/// By single bytes, each call before the failure took one.
 fn fails_at_write<C: Writing>(test: &Test, call: &C, bytes: &[u8], (step, fails_at): At) {
     let row = (call.name(), bytes.len(), step, fails_at);
-    let failure = failure_at(number_of(row));
-    let wanted = failure.unwrap_or(io::Error::from(ErrorKind::WriteZero));
     start_counts(test.alloc);
-    let mut writer = empty_drip(test.alloc, step, fails_at, failure);
+    let mut writer = empty_drip(test.alloc, step, fails_at, failure_at(number_of(row)));
     let reason = call.write(test, &mut writer);
-    same(test, &reason, &Some(Reason::Io(cause_of(&wanted))), &row);
+    let zero = io::Error::from(ErrorKind::WriteZero);
+    has_failed(test, &reason, &writer.failure.unwrap_or(zero), &row);
     same(test, &writer.calls, &fails_at, &row);
+    has_begun(test, writer, bytes, &row);
+}
+
+/// What a writer took before it failed: by single bytes one a call.
+fn has_begun(test: &Test, writer: Drip, bytes: &[u8], row: &Row<'_>) {
     let taken = writer.taken.as_slice();
-    let is_as_long = step != 1 || taken.len() == fails_at.saturating_sub(1);
-    holds(test, bytes.starts_with(taken) && is_as_long, &row);
+    let is_as_long = row.2 != 1 || taken.len() == row.3.saturating_sub(1);
+    holds(test, bytes.starts_with(taken) && is_as_long, row);
     drop(writer);
-    no_blocks(test, &row);
+    no_blocks(test, row);
 }

@@ -18,10 +18,10 @@ pub use memory::{
     Count, Refusals, can_refuse, counted, end_refusals, is_at_most, refuse, refuse_all,
     start_counts,
 };
-pub use memory_law::{Asks, Call, Law, Requests, check_law};
+pub use memory_law::{Asks, Call, Law, Limits, Requests, check_law};
 pub use sampling::samples;
 pub use std::alloc::{AllocError, Global};
 pub use std::test::Fail;
 pub use test::{Test, holds, no_blocks, ok, same};
-pub use things::{IntoThing, Thing, changed, made, nothing};
+pub use things::{IntoThing, Outcome, Thing, changed, made, nothing};
 pub use values::{ABOVE_BUFFERS, long_blank, long_text, place_of, same_place, same_value};

@@ -14,7 +14,7 @@ const BASE: usize = 0x4000_0000_0000_0000;
 const WORD: usize = 0x1_0000_0000;
 
 /// Which requests for memory are refused, counted from 1; the 0th is no request.
-#[derive(Clone, Copy, Debug)]
+#[derive(Clone, Copy)]
 pub enum Refusals {
     /// The nth, and no other.
     One(u32),

@@ -17,28 +17,33 @@ static MARKS: [&str; 23] = table! {
     "\""; "\\"; "\u{8}"; "\t"; "\n"; "\u{c}"; "\r"; "\u{1}";
 };
 
-/// Texts of each length from 0 to 300, about the powers of two up to 70,000, some between those, and of more than two megabytes.
-/// Where memory can't be refused, some.
+/// Lengths, each span up to its end alone: to 300, about the powers of two up to 70,000, and of more than two megabytes.
+static SPANS: [(usize, usize); 11] = table! {
+    (0, 301); (511, 514); (1_023, 1_026); (2_047, 2_050); (4_095, 4_098); (8_191, 8_194); (16_383, 16_386);
+    (32_767, 32_770); (65_535, 65_538); (70_000, 70_001); (2_200_003, 2_200_004);
+};
+
+/// Where memory can't be refused.
+static FEW: [(usize, usize); 3] = [(0, 2), (INLINE_CAP, INLINE_CAP + 2), (300, 301)];
+
+/// Texts of each length of the spans, and of some between them.
 pub fn samples(test: &Test) -> Vec<&'static str> {
-    let mut texts = Vec::new(test.alloc);
+    let mut texts: Vec<&'static str> = Vec::new(test.alloc);
     if !can_refuse(test.alloc) {
-        for len in [0, 1, INLINE_CAP, INLINE_CAP + 1, 300] {
-            push_samples(test, &mut texts, len);
-        }
+        push_spans(test, &mut texts, &FEW);
         return texts;
     }
-    for len in 0..=300 {
-        push_samples(test, &mut texts, len);
-    }
-    for power in 9..=16u32 {
-        for len in [(1 << power) - 1, 1 << power, (1 << power) + 1] {
-            push_samples(test, &mut texts, len);
-        }
-    }
-    push_samples(test, &mut texts, 70_000);
-    push_samples(test, &mut texts, 2_200_003);
+    push_spans(test, &mut texts, &SPANS);
     push_between(test, &mut texts);
     texts
+}
+
+fn push_spans(test: &Test, texts: &mut Vec<&'static str>, spans: &[(usize, usize)]) {
+    for &(from, to) in spans {
+        for len in from..to {
+            push_samples(test, texts, len);
+        }
+    }
 }
 
 /// The texts of a length: all that are short or about that, and of others each mark at one length; few that are long.
@@ -48,39 +53,52 @@ fn push_samples(test: &Test, texts: &mut Vec<&'static str>, len: usize) {
         1_001..=100_000 => 4,
         _ => 2,
     };
-    for unit in &UNITS[..units] {
-        push_repeated(test, texts, unit, len);
-    }
+    push_units(test, texts, &UNITS[..units], len);
     if units > 2 {
         push_text(test, texts, blank(test, len));
-        push_text(test, texts, blank_and(test, len));
+        push_text(
+            test,
+            texts,
+            test.repeated_and(" ", len.saturating_sub(1), "a"),
+        );
+        push_marks(test, texts, len);
     }
+}
+
+/// Each unit as often as the length has room for it, and letters.
+fn push_units(test: &Test, texts: &mut Vec<&'static str>, units: &[&str], len: usize) {
+    for unit in units {
+        let size = unit.len().max(1);
+        let rest = test.repeated("a", len % size);
+        push_text(
+            test,
+            texts,
+            test.repeated_and(unit, len / size, rest.as_str()),
+        );
+    }
+}
+
+fn push_marks(test: &Test, texts: &mut Vec<&'static str>, len: usize) {
     for (index, mark) in MARKS.iter().enumerate() {
-        if len <= 2 * INLINE_CAP + 2 || (units > 2 && len.wrapping_add(index) % MARKS.len() == 0) {
+        if len <= 2 * INLINE_CAP + 2 || len.wrapping_add(index) % MARKS.len() == 0 {
             push_marked(test, texts, mark, len);
         }
     }
 }
 
+static ENDS: [&str; 4] = ["é", "bb", "\"", "\u{1}"];
+
 /// Texts of lengths from 300 to 64,000, each about a thirtieth more than the one before it.
 fn push_between(test: &Test, texts: &mut Vec<&'static str>) {
     let mut len = 300usize;
     for index in 0..165 {
-        let end = ["é", "bb", "\"", "\u{1}"][index % 4];
-        push_text(test, texts, test.repeated_and("ab", len / 2, end));
+        push_text(
+            test,
+            texts,
+            test.repeated_and("ab", len / 2, ENDS[index % 4]),
+        );
         len = len.saturating_add(len / 30);
     }
-}
-
-/// A unit as often as the length has room for it, and letters.
-fn push_repeated(test: &Test, texts: &mut Vec<&'static str>, unit: &str, len: usize) {
-    let size = unit.len().max(1);
-    let rest = test.repeated("a", len % size);
-    push_text(
-        test,
-        texts,
-        test.repeated_and(unit, len / size, rest.as_str()),
-    );
 }
 
 /// Newlines, and then spaces.
@@ -90,20 +108,20 @@ fn blank(test: &Test, len: usize) -> String {
     test.repeated_and("\n", newlines, spaces.as_str())
 }
 
-/// Spaces, and then a letter.
-fn blank_and(test: &Test, len: usize) -> String {
-    test.repeated_and(" ", len.saturating_sub(1), "a")
-}
-
 /// A mark in front of letters, among them at two places and behind them.
 fn push_marked(test: &Test, texts: &mut Vec<&'static str>, mark: &str, len: usize) {
     let Some(letters) = len.checked_sub(mark.len()) else {
         return;
     };
     for front in [0, letters.min(1 + len % 7), letters / 2, letters] {
-        let rest = test.repeated_and(mark, 1, test.repeated("a", letters - front).as_str());
-        push_text(test, texts, test.repeated_and("a", front, rest.as_str()));
+        push_text(test, texts, marked(test, front, mark, letters - front));
     }
+}
+
+/// A mark between letters.
+fn marked(test: &Test, front: usize, mark: &str, back: usize) -> String {
+    let rest = test.joined(mark, test.repeated("a", back).as_str());
+    test.repeated_and("a", front, rest.as_str())
 }
 
 /// The text stays for as long as the process lives.

@@ -46,16 +46,12 @@ impl Test {
 
     /// A text so many times.
     pub fn repeated(&self, text: &str, times: usize) -> String {
-        self.repeated_and(text, times, "")
+        ok(self, text.repeat(self.alloc, times))
     }
 
     /// A text so many times, and then an end.
     pub fn repeated_and(&self, text: &str, times: usize, end: &str) -> String {
-        let room = text.len().saturating_mul(times).saturating_add(end.len());
-        let mut all = ok(self, String::with_capacity(self.alloc, room));
-        for _ in 0..times {
-            ok(self, all.push_str(text));
-        }
+        let mut all = self.repeated(text, times);
         ok(self, all.push_str(end));
         all
     }
@@ -64,9 +60,7 @@ impl Test {
     pub fn text(&self, parts: &[(&str, usize)]) -> String {
         let mut all = String::new(self.alloc);
         for &(text, times) in parts {
-            for _ in 0..times {
-                ok(self, all.push_str(text));
-            }
+            ok(self, all.push_str(self.repeated(text, times).as_str()));
         }
         all
     }
@@ -78,9 +72,7 @@ impl Test {
 
     /// Appends an item.
     pub fn push<T: Drop>(&self, list: &mut Vec<T>, item: T) {
-        if list.push(item).is_err() {
-            self.fail(&"an item");
-        }
+        ok(self, list.push(item));
     }
 
     /// The test's result: its first wrong row, where there is one, or that nothing was compared.

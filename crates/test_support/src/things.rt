@@ -8,7 +8,7 @@ use std::borrow::CowStr;
 use std::boxed::BoxedStr;
 use std::rc::RcStr;
 
-/// What a call made, or left where it was refused.
+/// What calls make and leave.
 #[derive(Drop)]
 pub enum Thing {
     /// Nothing, or what no row asks about.
@@ -17,10 +17,13 @@ pub enum Thing {
     Fault,
     Value(SmolStr),
     Builder(SmolStrBuilder),
-    Owned(String),
+    /// Also those of a `String`.
     Bytes(Vec<u8>),
     Shared(RcStr),
 }
+
+/// What a call made, or left where it was refused.
+pub type Outcome = Result<Thing, Thing>;
 
 /// What a shared text has beside its bytes: its counts, and what the C library leaves at the end of a block.
 const BESIDE: usize = 128;
@@ -28,14 +31,13 @@ const BESIDE: usize = 128;
 impl Thing {
     /// The bytes of its text, where it has one.
     pub fn bytes(&self) -> Option<&[u8]> {
-        Some(match self {
-            Thing::Nothing | Thing::Fault => return None,
-            Thing::Value(value) => value.as_str().as_bytes(),
-            Thing::Builder(builder) => builder.as_str().as_bytes(),
-            Thing::Owned(string) => string.as_bytes(),
-            Thing::Bytes(bytes) => bytes.as_slice(),
-            Thing::Shared(shared) => shared.as_str().as_bytes(),
-        })
+        match self {
+            Thing::Nothing | Thing::Fault => None,
+            Thing::Value(value) => Some(value.as_str().as_bytes()),
+            Thing::Builder(builder) => Some(builder.as_str().as_bytes()),
+            Thing::Bytes(bytes) => Some(bytes.as_slice()),
+            Thing::Shared(shared) => Some(shared.as_str().as_bytes()),
+        }
     }
 
     /// Whether it is what was to be made.
@@ -46,13 +48,13 @@ impl Thing {
         }
     }
 
-    /// How many bytes of memory it may hold, where that is its text and no more.
-    pub fn most_held(&self) -> Option<usize> {
+    /// How many bytes of memory it may hold: where it is a value or shared its text and no more.
+    pub fn most_held(&self) -> usize {
         match self {
-            Thing::Value(value) if value.place() != Place::Heap => Some(0),
-            Thing::Value(value) => Some(value.len().saturating_add(BESIDE)),
-            Thing::Shared(shared) => Some(shared.as_str().len().saturating_add(BESIDE)),
-            _ => None,
+            Thing::Value(value) if value.place() != Place::Heap => 0,
+            Thing::Value(value) => value.len().saturating_add(BESIDE),
+            Thing::Shared(shared) => shared.as_str().len().saturating_add(BESIDE),
+            _ => usize::MAX,
         }
     }
 
@@ -74,18 +76,19 @@ impl Thing {
 }
 
 /// What a call returned, as things.
-pub fn made<M: IntoThing, F: IntoThing>(outcome: Result<M, F>) -> Result<Thing, Thing> {
+pub fn made<M: IntoThing, F: IntoThing>(outcome: Result<M, F>) -> Outcome {
     match outcome {
         Ok(made) => Ok(made.into_thing()),
         Err(fault) => Err(fault.into_thing()),
     }
 }
 
-/// What a call leaves that changes a builder.
-pub fn changed<F: Drop>(outcome: Result<(), F>, builder: SmolStrBuilder) -> Result<Thing, Thing> {
-    match outcome {
-        Ok(()) => Ok(Thing::Builder(builder)),
-        Err(_) => Err(Thing::Builder(builder)),
+/// What a call leaves that changes a builder or a list, where it did.
+pub fn changed<T: IntoThing>(is_changed: bool, thing: T) -> Outcome {
+    if is_changed {
+        Ok(thing.into_thing())
+    } else {
+        Err(thing.into_thing())
     }
 }
 
@@ -102,12 +105,6 @@ pub trait IntoThing {
     fn into_thing(self) -> Thing;
 }
 
-impl IntoThing for Thing {
-    fn into_thing(self) -> Thing {
-        self
-    }
-}
-
 impl IntoThing for SmolStr {
     fn into_thing(self) -> Thing {
         Thing::Value(self)
@@ -122,7 +119,7 @@ impl IntoThing for SmolStrBuilder {
 
 impl IntoThing for String {
     fn into_thing(self) -> Thing {
-        Thing::Owned(self)
+        Thing::Bytes(self.into_bytes())
     }
 }
 
@@ -134,7 +131,7 @@ impl IntoThing for Vec<u8> {
 
 impl IntoThing for BoxedStr {
     fn into_thing(self) -> Thing {
-        Thing::Owned(self.into_string())
+        self.into_string().into_thing()
     }
 }
 
@@ -149,7 +146,7 @@ impl IntoThing for CowStr<'_> {
     fn into_thing(self) -> Thing {
         match self {
             CowStr::Borrowed(_) => Thing::Nothing,
-            CowStr::Owned(string) => Thing::Owned(string),
+            CowStr::Owned(string) => string.into_thing(),
         }
     }
 }

@@ -101,7 +101,7 @@ fn of_pieces(rt: HostRuntime) -> Result<(), Fail> {
 }
 
 /// Of a value, also of a pinned one where nothing else is said.
-static VALUES: [Law<OnValue>; 11] = laws! {
+static VALUES: [Law<OnValue>; 12] = laws! {
     Cloned => "SmolStr::clone", Most(0), 0 * text + 0, ForAny;
     IntoString => "SmolStr::into_string", Most(1), 1 * text + 0, UnlessEmpty;
     IntoRcStr => "SmolStr::into_rc_str", Most(2), 1 * text + 40, ForAny;
@@ -113,6 +113,7 @@ static VALUES: [Law<OnValue>; 11] = laws! {
     ToJsonDoubled => "json_string::to_json", Most(2), 2 * text + 40, ForAny;
     ToJsonOneEscape => "json_string::to_json", Most(1), 1 * text + 8, ForAny;
     ToJsonPlain => "json_string::to_json", Most(1), 1 * text + 2, ForAny;
+    Serialize => "SmolStr::serialize", Doubling(1), 4 * text + 120, ForAny;
 };
 
 #[test]
@@ -168,7 +169,7 @@ fn of_forms(rt: HostRuntime) -> Result<(), Fail> {
 }
 
 /// Of JSON: the text in quotes, with white space around, or a tree. serde's reader copies the JSON, of up to six bytes for one.
-static JSON: [Law<OnJson>; 12] = laws! {
+static JSON: [Law<OnJson>; 11] = laws! {
     FromValue => "json_string::from_value", Most(2), 1 * text + 40, UnlessResident;
     FromPlain => "json_string::from_json", Most(2), 1 * text + 40, UnlessResident;
     FromEscape => "json_string::from_json", Most(3), 1 * text + 200, UnlessShort;
@@ -177,7 +178,6 @@ static JSON: [Law<OnJson>; 12] = laws! {
     NumbersAndMore => "json_string::from_json", Most(2), 2 * text + 140, UnlessShort;
     NotString => "json_string::from_json", Most(3), 2 * text + 140, ForAny;
     Object => "json_string::from_json", Most(5), 3 * text + 880, ForAny;
-    Serialize => "SmolStr::serialize", Doubling(1), 4 * text + 120, ForAny;
     Deserialize => "SmolStr::deserialize", Most(3), 2 * text + 48, ForAny;
     DeserializeEscaped => "SmolStr::deserialize", Most(3), 7 * text + 48, ForAny;
     DeserializeOwned => "SmolStr::deserialize_owned", Doubling(4), 4 * text + 180, ForAny;

@@ -66,8 +66,8 @@ impl OnLine {
     }
 
     /// What becomes of a line, as std has it.
-    fn mapped(self, test: &Test, line: &str) -> String {
-        match self {
+    fn mapped(&self, test: &Test, line: &str) -> String {
+        match *self {
             Lower => ok(test, line.to_ascii_lowercase(test.alloc)),
             Upper => ok(test, line.to_ascii_uppercase(test.alloc)),
             Replace(from, to) => ok(test, line.replace(test.alloc, from, to)),
@@ -76,7 +76,7 @@ impl OnLine {
     }
 
     /// The report on a line that occurs so often.
-    fn report(self, test: &Test, line: &str, times: usize) -> String {
+    fn report(&self, test: &Test, line: &str, times: usize) -> String {
         let made = self.mapped(test, line);
         let (place, size) = (place_word(made.as_str()), made.len());
         if let Tokens = self {
@@ -114,15 +114,15 @@ impl Call for OnLine {
     type Input = (Mode, String, usize, Vec<u8>);
 
     /// Once, and three times behind another line; by single bytes and by all; counts of some digits.
-    fn ways(self) -> usize {
+    fn ways(&self) -> usize {
         4
     }
 
-    fn takes(self, text: &str) -> bool {
+    fn takes(&self, text: &str) -> bool {
         !text.contains('\n') && (text.len() <= LONGEST || LONGER.contains(&text.len()))
     }
 
-    fn input(self, test: &Test, text: &'static str, way: usize) -> (Mode, String, usize, Vec<u8>) {
+    fn input(&self, test: &Test, text: &'static str, way: usize) -> (Mode, String, usize, Vec<u8>) {
         let input = match self {
             Merge => self.wanted(test, text, way),
             NoSum => test.text(&[(NO_SUMS[way / 2 % 2], 1), (text, 1), ("\n", 1)]),
@@ -137,11 +137,11 @@ impl Call for OnLine {
     }
 
     fn run(
-        self,
+        &self,
         alloc: Global,
         _text: &str,
         (mode, input, step, mut out): (Mode, String, usize, Vec<u8>),
-    ) -> Result<Thing, Thing> {
+    ) -> Outcome {
         let mut reader = trickle_of(input.as_bytes(), step, 0);
         let state = BuildHasherDefault::<FoldHasher>::new();
         let returned = match self {
@@ -154,7 +154,7 @@ impl Call for OnLine {
         }
     }
 
-    fn wanted(self, test: &Test, text: &'static str, way: usize) -> String {
+    fn wanted(&self, test: &Test, text: &'static str, way: usize) -> String {
         let (times, is_behind) = (TIMES[way % 4], way >= 2);
         match self {
             Join => {
@@ -179,7 +179,6 @@ impl Call for OnLine {
 }
 
 /// A token, added to a tally of so many others, four of which grow: a new one, and one that is there.
-#[derive(Clone, Copy)]
 enum Add {
     New,
     Again,
@@ -208,16 +207,16 @@ struct Filled {
 impl Call for Add {
     type Input = Filled;
 
-    fn ways(self) -> usize {
+    fn ways(&self) -> usize {
         8
     }
 
     /// None of the others.
-    fn takes(self, text: &str) -> bool {
+    fn takes(&self, text: &str) -> bool {
         text.len() > 2
     }
 
-    fn input(self, test: &Test, text: &'static str, way: usize) -> Filled {
+    fn input(&self, test: &Test, text: &'static str, way: usize) -> Filled {
         let mut tally = Tally::new(test.alloc);
         let others = OTHERS[way % 8];
         for number in 0..others {
@@ -236,7 +235,7 @@ impl Call for Add {
     }
 
     /// A token that comes back is not counted.
-    fn run(self, _alloc: Global, _text: &str, filled: Filled) -> Result<Thing, Thing> {
+    fn run(&self, _alloc: Global, _text: &str, filled: Filled) -> Outcome {
         let Filled {
             mut tally,
             token,
@@ -251,7 +250,7 @@ impl Call for Add {
         }
     }
 
-    fn wanted(self, test: &Test, text: &'static str, _way: usize) -> String {
+    fn wanted(&self, test: &Test, text: &'static str, _way: usize) -> String {
         test.string(text)
     }
 }

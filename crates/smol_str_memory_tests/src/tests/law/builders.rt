@@ -5,7 +5,6 @@ use std::default;
 use std::fmt::Write;
 use test_support::*;
 
-#[derive(Clone, Copy)]
 pub enum OnBuilder {
     CloneSmall,
     /// On the heap, with room for more.
@@ -35,7 +34,7 @@ impl Call for OnBuilder {
     type Input = SmolStrBuilder;
 
     /// With no more room than it begins with or than the text needs; where nothing is appended also with more.
-    fn ways(self) -> usize {
+    fn ways(&self) -> usize {
         match self {
             Finish | FromBuilder | IntoValue | ValueOf => 3,
             CloneLarge | Emptied | PushWithin | PushStrWithin | ExtendWithin => 1,
@@ -43,7 +42,7 @@ impl Call for OnBuilder {
         }
     }
 
-    fn input(self, test: &Test, text: &'static str, way: usize) -> SmolStrBuilder {
+    fn input(&self, test: &Test, text: &'static str, way: usize) -> SmolStrBuilder {
         let twice = text.len().saturating_mul(2).saturating_add(100);
         let capacity = match self {
             CloneLarge | Emptied | PushWithin | PushStrWithin | ExtendWithin => twice,
@@ -52,7 +51,7 @@ impl Call for OnBuilder {
         test.builder(capacity, text)
     }
 
-    fn run(self, _alloc: Global, text: &str, builder: SmolStrBuilder) -> Result<Thing, Thing> {
+    fn run(&self, _alloc: Global, text: &str, mut builder: SmolStrBuilder) -> Outcome {
         match self {
             CloneSmall | CloneLarge => made(builder.clone()),
             Emptied => made(<SmolStrBuilder as default::Emptied>::emptied(&builder)),
@@ -60,19 +59,20 @@ impl Call for OnBuilder {
             FromBuilder => made(SmolStr::from_builder(builder)),
             IntoValue => made(builder.into_value()),
             ValueOf => made(Global::value_of(builder)),
-            _ => self.append(text, builder),
+            _ => changed(self.append(text, &mut builder), builder),
         }
     }
 
-    fn wanted(self, test: &Test, text: &'static str, _way: usize) -> String {
+    fn wanted(&self, test: &Test, text: &'static str, _way: usize) -> String {
         match self {
             Emptied => test.string(""),
             Push => test.joined(text, "b"),
             PushWide | PushWithin => test.joined(text, "€"),
             PushBlank => {
                 let newlines = text.len().min(text.len() % 2 * BLANK_NEWLINES);
-                let spaces = text.len().min(BLANK_SPACES);
-                test.text(&[(text, 1), ("\n", newlines), (" ", spaces)])
+                let spaces = test.repeated(" ", text.len().min(BLANK_SPACES));
+                let blank = test.repeated_and("\n", newlines, spaces.as_str());
+                test.joined(text, blank.as_str())
             }
             CloneSmall | CloneLarge | Finish | FromBuilder => test.string(text),
             IntoValue | ValueOf => test.string(text),
@@ -82,21 +82,22 @@ impl Call for OnBuilder {
 }
 
 impl OnBuilder {
-    fn append(self, text: &str, mut builder: SmolStrBuilder) -> Result<Thing, Thing> {
+    /// Whether it is appended.
+    fn append(&self, text: &str, builder: &mut SmolStrBuilder) -> bool {
         match self {
-            Push => changed(builder.push('b'), builder),
-            PushWide | PushWithin => changed(builder.push('€'), builder),
-            PushWithSpare => changed(builder.push_with_spare(text, 2 * text.len()), builder),
+            Push => builder.push('b').is_ok(),
+            PushWide | PushWithin => builder.push('€').is_ok(),
+            PushWithSpare => builder.push_with_spare(text, 2 * text.len()).is_ok(),
             PushBlank => {
                 let newlines = text.len().min(text.len() % 2 * BLANK_NEWLINES);
                 let spaces = text.len().min(BLANK_SPACES);
-                changed(builder.push_blank(newlines, spaces), builder)
+                builder.push_blank(newlines, spaces).is_ok()
             }
-            ExtendWithin => changed(builder.extend_strs([text].into_iter()), builder),
-            WriteStr => changed(builder.write_str(text), builder),
-            WriteFmt => changed(builder.write_fmt(text), builder),
-            ExtendChars => changed(builder.extend_chars(text.chars()), builder),
-            _ => changed(builder.push_str(text), builder),
+            ExtendWithin => builder.extend_strs([text].into_iter()).is_ok(),
+            WriteStr => builder.write_str(text).is_ok(),
+            WriteFmt => builder.write_fmt(text).is_ok(),
+            ExtendChars => builder.extend_chars(text.chars()).is_ok(),
+            _ => builder.push_str(text).is_ok(),
         }
     }
 }

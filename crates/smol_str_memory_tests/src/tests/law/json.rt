@@ -1,13 +1,12 @@
 //! JSON, by calls and by serde's traits.
 use super::forms::faulty;
-use super::values::{escapes, is_plain, json_of};
+use super::values::{by_serde, escapes, is_plain, json_of};
 use OnJson::*;
 use serde_json::Value;
 use smol_str::json_string::{from_json, from_value};
 use smol_str::{INLINE_CAP, SmolStr};
 use test_support::*;
 
-#[derive(Clone, Copy)]
 pub enum OnJson {
     FromValue,
     FromPlain,
@@ -23,18 +22,16 @@ pub enum OnJson {
     NotString,
     /// An object with a key of it.
     Object,
-    Serialize,
     Deserialize,
     DeserializeEscaped,
     DeserializeOwned,
 }
 
-/// A tree, JSON or a value.
+/// A tree or JSON.
 #[derive(Drop)]
 pub enum Input {
     Tree(Value),
     Json(String),
-    Value(SmolStr),
 }
 
 /// A quote, and characters by numbers, with digits in both cases, of planes 1 and 2, and an escaped slash.
@@ -56,7 +53,7 @@ const BLANKS: &str =
 impl Call for OnJson {
     type Input = Input;
 
-    fn ways(self) -> usize {
+    fn ways(&self) -> usize {
         match self {
             FromPlain | FromEscape | FromEscapes | BehindNumbers | NumbersAndMore => 4,
             NotString => 5,
@@ -64,9 +61,9 @@ impl Call for OnJson {
         }
     }
 
-    fn takes(self, text: &str) -> bool {
+    fn takes(&self, text: &str) -> bool {
         match self {
-            FromValue | Serialize => true,
+            FromValue => true,
             FromEscape => escapes(text) == 1,
             FromEscapes => escapes(text) > 1,
             NumbersAndMore => !is_plain(text) && text.get(..INLINE_CAP).is_some_and(is_plain),
@@ -75,62 +72,63 @@ impl Call for OnJson {
         }
     }
 
-    fn input(self, test: &Test, text: &'static str, way: usize) -> Input {
+    fn input(&self, test: &Test, text: &'static str, way: usize) -> Input {
         match self {
             FromValue | DeserializeOwned => Input::Tree(Value::String(test.string(text))),
-            Serialize => Input::Value(test.value(text)),
-            NotString | Object => {
-                let (front, end) = match self {
-                    Object => ("{\"", "\":[]}"),
-                    _ => NO_STRINGS[way % 5],
-                };
-                Input::Json(test.joined(front, test.joined(text, end).as_str()))
-            }
-            _ => {
-                let (front, end) = AROUND[way % 4];
-                let rest = test.joined(json_of(test, text).as_str().get(1..).unwrap_or(""), end);
-                let quote = if self.has_numbers(way) { NUMBERS } else { "\"" };
-                let json = test.joined(quote, rest.as_str());
-                Input::Json(test.joined(front, json.as_str()))
-            }
+            _ => Input::Json(self.json(test, text, way)),
         }
     }
 
-    fn run(self, alloc: Global, _text: &str, input: Input) -> Result<Thing, Thing> {
+    fn run(&self, alloc: Global, _text: &str, input: Input) -> Outcome {
         match input {
-            Input::Value(value) => by_serde(serde_json::to_string(alloc, &value)),
+            Input::Json(json) => self.of_json(alloc, json.as_str()),
             Input::Tree(tree) => match self {
                 FromValue => made(from_value(alloc, &tree)),
                 _ => by_serde::<SmolStr>(serde_json::from_value(alloc, tree)),
             },
-            Input::Json(json) => match self {
-                Deserialize | DeserializeEscaped => {
-                    by_serde::<SmolStr>(serde_json::from_str(alloc, json.as_str()))
-                }
-                NotString | Object => faulty(made(from_json(alloc, json.as_str()))),
-                _ => made(from_json(alloc, json.as_str())),
-            },
         }
     }
 
-    fn wanted(self, test: &Test, text: &'static str, way: usize) -> String {
-        match self {
-            Serialize => json_of(test, text),
-            _ if self.has_numbers(way) => test.joined(BY_NUMBERS, text),
-            _ => test.string(text),
-        }
+    fn wanted(&self, test: &Test, text: &'static str, way: usize) -> String {
+        let numbers = if self.has_numbers(way) {
+            BY_NUMBERS
+        } else {
+            ""
+        };
+        test.joined(numbers, text)
     }
 }
 
 impl OnJson {
-    fn has_numbers(self, way: usize) -> bool {
+    fn json(&self, test: &Test, text: &str, way: usize) -> String {
+        match self {
+            NotString => around(test, NO_STRINGS[way % 5], text),
+            Object => around(test, ("{\"", "\":[]}"), text),
+            _ => around(test, AROUND[way % 4], self.quoted(test, text, way).as_str()),
+        }
+    }
+
+    /// The text in quotes, behind the numbers where there are some.
+    fn quoted(&self, test: &Test, text: &str, way: usize) -> String {
+        let quote = if self.has_numbers(way) { NUMBERS } else { "\"" };
+        test.joined(quote, json_of(test, text).as_str().get(1..).unwrap_or(""))
+    }
+
+    fn has_numbers(&self, way: usize) -> bool {
         matches!(self, BehindNumbers | NumbersAndMore) || matches!(self, FromEscapes) && way >= 2
+    }
+
+    fn of_json(&self, alloc: Global, json: &str) -> Outcome {
+        match self {
+            Deserialize | DeserializeEscaped => {
+                by_serde::<SmolStr>(serde_json::from_str(alloc, json))
+            }
+            NotString | Object => faulty(made(from_json(alloc, json))),
+            _ => made(from_json(alloc, json)),
+        }
     }
 }
 
-fn by_serde<M: IntoThing>(outcome: Result<M, serde_json::Error>) -> Result<Thing, Thing> {
-    match outcome {
-        Ok(made) => Ok(made.into_thing()),
-        Err(error) => Err(nothing(error.is_memory())),
-    }
+fn around(test: &Test, (front, end): (&str, &str), text: &str) -> String {
+    test.joined(front, test.joined(text, end).as_str())
 }

@@ -3,7 +3,6 @@ use OnPieces::*;
 use smol_str::{Piece, SmolStr, SmolStrBuilder};
 use test_support::*;
 
-#[derive(Clone, Copy)]
 pub enum OnPieces {
     FromStrs,
     FromStrings,
@@ -45,7 +44,7 @@ impl Call for OnPieces {
     /// The builder is for calls that extend one.
     type Input = (Pieces, SmolStrBuilder, &'static str);
 
-    fn ways(self) -> usize {
+    fn ways(&self) -> usize {
         match self {
             Collect | Extend | Append => 10,
             Join => 15,
@@ -53,28 +52,17 @@ impl Call for OnPieces {
         }
     }
 
-    fn input(self, test: &Test, text: &'static str, way: usize) -> Self::Input {
-        let strs = cut(test, text, count_of(text, way));
-        let pieces = match self {
-            FromStrs | ExtendStrs => Pieces::Strs(strs),
-            FromStrings | FromStringRefs | ExtendStrings => Pieces::Strings(strings(test, &strs)),
-            _ => match self.kind(way) {
-                0 => Pieces::Strs(strs),
-                1 => Pieces::Strings(strings(test, &strs)),
-                2 => Pieces::Values(values(test, &strs)),
-                _ => Pieces::Chars(ok(test, text.chars().collect(test.alloc))),
-            },
-        };
+    fn input(&self, test: &Test, text: &'static str, way: usize) -> Self::Input {
         let builder = test.builder(0, self.front(text));
-        (pieces, builder, SEPARATORS[way % 5])
+        (self.pieces(test, text, way), builder, SEPARATORS[way % 5])
     }
 
     fn run(
-        self,
+        &self,
         alloc: Global,
         _text: &str,
         (pieces, mut builder, separator): Self::Input,
-    ) -> Result<Thing, Thing> {
+    ) -> Outcome {
         match pieces {
             Pieces::Strs(strs) => match self {
                 FromStrs => made(SmolStr::from_strs(alloc, strs.into_iter())),
@@ -93,7 +81,7 @@ impl Call for OnPieces {
     }
 
     /// As std joins.
-    fn wanted(self, test: &Test, text: &'static str, way: usize) -> String {
+    fn wanted(&self, test: &Test, text: &'static str, way: usize) -> String {
         match self {
             Join => {
                 let strs = cut(test, text, count_of(text, way));
@@ -106,7 +94,7 @@ impl Call for OnPieces {
 
 impl OnPieces {
     /// What a builder has that is extended: nothing, or a text on the heap.
-    fn front(self, text: &str) -> &'static str {
+    fn front(&self, text: &str) -> &'static str {
         match self {
             ExtendStrs | ExtendStrings | Extend | Append if text.len() % 2 == 0 => SEPARATORS[4],
             _ => "",
@@ -114,17 +102,31 @@ impl OnPieces {
     }
 
     /// Texts are joined by each separator in each number of pieces.
-    fn kind(self, way: usize) -> usize {
-        way / if let Join = self { 5 } else { 3 }
+    fn kind(&self, way: usize) -> usize {
+        match self {
+            FromStrings | FromStringRefs | ExtendStrings => 1,
+            Join => way / 5,
+            _ => way / 3,
+        }
+    }
+
+    fn pieces(&self, test: &Test, text: &'static str, way: usize) -> Pieces {
+        let strs = cut(test, text, count_of(text, way));
+        match self.kind(way) {
+            0 => Pieces::Strs(strs),
+            1 => Pieces::Strings(strings(test, &strs)),
+            2 => Pieces::Values(values(test, &strs)),
+            _ => Pieces::Chars(ok(test, text.chars().collect(test.alloc))),
+        }
     }
 
     fn of_each<P: Piece>(
-        self,
+        &self,
         alloc: Global,
         pieces: Vec<P>,
         mut builder: SmolStrBuilder,
         separator: &str,
-    ) -> Result<Thing, Thing> {
+    ) -> Outcome {
         match self {
             Join => made(SmolStr::join(alloc, pieces.as_slice(), separator)),
             Extend => gathered(builder.extend(pieces), builder),
@@ -135,7 +137,7 @@ impl OnPieces {
 }
 
 /// A builder that has all pieces; what is left of others, the contracts say.
-fn gathered(outcome: Result<(), AllocError>, builder: SmolStrBuilder) -> Result<Thing, Thing> {
+fn gathered(outcome: Result<(), AllocError>, builder: SmolStrBuilder) -> Outcome {
     match outcome {
         Ok(()) => Ok(Thing::Builder(builder)),
         Err(fault) => Err(fault.into_thing()),
@@ -151,12 +153,11 @@ fn append_all<P: Piece>(builder: &mut SmolStrBuilder, pieces: Vec<P>) -> Result<
 
 /// A text in so many pieces, about as long, and behind two an empty one.
 fn cut(test: &Test, text: &'static str, count: usize) -> Vec<&'static str> {
-    let (mut pieces, mut from) = (Vec::new(test.alloc), 0);
-    for number in 1..=count {
-        let to = boundary(text, text.len() / count.max(1) * number);
-        let to = if number == count { text.len() } else { to };
-        test.push(&mut pieces, text.get(from..to).unwrap_or(""));
-        from = to;
+    let mut pieces = Vec::new(test.alloc);
+    for number in 0..count {
+        let to = end_of(text, number.saturating_add(1), count);
+        let piece = text.get(end_of(text, number, count)..to).unwrap_or("");
+        test.push(&mut pieces, piece);
     }
     if count > 1 {
         test.push(&mut pieces, "");
@@ -164,14 +165,12 @@ fn cut(test: &Test, text: &'static str, count: usize) -> Vec<&'static str> {
     pieces
 }
 
-/// The first char boundary from a place on.
-fn boundary(text: &str, from: usize) -> usize {
-    for place in from..text.len() {
-        if text.is_char_boundary(place) {
-            return place;
-        }
+/// Where so many of the pieces end.
+fn end_of(text: &str, number: usize, count: usize) -> usize {
+    if number == count {
+        return text.len();
     }
-    text.len()
+    text.ceil_char_boundary((text.len() / count.max(1)).saturating_mul(number))
 }
 
 fn strings(test: &Test, strs: &Vec<&'static str>) -> Vec<String> {

@@ -3,7 +3,6 @@ use Replace::*;
 use smol_str::{INLINE_CAP, StrExt};
 use test_support::*;
 
-#[derive(Clone, Copy)]
 pub enum Replace {
     /// A byte by a byte.
     ByteByByte,
@@ -60,7 +59,7 @@ static BETWEEN: [Change; 5] = table! {
 };
 
 impl Replace {
-    fn changes(self) -> &'static [Change] {
+    fn changes(&self) -> &'static [Change] {
         match self {
             ByteByByte => &BYTE_BY_BYTE,
             ByteByMore => &BYTE_BY_MORE,
@@ -70,7 +69,7 @@ impl Replace {
         }
     }
 
-    fn change(self, text: &str, way: usize) -> Change {
+    fn change(&self, text: &str, way: usize) -> Change {
         match self.changes().get(way) {
             Some(&(from, to, FEW)) => (from, to, text.len() % 9),
             Some(&(from, to, HALF)) => (from, to, text.len() / 2),
@@ -83,11 +82,11 @@ impl Replace {
 impl Call for Replace {
     type Input = Change;
 
-    fn ways(self) -> usize {
+    fn ways(&self) -> usize {
         self.changes().len()
     }
 
-    fn takes(self, text: &str) -> bool {
+    fn takes(&self, text: &str) -> bool {
         match self {
             ByteByMore => text.len() > INLINE_CAP && text.len() < MAPPED,
             ByMore | Between => text.len() < MAPPED,
@@ -95,11 +94,11 @@ impl Call for Replace {
         }
     }
 
-    fn input(self, _test: &Test, text: &'static str, way: usize) -> Change {
+    fn input(&self, _test: &Test, text: &'static str, way: usize) -> Change {
         self.change(text, way)
     }
 
-    fn run(self, alloc: Global, text: &str, (from, to, count): Change) -> Result<Thing, Thing> {
+    fn run(&self, alloc: Global, text: &str, (from, to, count): Change) -> Outcome {
         match count {
             ALL => made(text.replace_smolstr(alloc, from, to)),
             _ => made(text.replacen_smolstr(alloc, from, to, count)),
@@ -107,7 +106,7 @@ impl Call for Replace {
     }
 
     /// As std replaces.
-    fn wanted(self, test: &Test, text: &'static str, way: usize) -> String {
+    fn wanted(&self, test: &Test, text: &'static str, way: usize) -> String {
         let (from, to, count) = self.change(text, way);
         ok(test, text.replacen(test.alloc, from, to, count))
     }

@@ -5,7 +5,6 @@ use std::borrow::CowStr;
 use std::rc::RcStr;
 use test_support::*;
 
-#[derive(Clone, Copy)]
 pub enum OnString {
     FromStringRef,
     FromString,
@@ -20,14 +19,14 @@ impl Call for OnString {
     type Input = Result<String, RcStr>;
 
     /// With no more room than the text needs, and with more.
-    fn ways(self) -> usize {
+    fn ways(&self) -> usize {
         match self {
             FromBoxed | FromShared => 1,
             _ => 2,
         }
     }
 
-    fn input(self, test: &Test, text: &'static str, way: usize) -> Result<String, RcStr> {
+    fn input(&self, test: &Test, text: &'static str, way: usize) -> Result<String, RcStr> {
         if let FromShared = self {
             if let Ok(shared) = RcStr::from_str(test.alloc, text) {
                 return Err(shared);
@@ -39,7 +38,7 @@ impl Call for OnString {
         Ok(string)
     }
 
-    fn run(self, alloc: Global, _text: &str, input: Result<String, RcStr>) -> Result<Thing, Thing> {
+    fn run(&self, alloc: Global, _text: &str, input: Result<String, RcStr>) -> Outcome {
         match input {
             Ok(string) => self.of_string(alloc, string),
             Err(shared) => Ok(Thing::Value(SmolStr::from_rc_str(shared))),
@@ -48,7 +47,7 @@ impl Call for OnString {
 }
 
 impl OnString {
-    fn of_string(self, alloc: Global, string: String) -> Result<Thing, Thing> {
+    fn of_string(&self, alloc: Global, string: String) -> Outcome {
         match self {
             FromStringRef => made(SmolStr::from_string_ref(alloc, &string)),
             FromString => made(SmolStr::from_string(alloc, string)),

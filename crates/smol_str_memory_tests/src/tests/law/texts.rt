@@ -1,11 +1,12 @@
 //! Calls on a text.
 use OnText::*;
-use smol_str::{SmolStr, SmolStrBuilder, Step, StrExt, ToSmolStr, build, format_smolstr};
+use smol_str::{
+    FormatError, SmolStr, SmolStrBuilder, Step, StrExt, ToSmolStr, build, format_smolstr,
+};
 use std::borrow::CowStr;
 use std::fmt::{self, Display, Formatter};
 use test_support::*;
 
-#[derive(Clone, Copy)]
 pub enum OnText {
     New,
     FromStr,
@@ -36,7 +37,7 @@ impl Call for OnText {
     /// Steps of the text and a character, for `build`.
     type Input = Vec<Step>;
 
-    fn takes(self, text: &str) -> bool {
+    fn takes(&self, text: &str) -> bool {
         match self {
             LowerOfAscii | UpperOfAscii => text.is_ascii(),
             Lower | Upper => !text.is_ascii(),
@@ -44,7 +45,7 @@ impl Call for OnText {
         }
     }
 
-    fn input(self, test: &Test, text: &'static str, _way: usize) -> Vec<Step> {
+    fn input(&self, test: &Test, text: &'static str, _way: usize) -> Vec<Step> {
         let mut steps = Vec::new(test.alloc);
         if let ToBuild | ToBuildAtOnce = self {
             test.push(&mut steps, Step::PushStr(test.string(text)));
@@ -53,41 +54,56 @@ impl Call for OnText {
         steps
     }
 
-    fn run(self, alloc: Global, text: &str, steps: Vec<Step>) -> Result<Thing, Thing> {
+    fn run(&self, alloc: Global, text: &str, steps: Vec<Step>) -> Outcome {
         match self {
-            New => made(SmolStr::new(alloc, text)),
-            FromStr => made(SmolStr::from_str(alloc, text)),
             FromUtf8 => made(SmolStr::from_utf8(alloc, text.as_bytes())),
-            FromUtf8Unchecked => made(SmolStr::from_utf8_unchecked(alloc, text.as_bytes())),
             FromBorrowed => made(SmolStr::from_cow_str(alloc, CowStr::Borrowed(text))),
-            FromChars => made(SmolStr::from_chars(alloc, text.chars())),
-            CollectChars => made(collected(alloc, text)),
-            Print => made(text.to_smolstr(alloc)),
-            PrintByParts => made(ByParts(text).to_smolstr(alloc)),
-            PrintNumber => made(number_of(text).to_smolstr(alloc)),
-            Format => made(format_smolstr!(alloc; "{}", text)),
-            FormatParts => made(format_smolstr!(alloc; "{}", ByParts(text))),
+            Print | PrintByParts | PrintNumber | Format | FormatParts => {
+                made(self.printed(alloc, text))
+            }
             WithCapacity => with_capacity(alloc, text),
-            ToBuild => made(build(alloc, 0, &steps)),
-            ToBuildAtOnce => made(build(alloc, text.len().saturating_add(2), &steps)),
-            AsciiLower => made(text.to_ascii_lowercase_smolstr(alloc)),
-            AsciiUpper => made(text.to_ascii_uppercase_smolstr(alloc)),
-            LowerOfAscii | Lower => made(text.to_lowercase_smolstr(alloc)),
-            UpperOfAscii | Upper => made(text.to_uppercase_smolstr(alloc)),
+            _ => made(self.value(alloc, text, &steps)),
         }
     }
 
     /// As std has it.
-    fn wanted(self, test: &Test, text: &'static str, _way: usize) -> String {
-        let alloc = test.alloc;
+    fn wanted(&self, test: &Test, text: &'static str, _way: usize) -> String {
         match self {
-            AsciiLower => ok(test, text.to_ascii_lowercase(alloc)),
-            AsciiUpper => ok(test, text.to_ascii_uppercase(alloc)),
-            LowerOfAscii | Lower => ok(test, text.to_lowercase(alloc)),
-            UpperOfAscii | Upper => ok(test, text.to_uppercase(alloc)),
-            PrintNumber => ok(test, format!(in alloc; "{}", number_of(text))),
+            AsciiLower => ok(test, text.to_ascii_lowercase(test.alloc)),
+            AsciiUpper => ok(test, text.to_ascii_uppercase(test.alloc)),
+            LowerOfAscii | Lower => ok(test, text.to_lowercase(test.alloc)),
+            UpperOfAscii | Upper => ok(test, text.to_uppercase(test.alloc)),
+            PrintNumber => ok(test, format!(in test.alloc; "{}", number_of(text))),
             ToBuild | ToBuildAtOnce => test.joined(text, "é"),
             _ => test.string(text),
+        }
+    }
+}
+
+impl OnText {
+    fn printed(&self, alloc: Global, text: &str) -> Result<SmolStr, FormatError> {
+        match self {
+            Print => text.to_smolstr(alloc),
+            PrintByParts => ByParts(text).to_smolstr(alloc),
+            PrintNumber => number_of(text).to_smolstr(alloc),
+            FormatParts => formatted(alloc, &ByParts(text)),
+            _ => formatted(alloc, &text),
+        }
+    }
+
+    fn value(&self, alloc: Global, text: &str, steps: &[Step]) -> Result<SmolStr, AllocError> {
+        match self {
+            FromStr => SmolStr::from_str(alloc, text),
+            FromUtf8Unchecked => SmolStr::from_utf8_unchecked(alloc, text.as_bytes()),
+            FromChars => SmolStr::from_chars(alloc, text.chars()),
+            CollectChars => text.chars().collect(alloc),
+            ToBuild => build(alloc, 0, steps),
+            ToBuildAtOnce => build(alloc, text.len().saturating_add(2), steps),
+            AsciiLower => text.to_ascii_lowercase_smolstr(alloc),
+            AsciiUpper => text.to_ascii_uppercase_smolstr(alloc),
+            LowerOfAscii | Lower => text.to_lowercase_smolstr(alloc),
+            UpperOfAscii | Upper => text.to_uppercase_smolstr(alloc),
+            _ => SmolStr::new(alloc, text),
         }
     }
 }
@@ -98,13 +114,13 @@ fn number_of(text: &str) -> i128 {
     if text.len() % 2 == 0 { number } else { !number }
 }
 
-fn collected(alloc: Global, text: &str) -> Result<SmolStr, AllocError> {
-    text.chars().collect(alloc)
+fn formatted(alloc: Global, value: &impl Display) -> Result<SmolStr, FormatError> {
+    format_smolstr!(alloc; "{}", value)
 }
 
-fn with_capacity(alloc: Global, text: &str) -> Result<Thing, Thing> {
+fn with_capacity(alloc: Global, text: &str) -> Outcome {
     match SmolStrBuilder::with_capacity(alloc, text.len()) {
-        Ok(mut builder) => changed(builder.push_str(text), builder),
+        Ok(mut builder) => changed(builder.push_str(text).is_ok(), builder),
         Err(fault) => Err(fault.into_thing()),
     }
 }

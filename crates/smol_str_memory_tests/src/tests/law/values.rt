@@ -6,7 +6,6 @@ use smol_str::json_string::{to_json, to_value};
 use smol_str::{Place, SmolStr};
 use test_support::*;
 
-#[derive(Clone, Copy)]
 pub enum OnValue {
     Cloned,
     IntoString,
@@ -22,6 +21,7 @@ pub enum OnValue {
     ToJsonDoubled,
     ToJsonOneEscape,
     ToJsonPlain,
+    Serialize,
 }
 
 impl Call for OnValue {
@@ -29,14 +29,14 @@ impl Call for OnValue {
     type Input = (SmolStr, Vec<u8>);
 
     /// As it is made by `new`, and pinned.
-    fn ways(self) -> usize {
+    fn ways(&self) -> usize {
         match self {
-            IntoRcStrOnHeap => 1,
+            IntoRcStrOnHeap | Serialize => 1,
             _ => 2,
         }
     }
 
-    fn takes(self, text: &str) -> bool {
+    fn takes(&self, text: &str) -> bool {
         match self {
             IntoRcStr => place_of(text) != Place::Heap,
             IntoRcStrOnHeap => place_of(text) == Place::Heap,
@@ -48,7 +48,7 @@ impl Call for OnValue {
         }
     }
 
-    fn input(self, test: &Test, text: &'static str, way: usize) -> (SmolStr, Vec<u8>) {
+    fn input(&self, test: &Test, text: &'static str, way: usize) -> (SmolStr, Vec<u8>) {
         let room = match self {
             Write => text.len().saturating_add(4),
             _ => 0,
@@ -61,29 +61,30 @@ impl Call for OnValue {
         (value, ok(test, Vec::with_capacity(test.alloc, room)))
     }
 
-    fn run(
-        self,
-        alloc: Global,
-        _text: &str,
-        (value, out): (SmolStr, Vec<u8>),
-    ) -> Result<Thing, Thing> {
+    fn run(&self, alloc: Global, _text: &str, (value, mut out): (SmolStr, Vec<u8>)) -> Outcome {
+        self.of_value(alloc, value, &mut out)
+    }
+
+    fn wanted(&self, test: &Test, text: &'static str, _way: usize) -> String {
+        match self {
+            ToJson | ToJsonDoubled | ToJsonOneEscape | ToJsonPlain => json_of(test, text),
+            Serialize => json_of(test, text),
+            _ => test.string(text),
+        }
+    }
+}
+
+impl OnValue {
+    fn of_value(&self, alloc: Global, value: SmolStr, out: &mut Vec<u8>) -> Outcome {
         match self {
             Cloned => made(value.clone()),
             IntoString => made(value.into_string(alloc)),
             IntoRcStr | IntoRcStrOnHeap => made(value.into_rc_str(alloc)),
             Write => written(&value, out),
+            Serialize => by_serde(serde_json::to_string(alloc, &value)),
             ToValue => tree(to_value(alloc, &value)),
             InTree => tree(serde_json::ToValue::to_value(&value, alloc)),
             _ => made(to_json(alloc, &value)),
-        }
-    }
-
-    fn wanted(self, test: &Test, text: &'static str, _way: usize) -> String {
-        match self {
-            Cloned | IntoString | IntoRcStr | IntoRcStrOnHeap | Write | ToValue | InTree => {
-                test.string(text)
-            }
-            _ => json_of(test, text),
         }
     }
 }
@@ -105,17 +106,24 @@ pub fn json_of(test: &Test, text: &str) -> String {
     ok(test, Value::String(test.string(text)).to_string(test.alloc))
 }
 
-fn written(value: &SmolStr, mut out: Vec<u8>) -> Result<Thing, Thing> {
-    match value.serialize(&mut out) {
+fn written(value: &SmolStr, out: &mut Vec<u8>) -> Outcome {
+    match value.serialize(out) {
         Ok(()) => Ok(Thing::Nothing),
         Err(_) => Err(Thing::Fault),
     }
 }
 
-fn tree(outcome: Result<Value, AllocError>) -> Result<Thing, Thing> {
+fn tree(outcome: Result<Value, AllocError>) -> Outcome {
     match outcome {
-        Ok(Value::String(text)) => Ok(Thing::Owned(text)),
+        Ok(Value::String(text)) => Ok(text.into_thing()),
         Ok(_) => Err(Thing::Fault),
         Err(fault) => Err(fault.into_thing()),
+    }
+}
+
+pub fn by_serde<M: IntoThing>(outcome: Result<M, serde_json::Error>) -> Outcome {
+    match outcome {
+        Ok(made) => Ok(made.into_thing()),
+        Err(error) => Err(nothing(error.is_memory())),
     }
 }
