@@ -3,7 +3,7 @@ use smol_str::borsh::{BorshSerialize, split_wire};
 use smol_str::json_string::{from_json, to_json};
 use smol_str::{SmolStr, StrExt, ToSmolStr};
 use smol_tokens_core::tally::Tally;
-use std::alloc::Global;
+use std::alloc::{AllocError, Global};
 use std::hash::{DefaultHasher, Hash, Hasher};
 
 /// A call. It is picked once, so that a round costs the same for each.
@@ -57,8 +57,14 @@ pub struct Input {
     text: String,
     value: SmolStr,
     equal: SmolStr,
+    forms: Forms,
+}
+
+/// What is made of a value.
+#[derive(Drop)]
+struct Forms {
     json: String,
-    form: Vec<u8>,
+    wire: Vec<u8>,
     tally: Tally,
 }
 
@@ -66,16 +72,31 @@ impl Input {
     pub fn new(alloc: Global, bytes: &[u8]) -> Option<Input> {
         let text = str::from_utf8(bytes).ok()?;
         let value = SmolStr::new(alloc, text).ok()?;
-        let mut tally = Tally::new(alloc);
-        tally.add(value.clone().ok()?, 1).ok()?;
+        let forms = Forms::new(alloc, &value)?;
         Some(Input {
             text: String::from_str(alloc, text).ok()?,
             equal: SmolStr::new(alloc, text).ok()?,
-            json: to_json(alloc, &value).ok()?,
-            form: wire_form(alloc, &value)?,
             value,
-            tally,
+            forms,
         })
+    }
+}
+
+impl Forms {
+    fn new(alloc: Global, value: &SmolStr) -> Option<Forms> {
+        Some(Forms {
+            json: to_json(alloc, value).ok()?,
+            wire: wire_form(alloc, value)?,
+            tally: tally_of(alloc, value.clone().ok()?)?,
+        })
+    }
+}
+
+fn tally_of(alloc: Global, value: SmolStr) -> Option<Tally> {
+    let mut tally = Tally::new(alloc);
+    match tally.add(value, 1) {
+        Ok(_) => Some(tally),
+        Err(_) => None,
     }
 }
 
@@ -83,49 +104,36 @@ impl Call {
     /// Makes the call, and returns the size of what it makes.
     pub fn size(self, alloc: Global, input: &Input) -> Option<usize> {
         match self {
-            Call::Eq | Call::Cmp | Call::Hash | Call::At => self.seen(input),
-            Call::Serialize => Some(wire_form(alloc, &input.value)?.len()),
-            Call::ToJson => Some(to_json(alloc, &input.value).ok()?.len()),
-            Call::SplitWire | Call::FromJson | Call::FromStringRefs | Call::Join => Some(
-                self.read(alloc, input)?.len(),
-            ),
-            _ => Some(self.made(alloc, input.text.as_str())?.len()),
-        }
-    }
-
-    /// What is asked of values.
-    fn seen(self, input: &Input) -> Option<usize> {
-        match self {
             Call::Eq => Some(usize::from(input.value == input.equal)),
             Call::Cmp => Some(usize::from(input.value.cmp(&input.equal).is_eq())),
             Call::Hash => Some(hash(&input.value)),
-            Call::At => Some(input.tally.at(0)?.0.len()),
-            _ => None,
+            Call::At => Some(input.forms.tally.at(0)?.0.len()),
+            Call::Serialize => Some(wire_form(alloc, &input.value)?.len()),
+            Call::ToJson => Some(to_json(alloc, &input.value).ok()?.len()),
+            _ => Some(self.made(alloc, input)?.len()),
         }
     }
 
-    /// A value of forms and pieces.
-    fn read(self, alloc: Global, input: &Input) -> Option<SmolStr> {
+    /// A value of a form, a `String` or a text.
+    fn made(self, alloc: Global, input: &Input) -> Option<SmolStr> {
         let text = &input.text;
         match self {
-            Call::SplitWire => Some(split_wire(alloc, &input.form).ok()?.0),
-            Call::FromJson => from_json(alloc, &input.json).ok(),
+            Call::SplitWire => Some(split_wire(alloc, &input.forms.wire).ok()?.0),
+            Call::FromJson => from_json(alloc, input.forms.json.as_str()).ok(),
+            Call::FromUtf8 => SmolStr::from_utf8(alloc, text.as_bytes()).ok(),
+            Call::ToSmolStr => text.as_str().to_smolstr(alloc).ok(),
             Call::FromStringRefs => SmolStr::from_string_refs(alloc, [text, text].into_iter()).ok(),
-            Call::Join => SmolStr::join(alloc, &[text.as_str(), text, text], ",").ok(),
-            _ => None,
+            _ => self.of_text(alloc, text.as_str()).ok(),
         }
     }
 
-    /// A value of a text.
-    fn made(self, alloc: Global, text: &str) -> Option<SmolStr> {
+    fn of_text(self, alloc: Global, text: &str) -> Result<SmolStr, AllocError> {
         match self {
-            Call::New => SmolStr::new(alloc, text).ok(),
-            Call::Collect => text.chars().collect(alloc).ok(),
-            Call::FromUtf8 => SmolStr::from_utf8(alloc, text.as_bytes()).ok(),
-            Call::ToSmolStr => text.to_smolstr(alloc).ok(),
-            Call::Replace => text.replace_smolstr(alloc, "a", "xyz").ok(),
-            Call::Lower => text.to_lowercase_smolstr(alloc).ok(),
-            _ => None,
+            Call::Join => SmolStr::join(alloc, &[text, text, text], ","),
+            Call::Collect => text.chars().collect(alloc),
+            Call::Replace => text.replace_smolstr(alloc, "a", "xyz"),
+            Call::Lower => text.to_lowercase_smolstr(alloc),
+            _ => SmolStr::new(alloc, text),
         }
     }
 }
