@@ -1,6 +1,6 @@
 -- Texts that std searches and cuts once: `split_once`, `strip_prefix`, `strip_suffix`, `starts_with`, `ends_with` and `contains`.
-use Rattle.smol_str.proofs.Common.{Bor, ◌≡◌, Bool, true, false, Option, Some, None, MatchOption, refl, sym, ap, ◌∙◌, subst, IsTrue, IfSome, arith, zero, suc, ℕ, ◌+◌, ◌-◌, ◌<◌, ◌≤◌, ◌==◌, List, [], ◌∷◌, ◌++◌, length, take, drop, append-nil, replicate, all_scalars, IsUtf8, chars, chars-nil, chars-append, chars-encodes, chars_from_encodes, encode_utf8, encode_utf8_all, encodes-append, false_from_ne_true}
-use Rattle.smol_str.proofs.Common.{encodes-chars, len_utf8_bounds, size, Occurs, IsFirstAfter, take_all, nat_tests, common_steps, and_parts, scalars-chars}
+use Rattle.smol_str.proofs.Common.{Bor, ◌≡◌, Bool, true, false, Option, Some, None, MatchOption, refl, sym, ap, ◌∙◌, subst, IsTrue, IfSome, arith, zero, suc, ℕ, ◌+◌, ◌-◌, ◌<◌, ◌≤◌, ◌==◌, List, [], ◌∷◌, ◌++◌, length, take, drop, append-nil, replicate, all_scalars, IsUtf8, chars, chars-nil, chars-append, chars-encodes, chars_from_encodes, encode_utf8, encode_utf8_all}
+use Rattle.smol_str.proofs.Common.{encodes-append, false_from_ne_true, encodes-chars, len_utf8_bounds, size, Occurs, IsFirstAfter, take_all, nat_tests, common_steps, and_parts, scalars-chars}
 use Rattle.smol_str.proofs.CallerLemmas.Common.{◌≢◌, MatchBool, get_or, IsCharBoundary, NonePass, trim, skip_leading_whitespace, drop_trailing_whitespace, CutsPrefixes, FindsCharPrefix, FindsChar, FindsText, FindsTextPrefix, FindsTextSuffix, HasCharAt, HasMatch, HasPrefixMatch, HasSuffixMatch, HasTextAt, LacksTextAt, StripsPrefix, StripsSuffix, drop-length, IsUtf8-drop, IsUtf8-take}
 use Rattle.smol_str.proofs.CallerLemmas.Common.{encode_ascii, append_cancel_left, take_more, prefix_len, IfNone}
 use Rattle.std.specs.Str.{trim_start, trim_end}
