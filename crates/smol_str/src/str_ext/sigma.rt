@@ -55,6 +55,9 @@ fn push_segment(
 }
 
 /// Like `push_lowercase`, character by character. In a short text a search for capital sigmas would cost more.
+///
+/// Out of line, so that the loops of long texts in its caller keep their registers.
+#[inline(never)]
 pub(super) fn push_short_lowercase(
     builder: &mut SmolStrBuilder,
     text: &str,
