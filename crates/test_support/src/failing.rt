@@ -23,6 +23,8 @@ fn failure_at(place: usize) -> Option<io::Error> {
         0 => None,
         1 => Some(io::Error::from(ErrorKind::UnexpectedEof)),
         2 => Some(io::Error::other("words of its own")),
+        3 => Some(io::Error::new(ErrorKind::InvalidData, "words")),
+        4 => Some(io::Error::from(ErrorKind::Interrupted)),
         _ => Some(io::Error::from_raw_os_error((place % 133) as i32 + 1)),
     }
 }

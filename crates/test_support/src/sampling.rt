@@ -11,9 +11,9 @@ static UNITS: [&str; 13] = table! {
 
 /// What comes in front of letters, near their start, in the middle and at their end: characters about each length, those
 /// whose case has another length or depends on its neighbours, and each kind of escape of JSON.
-static MARKS: [&str; 23] = table! {
+static MARKS: [&str; 24] = table! {
     "B"; "\u{7f}"; "\u{80}"; "\u{7ff}"; "\u{800}"; "\u{ffff}"; "\u{10000}";
-    "ß"; "İ"; "ŉ"; "ǅ"; "ΐ"; "ﬃ"; "\u{2126}"; "Σ";
+    "ß"; "İ"; "ŉ"; "ǅ"; "ΐ"; "ﬃ"; "\u{2126}"; "Σ"; "\u{10400}";
     "\""; "\\"; "\u{8}"; "\t"; "\n"; "\u{c}"; "\r"; "\u{1}";
 };
 

@@ -11,6 +11,10 @@ use test_support::*;
 
 const MEMORY: &str = "memory allocation failed";
 
+/// As many bytes as an error keeps.
+const WORDS: &str =
+    "the disk was pulled while the last of its blocks were read, and none came behind";
+
 #[test]
 fn faults_print(rt: HostRuntime) -> Result<(), Fail> {
     let test = Test::begin(rt);
@@ -54,7 +58,7 @@ fn print_errors(test: &Test) {
         print_io(test, io::Error::from_raw_os_error(code));
     }
     print_io(test, io::Error::from(ErrorKind::UnexpectedEof));
-    print_io(test, io::Error::other("words"));
+    print_io(test, io::Error::other(WORDS));
     print_not_utf8(test, b"ab\xff");
     print_not_utf8(test, b"abcd\xe2\x82");
     for json in ["[1", "\n{\"a\" 1}"] {

@@ -118,7 +118,14 @@ fn two_pieces(rt: HostRuntime) -> Result<(), Fail> {
     test.end()
 }
 
-static PAST_ASCII: [&str; 5] = ["é\n", "🦀\"", "\u{301}", "a\u{301}'\\é", "a\u{7f}\u{200b}"];
+static PAST_ASCII: [&str; 6] = [
+    "é\n",
+    "🦀\"",
+    "\u{301}",
+    "a\u{301}'\\é",
+    "a\u{7f}\u{200b}",
+    "é\t\r\0\u{1b}",
+];
 
 // As their texts do; of text past ASCII no contract says what that is.
 #[test]

@@ -48,6 +48,9 @@ fn rows(rt: HostRuntime) -> Result<(), Fail> {
     for &(text, json) in &READ {
         check_read(&test, json, text);
     }
+    let large = test.repeated_and("a", ABOVE_BUFFERS[2], "\"");
+    let written = ok(&test, to_json(test.alloc, &test.value(large.as_str())));
+    check_read(&test, written.as_str(), large.as_str());
     test.end()
 }
 
@@ -198,7 +201,7 @@ fn same_error(test: &Test, error: Error, own: Error, json: &str) {
 #[test]
 fn long_not_read(rt: HostRuntime) -> Result<(), Fail> {
     let test = Test::begin(rt);
-    for &size in &ABOVE_BUFFERS[..2] {
+    for &size in &ABOVE_BUFFERS {
         check_parts(&test, NotString, "[\"", ("a", size), "\"]");
         check_parts(&test, Json, "\"", ("a", size), "");
         check_parts(&test, Json, "\"", ("a", size), "\\ud800\"");

@@ -34,11 +34,11 @@ pub enum Input {
     Json(String),
 }
 
-/// A quote, and characters by numbers, with digits in both cases, of planes 1 and 2, and an escaped slash.
-const NUMBERS: &str = "\"\\u00e9\\u00E9\\u004A\\/\\ud83e\\udd80\\ud840\\udc00";
+/// A quote, and characters by numbers, of one to four bytes, with digits in both cases, and an escaped slash.
+const NUMBERS: &str = "\"\\u00e9\\u00E9\\u004A\\/\\uffff\\ud83e\\udd80\\ud840\\udc00\\udbff\\udfff";
 
 /// Their text.
-const BY_NUMBERS: &str = "ééJ/🦀\u{20000}";
+const BY_NUMBERS: &str = "ééJ/\u{ffff}🦀\u{20000}\u{10ffff}";
 
 /// What comes before a text and after it.
 static AROUND: [(&str, &str); 4] = [("", ""), (" \t", "\r\n"), ("", "\n"), (BLANKS, " ")];

@@ -42,10 +42,11 @@ static BYTE_BY_MORE: [Change; 5] = table! {
     ("a", "bb", ALL); ("a", "éé", ALL); ("a", LONG, 1000); ("a", "bb", FEW); ("z", "yy", ALL);
 };
 
-static BY_LESS: [Change; 15] = table! {
+static BY_LESS: [Change; 16] = table! {
     ("a", "", ALL); ("aa", "", ALL); ("aa", "b", ALL); ("aa", "bb", ALL); ("aaa", "b", ALL); ("aab", "bbb", ALL);
     ("ab", "c", ALL); (LONG, "bbb", ALL); ("aa", "b", FEW); ("aac", "b", ALL);
     ("a", "b", FEW); ("abab", "éé", ALL); ("a", "b", HALF); ("aaa", "b", HALF); ("é", "e", ALL);
+    ("aa", "b", HALF);
 };
 
 static BY_MORE: [Change; 14] = table! {
