@@ -129,11 +129,12 @@ impl Call {
 
     fn of_text(self, alloc: Global, text: &str) -> Result<SmolStr, AllocError> {
         match self {
+            Call::New => SmolStr::new(alloc, text),
             Call::Join => SmolStr::join(alloc, &[text, text, text], ","),
             Call::Collect => text.chars().collect(alloc),
             Call::Replace => text.replace_smolstr(alloc, "a", "xyz"),
             Call::Lower => text.to_lowercase_smolstr(alloc),
-            _ => SmolStr::new(alloc, text),
+            _ => Err(AllocError),
         }
     }
 }

@@ -17,13 +17,13 @@ static MARKS: [&str; 24] = table! {
     "\""; "\\"; "\u{8}"; "\t"; "\n"; "\u{c}"; "\r"; "\u{1}";
 };
 
-/// Lengths, each span up to its end alone: to 300, about the powers of two up to 70,000, and of more than two megabytes.
+/// Spans of lengths, without their ends: up to 300, about the powers of two up to 70,000, and one of more than two megabytes.
 static SPANS: [(usize, usize); 11] = table! {
     (0, 301); (511, 514); (1_023, 1_026); (2_047, 2_050); (4_095, 4_098); (8_191, 8_194); (16_383, 16_386);
     (32_767, 32_770); (65_535, 65_538); (70_000, 70_001); (2_200_003, 2_200_004);
 };
 
-/// Where memory can't be refused.
+/// The lengths where memory can't be refused.
 static FEW: [(usize, usize); 3] = [(0, 2), (INLINE_CAP, INLINE_CAP + 2), (300, 301)];
 
 /// Texts of each length of the spans, and of some between them.

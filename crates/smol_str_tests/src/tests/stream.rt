@@ -132,22 +132,29 @@ fn fails_at_each_read_call(rt: HostRuntime) -> Result<(), Fail> {
     test.end()
 }
 
-// Upstream's calls go on after an interruption, ours do not.
+// Upstream's calls go on after an interruption, ours do not, nor after any other code of the system.
 #[test]
 fn interrupted(rt: HostRuntime) -> Result<(), Fail> {
     let test = Test::begin(rt);
-    let interruption = io::Error::from_raw_os_error(4);
-    let wanted = Reason::Io(cause_of(&interruption));
-    let mut reader = trickle_of(b"\x02\0\0\0ab", 1, 1);
-    let (call, size) = (WireForm, 6);
-    let found = Reads { call, size }.read(&test, &mut reader).err();
-    same(&test, &found, &Some(wanted), &"a reader");
-    let mut writer = empty_drip(test.alloc, 1, 2, Some(interruption));
-    let found = serialized(&test.value("ab"), &mut writer);
-    same(&test, &found, &Some(wanted), &"a writer");
-    let taken = writer.taken.as_slice();
-    same(&test, &taken, &b"\x02".as_slice(), &"a writer");
+    for code in 1..134 {
+        check_code(&test, code);
+    }
     test.end()
+}
+
+fn check_code(test: &Test, code: i32) {
+    let wanted = Some(Reason::Io(cause_of(&io::Error::from_raw_os_error(code))));
+    let mut reader = trickle_of(b"\x02\0\0\0ab", 1, 1);
+    reader.failure = io::Error::from_raw_os_error(code);
+    let (call, size) = (WireForm, 6);
+    let found = Reads { call, size }.read(test, &mut reader).err();
+    same(test, &found, &wanted, &("a reader", code));
+    let failure = Some(io::Error::from_raw_os_error(code));
+    let mut writer = empty_drip(test.alloc, 1, 2, failure);
+    let found = serialized(&test.value("ab"), &mut writer);
+    same(test, &found, &wanted, &("a writer", code));
+    let taken = writer.taken.as_slice();
+    same(test, &taken, &b"\x02".as_slice(), &("a writer", code));
 }
 
 #[test]

@@ -93,6 +93,7 @@ impl OnText {
 
     fn value(&self, alloc: Global, text: &str, steps: &[Step]) -> Result<SmolStr, AllocError> {
         match self {
+            New => SmolStr::new(alloc, text),
             FromStr => SmolStr::from_str(alloc, text),
             FromUtf8Unchecked => SmolStr::from_utf8_unchecked(alloc, text.as_bytes()),
             FromChars => SmolStr::from_chars(alloc, text.chars()),
@@ -103,7 +104,7 @@ impl OnText {
             AsciiUpper => text.to_ascii_uppercase_smolstr(alloc),
             LowerOfAscii | Lower => text.to_lowercase_smolstr(alloc),
             UpperOfAscii | Upper => text.to_uppercase_smolstr(alloc),
-            _ => SmolStr::new(alloc, text),
+            _ => Err(AllocError),
         }
     }
 }
