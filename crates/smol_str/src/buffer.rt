@@ -82,12 +82,13 @@ impl InlineText {
         }
     }
 
-    /// Whether each character is ASCII.
+    /// Whether each character is ASCII. It loads the parts that a change of case does, so that both load them once.
     #[inline(always)]
     pub(crate) fn is_ascii(&self) -> bool
         ensures { IsTrue result ↔ IsAsciiText self.now }
     {
-        is_all_ascii(&self.packed)
+        let (front, back) = self.packed.split_at(self.packed.len() - 8);
+        is_all_ascii(front) & is_all_ascii(back)
     }
 
     /// The text with its ASCII letters in a case.

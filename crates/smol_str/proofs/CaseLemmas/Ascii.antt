@@ -1,8 +1,9 @@
 -- For ASCII case, in texts, bytes and short texts as they are packed; and for what else maps ASCII characters alone.
-use Rattle.smol_str.proofs.Common.{◌≡◌, Bool, true, false, cond, refl, ap, ◌∙◌, rules, ◌↔◌, IsTrue, MatchBool, sym, ⊎_elim, ℕ, ◌+◌, ◌<◌, arith, le-ltb, ltb-true, ltb-false, cases_lt, nat_tests, ◌-◌, ◌≤◌, put_chunk, put_chunk_is, and_parts}
+use Rattle.smol_str.proofs.Common.{◌≡◌, ◌&&◌, IsAscii-drop, Bool, true, false, cond, refl, ap, ◌∙◌, rules, ◌↔◌, IsTrue, MatchBool, sym, ⊎_elim, ℕ, ◌+◌, ◌<◌, arith, le-ltb, ltb-true, ltb-false, cases_lt, nat_tests, ◌-◌, ◌≤◌, put_chunk, put_chunk_is, and_parts}
 use Rattle.smol_str.proofs.Common.{List, [], ◌∷◌, ◌++◌, map, length-append, All, All-head, All-tail, All-map, All-from_get_or, get_or, common_steps, length, take, drop, take-add, length-take-le, length-drop, take-append-drop, slice_range, map-append, take_all, length-map, append_assoc, append-nil, replicate, take_at, drop_at, drop_all, All-replicate, get_or-drop, All-nil, All-cons}
 use Rattle.smol_str.proofs.Common.{is_ascii, encode_utf8_all, encode, lowercase_is, uppercase_is, IsUtf8, IsCharBoundary, IsAscii, IsNotAscii, chars, IsAscii-append, IsAscii-take, IsUtf8-from_ascii, IsUtf8-drop, IsCharBoundary-from_take, chars-append, chars-IsAscii, encodes-chars, IsAscii-map, lowercase_ascii, uppercase_ascii, IsAscii-from_all, encodes-IsAscii, scalar, scalars, chars-encodes}
 use Rattle.smol_str.proofs.Common.{scalars-chars, IsAscii-push, IsAscii-more, length-le-encodes, All-from_ascii, size, front, IsAsciiText, BeginsPastAscii, AsciiCase, converted, IsAsciiFront, INLINE_CAP, IsPacked, packed, unpacked, letter}
+use Rattle.std.proofs.Common.{true≢false}
 use Rattle.std.proofs.lemmas.List.Sums.{take_while-cons}
 use Rattle.smol_str.proofs.TextLemmas.Utf8.{Form, form, is_one}
 use Rattle.smol_str.proofs.BufferLemmas.Packed.{IsPacked-packed, unpacked-packed}
@@ -196,6 +197,15 @@ module _ (case : AsciiCase) (old buf : List ℕ) (h : IsPacked old) (e : buf ≡
   pub text-converted : chars (unpacked buf) ≡ converted case (chars (unpacked old))
   text-converted = search (rules, unpacked-packed, within, whole, chars-converted)
 
+-- bytes are ASCII where both parts of a cut are
+module _ (n : ℕ) (bs front back : List ℕ) (is_front : front ≡ take n bs) (is_back : back ≡ drop n bs) where
+  pub IsAscii-cut : (a b : Bool) → IsTrue a ↔ IsAscii front → IsTrue b ↔ IsAscii back → IsTrue (a && b) ↔ IsAscii bs
+  IsAscii-cut true true first last =
+      let low = IsAscii-append _ _ (rw is_front at (first.0 refl)) (rw is_back at (last.0 refl)) in
+      (λ _. rw (take-append-drop n bs) at low, λ _. refl)
+  IsAscii-cut true false first last = (λ no. absurd (true≢false (sym no)), λ low. last.1 (rw is_back (IsAscii-drop bs n low)))
+  IsAscii-cut false b first last = (λ no. absurd (true≢false (sym no)), λ low. first.1 (rw is_front (IsAscii-take bs n low)))
+
 -- what is packed is ASCII exactly where the text is
 pub IsAscii-packed : (all : List ℕ) → IsPacked all → IsAscii all ↔ IsAsciiText (chars (unpacked all))
 IsAscii-packed all h =
@@ -205,11 +215,3 @@ IsAscii-packed all h =
       λ low. text.0 (IsAscii-take all (get_or all INLINE_CAP 0) low),
       λ low. rw h.reads (IsAscii-push _ (length bytes) (IsAscii-append bytes _ (text.1 low) zeros) (omega arith)),
     )
-
--- a case makes no character ASCII that is not
-low_unmoved : (case : AsciiCase) (c : ℕ) → letter case c < 128 → c < 128
-low_unmoved case c h = ⊎_elim (λ l. l) (λ g. omega (arith, (letter-moves case).others c g)) (cases_lt c 128)
-
-pub ascii-converted : (case : AsciiCase) (t : List ℕ) → IsAsciiText (converted case t) → IsAsciiText t
-ascii-converted case [] h = All-nil (λ c. c < 128)
-ascii-converted case (c ∷ t) h = search (rules, All-cons, low_unmoved, All-head, All-tail, ascii-converted case t)

@@ -4,7 +4,7 @@ use Rattle.smol_str.proofs.Common.{IsUtf8, IsAscii, IsCharBoundary, IsCharBounda
 use Rattle.smol_str.proofs.Common.{AsciiCase, Lower, Upper, size, IsShort, front, converted, BuilderState, InBuffer, OnHeap, empty_builder, appended, INLINE_CAP, Occurs, lower, upper, uppercased, IsAsciiText, letter, letters, full_case, mapped, IsAsciiFront}
 use Rattle.smol_str.proofs.TextLemmas.Lists.{not_later}
 use Rattle.smol_str.proofs.CaseLemmas.Letters.{lowercase_moves, uppercase_moves}
-use Rattle.smol_str.proofs.CaseLemmas.Ascii.{front-parts, front-length, size-converted, IsAscii-converted, IsAscii-chars, ascii-converted}
+use Rattle.smol_str.proofs.CaseLemmas.Ascii.{front-parts, front-length, size-converted, IsAscii-converted, IsAscii-chars}
 use Rattle.smol_str.proofs.BuilderLemmas.Push.{appended-heap, new-appended}
 use Rattle.smol_str.specs.CaseParts.{IsPartOf, IsLowering, word_after}
 use Rattle.std.specs.Char.Unicode.ToLowercase.{to_lowercase}
@@ -80,7 +80,7 @@ sigma = chars-encodes (0x3A3 ∷ []) refl
 
 pub ruleset letters_appended = (common_steps, OnErr-always, appended-twice, appended-heap)
 
-pub ruleset short_texts = (OnErr-always, ascii-converted, full-ascii)
+pub ruleset short_texts = (OnErr-always, full-ascii)
 
 -- a text mapped part by part: what puts the builder on the heap with a part does so with the whole
 pub part-heap : (case : AsciiCase) (old : BuilderState) (first rest t : List ℕ) → first ++ rest ≡ t

@@ -30,9 +30,9 @@ pub(super) fn to_full_case(
     ensures refused { OnErr result (¬ (IsShort (full_case case (chars text.now)))) }
 {
     if text.len() <= INLINE_CAP {
-        let short = SmolStr::new_inline_in_case(text, case);
+        let short = InlineText::from_short(text);
         if short.is_ascii() {
-            return Ok(short);
+            return Ok(SmolStr::from_inline(short.in_case(case)));
         }
     }
     any_full_case(alloc, text, case)
