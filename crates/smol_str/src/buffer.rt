@@ -87,7 +87,7 @@ impl InlineText {
     pub(crate) fn is_ascii(&self) -> bool
         ensures { IsTrue result ↔ IsAsciiText self.now }
     {
-        let (front, back) = self.packed.split_at(self.packed.len() - 8);
+        let (front, back) = self.packed.split_at(PACKED_LEN - 8);
         is_all_ascii(front) & is_all_ascii(back)
     }
 
