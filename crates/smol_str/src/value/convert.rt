@@ -17,7 +17,7 @@ use crate::buffer::{INLINE_CAP, InlineText};
 use crate::bytes::ascii::is_all_ascii;
 use crate::messages::OUT_OF_MEMORY;
 use crate::shared::SharedText;
-use simdutf8::is_utf8;
+use simdutf8::basic;
 use std::alloc::{AllocError, AllocFailed, Global};
 use std::borrow::CowStr;
 use std::boxed::BoxedStr;
@@ -262,8 +262,10 @@ pub(crate) fn utf8_text(bytes: &[u8]) -> Result<&str, Utf8Error>
     if bytes.len() <= INLINE_CAP && is_all_ascii(bytes) {
         return Ok(unsafe { str::from_utf8_unchecked(bytes) });
     }
-    if bytes.len() >= BLOCK && is_utf8(bytes) {
-        return Ok(unsafe { str::from_utf8_unchecked(bytes) });
+    if bytes.len() >= BLOCK {
+        if let Ok(text) = basic::from_utf8(bytes) {
+            return Ok(text);
+        }
     }
     str::from_utf8(bytes)
 }
