@@ -57,21 +57,6 @@ fn texts_as_a_string(rt: HostRuntime) -> Result<(), Fail> {
     test.end()
 }
 
-// Where the text lies does not show.
-#[test]
-fn debug_of_builders(rt: HostRuntime) -> Result<(), Fail> {
-    let test = Test::begin(rt);
-    for capacity in [0, 100] {
-        let builder = test.builder(capacity, "né\n\"\u{200b}");
-        check_row(
-            &test,
-            "\"né\\n\\\"\\u{200b}\"",
-            &format_args!("{builder:?}"),
-        );
-    }
-    test.end()
-}
-
 fn check_short(test: &Test, value: &SmolStr) {
     check_row(test, "ab", &format_args!("{value}"));
     check_row(test, "\"ab\"", &format_args!("{value:?}"));
@@ -118,8 +103,9 @@ fn two_pieces(rt: HostRuntime) -> Result<(), Fail> {
     test.end()
 }
 
-static PAST_ASCII: [&str; 6] = [
+static PAST_ASCII: [&str; 7] = [
     "é\n",
+    "né\n\"\u{200b}",
     "🦀\"",
     "\u{301}",
     "a\u{301}'\\é",
@@ -145,9 +131,11 @@ fn check_debug(test: &Test, text: &str) {
     let printed = ok(test, format!(in test.alloc; "{value:?}"));
     let wanted = ok(test, format!(in test.alloc; "{text:?}"));
     same(test, &printed.as_str(), &wanted.as_str(), &"a value");
-    let builder = test.builder(0, text);
-    let printed = ok(test, format!(in test.alloc; "{builder:?}"));
-    same(test, &printed.as_str(), &wanted.as_str(), &"a builder");
+    for capacity in [0, 100] {
+        let builder = test.builder(capacity, text);
+        let printed = ok(test, format!(in test.alloc; "{builder:?}"));
+        same(test, &printed.as_str(), &wanted.as_str(), &capacity);
+    }
 }
 
 /// A text that counts how often it is printed.
