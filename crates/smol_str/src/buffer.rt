@@ -10,7 +10,7 @@ ghost use Rattle.smol_str.specs.Case.{IsAsciiText, converted};
 
 mod packing;
 
-use crate::bytes::ascii::{AsciiCase, convert_all, is_all_ascii};
+use crate::bytes::ascii::{AsciiCase, LANES, convert_all, is_all_ascii};
 use packing::{copy_packed, equal_words, order_words, pack, pack_char, write_ascii, write_at};
 use std::cmp::Ordering;
 use std::marker::Model;
@@ -82,12 +82,12 @@ impl InlineText {
         }
     }
 
-    /// Whether each character is ASCII. It loads the parts that a change of case does, so that both load them once.
+    /// Whether each character is ASCII. It looks at the blocks that `in_case` maps, so that both load them once.
     #[inline(always)]
     pub(crate) fn is_ascii(&self) -> bool
         ensures { IsTrue result ↔ IsAsciiText self.now }
     {
-        let (front, back) = self.packed.split_at(PACKED_LEN - 8);
+        let (front, back) = self.packed.split_at(PACKED_LEN / LANES * LANES);
         is_all_ascii(front) & is_all_ascii(back)
     }
 

@@ -1,7 +1,7 @@
 -- For ASCII case, in texts, bytes and short texts as they are packed; and for what else maps ASCII characters alone.
-use Rattle.smol_str.proofs.Common.{◌≡◌, ◌&&◌, IsAscii-drop, Bool, true, false, cond, refl, ap, ◌∙◌, rules, ◌↔◌, IsTrue, MatchBool, sym, ⊎_elim, ℕ, ◌+◌, ◌<◌, arith, le-ltb, ltb-true, ltb-false, cases_lt, nat_tests, ◌-◌, ◌≤◌, put_chunk, put_chunk_is, and_parts}
+use Rattle.smol_str.proofs.Common.{◌≡◌, ◌&&◌, Bool, true, false, cond, refl, ap, ◌∙◌, rules, ◌↔◌, IsTrue, MatchBool, sym, ⊎_elim, ℕ, ◌+◌, ◌<◌, arith, le-ltb, ltb-true, ltb-false, cases_lt, nat_tests, ◌-◌, ◌≤◌, put_chunk, put_chunk_is, and_parts}
 use Rattle.smol_str.proofs.Common.{List, [], ◌∷◌, ◌++◌, map, length-append, All, All-head, All-tail, All-map, All-from_get_or, get_or, common_steps, length, take, drop, take-add, length-take-le, length-drop, take-append-drop, slice_range, map-append, take_all, length-map, append_assoc, append-nil, replicate, take_at, drop_at, drop_all, All-replicate, get_or-drop, All-nil, All-cons}
-use Rattle.smol_str.proofs.Common.{is_ascii, encode_utf8_all, encode, lowercase_is, uppercase_is, IsUtf8, IsCharBoundary, IsAscii, IsNotAscii, chars, IsAscii-append, IsAscii-take, IsUtf8-from_ascii, IsUtf8-drop, IsCharBoundary-from_take, chars-append, chars-IsAscii, encodes-chars, IsAscii-map, lowercase_ascii, uppercase_ascii, IsAscii-from_all, encodes-IsAscii, scalar, scalars, chars-encodes}
+use Rattle.smol_str.proofs.Common.{is_ascii, encode_utf8_all, encode, lowercase_is, uppercase_is, IsUtf8, IsCharBoundary, IsAscii, IsNotAscii, chars, IsAscii-append, IsAscii-take, IsAscii-drop, IsUtf8-from_ascii, IsUtf8-drop, IsCharBoundary-from_take, chars-append, chars-IsAscii, encodes-chars, IsAscii-map, lowercase_ascii, uppercase_ascii, IsAscii-from_all, encodes-IsAscii, scalar, scalars, chars-encodes}
 use Rattle.smol_str.proofs.Common.{scalars-chars, IsAscii-push, IsAscii-more, length-le-encodes, All-from_ascii, size, front, IsAsciiText, BeginsPastAscii, AsciiCase, converted, IsAsciiFront, INLINE_CAP, IsPacked, packed, unpacked, letter}
 use Rattle.std.proofs.Common.{true≢false}
 use Rattle.std.proofs.lemmas.List.Sums.{take_while-cons}

@@ -8,7 +8,7 @@ use crate::bytes::words::load;
 use std::simd::prelude::*;
 
 /// How many bytes are mapped at a time.
-const LANES: usize = 16;
+pub(crate) const LANES: usize = 16;
 
 /// How far a small ASCII letter lies behind its capital.
 const CASE_OFFSET: u8 = b'a' - b'A';
