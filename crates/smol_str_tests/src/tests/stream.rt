@@ -132,26 +132,32 @@ fn fails_at_each_read_call(rt: HostRuntime) -> Result<(), Fail> {
     test.end()
 }
 
-// Upstream's calls go on after an interruption, ours do not, nor after any other code of the system.
+// No call goes on after an error of the system. Upstream's do after an interruption, code 4.
 #[test]
 fn interrupted(rt: HostRuntime) -> Result<(), Fail> {
     let test = Test::begin(rt);
     for code in 1..134 {
-        check_code(&test, code);
+        for &call in &CALLS {
+            check_read_code(&test, call, code);
+        }
+        check_write_code(&test, code);
     }
     test.end()
 }
 
-fn check_code(test: &Test, code: i32) {
-    let wanted = Some(Reason::Io(cause_of(&io::Error::from_raw_os_error(code))));
-    let mut reader = trickle_of(b"\x02\0\0\0ab", 1, 1);
+fn check_read_code(test: &Test, call: Call, code: i32) {
+    let (reads, mut reader) = (Reads { call, size: 6 }, trickle_of(b"\x02\0\0\0ab", 1, 1));
     reader.failure = io::Error::from_raw_os_error(code);
-    let (call, size) = (WireForm, 6);
-    let found = Reads { call, size }.read(test, &mut reader).err();
-    same(test, &found, &wanted, &("a reader", code));
-    let failure = Some(io::Error::from_raw_os_error(code));
-    let mut writer = empty_drip(test.alloc, 1, 2, failure);
+    let found = reads.read(test, &mut reader).err();
+    let wanted = Some(Reason::Io(cause_of(&reader.failure)));
+    same(test, &found, &wanted, &(reads.name(), code));
+}
+
+fn check_write_code(test: &Test, code: i32) {
+    let failure = io::Error::from_raw_os_error(code);
+    let mut writer = empty_drip(test.alloc, 1, 2, Some(failure));
     let found = serialized(&test.value("ab"), &mut writer);
+    let wanted = Some(Reason::Io(cause_of(&failure)));
     same(test, &found, &wanted, &("a writer", code));
     let taken = writer.taken.as_slice();
     same(test, &taken, &b"\x02".as_slice(), &("a writer", code));

@@ -97,7 +97,8 @@ impl OnBuilder {
             WriteStr => builder.write_str(text).is_ok(),
             WriteFmt => builder.write_fmt(text).is_ok(),
             ExtendChars => builder.extend_chars(text.chars()).is_ok(),
-            _ => builder.push_str(text).is_ok(),
+            PushStr | PushStrWithin => builder.push_str(text).is_ok(),
+            _ => false,
         }
     }
 }

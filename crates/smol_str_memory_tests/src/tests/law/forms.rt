@@ -110,7 +110,8 @@ impl OnForm {
             ReadLimited => made(deserialize_limited(alloc, reader, limit)),
             ReadUpTo => made(read_up_to(alloc, reader, limit)),
             ReadAll => made(read_all(alloc, reader)),
-            _ => made(SmolStr::deserialize_reader(alloc, reader)),
+            ReadChunk | ReadForm => made(SmolStr::deserialize_reader(alloc, reader)),
+            _ => Err(Thing::Fault),
         }
     }
 }

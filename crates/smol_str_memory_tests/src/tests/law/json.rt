@@ -124,7 +124,10 @@ impl OnJson {
                 by_serde::<SmolStr>(serde_json::from_str(alloc, json))
             }
             NotString | Object => faulty(made(from_json(alloc, json))),
-            _ => made(from_json(alloc, json)),
+            FromPlain | FromEscape | FromEscapes | BehindNumbers | NumbersAndMore => {
+                made(from_json(alloc, json))
+            }
+            _ => Err(Thing::Fault),
         }
     }
 }

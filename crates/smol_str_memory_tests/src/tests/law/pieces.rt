@@ -131,7 +131,8 @@ impl OnPieces {
             Join => made(SmolStr::join(alloc, pieces.as_slice(), separator)),
             Extend => gathered(builder.extend(pieces), builder),
             Append => gathered(append_all(&mut builder, pieces), builder),
-            _ => made(SmolStr::from_iter(alloc, pieces)),
+            Collect => made(SmolStr::from_iter(alloc, pieces)),
+            _ => Err(Thing::Fault),
         }
     }
 }

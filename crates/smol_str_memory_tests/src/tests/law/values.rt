@@ -84,7 +84,9 @@ impl OnValue {
             Serialize => by_serde(serde_json::to_string(alloc, &value)),
             ToValue => tree(to_value(alloc, &value)),
             InTree => tree(serde_json::ToValue::to_value(&value, alloc)),
-            _ => made(to_json(alloc, &value)),
+            ToJson | ToJsonDoubled | ToJsonOneEscape | ToJsonPlain => {
+                made(to_json(alloc, &value))
+            }
         }
     }
 }
