@@ -193,8 +193,10 @@ impl SmolStrBuilder {
             return self.push_ascii_on_heap(code as u8);
         }
         let mut buf = [0; 4];
-        let text = character.encode_utf8(&mut buf);
-        self.push_str(text)
+        if self.push_in_buffer(character.encode_utf8(&mut buf)) {
+            return Ok(());
+        }
+        self.push_wide_on_heap(character)
     }
 
     /// Appends a text.

@@ -70,6 +70,22 @@ impl SmolStrBuilder {
         }
     }
 
+    /// Slow path of [`SmolStrBuilder::push`] for a character past ASCII. On the heap its bytes are stored in place: `memcpy`
+    /// would wait for bytes that were stored one by one.
+    #[inline(never)]
+    pub(super) fn push_wide_on_heap(&mut self, character: char) -> Result<(), AllocError>
+        requires heap { (appended self.old (character ∷ [])).kind ≡ OnHeap }
+        ensures ok { OnOk result (self.new ≡ appended self.old (character ∷ [])) }
+        ensures unchanged { OnErr result (self.new ≡ self.old) }
+        ensures refused { OnErr result ((appended self.old (character ∷ [])).kind ≡ OnHeap) }
+    {
+        if let BuilderRepr::Heap(heap) = &mut self.repr {
+            return heap.push(character);
+        }
+        let mut buf = [0; 4];
+        self.push_on_heap(character.encode_utf8(&mut buf), INLINE_CAP)
+    }
+
     /// Slow path of the appends, kept out of line so that the fast path inlines. A builder that moves to the heap asks for
     /// room for `spare` bytes more.
     #[inline(never)]

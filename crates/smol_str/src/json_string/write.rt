@@ -16,7 +16,7 @@ use serde_json::{ToValue, Value};
 use std::alloc::{AllocError, Global};
 
 /// Room for the two quotes of a JSON text, and for some escapes.
-const SPARE: usize = 8;
+const SPARE: usize = 64;
 
 /// The JSON value of a text: a string. It needs memory for a copy of the text, and is refused with
 /// [`AllocError`] where there is none.

@@ -124,9 +124,9 @@ impl SmolStr {
         SmolStr::new(alloc, text.as_str()).or(Err(text))
     }
 
-    /// A value of the text of a `String`, whose allocation it reuses, shrunk to fit where the heap does
-    /// that. On failure the `String` is dropped; [`SmolStr::from_string`] gives it back. That no copy is
-    /// made and no room is kept is only tested.
+    /// A value of the text of a `String`, whose allocation it reuses. Spare room of more than [`INLINE_CAP`]
+    /// bytes is given back where the heap does that. On failure the `String` is dropped;
+    /// [`SmolStr::from_string`] gives it back. That no copy is made and no more room is kept is only tested.
     ///
     /// ```
     /// let token = SmolStr::from_owned(String::from_str(alloc, "if")?)?;
@@ -141,7 +141,10 @@ impl SmolStr {
             return Ok(value);
         }
         let mut text = text;
-        text.shrink_to_fit();
+        // Less costs more than it saves: `realloc` frees the part behind, and the next large `free` merges it again.
+        if text.capacity() - text.len() > INLINE_CAP {
+            text.shrink_to_fit();
+        }
         Ok(SmolStr::from_heap(SharedText::from_string(text)?))
     }
 
