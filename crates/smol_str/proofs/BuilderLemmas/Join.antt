@@ -1,10 +1,12 @@
 -- For joining: a text, and then others behind a separator.
-use Rattle.smol_str.proofs.Common.{◌≡◌, ℕ, ◌+◌, ◌<◌, List, ◌∷◌, ◌++◌, length, get_or, map, take, flat_map, ap, ◌∙◌, arith, append-nil, common_steps, joined_by, BuilderState, OnHeap, empty_builder, appended, kind_for, IsShort, IsUtf8, chars, size, ◌%◌, ◌≤◌, ⊎_elim}
+use Rattle.smol_str.proofs.Common.{◌≡◌, ℕ, ◌+◌, ◌<◌, List, ◌∷◌, ◌++◌, length, get_or, map, take, flat_map, ap, ◌∙◌, arith, append-nil, common_steps, joined_by, BuilderState, OnHeap, InBuffer, empty_builder, appended, kind_for, IsShort, IsUtf8, chars, chars-IsAscii, [], size, ◌%◌, ◌≤◌, ⊎_elim}
+use Rattle.std.specs.List.{slice_index_or}
+use Rattle.std.proofs.lemmas.Str.Ascii.{IsAscii-nil, IsAscii-cons}
 use Rattle.std.proofs.lemmas.Grind.{take_at_read, flat_map-append}
 use Rattle.std.proofs.lemmas.List.Folds.{flat_map-map}
 use Rattle.std.proofs.Math.Nat.{mod-le}
 use Rattle.smol_str.proofs.BuilderLemmas.State.{appended-twice, appended-nothing, why_heap}
-use Rattle.smol_str.proofs.TextLemmas.Places.{size-append, size-chars}
+use Rattle.smol_str.proofs.TextLemmas.Places.{size-append, size-chars, chars-empty}
 use Rattle.smol_str.proofs.BuilderLemmas.Push.{appended-heap}
 use Rattle.smol_str.proofs.TextLemmas.Lists.{flat_map-parts}
 
@@ -51,5 +53,18 @@ module _ (b : BuilderState) (n : ℕ) (t u : List ℕ) (new : b ≡ empty_builde
 
   pub others-long : (d : BuilderState) → d ≡ appended b t → (appended d u).kind ≡ OnHeap → ¬ (IsShort (t ++ u))
   others-long d put heap = joined-long n (t ++ u) least (cc (appended-twice b t u, put, new, heap))
+
+-- a separator of one ASCII byte
+pub one-byte : (bs : List ℕ) → 1 ≤ length bs → length bs < 2 → slice_index_or bs 0 0 < 128 → chars bs ≡ slice_index_or bs 0 0 ∷ []
+one-byte [] some few low = absurd (omega (arith, some))
+one-byte (b ∷ []) some few low = chars-IsAscii (b ∷ []) (IsAscii-cons b [] low IsAscii-nil)
+one-byte (b ∷ (c ∷ bs)) some few low = absurd (omega (arith, few))
+
+-- a separator of no bytes
+pub appended-no_bytes : (b : BuilderState) (bs : List ℕ) → length bs ≡ 0 → (b.kind ≡ InBuffer → IsShort b.text)
+    → appended b (chars bs) ≡ b
+appended-no_bytes b bs e short = ap (λ t. appended b t) (chars-empty bs e) ∙ appended-nothing b short
+
+pub ruleset separators = (appended-no_bytes)
 
 pub ruleset appends = (appended-twice, appended-nothing, appended-heap, take_at_read, flat_map-append, append-nil)

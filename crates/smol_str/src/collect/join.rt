@@ -1,5 +1,5 @@
 //! Texts with a separator between each two.
-ghost use Rattle.std.specs.Prelude.{◌≡◌, ◌≤◌, ◌++◌, map, IfOk, OnOk, OnErr};
+ghost use Rattle.std.specs.Prelude.{◌≡◌, ◌≤◌, [], ◌∷◌, ◌++◌, map, IfSome, IfOk, OnOk, OnErr};
 ghost use Rattle.std.specs.List.{flat_map};
 ghost use Rattle.std.specs.Str.{chars};
 ghost use Rattle.smol_str.specs.Text.{size, IsShort};
@@ -69,10 +69,22 @@ fn append_others<P: Piece>(
         (flat_map (λ piece. chars separator.now ++ P.text piece) others.now)).kind ≡ OnHeap) }
 {
     builder.short_in_buffer();
+    let character = only_char(separator);
     for piece in others {
-        append_next(builder, separator, piece)?;
+        append_next(builder, separator, character, piece)?;
     }
     Ok(())
+}
+
+/// The character of a text of one byte.
+#[inline(always)]
+fn only_char(text: &str) -> Option<char>
+    ensures { IfSome result (λ character. chars text.now ≡ character ∷ []) }
+{
+    match text.as_bytes() {
+        [byte] if *byte < 128 => Some(*byte as char),
+        _ => None,
+    }
 }
 
 /// Appends a separator and a text.
@@ -81,11 +93,35 @@ fn append_others<P: Piece>(
 fn append_next<P: Piece>(
     builder: &mut SmolStrBuilder,
     separator: &str,
+    character: Option<char>,
     piece: &P,
 ) -> Result<(), AllocError>
+    requires { IfSome character (λ character. chars separator.now ≡ character ∷ []) }
     ensures ok { OnOk result (builder.new ≡ appended builder.old (chars separator.now ++ P.text piece.now)) }
     ensures refused { OnErr result ((appended builder.old (chars separator.now ++ P.text piece.now)).kind ≡ OnHeap) }
 {
-    builder.push_str_heap_first(separator, INLINE_CAP)?;
+    append_separator(builder, separator, character)?;
     piece.append_to(builder)
+}
+
+/// Appends a separator. One of a single byte is a store and an empty one nothing: neither calls `memcpy`.
+#[inline(always)]
+#[tactic(auto, using(crate::proofs::BuilderLemmas::Join::separators))]
+fn append_separator(
+    builder: &mut SmolStrBuilder,
+    separator: &str,
+    character: Option<char>,
+) -> Result<(), AllocError>
+    requires { IfSome character (λ character. chars separator.now ≡ character ∷ []) }
+    ensures ok { OnOk result (builder.new ≡ appended builder.old (chars separator.now)) }
+    ensures refused { OnErr result ((appended builder.old (chars separator.now)).kind ≡ OnHeap) }
+{
+    match character {
+        Some(character) => builder.push_heap_first(character),
+        None if separator.is_empty() => {
+            builder.short_in_buffer();
+            Ok(())
+        }
+        None => builder.push_str_heap_first(separator, INLINE_CAP),
+    }
 }
