@@ -14,8 +14,6 @@ ghost use Rattle.smol_str.specs.WireFaults.{AfterEncodeFault, AfterDecodeFault, 
 mod fault;
 mod read;
 
-use crate::buffer::INLINE_CAP;
-use crate::bytes::zeros;
 use crate::stream::write_fully;
 use crate::value::SmolStr;
 pub use fault::{DecodeFault, EncodeFault, LimitedFault};
@@ -25,9 +23,6 @@ use std::io::{Read, Write};
 
 /// The most bytes of a body that is read into a buffer on the stack, so that memory is asked for the value alone.
 pub const STACK_BODY: usize = 256;
-
-/// The most bytes of the wire form of a text that lies in its value.
-const SHORT_FORM: usize = 4 + INLINE_CAP;
 
 /// A value that can be written in its wire form.
 ///
@@ -200,14 +195,6 @@ impl BorshSerialize for SmolStr {
         let Some(prefix) = length_prefix(bytes.len()) else {
             return Err(EncodeFault::TooLong);
         };
-        if let Some(buffer) = self.inline_buffer() {
-            // With the whole buffer behind the prefix a short text is written at once.
-            let mut form = zeros::<SHORT_FORM>();
-            form[..4].copy_from_slice(&prefix);
-            form[4..].copy_from_slice(buffer);
-            write_fully(writer, &form[..4 + bytes.len()])?;
-            return Ok(());
-        }
         write_fully(writer, &prefix)?;
         write_fully(writer, bytes)?;
         Ok(())

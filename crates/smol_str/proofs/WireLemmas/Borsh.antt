@@ -1,7 +1,7 @@
 -- A wire form in two parts, its size and its text, for the calls that write and read one part after the other.
-use Rattle.smol_str.proofs.Common.{◌≡◌, Option, IfSome, sym, ap, ◌∙◌, subst, refl, rules, cases_lt, ℕ, ◌+◌, ◌<◌, ◌≤◌, ◌^◌, arith, to_le_bytes, from_le_bytes, w32, from_le_bytes-to_le_bytes_4, List, ◌++◌, length, take, append_assoc, append-nil, take_at, drop_at, length-drop, drop, [], length-append, common_steps, encode_utf8_all, encodes-chars}
+use Rattle.smol_str.proofs.Common.{◌≡◌, Option, IfSome, sym, ap, ◌∙◌, subst, rules, cases_lt, ℕ, ◌+◌, ◌<◌, ◌≤◌, ◌^◌, arith, to_le_bytes, from_le_bytes, w32, from_le_bytes-to_le_bytes_4, List, ◌++◌, length, take, append_assoc, append-nil, take_at, drop_at, length-append, common_steps, encode_utf8_all, encodes-chars}
 use Rattle.smol_str.proofs.Common.{Appends, Consumes, Appends-trans, Consumes-trans}
-use Rattle.smol_str.proofs.Common.{INLINE_CAP, size, place_of, Meaning, HasWire, HasEndedEarly, body, padded}
+use Rattle.smol_str.proofs.Common.{INLINE_CAP, size, place_of, Meaning, HasWire, HasEndedEarly, body}
 use Rattle.smol_str.specs.declared.borsh.fault.DecodeFault.{DecodeFault}
 use Rattle.smol_str.specs.declared.borsh.fault.DecodeFault.TheVariants.{Ended, NotUtf8, OutOfMemory, Io}
 use Rattle.smol_str.specs.declared.borsh.fault.LimitedFault.TheVariants.{TooLong, Decode}
@@ -10,8 +10,6 @@ use Rattle.smol_str.specs.Faults.{AfterFromUtf8Fault}
 use Rattle.smol_str.specs.declared.borsh.TheConstants.{STACK_BODY}
 use Rattle.smol_str.specs.Wire.{wire, prefix_size}
 use Rattle.std.specs.Prelude.{⊤}
-use Rattle.std.proofs.Common.{drop_of_length-le}
-use borrow.Rule.Slice.PartMut.{put_mid}
 use Rattle.smol_str.specs.Stream.{AppendsBeginning, GaveAllBelow, GaveBelow, GaveUpTo}
 use Rattle.smol_str.specs.WireFaults.{AfterDecodeFault, GaveTooFew, GaveSomeOfBody, HasReadBody, HasReadLarge, NeedsMemory, AfterBodyFault, StatesAtMost, AfterLimitedFault, of_utf8_fault}
 use Rattle.smol_str.proofs.TextLemmas.Places.{size-chars, IfErr-is}
@@ -31,26 +29,10 @@ module _ (t prefix bytes : List ℕ) (is : bytes ≡ encode_utf8_all t)
   unfolding wire
   wire-parts = λ i. (said.1 ∙ ap (λ bs. to_le_bytes w32 (length bs)) is) i ++ is i
 
-  -- of zeros that the size and a buffer are copied over, as much as the text has
-  module _ (zeros buffer : List ℕ) (long : length zeros ≡ 4 + INLINE_CAP) (p : buffer ≡ padded (encode_utf8_all t)) where
-    short_parts : put_mid 4 INLINE_CAP (prefix ++ drop 4 zeros) buffer ≡ prefix ++ buffer
-    short_parts =
-        let within : length (drop 4 zeros) ≤ INLINE_CAP = omega (arith, length-drop 4 zeros, long) in
-        let rest : drop INLINE_CAP (drop 4 zeros) ≡ [] = drop_of_length-le (drop 4 zeros) within in
-        let four : length prefix ≡ 4 = ap length said.1 in
-        rw (take_at prefix (drop 4 zeros) 4 four, drop_at prefix (drop 4 zeros) 4 four, rest, append-nil buffer) refl
-
-    pub short-form : take (4 + length bytes) (put_mid 4 INLINE_CAP (prefix ++ drop 4 zeros) buffer) ≡ wire t
-    short-form = rw short_parts (search (rules, append_assoc, length-append, take_at, wire-parts))
-
   pub Appends-parts : (a b c : Option (List ℕ)) → Appends a b prefix → Appends b c bytes → Appends a c (wire t)
   Appends-parts a b c p q = subst (Appends a c) wire-parts (Appends-trans a b c prefix bytes p q)
 
   -- a beginning of the form, which a writer that failed was given
-  pub begun-in_short : (a c : Option (List ℕ)) (form : List ℕ) → form ≡ wire t → AppendsBeginning a c form
-      → HasWire t × AppendsBeginning a c (wire t)
-  begun-in_short a c form e h = (rw is at said.0, rw e at h)
-
   pub begun-in_prefix : (a c : Option (List ℕ)) → AppendsBeginning a c prefix → HasWire t × AppendsBeginning a c (wire t)
   begun-in_prefix a c h = (rw is at said.0, rw wire-parts at (beginning-of_first prefix bytes a c h))
 
