@@ -7,7 +7,7 @@ use Rattle.std.specs.Prelude.{ℕ, ◌*◌, ◌-◌, ◌^◌, ◌==◌, List, []
 use Rattle.std.specs.Fmt.{format_spec, styled_decimal}
 use Rattle.smol_str.specs.Cut.{joined_by}
 use Rattle.smol_str.specs.Meaning.{texts}
-use Rattle.uses.specs.declared.making.Line.{Line}
+use Rattle.uses.specs.declared.layout.Line.{Line}
 
 abbrev pub untabbed : List ℕ → List ℕ
 untabbed t = flat_map (λ c. if c == 9 then replicate 4 32 else c ∷ []) t

@@ -1,7 +1,8 @@
-//! The headline of the library: a contract for every way to make a value, and what any two values have in common.
+//! The headline of the library, clause by clause: a contract for every way to make a value, and what any two values have in
+//! common. Each repeats what the library's own contract says, so that a clause that gets weaker there is refused here.
 //! Clause `value` says that the value has exactly the expected text, in the place of that text, and `refused` that memory
 //! may be refused only for text that is not resident, or not short where it comes in parts.
-ghost use Rattle.std.specs.Prelude.{◌≡◌, ◌<◌, ◌≤◌, ◌⊎◌, ◌↔◌, ◌++◌, [], ◌∷◌, length, codes, encode_utf8_all, IfOk, IsOk, OnOk, OnErr, IsTrue, ◌-◌, chars, IsUtf8, string_bytes};
+ghost use Rattle.std.specs.Prelude.{◌≡◌, ◌<◌, ◌≤◌, ◌⊎◌, ◌↔◌, ◌++◌, [], ◌∷◌, length, IfOk, OnOk, OnErr, IsTrue, ◌-◌, chars, IsUtf8, string_bytes};
 ghost use Rattle.std.specs.Ordering.{nat_cmp};
 ghost use Rattle.std.specs.Cmp.Lexicographic.{slice_cmp};
 ghost use Rattle.std.specs.Box.{boxed_str_bytes};
@@ -10,18 +11,16 @@ ghost use Rattle.std.specs.Iterator.{IsFinite};
 ghost use Rattle.std.specs.Rc.{rc_str_bytes};
 ghost use Rattle.smol_str.specs.Text.{IsShort, IsResident, blank_run, place_of};
 ghost use Rattle.smol_str.specs.Meaning.{IsValueOf};
-ghost use Rattle.smol_str.specs.BuilderState.{InBuffer, empty_builder};
 ghost use Rattle.smol_str.specs.Joined.{joined, joined_strs, joined_strings, joined_string_refs, string_text, str_text};
 ghost use Rattle.smol_str.specs.Collect.{Collected, Outgrown, AppendedAll, StoppedAt};
 ghost use Rattle.smol_str.specs.Steps.{step_text};
-ghost use Rattle.smol_str.specs.Case.{IsAsciiText, lower, upper, lowercased, uppercased, converted};
-ghost use Rattle.smol_str.specs.declared.value.place.Place.TheVariants.{Heap};
+ghost use Rattle.smol_str.specs.Case.{lower, upper, lowercased, uppercased, converted};
 ghost use Rattle.smol_str.specs.Replace.{replaced, replaced_all};
 
 use smol_str::kernel::AsciiCase;
 use smol_str::{
     BLANK_NEWLINES, BLANK_SPACES, INLINE_CAP, Place, SmolStr, SmolStrBuilder, Step, StrExt,
-    ValueAlloc, build, laws,
+    ValueAlloc, build,
 };
 use std::alloc::{AllocError, Global};
 use std::borrow::CowStr;
@@ -428,75 +427,4 @@ pub fn hashes_as_text<H: Hasher>(value: &SmolStr, text: &str, state: &mut H, tex
 {
     value.hash(state);
     text.hash(text_state);
-}
-
-/// A constant: the condition of `new_inline` is computed.
-pub fn keyword() -> SmolStr
-    ensures { IsValueOf (chars (codes "if")) result }
-{
-    SmolStr::new_inline("if")
-}
-
-/// Keywords as constants of a trait, whose values may be calls. No contract sees what they are.
-pub trait Keywords {
-    const IF: SmolStr = SmolStr::new_static("if");
-}
-
-pub struct Rust;
-
-impl Keywords for Rust {}
-
-/// Whether a token is such a constant.
-pub fn is_keyword(token: &SmolStr) -> bool {
-    *token == Rust::IF
-}
-
-/// What a `const` function may call.
-pub const fn begun(alloc: Global, value: &SmolStr) -> (SmolStrBuilder, Place, bool)
-    ensures builder { result.0 ≡ empty_builder InBuffer }
-    ensures place { result.1 ≡ value.now.place }
-    ensures heap { IsTrue result.2 ↔ (value.now.place ≡ Heap) }
-{
-    (
-        SmolStrBuilder::new(alloc),
-        value.place(),
-        value.is_heap_allocated(),
-    )
-}
-
-/// A value of resident text is not on the heap; the law says it of the text's place.
-pub fn off_the_heap(alloc: Global, text: &str) -> Result<SmolStr, AllocError>
-    ensures { IfOk result (λ v. IsResident (chars text.now) → ¬ (v.place ≡ Heap)) }
-{
-    laws::places();
-    SmolStr::new(alloc, text)
-}
-
-/// Full case of short ASCII text, which is never refused; by the laws it is as long as the text.
-pub fn ascii_in_full_case(alloc: Global, text: &str, case: AsciiCase) -> Result<SmolStr, AllocError>
-    ensures { OnErr result (¬ (IsAsciiText (chars text.now) × IsShort (chars text.now))) }
-{
-    laws::full_case();
-    laws::ascii_case();
-    match case {
-        AsciiCase::Lower => text.to_lowercase_smolstr(alloc),
-        AsciiCase::Upper => text.to_uppercase_smolstr(alloc),
-    }
-}
-
-/// A clone of a value that is not on the heap.
-pub fn second(value: &SmolStr) -> Result<SmolStr, AllocError>
-    requires { ¬ (value.now.place ≡ Heap) }
-    ensures ok { IsOk result }
-    ensures same { IfOk result (λ copy. copy ≡ value.now) }
-{
-    value.clone()
-}
-
-/// A `String` of a value's text: never refused where that is the empty text.
-pub fn owned(alloc: Global, value: SmolStr) -> Result<String, SmolStr>
-    ensures text { IfOk result (λ text. string_bytes text ≡ encode_utf8_all value.text) }
-    ensures refused { OnErr result (¬ (value.text ≡ [])) }
-{
-    value.into_string(alloc)
 }

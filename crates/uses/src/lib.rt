@@ -2,5 +2,6 @@
 #![tactic(auto)]
 
 pub mod headline;
+pub mod layout;
 pub mod making;
 pub mod with_crates;

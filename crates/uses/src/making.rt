@@ -1,20 +1,23 @@
 //! Values made piece by piece, by printing, and of what a program has at hand.
 ghost use Rattle.std.specs.Prelude.{◌≡◌, ◌+◌, ◌*◌, ◌≤◌, ◌++◌, ◌∷◌, [], codes, length, IfOk, IsOk, OnErr, OnOk, Some, encode_utf8_all, ◌↔◌, String, IsTrue, filter, flat_map, chars, decimal, string_bytes};
 ghost use Rattle.std.specs.Char.{is_ascii_digit as digit};
-ghost use Rattle.smol_str.specs.BuilderState.{OnHeap, appended};
+ghost use Rattle.smol_str.specs.BuilderState.{InBuffer, OnHeap, appended, empty_builder};
+ghost use Rattle.smol_str.specs.Case.{IsAsciiText};
+ghost use Rattle.smol_str.specs.declared.value.place.Place.TheVariants.{Heap};
 ghost use Rattle.smol_str.specs.Text.{IsShort, blank_run, place_of, IsResident};
-ghost use Rattle.smol_str.specs.Meaning.{IsValueOf, texts};
+ghost use Rattle.smol_str.specs.Meaning.{IsValueOf};
 ghost use Rattle.std.specs.Io.Cursor.{cursor_remaining};
 ghost use Rattle.std.specs.Path.{path_buf_bytes, path_bytes, path_join};
-ghost use Rattle.uses.specs.Layout.{untabbed, margin, line_text, right_aligned, dashed};
+ghost use Rattle.uses.specs.Layout.{dashed};
 
+use smol_str::kernel::AsciiCase;
 use smol_str::{
-    FormatError, INLINE_CAP, SmolStr, SmolStrBuilder, StrExt, ToSmolStr, format_smolstr,
+    FormatError, INLINE_CAP, Place, SmolStr, SmolStrBuilder, StrExt, ToSmolStr, format_smolstr,
+    laws,
 };
 use std::alloc::{AllocError, Global};
 use std::convert::AsStr;
 use std::io::Cursor;
-use std::iter;
 use std::path::{Path, PathBuf};
 
 /// The texts of values, one after another, and a newline.
@@ -102,14 +105,6 @@ pub fn number(alloc: Global, number: u8) -> Result<SmolStr, FormatError>
     number.to_smolstr(alloc)
 }
 
-/// A number, with spaces in front of it up to six characters.
-pub fn wide_number(alloc: Global, number: u64) -> Result<SmolStr, FormatError>
-    ensures text { IfOk result (λ v. encode_utf8_all v.text ≡ right_aligned 6 number) }
-    ensures place { IfOk result (λ v. v.place ≡ place_of v.text) }
-{
-    format_smolstr!(alloc; "{number:>6}")
-}
-
 /// A key and its number, as a text.
 #[tactic(auto, using(smol_str::proofs::CallerLemmas::prints))]
 pub fn entry(alloc: Global, key: &str, number: u64) -> Result<SmolStr, FormatError>
@@ -125,47 +120,6 @@ fn print_entry(alloc: Global, key: &str, number: u64) -> Result<SmolStr, FormatE
     ensures place { IfOk result (λ v. v.place ≡ place_of v.text) }
 {
     format_smolstr!(alloc; "{key} = {number}")
-}
-
-/// Tokens at a level of indentation.
-#[derive(Drop)]
-pub struct Line {
-    pub level: u8,
-    pub tokens: Vec<SmolStr>,
-}
-
-/// A text with four spaces in place of each tab.
-#[tactic(auto, using(smol_str::proofs::CallerLemmas::texts, smol_str::proofs::CallerLemmas::replacing))]
-pub fn without_tabs(alloc: Global, text: &SmolStr) -> Result<SmolStr, AllocError>
-    ensures { IfOk result (λ v. IsValueOf (untabbed text.now.text) v) }
-{
-    text.as_str().replace_smolstr(alloc, "\t", "    ")
-}
-
-/// Four spaces for each level.
-#[tactic(auto, using(smol_str::proofs::CallerLemmas::collecting_chars))]
-pub fn indentation(alloc: Global, level: u8) -> Result<SmolStr, AllocError>
-    ensures { IfOk result (λ v. IsValueOf (margin level) v) }
-{
-    SmolStr::from_chars(alloc, iter::repeat_n(' ', 4 * usize::from(level)))
-}
-
-/// The text of a line: its tokens with a space between each two, and a newline.
-#[tactic(auto, using(smol_str::proofs::CallerLemmas::prints, smol_str::proofs::CallerLemmas::texts))]
-pub fn lay_out_line(alloc: Global, line: &Line) -> Result<SmolStr, FormatError>
-    ensures { IfOk result (λ v. IsValueOf (line_text line.now) v) }
-{
-    let margin = indentation(alloc, line.level)?;
-    let row = SmolStr::join(alloc, &line.tokens, " ")?;
-    print_line(alloc, &margin, &without_tabs(alloc, &row)?)
-}
-
-fn print_line(alloc: Global, margin: &SmolStr, row: &SmolStr) -> Result<SmolStr, FormatError>
-    ensures text { IfOk result (λ v. encode_utf8_all v.text ≡
-        encode_utf8_all margin.now.text ++ (encode_utf8_all row.now.text ++ codes "\n")) }
-    ensures place { IfOk result (λ v. v.place ≡ place_of v.text) }
-{
-    format_smolstr!(alloc; "{margin}{row}\n")
 }
 
 /// Whether a token is `if`.
@@ -256,4 +210,75 @@ pub fn of_bytes_of(alloc: Global, text: &String) -> Result<SmolStr, AllocError>
     ensures { IfOk result (λ v. encode_utf8_all v.text ≡ string_bytes text.now) }
 {
     SmolStr::from_string_ref(alloc, text)
+}
+
+/// A constant: the condition of `new_inline` is computed.
+pub fn keyword() -> SmolStr
+    ensures { IsValueOf (chars (codes "if")) result }
+{
+    SmolStr::new_inline("if")
+}
+
+/// Keywords as constants of a trait, whose values may be calls. No contract sees what they are.
+pub trait Keywords {
+    const IF: SmolStr = SmolStr::new_static("if");
+}
+
+pub struct Rust;
+
+impl Keywords for Rust {}
+
+/// Whether a token is such a constant.
+pub fn is_keyword(token: &SmolStr) -> bool {
+    *token == Rust::IF
+}
+
+/// What a `const` function may call.
+pub const fn begun(alloc: Global, value: &SmolStr) -> (SmolStrBuilder, Place, bool)
+    ensures builder { result.0 ≡ empty_builder InBuffer }
+    ensures place { result.1 ≡ value.now.place }
+    ensures heap { IsTrue result.2 ↔ (value.now.place ≡ Heap) }
+{
+    (
+        SmolStrBuilder::new(alloc),
+        value.place(),
+        value.is_heap_allocated(),
+    )
+}
+
+/// A value of resident text is not on the heap; the law says it of the text's place.
+pub fn off_the_heap(alloc: Global, text: &str) -> Result<SmolStr, AllocError>
+    ensures { IfOk result (λ v. IsResident (chars text.now) → ¬ (v.place ≡ Heap)) }
+{
+    laws::places();
+    SmolStr::new(alloc, text)
+}
+
+/// Full case of short ASCII text, which is never refused; by the laws it is as long as the text.
+pub fn ascii_in_full_case(alloc: Global, text: &str, case: AsciiCase) -> Result<SmolStr, AllocError>
+    ensures { OnErr result (¬ (IsAsciiText (chars text.now) × IsShort (chars text.now))) }
+{
+    laws::full_case();
+    laws::ascii_case();
+    match case {
+        AsciiCase::Lower => text.to_lowercase_smolstr(alloc),
+        AsciiCase::Upper => text.to_uppercase_smolstr(alloc),
+    }
+}
+
+/// A clone of a value that is not on the heap.
+pub fn second(value: &SmolStr) -> Result<SmolStr, AllocError>
+    requires { ¬ (value.now.place ≡ Heap) }
+    ensures ok { IsOk result }
+    ensures same { IfOk result (λ copy. copy ≡ value.now) }
+{
+    value.clone()
+}
+
+/// A `String` of a value's text: never refused where that is the empty text.
+pub fn owned(alloc: Global, value: SmolStr) -> Result<String, SmolStr>
+    ensures text { IfOk result (λ text. string_bytes text ≡ encode_utf8_all value.text) }
+    ensures refused { OnErr result (¬ (value.text ≡ [])) }
+{
+    value.into_string(alloc)
 }

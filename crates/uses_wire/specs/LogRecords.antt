@@ -10,7 +10,7 @@ use Rattle.smol_str.specs.declared.borsh.fault.LimitedFault.TheVariants.{Decode}
 use Rattle.smol_str.specs.declared.borsh.fault.DecodeFault.TheVariants.{OutOfMemory}
 use Rattle.smol_str.specs.Wire.{HasWire, wire}
 use Rattle.smol_str.specs.WireFaults.{AfterLimitedFault}
-use Rattle.uses_wire.specs.declared.wire.log_records.Record.{Record}
+use Rattle.uses_wire.specs.declared.log_records.Record.{Record}
 
 abbrev pub HasForm : Record → Type 0
 HasForm r = HasWire r.level.text × HasWire r.message.text

@@ -1,2 +1,0 @@
-pub mod ReportLemmas
-pub mod MergedLemmas

@@ -1,5 +1,0 @@
-use Rattle.smol_tokens_tests.proofs.ReportLemmas.{no_memory}
-use Rattle.smol_tokens_tests.proofs.callers.append_report.Goals as goal
-
-pub returns-clause-memory : goal.returns-clause-memory
-returns-clause-memory g c = no_memory _ _ _ _ _ _ c.run_with_hasher.ensures.fault

@@ -1,6 +1,0 @@
-use Rattle.std.proofs.Common.{◌≡◌, take, filter}
-use Rattle.smol_str.specs.Keys.{has_text}
-use Rattle.uses_cutting.proofs.cutting.among.seen_again.Given as goal
-
-abbrev pub invariant-loop-name : goal.invariant-loop-name
-invariant-loop-name l = l.names.items ≡ filter (λ name. has_text name.text l.seen) (take l.name-index l.all)
