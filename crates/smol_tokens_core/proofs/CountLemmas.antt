@@ -77,6 +77,10 @@ not_counts t n fs other is =
     let same = front-once t other.1 [] other.0 fs other.2 (counts-begin t fs is) other.5 nothing in
     omega (arith, other.4, ap length same.1)
 
+pub IsFirstOther-once : (t : List ℕ) (m n : ℕ) → IsFirstOther t m → IsFirstOther t n → m ≡ n
+IsFirstOther-once t m n h k =
+    let same = front-once t h.1 k.1 h.0 k.0 h.2 k.2 h.5 k.5 in omega (arith, h.3, k.3, ap length same.0)
+
 -- the merge of count lines is that of the pairs which they are of
 pub IsMerge-of : (t out : List ℕ) (es : List (List ℕ × ℕ)) → IsCounts t es → IsMerge t out ↔ IsCounts out (tally es)
 IsMerge-of t out es is =

@@ -76,12 +76,13 @@ pub fn lines_too_often()
 {}
 
 /// A text is the count lines of one list of pairs at most, and has one merge at most; it has none if one of its lines is
-/// not a count line.
+/// not a count line. At most one line is the first that is none.
 pub fn counts_read_back()
     ensures once { (t : List ℕ) (pairs others : List (List ℕ × ℕ)) →
         IsCounts t pairs → IsCounts t others → pairs ≡ others }
     ensures merge { (t out other : List ℕ) → IsMerge t out → IsMerge t other → out ≡ other }
     ensures other { (t : List ℕ) (n : ℕ) (pairs : List (List ℕ × ℕ)) → IsFirstOther t n → ¬ IsCounts t pairs }
+    ensures line { (t : List ℕ) (m n : ℕ) → IsFirstOther t m → IsFirstOther t n → m ≡ n }
 {}
 
 /// A text that is cut at line ends can be counted in parts: the merge of their reports is the report on the whole text.

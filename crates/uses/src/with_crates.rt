@@ -5,7 +5,8 @@ ghost use Rattle.regex.specs.Patterns.{find_all_str};
 ghost use Rattle.regex.specs.Strings.{matcher_pattern, with_replaced};
 ghost use Rattle.indexmap.specs.IndexSet.{insert_key};
 ghost use Rattle.smol_str.specs.Keys.{value_at, entry_texts, with_entry};
-ghost use Rattle.serde.specs.Event.{Logs, text};
+ghost use Rattle.serde.specs.Event.{Event, Logs, text};
+ghost use Rattle.serde.specs.Steps.{format_of, input_of};
 ghost use Rattle.smol_str.specs.Meaning.{IsValueOf, texts};
 ghost use Rattle.smol_str.specs.Serde.{HasReadText};
 ghost use Rattle.smol_str.specs.Text.{place_of};
@@ -46,6 +47,20 @@ pub fn receive_owned<F: Format>(
 ) -> Result<SmolStr, F::Error>
     ensures read { IfOk result (λ v. HasReadText F.gives from.old v.text from.new) }
     ensures place { IfOk result (λ v. v.place ≡ place_of v.text) }
+{
+    SmolStr::deserialize_owned(alloc, from)
+}
+
+/// A value of a format that is known to have a name next: its text.
+#[tactic(auto, using(smol_str::proofs::CallerLemmas::texts))]
+pub fn receive_known<F: Format>(
+    alloc: Global,
+    from: &mut Deserializer<'_, '_, F>,
+    name: &str,
+) -> Result<SmolStr, F::Error>
+    requires known { (event : Event) (after : F) →
+        F.gives (format_of from.old) (input_of from.old) event after → event ≡ text name.now }
+    ensures { IfOk result (λ v. v.text ≡ chars name.now) }
 {
     SmolStr::deserialize_owned(alloc, from)
 }

@@ -1,5 +1,5 @@
 //! Paths as lists of segments, from the one at hand upwards.
-ghost use Rattle.std.specs.Prelude.{◌≡◌, ◌-◌, ◌≤◌, OnOk, bytes_eq, length, slice_get, take, chars};
+ghost use Rattle.std.specs.Prelude.{◌≡◌, ◌-◌, ◌<◌, ◌≤◌, ◌↔◌, IsTrue, OnOk, bytes_eq, length, slice_get, take, chars};
 ghost use Rattle.smol_str.specs.Meaning.{texts};
 ghost use Rattle.uses_maps.specs.Names.{above, dots, segment_kind};
 
@@ -46,6 +46,8 @@ pub fn go_up(path: &mut Vec<SmolStr>) -> Result<(), AllocError>
 pub fn common_front(left: &[SmolStr], right: &[SmolStr]) -> usize
     ensures within { (result ≤ length left.now) × (result ≤ length right.now) }
     ensures same { take result (texts left.now) ≡ take result (texts right.now) }
+    ensures ends { result < length left.now → result < length right.now →
+        ¬ (slice_get (texts left.now) result ≡ slice_get (texts right.now) result) }
 {
     let shorter = left.len().min(right.len());
     for at in 0..shorter {
@@ -54,4 +56,11 @@ pub fn common_front(left: &[SmolStr], right: &[SmolStr]) -> usize
         }
     }
     shorter
+}
+
+/// Whether a path leads to a folder or into it.
+pub fn is_within(path: &[SmolStr], folder: &[SmolStr]) -> bool
+    ensures { IsTrue result ↔ (take (length folder.now) (texts path.now) ≡ texts folder.now) }
+{
+    common_front(path, folder) == folder.len()
 }

@@ -1,5 +1,6 @@
--- For lists on the wire that are not read: their bytes begin with no list.
-use Rattle.std.proofs.Common.{◌≡◌, ℕ, ◌<◌, ◌^◌, List, [], ◌++◌, length, IsTrue, Result, Ok, Err, IfErr, IsErrAnd, sym, ap, subst, ◌∙◌, arith, append_assoc, append-nil, length-append}
+-- For lists on the wire: bytes that begin with one, and those that are not read, which begin with none.
+use Rattle.std.proofs.Common.{◌≡◌, ℕ, ◌<◌, ◌^◌, List, [], ◌∷◌, ◌++◌, length, IsTrue, Result, Ok, Err, IfErr, IsErrAnd, sym, ap, subst, ◌∙◌, arith, append_assoc, append-nil, length-append}
+use Rattle.std.proofs.lemmas.List.Elements.{All-nil, All-cons}
 use Rattle.std.specs.Str.{all_scalars}
 use Rattle.smol_str.specs.declared.borsh.fault.DecodeFault.{DecodeFault}
 use Rattle.smol_str.specs.declared.borsh.fault.DecodeFault.TheVariants.{Ended, NotUtf8, OutOfMemory, Io as ReadFailed}
@@ -16,6 +17,13 @@ not_whole bytes missing left ss ts h k cut some e =
     let both = lists-apart ss ts (left ++ missing) [] h.few k.few h.sized k.sized
     (sym (append_assoc (list_form ss) left missing) ∙ whole) in
     omega (arith, length-append left missing, ap length both.1, some)
+
+-- the form of a list of one text, and what follows it
+pub one_begins : (bytes t rest : List ℕ) → HasWire t → IsTrue (all_scalars t) → bytes ≡ list_form (t ∷ []) ++ rest
+    → BeginsWithList bytes
+one_begins bytes t rest fits scalars is =
+    let can : CanBeListed (t ∷ []) = record { few = omega arith; sized = All-cons HasWire t [] fits (All-nil HasWire) } in
+    (t ∷ [], rest, can, All-cons (λ u. IsTrue (all_scalars u)) t [] scalars (All-nil (λ u. IsTrue (all_scalars u))), is)
 
 -- a loop that reads a list, where the next text is not read
 module _ (bytes : List ℕ) (count : ℕ) (ts : List (List ℕ)) (rest : List ℕ) (i : ℕ)

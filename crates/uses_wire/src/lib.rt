@@ -210,6 +210,8 @@ pub fn valid_in_body(alloc: Global, bytes: &[u8]) -> Option<usize>
 pub fn next_limited(alloc: Global, input: &mut &[u8], limit: usize) -> Result<SmolStr, LimitedFault>
     ensures allowed { prefix_size input.old.now ≤ limit →
         IfErr result (λ fault. ¬ (fault ≡ LimitedFault.TooLong)) }
+    ensures longer { 4 ≤ length input.old.now → limit < prefix_size input.old.now →
+        OnErr result (length input.old.now ≤ length input.new.now + 4) }
     ensures skipped { IfErr result (λ fault. fault ≡ LimitedFault.TooLong →
         input.new.now ≡ drop 4 input.old.now) }
 {
@@ -231,7 +233,11 @@ pub fn skip_invalid(alloc: Global, messages: &mut &[u8]) -> bool
 pub fn next_message(alloc: Global, messages: &mut &[u8]) -> Result<Option<SmolStr>, DecodeFault>
     ensures behind { OnOk result
         (messages.new.now ≡ drop (4 + prefix_size messages.old.now) messages.old.now) }
+    ensures within { OnErr result
+        (length messages.old.now ≤ length messages.new.now + (4 + prefix_size messages.old.now)) }
     ensures ended { IfErr result (λ fault. fault ≡ DecodeFault.Ended → messages.new.now ≡ []) }
+    ensures begun { IfErr result (λ fault. fault ≡ DecodeFault.OutOfMemory →
+        length messages.new.now + 4 < length messages.old.now) }
     ensures skipped { IfErr result (λ fault. fault ≡ DecodeFault.OutOfMemory →
         prefix_size messages.old.now ≤ STACK_BODY → IsUtf8 (body messages.old.now)
         × (messages.new.now ≡ drop (4 + prefix_size messages.old.now) messages.old.now)) }

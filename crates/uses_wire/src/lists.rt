@@ -3,11 +3,12 @@ ghost use Rattle.std.specs.Prelude.{◌≡◌, ◌+◌, ◌<◌, ◌∷◌, [], 
 ghost use Rattle.std.specs.Int.{w32, to_le_bytes};
 ghost use Rattle.uses_wire.specs.Lists.{CanBeListed, list_form, AfterListFault, AfterUnlisted};
 ghost use Rattle.smol_str.specs.Meaning.{texts};
+ghost use Rattle.smol_str.specs.Wire.{HasWire};
 
 use smol_str::SmolStr;
 use smol_str::borsh::{BorshSerialize, DecodeFault, EncodeFault, length_prefix, split_wire};
-use std::alloc::{AllocFailed, Global};
-use std::io::Write;
+use std::alloc::{AllocError, AllocFailed, Global};
+use std::io::{self, Write};
 
 /// The form of a list.
 #[tactic(auto, using(smol_str::proofs::CallerLemmas::items))]
@@ -96,5 +97,37 @@ pub fn read_cut(alloc: Global, bytes: &[u8], missing: &[u8], values: &[SmolStr])
     match read_list(alloc, bytes) {
         Ok(_read) => unreachable!(),
         Err(fault) => fault,
+    }
+}
+
+/// The form of a list that has one: only memory can be refused.
+pub fn write_known(alloc: Global, values: &[SmolStr]) -> Result<Vec<u8>, io::Error>
+    requires listed { CanBeListed (texts values.now) }
+    ensures form { IfOk result (λ bytes. bytes.items ≡ list_form (texts values.now)) }
+{
+    match write_list(alloc, values) {
+        Ok(bytes) => Ok(bytes),
+        Err(EncodeFault::Io(error)) => Err(error),
+        Err(EncodeFault::TooLong) => unreachable!(),
+    }
+}
+
+/// The list of one value, whose form the bytes begin with: only memory can be refused.
+pub fn read_known<'a>(
+    alloc: Global,
+    bytes: &'a [u8],
+    value: &SmolStr,
+    rest: &[u8],
+) -> Result<(Vec<SmolStr>, &'a [u8]), AllocError>
+    requires sized { HasWire value.now.text }
+    requires written { bytes.now ≡ list_form (value.now.text ∷ []) ++ rest.now }
+{
+    let _text = value.as_str();
+    match read_list(alloc, bytes) {
+        Ok(read) => Ok(read),
+        Err(DecodeFault::OutOfMemory) => Err(AllocError),
+        Err(DecodeFault::Ended) => unreachable!(),
+        Err(DecodeFault::NotUtf8(_)) => unreachable!(),
+        Err(DecodeFault::Io(_)) => unreachable!(),
     }
 }

@@ -1,7 +1,7 @@
 -- Loops over what std's iterators lend, and what `map` and `try_collect` make of it.
 use Rattle.smol_str.proofs.Common.{Bool, cond, Ok, Err, IfOk, refl, sym, ◌≡◌, Some, None, ap, ◌∙◌, Result, Option, Bor, true, ◌<◌, ◌+◌, ℕ, arith, ◌≤◌, nat_tests, nat_eq, get_or, take, map, List, [], ◌∷◌, ◌++◌, length, length-append, append-nil, append_assoc, items_from_drains, FoldsTo, All-nil, All-cons, YieldsList-from_chars, map-id, All, YieldsList, YieldsList-from_slice, flat_map}
-use Rattle.smol_str.proofs.Common.{length-map, nil_from_length, take_all, take_more, pointwise, encode_utf8_all, chars, IsUtf8, encode_utf8, chars-nil, Meaning, size, map-append}
-use Rattle.smol_str.proofs.CallerLemmas.Common.{texts, Vec, Yields, AlwaysYields, map_source, map_callee, enumerate_source, enumerate_count, enumerate_from, filter, fold, chars_rest, chars_steps, lines_rest, lines_steps, Chars, iter_rest, iter_steps, Iter, lines, YieldsList-from_lines, fold-append, flat_map-append, filter-append, filter_map-append, filter_more, get_or-map, map-map, Map}
+use Rattle.smol_str.proofs.Common.{length-map, nil_from_length, take_all, take_more, pointwise, encode_utf8_all, chars, IsUtf8, encode_utf8, chars-nil, Meaning, size, map-append, false, false≢true, slice_get}
+use Rattle.smol_str.proofs.CallerLemmas.Common.{slice_get_read, bytes_eq-Decides, texts, Vec, Yields, AlwaysYields, map_source, map_callee, enumerate_source, enumerate_count, enumerate_from, filter, fold, chars_rest, chars_steps, lines_rest, lines_steps, Chars, iter_rest, iter_steps, Iter, lines, YieldsList-from_lines, fold-append, flat_map-append, filter-append, filter_map-append, filter_more, get_or-map, map-map, Map}
 use Rattle.smol_str.proofs.CallerLemmas.Builders.{size-cons}
 use Rattle.smol_str.proofs.BuilderLemmas.State.{appended-twice, OnHeap-long}
 use Rattle.std.specs.Vec.{vec_items}
@@ -9,6 +9,7 @@ use Rattle.std.specs.declared.iter.Enumerate.{Enumerate}
 use Rattle.smol_str.proofs.TextLemmas.Places.{size-append, size-chars}
 use Rattle.std.specs.declared.str.Lines.{Lines}
 use Rattle.smol_str.proofs.CallerLemmas.Texts.{chars-cons, same_bytes}
+use Rattle.smol_str.proofs.CallerLemmas.Values.{text_at}
 use Rattle.smol_str.proofs.IteratorLemmas.{weaker}
 
 -- ---- what `map` and `try_collect` make of what an iterator lends
@@ -214,4 +215,13 @@ pub same_front : (vs ws : List Meaning) (i : ℕ) (v w : Meaning) → take i (te
 same_front vs ws i v w front left right at there same =
     cc ((texts_more vs i).1 v left at, front, same_bytes v.text w.text same, (texts_more ws i).1 w right there)
 
-pub ruleset side_by_side = (same_front)
+-- and where they differ
+pub differ_there : (vs ws : List Meaning) (i : ℕ) (v w : Meaning) → i < length vs → i < length ws → v ≡ get_or vs i v
+    → w ≡ get_or ws i w → pointwise nat_eq v.text w.text ≡ false → ¬ (slice_get (texts vs) i ≡ slice_get (texts ws) i)
+differ_there vs ws i v w left right at there other same =
+    let one = text_at vs i v (slice_get_read vs (length vs) i v refl left at) in
+    let two = text_at ws i w (slice_get_read ws (length ws) i w refl right there) in
+    let e : v.text ≡ w.text = cc (one, two, same) in
+    false≢true (sym other ∙ (bytes_eq-Decides v.text w.text).1 e)
+
+pub ruleset side_by_side = (same_front, differ_there)
