@@ -1,5 +1,5 @@
 -- For the lexer: the longest token that a text begins with, where a text is cut behind it, and one token more.
-use Rattle.std.proofs.Common.{◌≡◌, ℕ, ◌-◌, List, [], ◌∷◌, ◌++◌, length, take, drop, true, refl, sym, ap, ◌∙◌, subst, arith, append_assoc, append-nil}
+use Rattle.std.proofs.Common.{◌≡◌, ◌≢◌, ℕ, ◌-◌, List, [], ◌∷◌, ◌++◌, length, take, drop, true, refl, sym, ap, ◌∙◌, subst, arith, append_assoc, append-nil}
 use Rattle.std.specs.List.{All, concat, flat_map}
 use Rattle.std.specs.Str.{chars, IsUtf8, IsCharBoundary}
 use Rattle.std.proofs.lemmas.Bool.{both_ways}
@@ -95,3 +95,15 @@ Lexed-push source tokens text t left token so_far first value =
       longest = rw (map-append (λ (v : Meaning). v.text) tokens (token ∷ []), is) longest;
       places = All-push (λ (v : Meaning). v.place ≡ place_of v.text) tokens token so_far.places (rw is value.place);
     }
+
+-- a source in which a token begins is not empty
+not_empty : (a : List ℕ) (c : ℕ) (t : List ℕ) → ¬ (a ++ c ∷ t ≡ [])
+not_empty [] c t none = omega (arith, ap length none)
+not_empty (x ∷ a) c t none = omega (arith, ap length none)
+
+pub Lexed-some : (source : List ℕ) (tokens : List Meaning) (text t left : List ℕ) → Lexed source tokens text
+    → IsFirstToken text t left → source ≢ []
+Lexed-some source tokens text [] left so_far first = absurd first.kind
+Lexed-some source tokens text (c ∷ t) left so_far first =
+    let front = flat_map (λ (v : Meaning). v.text) tokens in
+    λ none. not_empty front c (t ++ left) (ap (λ l. front ++ l) (sym first.whole) ∙ so_far.lossless ∙ none)

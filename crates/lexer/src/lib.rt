@@ -4,7 +4,7 @@
 //! It stands on `smol_str` alone. Copy its folder beside yours, and add `lexer: smol_str` to your `crates.txt`.
 #![tactic(auto)]
 
-ghost use Rattle.std.specs.Prelude.{◌≡◌, ◌≢◌, ◌<◌, ◌≤◌, ℕ, List, [], ◌∷◌, length, All, IfOk, IfSome, MatchOption};
+ghost use Rattle.std.specs.Prelude.{◌≡◌, ◌≢◌, ◌<◌, ◌≤◌, ℕ, List, [], ◌∷◌, length, All, IfOk, OnErr, IfSome, MatchOption};
 ghost use Rattle.std.specs.List.{concat, flat_map};
 ghost use Rattle.std.specs.Str.{chars};
 ghost use Rattle.smol_str.specs.Text.{IsResident};
@@ -28,6 +28,7 @@ pub fn lex(alloc: Global, source: &str) -> Result<Vec<SmolStr>, AllocError>
     ensures longest { IfOk result (λ tokens. AreLongest (texts tokens.items) []) }
     ensures off_the_heap { IfOk result (λ tokens.
         All (λ token. IsResident token.text → token.place ≢ Place.Heap) tokens.items) }
+    ensures refused { OnErr result (chars source.now ≢ []) }
 {
     laws::places();
     let mut tokens = Vec::new(alloc);
