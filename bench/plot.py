@@ -12,18 +12,19 @@ def bar(left, at, name, ratio):
     x, width = left + LABEL, min(ratio, MOST) * SCALE
     return (f'<text x="{x - 5}" y="{at + 9}" text-anchor="end">{html.escape(name)}</text>'
             f'<rect x="{x}" y="{at + 1}" width="{width:.1f}" height="{STEP - 3}" fill="{color}"/>'
-            f'<text x="{x + width + 3:.1f}" y="{at + 9}" stroke="#fff" stroke-width="3" paint-order="stroke">{ratio:.2f}</text>')
+            f'<text x="{x + width + 3:.1f}" y="{at + 9}" stroke="#fff" stroke-width="3" paint-order="stroke">'
+            f'{ratio:.2f}</text>')
 
 
 def picture(rows):
     """The bars of rows: of each whether its texts are short, its name and its ratio."""
     halves = [[(name, ratio) for is_short, name, ratio in rows if is_short == wanted] for wanted in (True, False)]
     height = TOP + STEP * max(map(len, halves)) + 8
-    lines = [f'<svg xmlns="http://www.w3.org/2000/svg" width="{WIDTH}" height="{height}" viewBox="0 0 {WIDTH} {height}" '
-             'font-family="sans-serif" font-size="10">',
+    lines = [f'<svg xmlns="http://www.w3.org/2000/svg" width="{WIDTH}" height="{height}" '
+             f'viewBox="0 0 {WIDTH} {height}" font-family="sans-serif" font-size="10">',
              f'<rect width="{WIDTH}" height="{height}" fill="#fff"/>',
-             '<text x="8" y="16" font-size="12">Our instructions as parts of those of upstream with link-time optimization '
-             'and our limits; the dashed line is 1</text>']
+             '<text x="8" y="16" font-size="12">Our instructions as parts of those of upstream with link-time '
+             'optimization and our limits; the dashed line is 1</text>']
     for left, title, bars in ((0, "short texts", halves[0]), (WIDTH // 2, "other texts", halves[1])):
         x, bottom = left + LABEL + SCALE, TOP + STEP * len(bars)
         lines += [f'<text x="{left + LABEL}" y="{TOP - 8}" font-weight="bold">{title}</text>',

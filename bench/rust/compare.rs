@@ -17,7 +17,7 @@ const STATICS: [&str; 6] =
 /// The most bytes of a text that an answer shows.
 const SHOWN: usize = 200;
 
-/// A line: a call, the registers that it writes and reads, and its other operands, of which each call takes what it needs.
+/// A line: a call, the registers that it writes and reads, and its other operands. Each call takes what it needs.
 struct Call {
     name: String,
     to: usize,
@@ -91,18 +91,29 @@ impl Machine {
         self.values[it.to] = value;
     }
 
-    fn keep_builder(&mut self, it: &Call, builder: SmolStrBuilder) {
+    fn show_builder(&mut self, at: usize) {
+        let builder = &self.builders[at];
         write!(self.out, " builder {} {}", builder.len(), builder.is_empty()).unwrap();
-        self.show(builder.as_str());
-        self.builders[it.to] = builder;
+        let text = builder.as_str().to_owned();
+        self.show(text);
     }
 }
 
 /// "a blank run that is not short and is collected lies on the heap"
 fn pinned(value: SmolStr) -> SmolStr { if value.is_heap_allocated() { SmolStr::new(&value) } else { value } }
 
+/// Makes the call, and says what came of it.
+fn answer(m: &mut Machine, it: &Call) -> Option<()> {
+    let done = make(m, it);
+    let done = done.or_else(|| change(m, it));
+    let done = done.or_else(|| read(m, it));
+    let done = done.or_else(|| grow(m, it));
+    let done = done.or_else(|| wire(m, it));
+    done.or_else(|| json_of(m, it))
+}
+
 /// Calls that make a value.
-fn make(m: &mut Machine, it: &Call) {
+fn make(m: &mut Machine, it: &Call) -> Option<()> {
     let (text, count) = (it.text(0), it.width);
     let made = match (it.name.as_str(), it.form) {
         ("new", _) => SmolStr::new(text),
@@ -143,9 +154,9 @@ fn make(m: &mut Machine, it: &Call) {
         ("to_smolstr", 4) => it.number.cast_signed().to_smolstr(),
         ("to_smolstr", _) => it.character().to_smolstr(),
         ("format_smolstr", form) => formatted(it, &m.values[it.from], form),
-        _ => return change(m, it),
+        _ => return None,
     };
-    m.keep(it, made)
+    Some(m.keep(it, made))
 }
 
 fn formatted(it: &Call, value: &SmolStr, form: usize) -> SmolStr {
@@ -163,7 +174,7 @@ fn formatted(it: &Call, value: &SmolStr, form: usize) -> SmolStr {
 }
 
 /// Case and replacement, of a text or of a value's.
-fn change(m: &mut Machine, it: &Call) {
+fn change(m: &mut Machine, it: &Call) -> Option<()> {
     let text = if it.form == 1 { m.values[it.from].as_str() } else { it.text(0) };
     let (from, to) = (it.text(1), it.text(2));
     let made = match it.name.as_str() {
@@ -175,15 +186,15 @@ fn change(m: &mut Machine, it: &Call) {
         "to_uppercase_smolstr" => text.to_uppercase_smolstr(),
         "replace_smolstr" => text.replace_smolstr(from, to),
         "replacen_smolstr" => text.replacen_smolstr(from, to, it.number as usize),
-        _ => return read(m, it),
+        _ => return None,
     };
-    m.keep(it, made)
+    Some(m.keep(it, made))
 }
 
 /// Calls that read values.
-fn read(m: &mut Machine, it: &Call) {
+fn read(m: &mut Machine, it: &Call) -> Option<()> {
     let (left, right, text) = (m.values[it.to].clone(), m.values[it.from].clone(), it.text(0));
-    match it.name.as_str() {
+    Some(match it.name.as_str() {
         "compare" => {
             m.say([left == right, left != right]);
             m.say([left < right, left <= right, left > right, left >= right]);
@@ -205,8 +216,8 @@ fn read(m: &mut Machine, it: &Call) {
             m.say(text[from..].find(it.text(1)).map(|at| from + at))
         }
         "print" => m.show(print(it, &right)),
-        _ => grow(m, it),
-    }
+        _ => return None,
+    })
 }
 
 fn print(it: &Call, value: &SmolStr) -> String {
@@ -226,39 +237,39 @@ fn print(it: &Call, value: &SmolStr) -> String {
 }
 
 /// Calls on builders.
-fn grow(m: &mut Machine, it: &Call) {
+fn grow(m: &mut Machine, it: &Call) -> Option<()> {
     let (text, character, number, width) = (it.text(0), it.character(), it.number, it.width);
-    let mut builder = take(&mut m.builders[it.to]);
-    let value = &m.values[it.from];
+    let Machine { values, builders, .. } = m;
+    let value = &values[it.from];
     match (it.name.as_str(), it.form) {
-        ("builder_new", _) => builder = SmolStrBuilder::new(),
-        ("with_capacity", _) => builder = SmolStrBuilder::with_capacity(width),
-        ("builder_clone", _) => builder = m.builders[it.from].clone(),
-        ("builder_eq", _) => m.say([builder == m.builders[it.from], builder != m.builders[it.from]]),
-        ("push", _) => builder.push(character),
-        ("push_str", 0 | 1) => builder.push_str(text),
-        ("push_str", _) => builder.push_str(value),
-        ("extend" | "extend_chars", 0) => builder.extend(text.chars()),
-        ("extend", 1) | ("extend_strs", _) => builder.extend(it.strs()),
-        ("extend", 2) | ("extend_strings", _) => builder.extend(it.strings().iter()),
-        ("extend", _) => builder.extend(text.chars().rev()),
-        ("write", 0) => write!(builder, "{text}{value}").unwrap(),
-        ("write", 1) => write!(builder, "{value:?}{number}{text:>width$}").unwrap(),
-        ("write", 2) => builder.write_str(text).unwrap(),
-        ("write", _) => builder.write_char(character).unwrap(),
-        _ => {
-            m.builders[it.to] = builder;
-            return wire(m, it);
+        ("builder_new", _) => builders[it.to] = SmolStrBuilder::new(),
+        ("with_capacity", _) => builders[it.to] = SmolStrBuilder::with_capacity(width),
+        ("builder_clone", _) => builders[it.to] = builders[it.from].clone(),
+        ("builder_eq", _) => {
+            let equal = [builders[it.to] == builders[it.from], builders[it.to] != builders[it.from]];
+            m.say(equal)
         }
+        ("push", _) => builders[it.to].push(character),
+        ("push_str", 0 | 1) => builders[it.to].push_str(text),
+        ("push_str", _) => builders[it.to].push_str(value),
+        ("extend" | "extend_chars", 0) => builders[it.to].extend(text.chars()),
+        ("extend", 1) | ("extend_strs", _) => builders[it.to].extend(it.strs()),
+        ("extend", 2) | ("extend_strings", _) => builders[it.to].extend(it.strings().iter()),
+        ("extend", _) => builders[it.to].extend(text.chars().rev()),
+        ("write", 0) => write!(builders[it.to], "{text}{value}").unwrap(),
+        ("write", 1) => write!(builders[it.to], "{value:?}{number}{text:>width$}").unwrap(),
+        ("write", 2) => builders[it.to].write_str(text).unwrap(),
+        ("write", _) => builders[it.to].write_char(character).unwrap(),
+        _ => return None,
     }
-    m.keep_builder(it, builder)
+    Some(m.show_builder(it.to))
 }
 
 /// The wire form, by a reader and a writer that move few bytes a call and may fail at a byte.
-fn wire(m: &mut Machine, it: &Call) {
+fn wire(m: &mut Machine, it: &Call) -> Option<()> {
     let bytes = it.texts.first().map_or(&[][..], Vec::as_slice);
     let mut slow = Slow { rest: bytes, written: vec![], moved: 0, step: it.width, end: it.digits, fails: it.form > 0 };
-    match it.name.as_str() {
+    Some(match it.name.as_str() {
         "serialize" => {
             let done = m.values[it.from].serialize(&mut slow);
             m.say(done.is_ok());
@@ -274,8 +285,8 @@ fn wire(m: &mut Machine, it: &Call) {
             let made = SmolStr::deserialize_reader(&mut slow);
             keep_read(m, it, made, slow.moved)
         }
-        _ => json_of(m, it),
-    }
+        _ => return None,
+    })
 }
 
 /// "the error is an `io::Error` with a text": by it what is not UTF-8 is known.
@@ -332,28 +343,28 @@ impl Write for Slow<'_> {
     fn flush(&mut self) -> Result<(), Error> { Ok(()) }
 }
 
-fn json_of(m: &mut Machine, it: &Call) {
+fn json_of(m: &mut Machine, it: &Call) -> Option<()> {
     let (text, value) = (it.text(0), &m.values[it.from]);
     let made = match (it.name.as_str(), it.form) {
-        ("to_json", 0 | 2) => return m.show(serde_json::to_string(value).unwrap()),
-        ("to_json", 1) => return m.show(serde_json::to_string(&SmolStr::new(text)).unwrap()),
-        ("to_json", _) => return m.show(serde_json::to_value(value).unwrap().as_str().unwrap()),
+        ("to_json", 0 | 2) => return Some(m.show(serde_json::to_string(value).unwrap())),
+        ("to_json", 1) => return Some(m.show(serde_json::to_string(&SmolStr::new(text)).unwrap())),
+        ("to_json", _) => return Some(m.show(serde_json::to_value(value).unwrap().as_str().unwrap())),
         ("from_json", _) => match serde_json::from_str(text) {
             // "a JSON value that is not a string is the deserializer's error, with its position"
-            Err(_) if serde_json::from_str::<Value>(text).is_ok() => return write!(m.out, " not a string").unwrap(),
+            Err(_) if serde_json::from_str::<Value>(text).is_ok() => return write!(m.out, " not a string").ok(),
             made => made.ok(),
         },
         ("from_value", _) => serde_json::from_str(text).ok().and_then(|it: Value| serde_json::from_value(it).ok()),
         ("from_str_by_serde", _) => serde_json::from_str(text).ok(),
         ("from_utf8", _) => match SmolStr::from_utf8(it.texts[0].as_slice()) {
             Ok(value) => Some(value),
-            Err(fault) => return write!(m.out, " {fault}").unwrap(),
+            Err(fault) => return write!(m.out, " {fault}").ok(),
         },
-        _ => return m.out.push_str(" failed"),
+        _ => return None,
     };
     match made {
-        Some(value) => m.keep(it, value),
-        None => write!(m.out, " no value").unwrap(),
+        Some(value) => Some(m.keep(it, value)),
+        None => write!(m.out, " no value").ok(),
     }
 }
 
@@ -362,7 +373,9 @@ fn main() {
     for line in std::io::read_to_string(std::io::stdin()).unwrap().lines() {
         let call = Call::read(line);
         machine.out.push_str(&call.name);
-        make(&mut machine, &call);
+        if answer(&mut machine, &call).is_none() {
+            machine.out.push_str(" failed");
+        }
         machine.out.push('\n');
     }
     print!("{}", machine.out);

@@ -40,8 +40,8 @@ fn rows(values: impl IntoIterator<Item = SmolStr>) -> Result<String, fmt::Error>
     Ok(report)
 }
 
-/// How often each different line occurs, in order of first sight; or the sums of such counts. Both in one loop, since in
-/// two of them the map's code is not inlined.
+/// How often each different line occurs, in order of first sight; or the sums of such counts. Both in one loop: in two
+/// of them the map's code is not inlined.
 fn counts<'a>(
     lines: impl Iterator<Item = &'a str>,
     is_merge: bool,
