@@ -32,6 +32,8 @@ use std::marker::Model;
 /// ```
 pub struct SmolStrBuilder {
     alloc: Global,
+    // The bytes that the text is expected to have: room for these is asked for where it leaves the buffer.
+    expected: usize,
     repr: BuilderRepr,
 }
 
@@ -39,7 +41,11 @@ pub struct SmolStrBuilder {
 impl Drop for SmolStrBuilder {
     #[inline(always)]
     fn drop(self) {
-        let SmolStrBuilder { alloc: _, repr: _ } = self;
+        let SmolStrBuilder {
+            alloc: _,
+            expected: _,
+            repr: _,
+        } = self;
     }
 }
 
@@ -70,6 +76,19 @@ impl SmolStrBuilder {
     {
         SmolStrBuilder {
             alloc,
+            expected: 0,
+            repr: BuilderRepr::Inline(InlineText::new()),
+        }
+    }
+
+    /// An empty builder that asks for room for so many bytes where its text leaves the buffer.
+    #[inline(always)]
+    pub(crate) fn expecting(alloc: Global, expected: usize) -> SmolStrBuilder
+        ensures { result ≡ empty_builder InBuffer }
+    {
+        SmolStrBuilder {
+            alloc,
+            expected,
             repr: BuilderRepr::Inline(InlineText::new()),
         }
     }
@@ -95,6 +114,7 @@ impl SmolStrBuilder {
         let heap = String::with_capacity(alloc, capacity)?;
         Ok(SmolStrBuilder {
             alloc,
+            expected: 0,
             repr: BuilderRepr::Heap(heap),
         })
     }
@@ -108,6 +128,7 @@ impl SmolStrBuilder {
     {
         SmolStrBuilder {
             alloc,
+            expected: 0,
             repr: BuilderRepr::Inline(text),
         }
     }
@@ -121,6 +142,7 @@ impl SmolStrBuilder {
     {
         SmolStrBuilder {
             alloc,
+            expected: 0,
             repr: BuilderRepr::Heap(text),
         }
     }
@@ -275,7 +297,11 @@ impl SmolStrBuilder {
             BuilderRepr::Inline(text) => BuilderRepr::Inline(text.duplicate()),
             BuilderRepr::Heap(text) => BuilderRepr::Heap(String::from_str(alloc, text.as_str())?),
         };
-        Ok(SmolStrBuilder { alloc, repr })
+        Ok(SmolStrBuilder {
+            alloc,
+            expected: 0,
+            repr,
+        })
     }
 }
 

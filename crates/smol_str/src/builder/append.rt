@@ -99,7 +99,8 @@ impl SmolStrBuilder {
             BuilderRepr::Heap(heap) => heap.push_str(text),
             BuilderRepr::Inline(short) => {
                 // Memory first: a refusal leaves the buffer as it is.
-                let room = text.len().saturating_add(spare);
+                let left = self.expected.saturating_sub(short.len());
+                let room = text.len().saturating_add(spare).max(left);
                 let mut heap = with_room(self.alloc, short.as_str(), room)?;
                 heap.push_str(text)?;
                 self.repr = BuilderRepr::Heap(heap);

@@ -28,13 +28,18 @@ impl SmolStrBuilder {
         ensures back { IfErr result (λ back. back ≡ self) }
         ensures refused { OnErr result (¬ (IsResident self.text)) }
     {
-        let SmolStrBuilder { alloc, repr } = self;
+        let SmolStrBuilder {
+            alloc,
+            expected,
+            repr,
+        } = self;
         match repr {
             BuilderRepr::Inline(text) => Ok(SmolStr::from_inline(text.duplicate())),
             BuilderRepr::Heap(text) => match SmolStr::new(alloc, text.as_str()) {
                 Ok(value) => Ok(value),
                 Err(AllocError) => Err(SmolStrBuilder {
                     alloc,
+                    expected,
                     repr: BuilderRepr::Heap(text),
                 }),
             },
@@ -56,7 +61,11 @@ impl SmolStrBuilder {
         ensures ok { IfOk result (λ v. IsValueOf self.text v) }
         ensures refused { OnErr result (¬ (IsResident self.text)) }
     {
-        let SmolStrBuilder { alloc: _, repr } = self;
+        let SmolStrBuilder {
+            alloc: _,
+            expected: _,
+            repr,
+        } = self;
         match repr {
             BuilderRepr::Inline(text) => Ok(SmolStr::from_inline(text.duplicate())),
             // `Ok(x?)`: returning x as it comes would build the value in memory in both arms.

@@ -92,7 +92,10 @@ fn replace_matches(
     if !from.is_empty() && first_byte(text.as_bytes(), from.as_bytes()).is_none() {
         return SmolStr::new(alloc, text);
     }
-    let mut builder = SmolStrBuilder::new(alloc);
+    let mut builder = SmolStrBuilder::expecting(
+        alloc,
+        text.len().saturating_add(growth(text, from, to, count)),
+    );
     let index = push_replaced(&mut builder, text, from, to, count)?;
     builder.push_with_spare(&text[index..], 0)?;
     builder.into_value()
@@ -162,36 +165,27 @@ fn push_matches(
     ensures refused { OnErr result
         (¬ (IsShort (replaced (chars text.now) (chars (needle_bytes needle.now)) (chars to.now) count))) }
 {
-    // A builder that leaves its buffer asks for room for all that is to come.
-    let mut left = text.len().saturating_add(growth(text, needle, to, count));
-    let step = needle.len().max(to.len());
     let mut index = 0;
     for taken in 0..count {
         let Some(skipped) = needle.find(bytes_from(text, index)) else {
             return Ok(index);
         };
         let found = index + skipped;
-        left = left.saturating_sub(skipped);
-        builder.push_str_heap_first(&text[index..found], left)?;
-        left = left.saturating_sub(step);
-        builder.push_str_heap_first(to, left)?;
+        builder.push_str_heap_first(&text[index..found], 0)?;
+        builder.push_str_heap_first(to, 0)?;
         index = found + needle.len();
     }
     Ok(index)
 }
 
 /// By how much the text grows. It is counted for a pattern of one byte, else a guess.
-fn growth(text: &str, needle: &Needle<'_>, to: &str, count: usize) -> usize
-    requires { IsSoundNeedle needle.now }
-{
-    if to.len() <= needle.len() {
+fn growth(text: &str, from: &str, to: &str, count: usize) -> usize {
+    if to.len() <= from.len() {
         return 0;
     }
-    match needle {
-        Needle::One(byte) if text.len() >= LANES => {
-            let matches = count_byte(*byte, text.as_bytes());
-            matches.min(count).saturating_mul(to.len() - 1)
-        }
-        _ => INLINE_CAP,
+    if from.len() == 1 && text.len() >= LANES {
+        let matches = count_byte(from.as_bytes()[0], text.as_bytes());
+        return matches.min(count).saturating_mul(to.len() - 1);
     }
+    INLINE_CAP
 }

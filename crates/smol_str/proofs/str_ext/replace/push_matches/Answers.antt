@@ -59,6 +59,6 @@ loop-taken-preserved c =
     let k = replacing-found _ _ _ _ _ _ _ _ _ _ h c.utf8.text (sound-utf8 _ c.requires.sound) (sound-some _ c.requires.sound) c.bytes_from.ensures
     refl c.in-Some.ensures in
     let first = rw (c.range.ensures.value, match-piece _ _ _ _ _ _ _ _ h k c.utf8.text) at c.in_ok-push_str_heap_first.ensures.ok in
-    rw c.len-in-loop-taken.ensures
+    rw c.len.ensures
     (match-step _ _ _ _ _ _ _ _ h k (c.args.count - (c.loop-taken.taken + 1)) (omega arith)
     (sound-utf8 _ c.requires.sound) _ (appended-both _ _ _ _ _ first c.in_ok-push_str_heap_first-2.ensures.ok))
