@@ -1,7 +1,6 @@
 //! The builder of a text.
-ghost use Rattle.std.specs.Prelude.{◌≡◌, ◌↔◌, ◌<◌, ◌≤◌, [], ◌∷◌, length, IsSome, IfSome, IfOk, OnOk, OnErr, IsTrue, false, encode_utf8_all};
+ghost use Rattle.std.specs.Prelude.{◌≡◌, ◌↔◌, ◌<◌, ◌≤◌, [], ◌∷◌, IsSome, IfSome, IfOk, OnOk, OnErr, IsTrue, false, encode_utf8_all};
 ghost use Rattle.std.specs.Str.{chars, all_scalars};
-ghost use Rattle.std.specs.String.{string_bytes};
 ghost use Rattle.smol_str.specs.Text.{size, IsShort, blank_run};
 ghost use Rattle.smol_str.specs.Buffer.{padded};
 ghost use Rattle.smol_str.specs.BuilderState.{InBuffer, OnHeap, empty_builder, appended, kind_for};
@@ -32,7 +31,7 @@ use std::marker::Model;
 /// ```
 pub struct SmolStrBuilder {
     alloc: Global,
-    // The bytes that the text is expected to have: room for these is asked for where it leaves the buffer.
+    // How many bytes the text is expected to have, 0 where that is not known.
     expected: usize,
     repr: BuilderRepr,
 }
@@ -81,18 +80,6 @@ impl SmolStrBuilder {
         }
     }
 
-    /// An empty builder that asks for room for so many bytes where its text leaves the buffer.
-    #[inline(always)]
-    pub(crate) fn expecting(alloc: Global, expected: usize) -> SmolStrBuilder
-        ensures { result ≡ empty_builder InBuffer }
-    {
-        SmolStrBuilder {
-            alloc,
-            expected,
-            repr: BuilderRepr::Inline(InlineText::new()),
-        }
-    }
-
     /// An empty builder with room for `capacity` bytes.
     ///
     /// Up to [`INLINE_CAP`] bytes it takes no memory. A larger capacity is asked for at once, so that
@@ -117,34 +104,6 @@ impl SmolStrBuilder {
             expected: 0,
             repr: BuilderRepr::Heap(heap),
         })
-    }
-
-    /// A builder of a short text, in its buffer.
-    #[inline(always)]
-    #[tactic(auto, using(crate::proofs::BuilderLemmas::State::begun))]
-    pub(crate) fn from_short(alloc: Global, text: InlineText) -> SmolStrBuilder
-        requires { IsShort text }
-        ensures { result ≡ appended (empty_builder InBuffer) text }
-    {
-        SmolStrBuilder {
-            alloc,
-            expected: 0,
-            repr: BuilderRepr::Inline(text),
-        }
-    }
-
-    /// A builder of a text that is longer than the buffer, on the heap.
-    #[inline(always)]
-    #[tactic(auto, using(crate::proofs::BuilderLemmas::State::begun))]
-    pub(crate) fn from_long(alloc: Global, text: String) -> SmolStrBuilder
-        requires { INLINE_CAP < length (string_bytes text) }
-        ensures { result ≡ appended (empty_builder InBuffer) (chars (string_bytes text)) }
-    {
-        SmolStrBuilder {
-            alloc,
-            expected: 0,
-            repr: BuilderRepr::Heap(text),
-        }
     }
 
     /// The text so far, as std's `str`.

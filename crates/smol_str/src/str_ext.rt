@@ -10,6 +10,7 @@ ghost use Rattle.smol_str.specs.Replace.{no_limit, replaced, replaced_all};
 mod ascii_case;
 mod case_ranges;
 mod full_case;
+mod mapped;
 mod replace;
 mod sigma;
 

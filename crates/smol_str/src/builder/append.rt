@@ -1,15 +1,57 @@
-//! Appending on the heap: for loops that look for it first, and where a text leaves its buffer.
-ghost use Rattle.std.specs.Prelude.{◌≡◌, ◌<◌, [], ◌∷◌, IfOk, OnOk, OnErr};
+//! For the library's own loops: builders that expect a text, appends that look for the heap first, and where a text leaves its
+//! buffer.
+ghost use Rattle.std.specs.Prelude.{◌≡◌, ◌<◌, [], ◌∷◌, length, IfOk, OnOk, OnErr};
 ghost use Rattle.std.specs.Str.{chars};
 ghost use Rattle.std.specs.String.{string_bytes};
-ghost use Rattle.smol_str.specs.BuilderState.{OnHeap, appended};
+ghost use Rattle.smol_str.specs.Text.{IsShort};
+ghost use Rattle.smol_str.specs.BuilderState.{InBuffer, OnHeap, empty_builder, appended};
 
 use super::{BuilderRepr, SmolStrBuilder};
-use crate::buffer::INLINE_CAP;
+use crate::buffer::{INLINE_CAP, InlineText};
 use crate::bytes::ascii::ascii_text;
 use std::alloc::{AllocError, Global};
 
 impl SmolStrBuilder {
+    /// An empty builder whose text is expected to have so many bytes: it asks for room for them where it leaves its buffer.
+    #[inline(always)]
+    pub(crate) fn expecting(alloc: Global, expected: usize) -> SmolStrBuilder
+        ensures { result ≡ empty_builder InBuffer }
+    {
+        SmolStrBuilder {
+            alloc,
+            expected,
+            repr: BuilderRepr::Inline(InlineText::new()),
+        }
+    }
+
+    /// A builder of a short text, in its buffer, that is expected to grow to so many bytes.
+    #[inline(always)]
+    #[tactic(auto, using(crate::proofs::BuilderLemmas::State::begun))]
+    pub(crate) fn from_short(alloc: Global, text: InlineText, expected: usize) -> SmolStrBuilder
+        requires { IsShort text }
+        ensures { result ≡ appended (empty_builder InBuffer) text }
+    {
+        SmolStrBuilder {
+            alloc,
+            expected,
+            repr: BuilderRepr::Inline(text),
+        }
+    }
+
+    /// A builder of a text that is longer than the buffer, on the heap.
+    #[inline(always)]
+    #[tactic(auto, using(crate::proofs::BuilderLemmas::State::begun))]
+    pub(crate) fn from_long(alloc: Global, text: String) -> SmolStrBuilder
+        requires { INLINE_CAP < length (string_bytes text) }
+        ensures { result ≡ appended (empty_builder InBuffer) (chars (string_bytes text)) }
+    {
+        SmolStrBuilder {
+            alloc,
+            expected: 0,
+            repr: BuilderRepr::Heap(text),
+        }
+    }
+
     /// Like [`SmolStrBuilder::push`], but looks for the heap first: for loops over the characters of a long text.
     #[inline(always)]
     pub(crate) fn push_heap_first(&mut self, character: char) -> Result<(), AllocError>
@@ -23,27 +65,9 @@ impl SmolStrBuilder {
         self.push(character)
     }
 
-    /// Like [`SmolStrBuilder::push_heap_first`], with room for `spare` bytes more where the builder moves to the heap.
+    /// Like [`SmolStrBuilder::push_str`], but looks for the heap first: for loops over the pieces of a long text.
     #[inline(always)]
-    pub(crate) fn push_heap_first_with_spare(
-        &mut self,
-        character: char,
-        spare: usize,
-    ) -> Result<(), AllocError>
-        ensures ok { OnOk result (self.new ≡ appended self.old (character ∷ [])) }
-        ensures unchanged { OnErr result (self.new ≡ self.old) }
-        ensures refused { OnErr result ((appended self.old (character ∷ [])).kind ≡ OnHeap) }
-    {
-        if let BuilderRepr::Heap(heap) = &mut self.repr {
-            return heap.push(character);
-        }
-        let mut buf = [0; 4];
-        self.push_with_spare(character.encode_utf8(&mut buf), spare)
-    }
-
-    /// Like [`SmolStrBuilder::push_with_spare`], but looks for the heap first: for loops over the pieces of a long text.
-    #[inline(always)]
-    pub(crate) fn push_str_heap_first(&mut self, text: &str, spare: usize) -> Result<(), AllocError>
+    pub(crate) fn push_str_heap_first(&mut self, text: &str) -> Result<(), AllocError>
         ensures ok { OnOk result (self.new ≡ appended self.old (chars text.now)) }
         ensures unchanged { OnErr result (self.new ≡ self.old) }
         ensures refused { OnErr result ((appended self.old (chars text.now)).kind ≡ OnHeap) }
@@ -51,7 +75,7 @@ impl SmolStrBuilder {
         if let BuilderRepr::Heap(heap) = &mut self.repr {
             return heap.push_str(text);
         }
-        self.push_with_spare(text, spare)
+        self.push_str(text)
     }
 
     /// Slow path of [`SmolStrBuilder::push`]; only here is the byte spilled to memory.
@@ -87,7 +111,7 @@ impl SmolStrBuilder {
     }
 
     /// Slow path of the appends, kept out of line so that the fast path inlines. A builder that moves to the heap asks for
-    /// room for `spare` bytes more.
+    /// room for all that it expects; for `spare` bytes more where its text is longer than that.
     #[inline(never)]
     pub(super) fn push_on_heap(&mut self, text: &str, spare: usize) -> Result<(), AllocError>
         requires { (appended self.old (chars text.now)).kind ≡ OnHeap }
@@ -98,9 +122,13 @@ impl SmolStrBuilder {
         match &mut self.repr {
             BuilderRepr::Heap(heap) => heap.push_str(text),
             BuilderRepr::Inline(short) => {
+                let len = short.len().saturating_add(text.len());
+                let room = if len <= self.expected {
+                    self.expected
+                } else {
+                    len.saturating_add(spare)
+                };
                 // Memory first: a refusal leaves the buffer as it is.
-                let left = self.expected.saturating_sub(short.len());
-                let room = text.len().saturating_add(spare).max(left);
                 let mut heap = with_room(self.alloc, short.as_str(), room)?;
                 heap.push_str(text)?;
                 self.repr = BuilderRepr::Heap(heap);
@@ -110,12 +138,12 @@ impl SmolStrBuilder {
     }
 }
 
-/// A `String` of a short text with room for so many bytes more.
+/// A `String` of a short text with room for so many bytes.
 #[inline(always)]
 fn with_room(alloc: Global, text: &str, room: usize) -> Result<String, AllocError>
     ensures { IfOk result (λ heap. string_bytes heap ≡ text.now) }
 {
-    let mut heap = String::with_capacity(alloc, text.len().saturating_add(room))?;
+    let mut heap = String::with_capacity(alloc, room)?;
     if !text.is_empty() {
         heap.push_str(text)?;
     }

@@ -8,7 +8,6 @@ ghost use Rattle.smol_str.specs.BuilderState.{OnHeap, appended};
 ghost use Rattle.smol_str.specs.Meaning.{IsValueOf};
 
 use super::Piece;
-use crate::buffer::INLINE_CAP;
 use crate::builder::SmolStrBuilder;
 use crate::value::SmolStr;
 use std::alloc::{AllocError, Global};
@@ -122,6 +121,6 @@ fn append_separator(
             builder.short_in_buffer();
             Ok(())
         }
-        None => builder.push_str_heap_first(separator, INLINE_CAP),
+        None => builder.push_str_heap_first(separator),
     }
 }

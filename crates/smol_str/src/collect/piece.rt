@@ -6,7 +6,6 @@ ghost use Rattle.smol_str.specs.BuilderState.{OnHeap, appended};
 ghost use Rattle.smol_str.specs.Joined.{joined, joined_strs, joined_strings, joined_string_refs, char_text, str_text, string_text, string_ref_text};
 ghost use Rattle.smol_str.specs.JoinedLaws.{joined-chars, joined-strs, joined-string_refs};
 
-use crate::buffer::INLINE_CAP;
 use crate::builder::SmolStrBuilder;
 use crate::bytes::ascii::ascii_text;
 use crate::value::SmolStr;
@@ -62,7 +61,7 @@ impl<'a> Piece for &'a str {
 
     #[inline(always)]
     fn append_to(&self, builder: &mut SmolStrBuilder) -> Result<(), AllocError> {
-        builder.push_str_heap_first(*self, INLINE_CAP)
+        builder.push_str_heap_first(*self)
     }
 
     #[inline(always)]
@@ -82,7 +81,7 @@ impl Piece for String {
 
     #[inline(always)]
     fn append_to(&self, builder: &mut SmolStrBuilder) -> Result<(), AllocError> {
-        builder.push_str_heap_first(self.as_str(), INLINE_CAP)
+        builder.push_str_heap_first(self.as_str())
     }
 
     #[inline(always)]
@@ -101,7 +100,7 @@ impl<'a> Piece for &'a String {
 
     #[inline(always)]
     fn append_to(&self, builder: &mut SmolStrBuilder) -> Result<(), AllocError> {
-        builder.push_str_heap_first(self.as_str(), INLINE_CAP)
+        builder.push_str_heap_first(self.as_str())
     }
 
     #[inline(always)]
@@ -121,7 +120,7 @@ impl Piece for SmolStr {
     #[tactic(auto, using(crate::proofs::CallerLemmas::Texts::texts))]
     #[inline(always)]
     fn append_to(&self, builder: &mut SmolStrBuilder) -> Result<(), AllocError> {
-        builder.push_str_heap_first(self.as_str(), INLINE_CAP)
+        builder.push_str_heap_first(self.as_str())
     }
 
     #[inline(always)]

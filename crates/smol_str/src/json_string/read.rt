@@ -102,7 +102,8 @@ fn read_escaped(alloc: Global, text: &str, plain: &str, rest: &str) -> Result<Sm
     ensures of_text { (t : List ℕ) → IsJsonText text.now t → IfOk result (λ v. IsValueOf t v) }
     ensures fault { IfErr result (AfterJsonFault text.now) }
 {
-    let mut builder = SmolStrBuilder::new(alloc);
+    // An escape has more bytes than its character, so no text is longer than its JSON.
+    let mut builder = SmolStrBuilder::expecting(alloc, plain.len().saturating_add(rest.len()));
     let rest = read_content(&mut builder, plain, rest)?;
     if is_closed(rest) {
         return Ok(builder.into_value()?);
@@ -122,31 +123,29 @@ fn read_content<'a>(
     ensures { IfOk result (λ after.
         Unescapes (plain.now ++ rest.now) (encode_utf8_all builder.new.text) after.now) }
 {
-    builder.push_with_spare(plain, rest.len())?;
+    builder.push_str(plain)?;
     let mut rest = rest;
     while let Some((character, after)) = split_escape(rest) {
         builder.push_heap_first(character)?;
-        let (plain, behind) = split_plain(read_escapes(builder, after)?);
-        builder.push_with_spare(plain, behind.len())?;
-        rest = behind;
+        rest = read_plain(builder, after)?;
     }
     Ok(rest)
 }
 
-/// Appends the characters of the escapes that come first, so that a run of them is not searched; returns what comes after
-/// them.
+/// Appends the plain text that comes first; returns what comes after it. Where an escape or the end comes first, nothing is
+/// searched.
 #[inline(always)]
-fn read_escapes<'a>(builder: &mut SmolStrBuilder, text: &'a str) -> Result<&'a str, AllocError>
+fn read_plain<'a>(builder: &mut SmolStrBuilder, text: &'a str) -> Result<&'a str, AllocError>
     ensures unescapes { IfOk result (λ rest. (whole : List ℕ) →
         Unescapes whole (encode_utf8_all builder.old.text) text.now →
         Unescapes whole (encode_utf8_all builder.new.text) rest.now) }
     ensures shorter { IfOk result (λ rest. length rest.now ≤ length text.now) }
 {
-    let mut rest = text;
-    while let Some((character, after)) = split_escape(rest) {
-        builder.push_heap_first(character)?;
-        rest = after;
+    if let Some(b'\\' | b'"') = text.as_bytes().first() {
+        return Ok(text);
     }
+    let (plain, rest) = split_plain(text);
+    builder.push_str(plain)?;
     Ok(rest)
 }
 

@@ -1,19 +1,18 @@
-//! Full case. The ASCII front of a text takes ASCII case. Behind it, runs of ASCII are mapped by lanes, and each other character by
-//! itself. Only a capital sigma is mapped by its context: `sigma` does that.
+//! Full case. The ASCII front of a text takes ASCII case. Behind it, `mapped` does upper case, and `sigma` lower case, where a
+//! capital sigma is mapped by its context.
 ghost use Rattle.std.specs.Prelude.{◌≡◌, ◌<◌, [], ◌∷◌, length, take, IfOk, OnOk, OnErr};
 ghost use Rattle.std.specs.Str.{chars};
 ghost use Rattle.smol_str.specs.Text.{IsShort};
 ghost use Rattle.smol_str.specs.Meaning.{IsValueOf};
 ghost use Rattle.smol_str.specs.BuilderState.{InBuffer, OnHeap, empty_builder, appended};
 ghost use Rattle.smol_str.specs.Case.{full_case, mapped, IsAsciiFront};
-ghost use Rattle.smol_str.specs.CaseParts.{IsPartOf};
 
 use super::ascii_case::to_ascii_case;
-use super::case_ranges::letter_of;
-use super::sigma::{push_lowercase, push_short_lowercase};
+use super::mapped::push_mapped;
+use super::sigma::{push_lowercase_by_character, push_lowercase_by_segment};
 use crate::buffer::{INLINE_CAP, InlineText};
 use crate::builder::SmolStrBuilder;
-use crate::bytes::ascii::{begins_ascii, convert_all, front_len};
+use crate::bytes::ascii::{convert_all, front_len};
 use crate::kernel::AsciiCase;
 use crate::value::SmolStr;
 use std::alloc::{AllocError, Global};
@@ -54,7 +53,7 @@ fn any_full_case(alloc: Global, text: &str, case: AsciiCase) -> Result<SmolStr, 
     builder.into_value()
 }
 
-/// A builder of the first `len` bytes of a text, which are ASCII, in a case. On the heap it has room for the rest.
+/// A builder of the first `len` bytes of a text, which are ASCII, in a case. It expects the rest to be as long.
 #[inline(always)]
 fn front_in_case(
     alloc: Global,
@@ -69,12 +68,12 @@ fn front_in_case(
         ((appended (empty_builder InBuffer) (mapped case (take len text.now))).kind ≡ OnHeap) }
 {
     if len == 0 {
-        return Ok(SmolStrBuilder::new(alloc));
+        return Ok(SmolStrBuilder::expecting(alloc, text.len()));
     }
     let front = &text[..len];
     if len <= INLINE_CAP {
         let short = InlineText::from_short(front).in_case(case);
-        return Ok(SmolStrBuilder::from_short(alloc, short));
+        return Ok(SmolStrBuilder::from_short(alloc, short, text.len()));
     }
     let mut bytes = Vec::with_capacity(alloc, text.len())?;
     bytes.extend_from_slice(front.as_bytes())?;
@@ -97,192 +96,10 @@ fn push_rest(
         ((appended (empty_builder InBuffer) (full_case case (chars text.now))).kind ≡ OnHeap) }
 {
     match case {
-        AsciiCase::Lower if text.len() <= INLINE_CAP => push_short_lowercase(builder, text, from),
-        AsciiCase::Lower => push_lowercase(builder, text, from),
-        AsciiCase::Upper => push_last(builder, &text[from..], case),
+        AsciiCase::Lower if text.len() <= INLINE_CAP => {
+            push_lowercase_by_character(builder, text, from)
+        }
+        AsciiCase::Lower => push_lowercase_by_segment(builder, text, from),
+        AsciiCase::Upper => push_mapped(builder, &text[from..], case),
     }
-}
-
-/// Appends what each character of a text is mapped to, where nothing comes after it.
-pub(super) fn push_last(
-    builder: &mut SmolStrBuilder,
-    text: &str,
-    case: AsciiCase,
-) -> Result<(), AllocError>
-    requires { builder.old ≡ appended (empty_builder InBuffer) builder.old.text }
-    ensures ok { OnOk result (builder.new ≡ appended builder.old (mapped case (chars text.now))) }
-    ensures refused { OnErr result
-        ((appended builder.old (mapped case (chars text.now))).kind ≡ OnHeap) }
-{
-    // What stays in the buffer most likely takes fewer instructions without runs and room.
-    if text.len() <= INLINE_CAP && builder.len() <= INLINE_CAP - text.len() {
-        return push_mapped(builder, text, case);
-    }
-    push_parts(builder, text, case, 0)
-}
-
-/// Appends what each character of a text is mapped to, one by one: for short texts.
-#[inline(always)]
-fn push_mapped(builder: &mut SmolStrBuilder, text: &str, case: AsciiCase) -> Result<(), AllocError>
-    requires { builder.old ≡ appended (empty_builder InBuffer) builder.old.text }
-    ensures ok { OnOk result (builder.new ≡ appended builder.old (mapped case (chars text.now))) }
-    ensures refused { OnErr result
-        ((appended builder.old (mapped case (chars text.now))).kind ≡ OnHeap) }
-{
-    for character in text.chars() {
-        push_one_buffer_first(builder, character, case)?;
-    }
-    Ok(())
-}
-
-/// Appends what one character is mapped to. It looks for the buffer first: for short texts.
-#[inline(always)]
-pub(super) fn push_one_buffer_first(
-    builder: &mut SmolStrBuilder,
-    character: char,
-    case: AsciiCase,
-) -> Result<(), AllocError>
-    requires { builder.old ≡ appended (empty_builder InBuffer) builder.old.text }
-    ensures ok { OnOk result (builder.new ≡ appended builder.old (mapped case (character ∷ []))) }
-    ensures refused { OnErr result
-        ((appended builder.old (mapped case (character ∷ []))).kind ≡ OnHeap) }
-{
-    if let Some(letter) = letter_of(character, case) {
-        return builder.push(letter);
-    }
-    push_letters(builder, character, case, INLINE_CAP)
-}
-
-/// Appends what each character of a text is mapped to, with room for `behind` bytes after it.
-pub(super) fn push_parts(
-    builder: &mut SmolStrBuilder,
-    text: &str,
-    case: AsciiCase,
-    behind: usize,
-) -> Result<(), AllocError>
-    requires { builder.old ≡ appended (empty_builder InBuffer) builder.old.text }
-    ensures ok { OnOk result (builder.new ≡ appended builder.old (mapped case (chars text.now))) }
-    ensures refused { OnErr result
-        ((appended builder.old (mapped case (chars text.now))).kind ≡ OnHeap) }
-{
-    let mut rest = text;
-    while !rest.is_empty() {
-        rest = push_part(builder, rest, case, behind)?;
-    }
-    Ok(())
-}
-
-/// Appends what the first part of a text is mapped to: 64 or 16 bytes of ASCII, or one character. Returns the rest.
-#[inline(always)]
-fn push_part<'a>(
-    builder: &mut SmolStrBuilder,
-    text: &'a str,
-    case: AsciiCase,
-    behind: usize,
-) -> Result<&'a str, AllocError>
-    requires some { 0 < length text.now }
-    requires new { builder.old ≡ appended (empty_builder InBuffer) builder.old.text }
-    ensures ok { IfOk result (λ rest. IsPartOf case builder.old builder.new (chars text.now) (chars rest.now)) }
-    ensures shorter { IfOk result (λ rest. length rest.now < length text.now) }
-    ensures refused { OnErr result
-        ((appended builder.old (mapped case (chars text.now))).kind ≡ OnHeap) }
-{
-    if !begins_ascii::<16>(text.as_bytes()) {
-        return push_first(builder, text, case, behind);
-    }
-    if !begins_ascii::<64>(text.as_bytes()) {
-        return push_ascii::<16>(builder, text, case, behind);
-    }
-    push_ascii::<64>(builder, text, case, behind)
-}
-
-/// Appends the first `N` bytes of a text, which are ASCII, in a case. Returns the rest.
-#[inline(always)]
-fn push_ascii<'a, const N: usize>(
-    builder: &mut SmolStrBuilder,
-    text: &'a str,
-    case: AsciiCase,
-    behind: usize,
-) -> Result<&'a str, AllocError>
-    requires some { 0 < N }
-    requires ascii { IsAsciiFront text.now N }
-    ensures ok { IfOk result (λ rest. IsPartOf case builder.old builder.new (chars text.now) (chars rest.now)) }
-    ensures shorter { IfOk result (λ rest. length rest.now < length text.now) }
-    ensures refused { OnErr result
-        ((appended builder.old (mapped case (chars text.now))).kind ≡ OnHeap) }
-{
-    let (first, rest) = text.split_at(N);
-    let mut part = [0; N];
-    part.copy_from_slice(first.as_bytes());
-    convert_all(&mut part, case);
-    let spare = rest.len().saturating_add(behind);
-    builder.push_str_heap_first(unsafe { str::from_utf8_unchecked(&part) }, spare)?;
-    Ok(rest)
-}
-
-/// Appends what the first character of a text is mapped to. Returns the rest.
-#[inline(always)]
-fn push_first<'a>(
-    builder: &mut SmolStrBuilder,
-    text: &'a str,
-    case: AsciiCase,
-    behind: usize,
-) -> Result<&'a str, AllocError>
-    requires some { 0 < length text.now }
-    requires new { builder.old ≡ appended (empty_builder InBuffer) builder.old.text }
-    ensures ok { IfOk result (λ rest. IsPartOf case builder.old builder.new (chars text.now) (chars rest.now)) }
-    ensures shorter { IfOk result (λ rest. length rest.now < length text.now) }
-    ensures refused { OnErr result
-        ((appended builder.old (mapped case (chars text.now))).kind ≡ OnHeap) }
-{
-    let mut characters = text.chars();
-    let Some(character) = characters.next() else {
-        return Ok(text);
-    };
-    let rest = characters.as_str();
-    push_one_heap_first(builder, character, case, rest.len().saturating_add(behind))?;
-    Ok(rest)
-}
-
-/// Like `push_one_buffer_first`, but looks for the heap first. A builder that moves there asks for room for `spare` bytes more.
-#[inline(always)]
-fn push_one_heap_first(
-    builder: &mut SmolStrBuilder,
-    character: char,
-    case: AsciiCase,
-    spare: usize,
-) -> Result<(), AllocError>
-    requires { builder.old ≡ appended (empty_builder InBuffer) builder.old.text }
-    ensures ok { OnOk result (builder.new ≡ appended builder.old (mapped case (character ∷ []))) }
-    ensures refused { OnErr result
-        ((appended builder.old (mapped case (character ∷ []))).kind ≡ OnHeap) }
-{
-    if let Some(letter) = letter_of(character, case) {
-        return builder.push_heap_first_with_spare(letter, spare);
-    }
-    push_letters(builder, character, case, spare)
-}
-
-/// Appends what std maps a character to: at most three letters.
-#[inline(always)]
-#[tactic(auto, using(crate::proofs::CaseLemmas::Full::letters_appended))]
-fn push_letters(
-    builder: &mut SmolStrBuilder,
-    character: char,
-    case: AsciiCase,
-    spare: usize,
-) -> Result<(), AllocError>
-    requires { builder.old ≡ appended (empty_builder InBuffer) builder.old.text }
-    ensures ok { OnOk result (builder.new ≡ appended builder.old (mapped case (character ∷ []))) }
-    ensures refused { OnErr result
-        ((appended builder.old (mapped case (character ∷ []))).kind ≡ OnHeap) }
-{
-    let letters = match case {
-        AsciiCase::Lower => character.to_lowercase(),
-        AsciiCase::Upper => character.to_uppercase(),
-    };
-    for letter in letters {
-        builder.push_heap_first_with_spare(letter, spare)?;
-    }
-    Ok(())
 }

@@ -97,7 +97,7 @@ fn replace_matches(
         text.len().saturating_add(growth(text, from, to, count)),
     );
     let index = push_replaced(&mut builder, text, from, to, count)?;
-    builder.push_with_spare(&text[index..], 0)?;
+    builder.push_str(&text[index..])?;
     builder.into_value()
 }
 
@@ -171,8 +171,8 @@ fn push_matches(
             return Ok(index);
         };
         let found = index + skipped;
-        builder.push_str_heap_first(&text[index..found], 0)?;
-        builder.push_str_heap_first(to, 0)?;
+        builder.push_str_heap_first(&text[index..found])?;
+        builder.push_str_heap_first(to)?;
         index = found + needle.len();
     }
     Ok(index)

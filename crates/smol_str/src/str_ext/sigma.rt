@@ -11,14 +11,14 @@ ghost use Rattle.smol_str.specs.CaseParts.{word_after, IsLowered, IsLowering};
 ghost use Rattle.smol_str.specs.Cut.{IsNextMatch};
 
 use super::case_ranges::is_cased_letter;
-use super::full_case::{push_last, push_one_buffer_first, push_parts};
+use super::mapped::{push_mapped, push_mapped_character};
 use crate::builder::SmolStrBuilder;
 use crate::kernel::{AsciiCase, next_match};
 use std::alloc::AllocError;
 
-/// Appends the text from an index on in lower case, where the builder has what comes before it. Only a capital sigma needs its
-/// context, so what lies between two is appended by parts.
-pub(super) fn push_lowercase(
+/// Appends a long text from an index on in lower case, where the builder has what comes before it. Only a capital sigma needs its
+/// context, so each segment between two is appended by parts.
+pub(super) fn push_lowercase_by_segment(
     builder: &mut SmolStrBuilder,
     text: &str,
     from: usize,
@@ -33,7 +33,7 @@ pub(super) fn push_lowercase(
         push_segment(builder, text, from, sigma)?;
         from = sigma + 2;
     }
-    push_last(builder, &text[from..], AsciiCase::Lower)
+    push_mapped(builder, &text[from..], AsciiCase::Lower)
 }
 
 /// Appends the text between two indexes in lower case, and the capital sigma that is the first at the second.
@@ -49,16 +49,16 @@ fn push_segment(
     ensures refused { OnErr result
         ((appended (empty_builder InBuffer) (lowercased (chars text.now))).kind ≡ OnHeap) }
 {
-    let behind = text.len() - sigma;
-    push_parts(builder, &text[from..sigma], AsciiCase::Lower, behind)?;
+    push_mapped(builder, &text[from..sigma], AsciiCase::Lower)?;
     push_sigma(builder, &text[..sigma], &text[sigma + 2..])
 }
 
-/// Like `push_lowercase`, character by character. In a short text a search for capital sigmas would cost more.
+/// Appends a short text from an index on in lower case, where the builder has what comes before it, character by character: a
+/// search for capital sigmas would cost more.
 ///
 /// Out of line, so that the loops of long texts in its caller keep their registers.
 #[inline(never)]
-pub(super) fn push_short_lowercase(
+pub(super) fn push_lowercase_by_character(
     builder: &mut SmolStrBuilder,
     text: &str,
     from: usize,
@@ -92,7 +92,7 @@ fn push_in_context(
         let sigma = text.len() - after.len() - 2;
         return push_sigma(builder, &text[..sigma], after);
     }
-    push_one_buffer_first(builder, character, AsciiCase::Lower)
+    push_mapped_character(builder, character, AsciiCase::Lower)
 }
 
 /// Appends a capital sigma between two texts in lower case.
@@ -104,9 +104,9 @@ fn push_sigma(builder: &mut SmolStrBuilder, before: &str, after: &str) -> Result
         (lowercase_before (word_after false (chars before.now)) 0x3A3 (chars after.now))).kind ≡ OnHeap) }
 {
     if is_in_word_after(before) && !starts_with_cased(after) {
-        builder.push_heap_first_with_spare('ς', after.len())
+        builder.push_heap_first('ς')
     } else {
-        builder.push_heap_first_with_spare('σ', after.len())
+        builder.push_heap_first('σ')
     }
 }
 

@@ -16,4 +16,4 @@ returns-then-is_none-clause-refused c =
 pub returns-clause-ok : goal.returns-clause-ok
 returns-clause-ok c =
     rw (rest-whole _ _ _ _ _ _ c.in_ok-index.ensures.ok c.utf8.text _
-    (rw c.range_from.ensures.value at c.in_ok-push_with_spare.ensures.ok)) at c.into_value.ensures.ok
+    (rw c.range_from.ensures.value at c.in_ok-push_str.ensures.ok)) at c.into_value.ensures.ok

@@ -37,13 +37,13 @@ returns-then-character-eq931-clause-refused c =
 pub returns-clause-ok : goal.returns-clause-ok
 returns-clause-ok c =
     let alone = lowered-alone _ _ _ _ c.requires c.if-character-eq931.false in
-    on_ok_weaker c.push_one_buffer_first.result
+    on_ok_weaker c.push_mapped_character.result
     (λ e. lowered-more _ _ _ _ c.requires _ e)
-    (rw (← alone) at c.push_one_buffer_first.ensures.ok)
+    (rw (← alone) at c.push_mapped_character.ensures.ok)
 
 pub returns-clause-refused : goal.returns-clause-refused
 returns-clause-refused c =
     let alone = lowered-alone _ _ _ _ c.requires c.if-character-eq931.false in
-    on_err_weaker c.push_one_buffer_first.result
+    on_err_weaker c.push_mapped_character.result
     (λ heap. lowered-refused _ _ _ _ c.requires heap)
-    (rw (← alone) at c.push_one_buffer_first.ensures.refused)
+    (rw (← alone) at c.push_mapped_character.ensures.refused)

@@ -2,7 +2,7 @@
 use Rattle.smol_str.proofs.Common.{length, IsUtf8, chars}
 use Rattle.std.specs.Str.Iter.{chars_rest}
 use Rattle.smol_str.specs.CaseParts.{IsLowered}
-use Rattle.smol_str.proofs.str_ext.sigma.push_short_lowercase.Given as goal
+use Rattle.smol_str.proofs.str_ext.sigma.push_lowercase_by_character.Given as goal
 
 abbrev pub invariant-loop-character : goal.invariant-loop-character
 invariant-loop-character l = IsUtf8 (chars_rest l.rest) × IsLowered (chars l.fn.text) l.builder (chars (chars_rest l.rest))

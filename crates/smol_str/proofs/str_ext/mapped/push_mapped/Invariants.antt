@@ -3,7 +3,7 @@ use denote.Shadow.{shadow}
 use denote.Text.{Utf8}
 use Rattle.smol_str.proofs.Common.{length, chars}
 use Rattle.smol_str.specs.CaseParts.{IsPartOf}
-use Rattle.smol_str.proofs.str_ext.full_case.push_parts.Given as goal
+use Rattle.smol_str.proofs.str_ext.mapped.push_mapped.Given as goal
 
 abbrev pub invariant-loop-rest : goal.invariant-loop-rest
 invariant-loop-rest l = shadow (Utf8 l.rest) × IsPartOf l.case l.fn.builder l.builder (chars l.fn.text) (chars l.rest)

@@ -1,7 +1,7 @@
 use Rattle.std.proofs.lemmas.Str.{chars_past_char}
 use Rattle.smol_str.proofs.TextLemmas.Places.{chars-empty}
 use Rattle.smol_str.proofs.CaseLemmas.Sigma.{lowering-boundary, lowering-rest, lowered-all}
-use Rattle.smol_str.proofs.str_ext.sigma.push_short_lowercase.Goals as goal
+use Rattle.smol_str.proofs.str_ext.sigma.push_lowercase_by_character.Goals as goal
 
 pub range_from-requires : goal.range_from-requires
 range_from-requires c = λ _. lowering-boundary _ c.utf8.text _ _ c.requires

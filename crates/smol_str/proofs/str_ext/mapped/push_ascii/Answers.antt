@@ -1,7 +1,7 @@
 use Rattle.smol_str.proofs.Common.{◌≡◌, take, converted, rules}
 use Rattle.smol_str.proofs.TextLemmas.Places.{OnErr-always}
 use Rattle.smol_str.proofs.CaseLemmas.Full.{ascii-boundary, ascii-utf8, ascii-part, ascii-part-heap}
-use Rattle.smol_str.proofs.str_ext.full_case.push_ascii.Goals as goal
+use Rattle.smol_str.proofs.str_ext.mapped.push_ascii.Goals as goal
 
 pub split_at-requires : goal.split_at-requires
 split_at-requires g c = ascii-boundary c.args.case _ _ c.utf8.text c.requires.ascii

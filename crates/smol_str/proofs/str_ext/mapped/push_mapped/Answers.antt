@@ -1,7 +1,7 @@
 use Rattle.smol_str.proofs.Common.{◌≡◌, [], chars, rules}
 use Rattle.smol_str.proofs.TextLemmas.Places.{OnErr-always, chars-empty}
 use Rattle.smol_str.proofs.CaseLemmas.Full.{part-new, part-more, part-refused, part-all}
-use Rattle.smol_str.proofs.str_ext.full_case.push_parts.Goals as goal
+use Rattle.smol_str.proofs.str_ext.mapped.push_mapped.Goals as goal
 
 pub push_part-requires-clause-new : goal.push_part-requires-clause-new
 push_part-requires-clause-new c = part-new c.args.case _ _ _ _ c.loop-rest.invariant.1 c.requires
