@@ -1,12 +1,10 @@
 -- For joining: a text, and then others behind a separator.
-use Rattle.smol_str.proofs.Common.{◌≡◌, ℕ, ◌+◌, ◌<◌, List, ◌∷◌, ◌++◌, length, get_or, map, take, flat_map, ap, ◌∙◌, arith, append-nil, common_steps, joined_by, BuilderState, OnHeap, InBuffer, empty_builder, appended, kind_for, IsShort, IsUtf8, chars, chars-IsAscii, [], size, ◌%◌, ◌≤◌, ⊎_elim}
-use Rattle.std.specs.List.{slice_index_or}
-use Rattle.std.proofs.lemmas.Str.Ascii.{IsAscii-nil, IsAscii-cons}
+use Rattle.smol_str.proofs.Common.{◌≡◌, ℕ, ◌+◌, ◌<◌, List, ◌∷◌, ◌++◌, length, get_or, map, take, flat_map, ap, ◌∙◌, arith, append-nil, append_assoc, sym, subst, take_at, take_all, length-take-le, chars-append, IsUtf8-append, common_steps, joined_by, BuilderState, OnHeap, empty_builder, appended, kind_for, IsShort, IsUtf8, chars, size, ◌%◌, ◌≤◌, ⊎_elim}
 use Rattle.std.proofs.lemmas.Grind.{take_at_read, flat_map-append}
 use Rattle.std.proofs.lemmas.List.Folds.{flat_map-map}
 use Rattle.std.proofs.Math.Nat.{mod-le}
 use Rattle.smol_str.proofs.BuilderLemmas.State.{appended-twice, appended-nothing, why_heap}
-use Rattle.smol_str.proofs.TextLemmas.Places.{size-append, size-chars, chars-empty}
+use Rattle.smol_str.proofs.TextLemmas.Places.{size-append, size-chars}
 use Rattle.smol_str.proofs.BuilderLemmas.Push.{appended-heap}
 use Rattle.smol_str.proofs.TextLemmas.Lists.{flat_map-parts}
 
@@ -54,17 +52,33 @@ module _ (b : BuilderState) (n : ℕ) (t u : List ℕ) (new : b ≡ empty_builde
   pub others-long : (d : BuilderState) → d ≡ appended b t → (appended d u).kind ≡ OnHeap → ¬ (IsShort (t ++ u))
   others-long d put heap = joined-long n (t ++ u) least (cc (appended-twice b t u, put, new, heap))
 
--- a separator of one ASCII byte
-pub one-byte : (bs : List ℕ) → 1 ≤ length bs → length bs < 2 → slice_index_or bs 0 0 < 128 → chars bs ≡ slice_index_or bs 0 0 ∷ []
-one-byte [] some few low = absurd (omega (arith, some))
-one-byte (b ∷ []) some few low = chars-IsAscii (b ∷ []) (IsAscii-cons b [] low IsAscii-nil)
-one-byte (b ∷ (c ∷ bs)) some few low = absurd (omega (arith, few))
-
--- a separator of no bytes
-pub appended-no_bytes : (b : BuilderState) (bs : List ℕ) → length bs ≡ 0 → (b.kind ≡ InBuffer → IsShort b.text)
-    → appended b (chars bs) ≡ b
-appended-no_bytes b bs e short = ap (λ t. appended b t) (chars-empty bs e) ∙ appended-nothing b short
-
-pub ruleset separators = (appended-no_bytes)
-
 pub ruleset appends = (appended-twice, appended-nothing, appended-heap, take_at_read, flat_map-append, append-nil)
+
+-- in a loop that writes pieces: those so far are written, and the separator and one more behind them
+pub written-next : {X : Type 0} (f : X → List ℕ) (t sep : List ℕ) (xs : List X) (i : ℕ) (x : X) (old piece new : List ℕ)
+    → IsUtf8 old → IsUtf8 sep → IsUtf8 piece → i < length xs → x ≡ get_or xs i x
+    → chars old ≡ t ++ flat_map (λ y. chars sep ++ f y) (take i xs) → chars piece ≡ f x → new ≡ (old ++ sep) ++ piece
+    → IsUtf8 new × (chars new ≡ t ++ flat_map (λ y. chars sep ++ f y) (take (i + 1) xs))
+written-next {X = X} f t sep xs i x old piece new u v w here at so_far is put =
+    let g = λ (y : X). chars sep ++ f y in (
+      rw put (IsUtf8-append (old ++ sep) piece (IsUtf8-append old sep u v) w),
+      cc (
+        put,
+        chars-append (old ++ sep) piece (IsUtf8-append old sep u v),
+        chars-append old sep u,
+        so_far,
+        is,
+        flat_map-next g xs i x here at,
+        append_assoc (t ++ flat_map g (take i xs)) (chars sep) (f x),
+        append_assoc t (flat_map g (take i xs)) (chars sep ++ f x),
+      ),
+    )
+
+-- memory for no more bytes than the text has, in which the text is written
+pub filled : (t room rest : List ℕ) (end n : ℕ) → length room ≡ n → end ≤ length room → n ≤ size t → IsUtf8 (take end room)
+    → chars (take end room) ≡ t → IsUtf8 (take n (room ++ rest)) × (chars (take n (room ++ rest)) ≡ t)
+filled t room rest end n long within least u is =
+    let sized : size t ≡ end = rw is at (size-chars (take end room) u ∙ length-take-le end room within) in
+    let whole : take n (room ++ rest) ≡ take end room =
+    take_at room rest n long ∙ sym (take_all end room (omega (arith, long, least, sized))) in
+    (subst IsUtf8 (sym whole) u, ap chars whole ∙ is)

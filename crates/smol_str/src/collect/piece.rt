@@ -1,5 +1,6 @@
 //! What is collected, appended and joined.
-ghost use Rattle.std.specs.Prelude.{◌≡◌, ◌≤◌, ℕ, List, OnOk, OnErr};
+ghost use Rattle.std.specs.Prelude.{◌≡◌, ◌≤◌, ℕ, List, IfSome, OnOk, OnErr};
+ghost use Rattle.std.specs.Str.{chars};
 ghost use Rattle.std.proofs.Common.{refl};
 ghost use Rattle.smol_str.specs.Text.{size};
 ghost use Rattle.smol_str.specs.BuilderState.{OnHeap, appended};
@@ -29,6 +30,13 @@ pub trait Piece: Drop {
         ensures { result ≤ size (text self.now) }
     {
         0
+    }
+
+    /// The text, where it lies in memory: [`SmolStr::join`] copies it from there.
+    fn lent(&self) -> Option<&str>
+        ensures { IfSome result (λ lent. chars lent.now ≡ text self.now) }
+    {
+        None
     }
 
     ghost joins: { (items : List Self) → joined text items ≡ texts items };
@@ -70,6 +78,11 @@ impl<'a> Piece for &'a str {
         let text: &str = *self;
         text.len()
     }
+
+    #[inline(always)]
+    fn lent(&self) -> Option<&str> {
+        Some(*self)
+    }
 }
 
 impl Piece for String {
@@ -88,6 +101,11 @@ impl Piece for String {
     #[tactic(auto, using(crate::proofs::TextLemmas::Places::sizes))]
     fn at_least(&self) -> usize {
         self.len()
+    }
+
+    #[inline(always)]
+    fn lent(&self) -> Option<&str> {
+        Some(self.as_str())
     }
 }
 
@@ -108,6 +126,11 @@ impl<'a> Piece for &'a String {
     fn at_least(&self) -> usize {
         self.len()
     }
+
+    #[inline(always)]
+    fn lent(&self) -> Option<&str> {
+        Some(self.as_str())
+    }
 }
 
 impl Piece for SmolStr {
@@ -126,5 +149,10 @@ impl Piece for SmolStr {
     #[inline(always)]
     fn at_least(&self) -> usize {
         self.len()
+    }
+
+    #[inline(always)]
+    fn lent(&self) -> Option<&str> {
+        Some(self.as_str())
     }
 }
