@@ -26,6 +26,8 @@ pub mod CutOnce
 pub mod Wire
 pub mod Messages
 pub mod Crates
+mod Iterators
+mod Splits
 pub use Rattle.smol_str.proofs.CallerLemmas.Texts.{texts, compared, tested, replacing, prints, chars-as_str}
 pub use Rattle.smol_str.proofs.CallerLemmas.Builders.{builders, passed_builders, OnHeap-front}
 pub use Rattle.smol_str.proofs.CallerLemmas.Values.{texts-push, text_at, listed, stacked, among}

@@ -6,7 +6,5 @@ pub mod CaseLemmas
 pub mod CutLemmas
 pub mod TextLemmas
 pub mod WireLemmas
-mod IteratorLemmas
-mod PieceLemmas
 mod PlainLemmas
 mod JsonLemmas

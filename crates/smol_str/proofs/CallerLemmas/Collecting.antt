@@ -6,9 +6,9 @@ use Rattle.smol_str.proofs.CallerLemmas.Common.{YieldsList-from_filter, YieldsLi
 use Rattle.smol_str.specs.Collect.{AppendedAll, StoppedAt, Collected, Outgrown}
 use Rattle.smol_str.specs.JoinedLaws.{joined-strs}
 use Rattle.smol_str.proofs.BuilderLemmas.Collect.{Reads, collected, made, not_short-outgrown, text-appended, heap-stopped, front-stopped}
-use Rattle.smol_str.proofs.IteratorLemmas.{YieldsList-from_array, gives-chars, gives-rev_chars, gives-slice, gives-lines, gives-split_char, gives-copied, gives-rev_copied, gives-map, gives-map_lent, gives-flat_chars, gives-take_chars, gives-skip_chars, gives-take_slice, gives-skip_slice}
+use Rattle.smol_str.proofs.CallerLemmas.Iterators.{YieldsList-from_array, gives-chars, gives-rev_chars, gives-slice, gives-lines, gives-split_char, gives-copied, gives-rev_copied, gives-map, gives-map_lent, gives-flat_chars, gives-take_chars, gives-skip_chars, gives-take_slice, gives-skip_slice}
 use Rattle.std.proofs.lemmas.Iterator.Search.{YieldsList-from_take_while}
-use Rattle.smol_str.proofs.PieceLemmas.{joined-nothing, gives-split, gives-split_at}
+use Rattle.smol_str.proofs.CallerLemmas.Splits.{joined-nothing, gives-split, gives-split_at}
 use Rattle.smol_str.proofs.TextLemmas.Lists.{flat_map-parts}
 
 -- From an iterator that gives a list, as the lemmas `YieldsList-from_..` of std say: of characters,

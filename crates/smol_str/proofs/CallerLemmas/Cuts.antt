@@ -10,7 +10,7 @@ use Rattle.smol_str.proofs.CallerLemmas.Values.{map-texts}
 use Rattle.smol_str.proofs.CallerLemmas.Texts.{IsLiteral, IsUtf8-one, chars-cons, literal-utf8}
 use Rattle.smol_str.proofs.CallerLemmas.Wire.{items}
 use Rattle.smol_str.proofs.CutLemmas.Replace.{few_pieces, replaced-itself}
-use Rattle.smol_str.proofs.PieceLemmas.{gives-split, gives-split_at}
+use Rattle.smol_str.proofs.CallerLemmas.Splits.{gives-split, gives-split_at}
 
 -- ---- a loop over `split` that makes a value of each piece, where `AreValuesOf (map str_text l.yielded) l.values.items`
 

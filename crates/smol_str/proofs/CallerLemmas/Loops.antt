@@ -10,7 +10,7 @@ use Rattle.smol_str.proofs.TextLemmas.Places.{size-append, size-chars}
 use Rattle.std.specs.declared.str.Lines.{Lines}
 use Rattle.smol_str.proofs.CallerLemmas.Texts.{chars-cons, same_bytes}
 use Rattle.smol_str.proofs.CallerLemmas.Values.{text_at}
-use Rattle.smol_str.proofs.IteratorLemmas.{weaker}
+use Rattle.smol_str.proofs.CallerLemmas.Iterators.{weaker}
 
 -- ---- what `map` and `try_collect` make of what an iterator lends
 

@@ -2,7 +2,7 @@
 use Rattle.smol_str.proofs.Common.{◌≡◌, Bool, true, cond, Bor, Option, Some, None, MatchOption, refl, sym, ap, ◌∙◌, subst, false, ℕ, ◌+◌, ◌<◌, ◌≤◌, ◌==◌, arith, nat_tests, List, [], ◌∷◌, ◌++◌, length, take, drop, length-append, length-take, append-nil, take-append-drop, flat_map, YieldsList, length-drop, IsUtf8, chars, encode_utf8, encode_utf8_all, length-le-encodes, chars-encodes}
 use Rattle.smol_str.proofs.Common.{chars_from_encodes, encodes-append, encodes-chars, scalars-chars, size, Occurs, IsFirstAfter, joined_by, cut, no_limit, match_count}
 use Rattle.smol_str.proofs.CallerLemmas.Common.{NonePass, FindsText, FindsChar, split_steps, split_text, split_has_more, split_pattern, Split, YieldsList-from_shown_while}
-use Rattle.smol_str.proofs.IteratorLemmas.{weaker}
+use Rattle.smol_str.proofs.CallerLemmas.Iterators.{weaker}
 use Rattle.smol_str.proofs.CutLemmas.Cut.{IsCut-cut, IsCut-unique, IsCutAt-step, IsCutAt-unmatched, joined_one, joined_more}
 use Rattle.smol_str.proofs.CutLemmas.Replace.{whole_cut, match_count-limit}
 use Rattle.smol_str.proofs.CutLemmas.Match.{earlier}
