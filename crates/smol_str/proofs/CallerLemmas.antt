@@ -28,12 +28,12 @@ pub mod Messages
 pub mod Crates
 mod Iterators
 mod Splits
-pub use Rattle.smol_str.proofs.CallerLemmas.Texts.{texts, compared, tested, replacing, prints, chars-as_str}
+pub use Rattle.smol_str.proofs.CallerLemmas.Texts.{texts, compared, tested, replacing, prints}
 pub use Rattle.smol_str.proofs.CallerLemmas.Builders.{builders, passed_builders, OnHeap-front}
 pub use Rattle.smol_str.proofs.CallerLemmas.Values.{texts-push, text_at, listed, stacked, among}
 pub use Rattle.smol_str.proofs.CallerLemmas.Sorting.{sorting}
 pub use Rattle.smol_str.proofs.CallerLemmas.Interning.{interning}
-pub use Rattle.smol_str.proofs.CallerLemmas.Maps.{updates, lookups, inserts, put_and_asked, scopes, stands_for-text, lookup-with_entry}
+pub use Rattle.smol_str.proofs.CallerLemmas.Maps.{updates, lookups, inserts, put_and_asked, scopes, lookup-with_entry}
 pub use Rattle.smol_str.proofs.CallerLemmas.Groups.{grouped, counted}
 pub use Rattle.smol_str.proofs.CallerLemmas.Loops.{by_line, by_char, by_char_some, by_item, by_text, side_by_side}
 pub use Rattle.smol_str.proofs.CallerLemmas.Collecting.{collecting_chars, collecting_strs, collecting_pieces, collecting_strings, chars_by_std, strings_by_std, texts_collected}
@@ -43,10 +43,12 @@ pub use Rattle.smol_str.proofs.CallerLemmas.Wire.{forms, parts, items, items-apa
 -- for an answer in a loop over wire forms: what is left after a value, after an early end, and where memory was refused
 pub use Rattle.smol_str.proofs.CallerLemmas.Messages.{left-of_value, left-of_ended, left-of_refused}
 pub use Rattle.smol_str.proofs.CallerLemmas.Crates.{owned, chars_cut}
+-- the characters of what `as_str` lends, and the keys that a `&str` matches
+pub use Rattle.smol_str.proofs.TextLemmas.Chars.{chars-as_str, stands_for-text}
 -- each front of a short text is short; the size of the text that bytes spell, and of two texts, one after the other
-pub use Rattle.smol_str.proofs.TextLemmas.Places.{IsShort-front, size-chars, size-append}
+pub use Rattle.smol_str.proofs.TextLemmas.Sizes.{IsShort-front, size-chars, size-append}
 -- what holds of an `Err` where it holds whatever came, or of the one fault that came
-pub use Rattle.smol_str.proofs.TextLemmas.Places.{OnErr-always, IfErr-is}
+pub use Rattle.smol_str.proofs.TextLemmas.Results.{OnErr-always, IfErr-is}
 -- bytes of a text in two parts, at the size of the first: they may be cut there, into these
 pub use Rattle.smol_str.proofs.TextLemmas.Split.{boundary-parts, chars-take, chars-drop}
 -- appending twice is appending the joined text, and nothing changes nothing; a new builder leaves its buffer only for a

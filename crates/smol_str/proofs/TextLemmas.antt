@@ -1,6 +1,9 @@
 pub mod Lists
 pub mod Utf8
 pub mod Blank
+pub mod Results
+pub mod Sizes
+pub mod Chars
 pub mod Places
 pub mod Order
 pub mod Split

@@ -11,7 +11,7 @@ use Rattle.std.proofs.lemmas.Grind.{flat_map-append}
 use Rattle.std.proofs.lemmas.Iterator.Consumers.{YieldsList-so_far}
 use Rattle.smol_str.specs.BuilderArms.{heap_builder}
 use Rattle.smol_str.specs.Collect.{AppendedAll, StoppedAt, Collected, Outgrown}
-use Rattle.smol_str.proofs.TextLemmas.Places.{IsShort-front}
+use Rattle.smol_str.proofs.TextLemmas.Sizes.{IsShort-front}
 use Rattle.smol_str.proofs.BuilderLemmas.State.{appended-twice, OnHeap-long}
 use Rattle.smol_str.proofs.BuilderLemmas.Push.{appended-heap}
 

@@ -4,7 +4,7 @@ use Rattle.std.proofs.lemmas.Grind.{take_at_read, flat_map-append}
 use Rattle.std.proofs.lemmas.List.Folds.{flat_map-map}
 use Rattle.std.proofs.Math.Nat.{mod-le}
 use Rattle.smol_str.proofs.BuilderLemmas.State.{appended-twice, appended-nothing, why_heap}
-use Rattle.smol_str.proofs.TextLemmas.Places.{size-append, size-chars}
+use Rattle.smol_str.proofs.TextLemmas.Sizes.{size-append, size-chars}
 use Rattle.smol_str.proofs.BuilderLemmas.Push.{appended-heap}
 use Rattle.smol_str.proofs.TextLemmas.Lists.{flat_map-parts}
 

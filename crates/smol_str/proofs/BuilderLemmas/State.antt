@@ -1,6 +1,7 @@
 -- For the builder: its text and kind, before and after an append; appends are associative (`appended-twice`).
 use Rattle.smol_str.proofs.Common.{◌≡◌, ℕ, ◌<◌, IsUtf8-string_bytes, List, [], ◌++◌, append-nil, refl, append_assoc, arith, ◌⊎◌, nat_tests, INLINE_CAP, IsShort, BuilderState, Kind, InBuffer, OnHeap, kind_with, kind_for, appended, empty_builder, common_steps, rules}
-use Rattle.smol_str.proofs.TextLemmas.Places.{is_short-true, is_short-false, IsShort-front, size-chars}
+use Rattle.smol_str.proofs.TextLemmas.Places.{is_short-true, is_short-false}
+use Rattle.smol_str.proofs.TextLemmas.Sizes.{IsShort-front, size-chars}
 
 -- a builder in its buffer, whose text stays short, or does not
 pub kind_with-short : (t : List ℕ) → IsShort t → kind_with InBuffer t ≡ InBuffer

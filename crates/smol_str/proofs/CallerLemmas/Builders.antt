@@ -2,7 +2,7 @@
 use Rattle.smol_str.proofs.Common.{BuilderState, OnHeap, appended, ◌++◌, drop, ◌≡◌, ◌∷◌, ℕ, ◌+◌, ◌≤◌, List, [], take, take_all, refl, arith, flat_map, size, nat_tests, append-nil, append_assoc}
 use Rattle.smol_str.proofs.CallerLemmas.Common.{take_at_read, flat_map-append, flat_map-map}
 use Rattle.smol_str.proofs.TextLemmas.Lists.{flat_map-parts}
-use Rattle.smol_str.proofs.TextLemmas.Places.{size-append}
+use Rattle.smol_str.proofs.TextLemmas.Sizes.{size-append}
 use Rattle.smol_str.proofs.BuilderLemmas.Push.{appended-heap}
 use Rattle.smol_str.proofs.BuilderLemmas.State.{appended-twice, appended-nothing, OnHeap-long}
 use Rattle.smol_str.proofs.CallerLemmas.Texts.{texts}

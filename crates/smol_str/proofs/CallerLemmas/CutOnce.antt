@@ -7,7 +7,7 @@ use Rattle.std.specs.Str.{trim_start, trim_end}
 use Rattle.smol_str.proofs.CallerLemmas.Texts.{IsLiteral, encodes-literal, literal-utf8}
 use Rattle.smol_str.proofs.CutLemmas.Cut.{same_parts}
 use Rattle.smol_str.proofs.CallerLemmas.Splits.{bytes_there, found_char, found_parts, found_text}
-use Rattle.smol_str.proofs.TextLemmas.Places.{size-append, size-chars, some_char}
+use Rattle.smol_str.proofs.TextLemmas.Sizes.{size-append, size-chars, some_char}
 
 -- ---- a character that occurs between bytes, before them or after them
 module _ (c : ℕ) (bs : List ℕ) (u : IsUtf8 bs) where

@@ -3,7 +3,7 @@ use Rattle.smol_str.proofs.Common.{arith, flat_map, items_from_drains, YieldsLis
 use Rattle.smol_str.proofs.Common.{All-nil, All-tail, IfSome, Result, append_assoc, but_last, get_or}
 use Rattle.smol_str.proofs.CallerLemmas.Common.{join_by, last_or, split_steps, split_text, split_has_more, split_pattern, FindsChar, FindsText, Split, drop-map, length-map, map-set, set_past, take-map, get_or-map, map_source, map_callee, Map, texts, IsValueOf, ◌≢◌, Yields}
 use Rattle.smol_str.specs.Text.{place_of}
-use Rattle.smol_str.proofs.TextLemmas.Places.{some_char}
+use Rattle.smol_str.proofs.TextLemmas.Sizes.{some_char}
 use Rattle.smol_str.proofs.CutLemmas.Cut.{IsCut-cut}
 use Rattle.smol_str.proofs.CallerLemmas.Loops.{AreOk, MapsBy, collected_oks, mapped, oks}
 use Rattle.smol_str.proofs.CallerLemmas.Values.{map-texts}

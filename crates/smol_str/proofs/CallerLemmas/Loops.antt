@@ -6,7 +6,7 @@ use Rattle.smol_str.proofs.CallerLemmas.Builders.{size-cons}
 use Rattle.smol_str.proofs.BuilderLemmas.State.{appended-twice, OnHeap-long}
 use Rattle.std.specs.Vec.{vec_items}
 use Rattle.std.specs.declared.iter.Enumerate.{Enumerate}
-use Rattle.smol_str.proofs.TextLemmas.Places.{size-append, size-chars}
+use Rattle.smol_str.proofs.TextLemmas.Sizes.{size-append, size-chars}
 use Rattle.std.specs.declared.str.Lines.{Lines}
 use Rattle.smol_str.proofs.CallerLemmas.Texts.{chars-cons, same_bytes}
 use Rattle.smol_str.proofs.CallerLemmas.Values.{text_at}

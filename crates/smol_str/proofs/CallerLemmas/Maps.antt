@@ -1,6 +1,7 @@
 -- Maps with values as keys, at texts.
 use Rattle.smol_str.proofs.Common.{◌≡◌, ◌∙◌, Bor, Option, None, Some, Bool, true, false, cond, refl, sym, ap, option_map, if◌then◌else◌, rules, ◌+◌, ◌≤◌, ℕ, false≢true, arith, false_from_ne_true, nat_cmp, ◌++◌, List, [], ◌∷◌, length, length-map, map, take, get_or, common_steps, bytes_eq, slice_cmp, IsUtf8, chars, encodes-chars, encodes_same, encode_utf8_all, Meaning}
 use Rattle.smol_str.proofs.CallerLemmas.Common.{set, ◌||◌, take_more_set, take-map, take-set-le, Vec, is_eq, eq_by_cmp, list_any, texts, lookup, KeepsOthers, option_copied, option_or, bytes_eq-Decides, value_at, ordered_value_at, innermost, entry_lists, same_key, stands_for, with_entry, entry_texts, list_any-append}
+use Rattle.smol_str.proofs.TextLemmas.Chars.{stands_for-text}
 use Rattle.std.specs.BTreeMap.{BTreeMap, is_at}
 use Rattle.std.specs.HashMap.{HashMap}
 use Rattle.std.specs.declared.cmp.Ordering.{Ordering}
@@ -37,10 +38,6 @@ pub text-kept_ordered : {V : Type 0} (cmp : Meaning → Meaning → Ordering) (c
     → (KeepsOthers (eq_by_cmp cmp) (is_at compare) old.entries new.entries ≡ KeepsOthers (eq_by_cmp cmp) (is_at compare) old.entries new.entries)
     × ((t : List ℕ) → is_at compare (key_of t) ≡ false → ordered_value_at t new ≡ ordered_value_at t old)
 text-kept_ordered cmp compare old new keeps others = (refl, λ t apart. others (key_of t) apart)
-
--- a `&str` matches the keys of its text
-pub stands_for-text : (bs : List ℕ) (key : Meaning) → IsUtf8 bs → stands_for bs key ≡ bytes_eq (chars bs) key.text
-stands_for-text bs key u = search (rules, arith, encodes-chars, encodes_same)
 
 -- and no key of another
 pub stands_for-other : (bs t : List ℕ) → ¬ (t ≡ chars bs) → IsUtf8 bs → bytes_eq bs (encode_utf8_all t) ≡ false

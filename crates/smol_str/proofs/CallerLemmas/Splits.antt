@@ -6,7 +6,7 @@ use Rattle.smol_str.proofs.CallerLemmas.Iterators.{weaker}
 use Rattle.smol_str.proofs.CutLemmas.Cut.{IsCut-cut, IsCut-unique, IsCutAt-step, IsCutAt-unmatched, joined_one, joined_more}
 use Rattle.smol_str.proofs.CutLemmas.Replace.{whole_cut, match_count-limit}
 use Rattle.smol_str.proofs.CutLemmas.Match.{earlier}
-use Rattle.smol_str.proofs.TextLemmas.Places.{size-chars, some_char}
+use Rattle.smol_str.proofs.TextLemmas.Sizes.{size-chars, some_char}
 use Rattle.smol_str.proofs.TextLemmas.Split.{drop-parts, scalars_parts}
 use Rattle.smol_str.proofs.CutLemmas.Sync.{StandsBetween-bytes}
 

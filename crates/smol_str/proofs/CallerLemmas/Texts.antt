@@ -6,17 +6,10 @@ use Rattle.std.proofs.lemmas.Fmt.{IsAscii-decimal}
 use Rattle.std.specs.Fmt.{decimal}
 use Rattle.smol_str.proofs.CaseLemmas.Ascii.{size-mapped}
 use Rattle.smol_str.proofs.CutLemmas.Bytes.{each-moves, replaced_all-each, replaced_all-character}
-use Rattle.smol_str.proofs.TextLemmas.Places.{IsShort-chars, IsShort-front, size-chars}
+use Rattle.smol_str.proofs.TextLemmas.Chars.{chars-as_str, length-as_str}
+use Rattle.smol_str.proofs.TextLemmas.Sizes.{IsShort-chars, IsShort-front, size-chars}
 
 -- ---- texts
-
--- the characters of the bytes that `as_str` lends are the text
-pub chars-as_str : (t bs : List ℕ) → IsTrue (all_scalars t) → bs ≡ encode_utf8_all t → chars bs ≡ t
-chars-as_str t bs scalars e = ap chars e ∙ chars-encodes t scalars
-
--- their number is the text's size
-pub length-as_str : (t bs : List ℕ) → bs ≡ encode_utf8_all t → length bs ≡ size t
-length-as_str t bs e = ap length e
 
 -- a text of so few bytes needs no memory
 pub IsResident-few : (bs : List ℕ) → IsUtf8 bs → length bs ≤ INLINE_CAP → IsResident (chars bs)

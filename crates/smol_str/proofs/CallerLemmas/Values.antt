@@ -2,7 +2,8 @@
 use Rattle.smol_str.proofs.Common.{Bool, not, map, refl, bytes_eq, place_of, get_or, ◌≡◌, ℕ, ◌<◌, List, [], ◌∷◌, ◌++◌, length, Some, ap, ◌∙◌, arith, length-map, map-append, slice_get, option_map, Meaning, IsTrue, all_scalars, encode_utf8_all, chars, chars-nil, rules}
 use Rattle.smol_str.proofs.CallerLemmas.Common.{slice_get-map, slice_get_read, map-map, AreValuesOf, texts, has_text, filter, list_any, All-filter, filter_agree, take-map}
 use Rattle.smol_str.specs.Keys.{without, within, values_without, values_within}
-use Rattle.smol_str.proofs.CallerLemmas.Texts.{chars-as_str, chars-cons}
+use Rattle.smol_str.proofs.CallerLemmas.Texts.{chars-cons}
+use Rattle.smol_str.proofs.TextLemmas.Chars.{chars-as_str}
 
 -- one value more
 pub texts-push : (values : List Meaning) (v : Meaning) → texts (values ++ v ∷ []) ≡ texts values ++ v.text ∷ []

@@ -6,7 +6,7 @@ use Rattle.smol_str.specs.Wire.{prefix_size}
 use Rattle.smol_str.specs.Stream.{AppendsBeginning}
 use Rattle.smol_str.specs.declared.borsh.fault.EncodeFault.{EncodeFault}
 use Rattle.std.proofs.KnownBytes.{Appends-nil, Appends-kept}
-use Rattle.smol_str.proofs.TextLemmas.Places.{OnErr-always}
+use Rattle.smol_str.proofs.TextLemmas.Results.{OnErr-always}
 use Rattle.smol_str.proofs.WireLemmas.Stream.{beginning-of_first, beginning-of_second}
 use Rattle.smol_str.proofs.WireLemmas.Wire.{length-wire, prefix_size-wire, wire-apart, Holds-one, Holds-whole, body-Holds, Holds-written}
 

@@ -11,7 +11,8 @@ use Rattle.std.specs.Char.Unicode.ToLowercase.{to_lowercase}
 use Rattle.std.specs.StrCase.Lower.{lowercase_chars, is_in_word_after}
 use Rattle.std.proofs.lemmas.Grind.{flat_map-append}
 use Rattle.std.proofs.lemmas.List.{take_all, length-take-le}
-use Rattle.smol_str.proofs.TextLemmas.Places.{OnErr-always, size-chars, some_char}
+use Rattle.smol_str.proofs.TextLemmas.Results.{OnErr-always}
+use Rattle.smol_str.proofs.TextLemmas.Sizes.{size-chars, some_char}
 use Rattle.smol_str.proofs.BuilderLemmas.State.{OnHeap-long, appended-twice, kind_with-long}
 
 pub IsAscii-front : (t : List ℕ) → IsAscii (front t)

@@ -12,7 +12,8 @@ use Rattle.smol_str.proofs.CaseLemmas.Full.{HasSigma, lowercase-alone}
 use Rattle.smol_str.proofs.BuilderLemmas.State.{appended-twice}
 use Rattle.smol_str.proofs.TextLemmas.Lists.{not_later}
 use Rattle.smol_str.proofs.BuilderLemmas.Push.{appended-heap, new-part}
-use Rattle.smol_str.proofs.TextLemmas.Places.{chars-one, size-append, size-chars}
+use Rattle.smol_str.proofs.TextLemmas.Sizes.{size-append, size-chars}
+use Rattle.smol_str.proofs.TextLemmas.Chars.{chars-one}
 use Rattle.smol_str.proofs.TextLemmas.Split.{boundary-parts, chars-drop, chars-take, chars-middle}
 
 -- a character at the end decides, unless case ignores it

@@ -2,7 +2,8 @@
 use Rattle.smol_str.proofs.Common.{◌≡◌, refl, sym, ap, ◌∙◌, if◌then◌else◌, rules, nat_tests, ℕ, zero, suc, ◌<◌, ◌≤◌, nat_eq, arith, Decides-eqb, not_from_Decides, List, [], ◌∷◌, ◌++◌, length, get_or, take, append-nil, length-append, length-map, take_at, common_steps, IsUtf8, chars, encode_utf8_all, encodes-chars, length-le-encodes}
 use Rattle.smol_str.proofs.Common.{INLINE_CAP, IsShort, no_limit, replaced, replaced_all, each_with, each_replaced}
 use Rattle.smol_str.proofs.CaseLemmas.Ascii.{MovesAscii, IsUtf8-map, chars-map, size-mapped}
-use Rattle.smol_str.proofs.TextLemmas.Places.{OnErr-always, size-chars}
+use Rattle.smol_str.proofs.TextLemmas.Results.{OnErr-always}
+use Rattle.smol_str.proofs.TextLemmas.Sizes.{size-chars}
 use Rattle.smol_str.proofs.TextLemmas.Utf8.{form}
 use Rattle.smol_str.proofs.CutLemmas.Replace.{replaced-unmatched, replaced-matched, replaced-passed}
 use Rattle.smol_str.proofs.TextLemmas.Lists.{head_same}

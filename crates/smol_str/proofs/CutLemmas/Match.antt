@@ -7,7 +7,7 @@ use Rattle.smol_str.specs.declared.bytes.search.Needle.TheVariants.{One, Two, Lo
 use Rattle.memchr.specs.Find.{OccursAt, FindsNeedle, is_byte, IsFirstByte}
 use Rattle.memchr.proofs.lemmas.FindLemmas.{OccursAt-byte, byte-OccursAt}
 use Rattle.memchr.proofs.lemmas.MatchLemmas.{OccursAt-split, OccursAt-from_part}
-use Rattle.smol_str.proofs.TextLemmas.Places.{size-append, size-chars, some_char}
+use Rattle.smol_str.proofs.TextLemmas.Sizes.{size-append, size-chars, some_char}
 use Rattle.smol_str.proofs.CutLemmas.Cut.{last_part, one_first, sooner}
 use Rattle.smol_str.proofs.CutLemmas.Sync.{StandsAt-bytes}
 use Rattle.smol_str.proofs.TextLemmas.Split.{boundary-parts, drop-parts, chars-take, chars-drop}

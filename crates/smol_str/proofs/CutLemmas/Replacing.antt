@@ -2,7 +2,9 @@
 use Rattle.smol_str.proofs.Common.{◌≡◌, None, Some, refl, sym, ap, ◌∙◌, Option, MatchOption, Bool, true, not, Result, IfOk, IfOk-weaker, rules, ℕ, ◌+◌, ◌-◌, ◌<◌, ◌≤◌, arith, nat_tests, List, [], ◌∷◌, ◌++◌, length, take, drop, append_assoc, append-nil, length-append, slice_get, common_steps}
 use Rattle.smol_str.proofs.Common.{IsUtf8, IsCharBoundary, chars, encode_utf8_all, len_utf8, encode, length-encode, length-le-encodes}
 use Rattle.smol_str.proofs.Common.{size, IsShort, IsNextMatch, IsOnlyCut, joined_by, cut, Meaning, IsValueOf, replaced, replaced_all, IsReplacing, BuilderState, InBuffer, OnHeap, empty_builder, appended}
-use Rattle.smol_str.proofs.TextLemmas.Places.{size-append, size-chars, IsShort-front, OnErr-always, chars-empty}
+use Rattle.smol_str.proofs.TextLemmas.Results.{OnErr-always}
+use Rattle.smol_str.proofs.TextLemmas.Sizes.{size-append, size-chars, IsShort-front}
+use Rattle.smol_str.proofs.TextLemmas.Chars.{chars-empty}
 use Rattle.std.specs.Option.{is_some}
 use Rattle.std.proofs.lemmas.Bool.{true≢false}
 use Rattle.memchr.specs.Find.{FindsNeedle}

@@ -1,6 +1,6 @@
 -- For searches and replacements: a text taken apart at a place, and the bytes of its parts.
 use Rattle.smol_str.proofs.Common.{◌≡◌, ℕ, ◌-◌, List, [], ◌∷◌, ◌++◌, true, take, drop, refl, subst, arith, IsUtf8, IsCharBoundary, chars, encode_utf8_all, scalars, chars-encodes, encodes-append, encodes-chars, scalars-chars, IsCharBoundary-at_seam, take_at, drop_at, size, and_parts, common_steps}
-use Rattle.smol_str.proofs.TextLemmas.Places.{size-append}
+use Rattle.smol_str.proofs.TextLemmas.Sizes.{size-append}
 
 pub scalars_parts : (a b : List ℕ) → scalars (a ++ b) ≡ true → (scalars a ≡ true) × (scalars b ≡ true)
 scalars_parts [] b e = (refl, e)

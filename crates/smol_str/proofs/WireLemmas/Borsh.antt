@@ -12,7 +12,8 @@ use Rattle.smol_str.specs.Wire.{wire, prefix_size}
 use Rattle.std.specs.Prelude.{⊤}
 use Rattle.smol_str.specs.Stream.{AppendsBeginning, GaveAllBelow, GaveBelow, GaveUpTo}
 use Rattle.smol_str.specs.WireFaults.{AfterDecodeFault, GaveTooFew, GaveSomeOfBody, HasReadBody, HasReadLarge, NeedsMemory, AfterBodyFault, StatesAtMost, AfterLimitedFault, of_utf8_fault}
-use Rattle.smol_str.proofs.TextLemmas.Places.{size-chars, IfErr-is}
+use Rattle.smol_str.proofs.TextLemmas.Results.{IfErr-is}
+use Rattle.smol_str.proofs.TextLemmas.Sizes.{size-chars}
 use Rattle.smol_str.proofs.WireLemmas.Stream.{beginning-of_first, beginning-of_second}
 
 -- ---- faults that another call's become

@@ -73,7 +73,7 @@ impl<'a> Piece for &'a str {
     }
 
     #[inline(always)]
-    #[tactic(auto, using(crate::proofs::TextLemmas::Places::sizes))]
+    #[tactic(auto, using(crate::proofs::TextLemmas::Sizes::sizes))]
     fn at_least(&self) -> usize {
         let text: &str = *self;
         text.len()
@@ -98,7 +98,7 @@ impl Piece for String {
     }
 
     #[inline(always)]
-    #[tactic(auto, using(crate::proofs::TextLemmas::Places::sizes))]
+    #[tactic(auto, using(crate::proofs::TextLemmas::Sizes::sizes))]
     fn at_least(&self) -> usize {
         self.len()
     }
@@ -122,7 +122,7 @@ impl<'a> Piece for &'a String {
     }
 
     #[inline(always)]
-    #[tactic(auto, using(crate::proofs::TextLemmas::Places::sizes))]
+    #[tactic(auto, using(crate::proofs::TextLemmas::Sizes::sizes))]
     fn at_least(&self) -> usize {
         self.len()
     }
@@ -140,7 +140,7 @@ impl Piece for SmolStr {
 
     ghost joins = { λ _. refl };
 
-    #[tactic(auto, using(crate::proofs::CallerLemmas::Texts::texts))]
+    #[tactic(auto, using(crate::proofs::TextLemmas::Chars::lent))]
     #[inline(always)]
     fn append_to(&self, builder: &mut SmolStrBuilder) -> Result<(), AllocError> {
         builder.push_str_heap_first(self.as_str())

@@ -1,5 +1,5 @@
 use Rattle.smol_str.proofs.Common.{arith}
-use Rattle.smol_str.proofs.TextLemmas.Places.{IfErr-is}
+use Rattle.smol_str.proofs.TextLemmas.Results.{IfErr-is}
 use Rattle.smol_str.proofs.WireLemmas.Borsh.{AfterLimitedFault-of_fault}
 use Rattle.smol_str.proofs.borsh.deserialize_limited.Goals as goal
 

@@ -1,5 +1,5 @@
 use Rattle.smol_str.proofs.Common.{◌≡◌, ◌<◌, ◌^◌, IsTrue, length, arith, sym, ap, ◌∙◌, subst, encode_utf8_all, all_scalars, encodes-chars, scalars-chars, All-from_get_or, HasEndedEarly, body, Holds, rules}
-use Rattle.smol_str.proofs.TextLemmas.Places.{IfErr-is}
+use Rattle.smol_str.proofs.TextLemmas.Results.{IfErr-is}
 use Rattle.smol_str.proofs.WireLemmas.Borsh.{prefix_size_of_bytes}
 use Rattle.smol_str.proofs.WireLemmas.Wire.{Holds-stated}
 use Rattle.smol_str.proofs.borsh.from_wire.Goals as goal

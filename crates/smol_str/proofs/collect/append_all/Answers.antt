@@ -1,7 +1,7 @@
 use Rattle.std.proofs.iter.Next.{said}
 use Rattle.smol_str.proofs.BuilderLemmas.Collect.{appended-last, all-appended, stopped-at}
 use Rattle.smol_str.proofs.Common.{[], ◌∷◌, ◌++◌, refl}
-use Rattle.smol_str.proofs.TextLemmas.Places.{OnErr-always}
+use Rattle.smol_str.proofs.TextLemmas.Results.{OnErr-always}
 use Rattle.smol_str.proofs.collect.append_all.Goals as goal
 
 pub loop-piece-preserved : goal.loop-piece-preserved

@@ -1,5 +1,5 @@
 use Rattle.smol_str.proofs.Common.{arith, ℕ, ◌+◌, ◌<◌, ◌≤◌, List, take, length, length-take, length-take-le}
-use Rattle.smol_str.proofs.TextLemmas.Places.{IfErr-is}
+use Rattle.smol_str.proofs.TextLemmas.Results.{IfErr-is}
 use Rattle.smol_str.proofs.WireLemmas.Stream.{GaveBelow-after, GaveUpTo-after}
 use Rattle.smol_str.proofs.stream.read_up_to.Goals as goal
 

@@ -1,7 +1,7 @@
 use Rattle.std.proofs.Common.{arith, rules, refl, inr, []}
 use Rattle.std.specs.Str.{chars}
 use Rattle.std.proofs.lemmas.Bool.{MatchBool-at_true, MatchBool-at_false}
-use Rattle.smol_str.proofs.TextLemmas.Places.{some_char}
+use Rattle.smol_str.proofs.TextLemmas.Sizes.{some_char}
 use Rattle.smol_tokens_core.proofs.SumLemmas.{summed-more, summed-on, summed-all}
 use Rattle.smol_tokens_core.proofs.merge.add_counts.Goals as goal
 use Rattle.smol_tokens_core.proofs.merge.add_counts.Goals.{then-fits+in_ok-fits, else-fits}

@@ -1,5 +1,5 @@
 use Rattle.smol_str.proofs.Common.{◌∙◌}
-use Rattle.smol_str.proofs.TextLemmas.Places.{IfErr-is}
+use Rattle.smol_str.proofs.TextLemmas.Results.{IfErr-is}
 use Rattle.smol_str.proofs.WireLemmas.Borsh.{begun-in_prefix, begun-in_bytes}
 use Rattle.smol_str.proofs.borsh.SmolStrBorshSerialize.serialize.Goals as goal
 

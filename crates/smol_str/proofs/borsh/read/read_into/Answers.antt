@@ -1,5 +1,5 @@
 use Rattle.smol_str.proofs.Common.{rules}
-use Rattle.smol_str.proofs.TextLemmas.Places.{IfErr-is}
+use Rattle.smol_str.proofs.TextLemmas.Results.{IfErr-is}
 use Rattle.smol_str.proofs.WireLemmas.Borsh.{AfterBodyFault-of_text}
 use Rattle.smol_str.proofs.borsh.read.read_into.Goals as goal
 

@@ -1,5 +1,6 @@
 use Rattle.smol_str.proofs.Common.{rules, IsUtf8-encode}
-use Rattle.smol_str.proofs.TextLemmas.Places.{chars-one, short_encode}
+use Rattle.smol_str.proofs.TextLemmas.Sizes.{short_encode}
+use Rattle.smol_str.proofs.TextLemmas.Chars.{chars-one}
 use Rattle.smol_str.proofs.BufferLemmas.Packed.{IsPacked-packed, unpacked-packed}
 use Rattle.smol_str.proofs.buffer.InlineText.from_char.Goals as goal
 

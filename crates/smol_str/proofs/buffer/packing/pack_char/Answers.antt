@@ -1,5 +1,5 @@
 use Rattle.smol_str.proofs.Common.{◌≡◌, ◌≤◌, ◌-◌, ◌∙◌, sym, ap, arith, take, length, encode_utf8, length-encode, len_utf8_bounds, PACKED_LEN}
-use Rattle.smol_str.proofs.TextLemmas.Places.{short_encode}
+use Rattle.smol_str.proofs.TextLemmas.Sizes.{short_encode}
 use Rattle.smol_str.proofs.BufferLemmas.Words.{AreBytes, bytes-encode, word-none, one-word, pack-step, all-with_zeros, pack-end}
 use Rattle.smol_str.proofs.buffer.packing.pack_char.Goals as goal
 

@@ -4,7 +4,7 @@ use Rattle.smol_str.specs.BuilderArms.{heap_builder}
 use Rattle.smol_str.proofs.BuilderLemmas.Collect.{all-appended, stopped-at, all-next, stopped-next}
 use Rattle.smol_str.proofs.BuilderLemmas.State.{appended-twice}
 use Rattle.smol_str.proofs.Common.{◌≡◌, [], ◌∷◌, inr, arith, rules, appended, IfOk-weaker}
-use Rattle.smol_str.proofs.TextLemmas.Places.{OnErr-always}
+use Rattle.smol_str.proofs.TextLemmas.Results.{OnErr-always}
 use Rattle.smol_str.proofs.builder.SmolStrBuilder.extend_rest.Goals as goal
 
 pub returns-in-Heap-clause-ok : goal.returns-in-Heap-clause-ok

@@ -1,5 +1,5 @@
 use Rattle.smol_str.proofs.Common.{rules}
-use Rattle.smol_str.proofs.TextLemmas.Places.{chars-one}
+use Rattle.smol_str.proofs.TextLemmas.Chars.{chars-one}
 use Rattle.smol_str.proofs.builder.SmolStrBuilder.push.Goals as goal
 
 pub returns-then-push_in_buffer-2-clause-ok : goal.returns-then-push_in_buffer-2-clause-ok

@@ -1,5 +1,6 @@
 use Rattle.smol_str.proofs.Common.{arith, rules}
-use Rattle.smol_str.proofs.TextLemmas.Places.{OnOk-if, chars-pushed}
+use Rattle.smol_str.proofs.TextLemmas.Results.{OnOk-if}
+use Rattle.smol_str.proofs.TextLemmas.Chars.{chars-pushed}
 use Rattle.smol_str.proofs.builder.SmolStrBuilder.push_heap_first.Goals as goal
 
 pub returns-in-Heap-clause-ok : goal.returns-in-Heap-clause-ok

@@ -1,6 +1,6 @@
 use Rattle.smol_str.proofs.Common.{arith, rules}
 use Rattle.smol_str.proofs.BuilderLemmas.State.{kind_with-short, kind_with-long}
-use Rattle.smol_str.proofs.TextLemmas.Places.{size-append, size-chars}
+use Rattle.smol_str.proofs.TextLemmas.Sizes.{size-append, size-chars}
 use Rattle.smol_str.proofs.builder.SmolStrBuilder.push_in_buffer.Goals.{in-Inline+else-text-len, in_default}
 use Rattle.smol_str.proofs.builder.SmolStrBuilder.push_in_buffer.Goals as goal
 

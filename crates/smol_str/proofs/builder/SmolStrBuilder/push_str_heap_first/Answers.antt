@@ -1,5 +1,5 @@
 use Rattle.smol_str.proofs.Common.{chars-append, IsUtf8-string_bytes, arith, rules}
-use Rattle.smol_str.proofs.TextLemmas.Places.{OnOk-if}
+use Rattle.smol_str.proofs.TextLemmas.Results.{OnOk-if}
 use Rattle.smol_str.proofs.builder.SmolStrBuilder.push_str_heap_first.Goals as goal
 
 pub returns-in-Heap-clause-ok : goal.returns-in-Heap-clause-ok

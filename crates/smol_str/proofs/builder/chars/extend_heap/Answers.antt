@@ -2,7 +2,8 @@ use Rattle.std.proofs.iter.Next.{said}
 use Rattle.smol_str.specs.BuilderArms.{heap_builder}
 use Rattle.smol_str.proofs.BuilderLemmas.Collect.{all-appended, stopped-at, pushed-next}
 use Rattle.smol_str.proofs.Common.{rules}
-use Rattle.smol_str.proofs.TextLemmas.Places.{OnErr-always, chars-pushed}
+use Rattle.smol_str.proofs.TextLemmas.Results.{OnErr-always}
+use Rattle.smol_str.proofs.TextLemmas.Chars.{chars-pushed}
 use Rattle.smol_str.proofs.builder.chars.extend_heap.Goals as goal
 
 pub loop-character-preserved : goal.loop-character-preserved

@@ -1,5 +1,5 @@
 use Rattle.smol_str.proofs.BuilderLemmas.Join.{heap-at}
-use Rattle.smol_str.proofs.TextLemmas.Places.{OnErr-always}
+use Rattle.smol_str.proofs.TextLemmas.Results.{OnErr-always}
 use Rattle.smol_str.proofs.collect.join.append_others.Goals as goal
 
 pub returns-in_err-append_next-clause-refused : goal.returns-in_err-append_next-clause-refused

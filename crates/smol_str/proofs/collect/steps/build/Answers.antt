@@ -6,7 +6,7 @@ use Rattle.smol_str.specs.Collect.{AppendedAll}
 use Rattle.smol_str.specs.Steps.{step_text, step_ref_text}
 use Rattle.smol_str.specs.declared.collect.steps.Step.{Step}
 use Rattle.smol_str.proofs.TextLemmas.Lists.{flat_map-parts}
-use Rattle.smol_str.proofs.TextLemmas.Places.{OnErr-always}
+use Rattle.smol_str.proofs.TextLemmas.Results.{OnErr-always}
 use Rattle.smol_str.proofs.BuilderLemmas.State.{why_heap}
 use Rattle.smol_str.proofs.BuilderLemmas.Collect.{Reads, heap-stopped, text-appended}
 use Rattle.smol_str.proofs.collect.steps.build.Goals as goal

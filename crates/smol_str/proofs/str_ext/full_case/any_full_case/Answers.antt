@@ -1,5 +1,5 @@
 use Rattle.smol_str.proofs.Common.{chars, on_err_weaker}
-use Rattle.smol_str.proofs.TextLemmas.Places.{OnErr-always}
+use Rattle.smol_str.proofs.TextLemmas.Results.{OnErr-always}
 use Rattle.smol_str.proofs.CaseLemmas.Full.{full-ascii, ascii-refused, begun-all, begun-refused}
 use Rattle.smol_str.proofs.str_ext.full_case.any_full_case.Goals as goal
 

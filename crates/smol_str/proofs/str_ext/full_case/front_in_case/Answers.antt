@@ -1,5 +1,5 @@
 use Rattle.smol_str.proofs.Common.{ap, ◌∙◌, appended, empty_builder, InBuffer, ◌≡◌, chars, length, take, drop, converted, chars-IsAscii, take_at, arith, rules}
-use Rattle.smol_str.proofs.TextLemmas.Places.{OnErr-always}
+use Rattle.smol_str.proofs.TextLemmas.Results.{OnErr-always}
 use Rattle.smol_str.proofs.CaseLemmas.Ascii.{from_start}
 use Rattle.smol_str.proofs.CaseLemmas.Full.{ascii-boundary, ascii-utf8, ascii-chars, begun-mapped, begun-heap}
 use Rattle.smol_str.proofs.str_ext.full_case.front_in_case.Goals as goal

@@ -1,5 +1,5 @@
 use Rattle.smol_str.proofs.Common.{◌≡◌, take, converted, rules}
-use Rattle.smol_str.proofs.TextLemmas.Places.{OnErr-always}
+use Rattle.smol_str.proofs.TextLemmas.Results.{OnErr-always}
 use Rattle.smol_str.proofs.CaseLemmas.Full.{ascii-boundary, ascii-utf8, ascii-part, ascii-part-heap}
 use Rattle.smol_str.proofs.str_ext.mapped.push_ascii.Goals as goal
 

@@ -1,5 +1,6 @@
 use Rattle.smol_str.proofs.Common.{◌≡◌, [], chars, rules}
-use Rattle.smol_str.proofs.TextLemmas.Places.{OnErr-always, chars-empty}
+use Rattle.smol_str.proofs.TextLemmas.Results.{OnErr-always}
+use Rattle.smol_str.proofs.TextLemmas.Chars.{chars-empty}
 use Rattle.smol_str.proofs.CaseLemmas.Full.{part-new, part-more, part-refused, part-all}
 use Rattle.smol_str.proofs.str_ext.mapped.push_mapped.Goals as goal
 

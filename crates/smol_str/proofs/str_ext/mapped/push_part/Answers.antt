@@ -1,5 +1,5 @@
 use Rattle.smol_str.proofs.Common.{◌∷◌, [], sym}
-use Rattle.smol_str.proofs.TextLemmas.Places.{OnErr-always}
+use Rattle.smol_str.proofs.TextLemmas.Results.{OnErr-always}
 use Rattle.smol_str.proofs.CaseLemmas.Full.{part-heap}
 use Rattle.std.proofs.lemmas.Str.{chars_past_char}
 use Rattle.smol_str.proofs.str_ext.mapped.push_part.Goals as goal

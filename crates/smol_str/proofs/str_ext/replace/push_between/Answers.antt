@@ -1,5 +1,5 @@
 use Rattle.smol_str.proofs.Common.{◌+◌, ◌-◌, [], ◌∷◌, None, Some, chars, arith, refl, rules}
-use Rattle.smol_str.proofs.TextLemmas.Places.{OnErr-always}
+use Rattle.smol_str.proofs.TextLemmas.Results.{OnErr-always}
 use Rattle.smol_str.proofs.CutLemmas.Replacing.{replacing-boundary, next-char, before-refused, appended-both, second-heap, taken-inside, taken-step, taken-refused, taken-end}
 use Rattle.smol_str.proofs.str_ext.replace.push_between.Goals as goal
 

@@ -1,5 +1,5 @@
 use Rattle.smol_str.proofs.Common.{◌+◌, ◌-◌, chars, arith, common_steps, refl}
-use Rattle.smol_str.proofs.TextLemmas.Places.{OnErr-always}
+use Rattle.smol_str.proofs.TextLemmas.Results.{OnErr-always}
 use Rattle.smol_str.proofs.BuilderLemmas.Push.{appended-heap}
 use Rattle.smol_str.proofs.CutLemmas.Match.{sound-utf8, sound-some}
 use Rattle.smol_str.proofs.CutLemmas.Replacing.{replacing-start, replacing-boundary, replacing-inside, replacing-found, replacing-none, appended-both, second-heap, match-boundary, match-end, match-piece, match-step, match-refused}

@@ -1,6 +1,6 @@
 use Rattle.smol_str.proofs.Common.{refl, ◌∙◌, rules}
 use Rattle.std.specs.Char.{IsScalar}
-use Rattle.smol_str.proofs.TextLemmas.Places.{chars-empty}
+use Rattle.smol_str.proofs.TextLemmas.Chars.{chars-empty}
 use Rattle.smol_str.proofs.CaseLemmas.Sigma.{word_after-last, IsUtf8-before_last, chars-before_last}
 use Rattle.smol_str.proofs.str_ext.sigma.is_in_word_after.Goals as goal
 

@@ -1,5 +1,5 @@
 use Rattle.std.proofs.lemmas.Str.{chars_past_char}
-use Rattle.smol_str.proofs.TextLemmas.Places.{chars-empty}
+use Rattle.smol_str.proofs.TextLemmas.Chars.{chars-empty}
 use Rattle.smol_str.proofs.CaseLemmas.Sigma.{lowering-boundary, lowering-rest, lowered-all}
 use Rattle.smol_str.proofs.str_ext.sigma.push_lowercase_by_character.Goals as goal
 

@@ -1,5 +1,5 @@
 use Rattle.smol_str.proofs.Common.{on_ok_weaker, on_err_weaker}
-use Rattle.smol_str.proofs.TextLemmas.Places.{OnErr-always}
+use Rattle.smol_str.proofs.TextLemmas.Results.{OnErr-always}
 use Rattle.smol_str.proofs.CaseLemmas.Ascii.{from_start}
 use Rattle.smol_str.proofs.CaseLemmas.Sigma.{lowering-boundary, segment-start, segment-boundaries, segment-first, segment-refused, segment-more}
 use Rattle.smol_str.proofs.str_ext.sigma.push_segment.Goals as goal

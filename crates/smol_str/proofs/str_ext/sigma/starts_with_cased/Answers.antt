@@ -1,5 +1,5 @@
 use Rattle.smol_str.proofs.Common.{refl, ◌∙◌}
-use Rattle.smol_str.proofs.TextLemmas.Places.{chars-empty}
+use Rattle.smol_str.proofs.TextLemmas.Chars.{chars-empty}
 use Rattle.std.proofs.lemmas.Str.{IsUtf8-past_char, chars_past_char}
 use Rattle.smol_str.proofs.str_ext.sigma.starts_with_cased.Goals as goal
 

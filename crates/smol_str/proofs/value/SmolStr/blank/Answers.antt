@@ -1,5 +1,6 @@
 use Rattle.smol_str.proofs.Common.{arith, rules, ap, size, ◌∙◌, IsBlankRun, blank_run, refl, sym}
-use Rattle.smol_str.proofs.TextLemmas.Places.{place_of-blank, size-chars}
+use Rattle.smol_str.proofs.TextLemmas.Places.{place_of-blank}
+use Rattle.smol_str.proofs.TextLemmas.Sizes.{size-chars}
 use Rattle.smol_str.proofs.value.SmolStr.blank.Goals as goal
 
 pub returns : goal.returns

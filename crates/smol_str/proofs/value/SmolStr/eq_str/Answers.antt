@@ -1,5 +1,5 @@
 use Rattle.smol_str.proofs.Common.{bytes_decides, rules}
-use Rattle.smol_str.proofs.TextLemmas.Places.{bytes_eq-chars}
+use Rattle.smol_str.proofs.TextLemmas.Chars.{bytes_eq-chars}
 use Rattle.smol_str.proofs.value.SmolStr.eq_str.Goals as goal
 
 pub returns-in-Inline : goal.returns-in-Inline

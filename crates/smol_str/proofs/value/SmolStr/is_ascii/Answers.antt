@@ -1,5 +1,5 @@
 use Rattle.smol_str.proofs.Common.{chars, IsUtf8, ◌≡◌}
-use Rattle.smol_str.proofs.TextLemmas.Places.{chars-of}
+use Rattle.smol_str.proofs.TextLemmas.Chars.{chars-of}
 use Rattle.smol_str.proofs.CaseLemmas.Ascii.{IsAscii-chars, ascii-told}
 use Rattle.smol_str.proofs.value.SmolStr.is_ascii.Goals as goal
 

@@ -1,5 +1,5 @@
 use Rattle.std.proofs.Common.{rules}
-use Rattle.smol_str.proofs.TextLemmas.Places.{no-bytes}
+use Rattle.smol_str.proofs.TextLemmas.Sizes.{no-bytes}
 use Rattle.smol_str.proofs.value.SmolStr.is_empty.Goals as goal
 
 pub returns-clause-text : goal.returns-clause-text

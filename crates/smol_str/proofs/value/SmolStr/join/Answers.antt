@@ -1,7 +1,7 @@
 use Rattle.smol_str.proofs.Common.{◌≡◌, ◌∷◌, ◌++◌, arith, rules, chars, flat_map, string_bytes}
 use Rattle.smol_str.proofs.BuilderLemmas.State.{appended-twice}
 use Rattle.smol_str.proofs.BuilderLemmas.Join.{joined-first, first-long, others-long}
-use Rattle.smol_str.proofs.TextLemmas.Places.{OnErr-always}
+use Rattle.smol_str.proofs.TextLemmas.Results.{OnErr-always}
 use Rattle.smol_str.proofs.value.SmolStr.join.Goals as goal
 
 pub returns-in_err-text-clause-refused : goal.returns-in_err-text-clause-refused

@@ -1,5 +1,6 @@
 use Rattle.smol_str.proofs.Common.{rules, sym}
-use Rattle.smol_str.proofs.TextLemmas.Places.{place_of-blank, place_of-short, not_resident, size-chars, IsShort-chars, IsBlankRun-chars}
+use Rattle.smol_str.proofs.TextLemmas.Places.{place_of-blank, place_of-short, not_resident, IsBlankRun-chars}
+use Rattle.smol_str.proofs.TextLemmas.Sizes.{size-chars, IsShort-chars}
 use Rattle.smol_str.proofs.value.SmolStr.resident.Goals as goal
 
 pub invariant_of-result : goal.invariant_of-result

@@ -1,4 +1,4 @@
-use Rattle.smol_str.proofs.TextLemmas.Places.{chars-of}
+use Rattle.smol_str.proofs.TextLemmas.Chars.{chars-of}
 use Rattle.smol_str.proofs.collect.piece.SmolStrPiece.lent.Goals as goal
 
 pub returns : goal.returns

@@ -1,6 +1,6 @@
 use Rattle.smol_str.proofs.Common.{bytes_decides, rules}
 use Rattle.smol_str.proofs.BufferLemmas.Packed.{test-HaveOneBuffer}
-use Rattle.smol_str.proofs.TextLemmas.Places.{bytes_eq-texts}
+use Rattle.smol_str.proofs.TextLemmas.Chars.{bytes_eq-texts}
 use Rattle.smol_str.proofs.value.compare.SmolStrPartialEq.eq.Goals as goal
 
 pub returns-in_default : goal.returns-in_default

@@ -1,4 +1,4 @@
-use Rattle.smol_str.proofs.TextLemmas.Places.{IsShort-one}
+use Rattle.smol_str.proofs.TextLemmas.Sizes.{IsShort-one}
 use Rattle.smol_str.proofs.value.convert.SmolStrFromChar.from.Goals as goal
 
 pub from_inline-requires : goal.from_inline-requires
