@@ -1,16 +1,14 @@
--- For crates that call this one: what their proofs cite of it. They need no other file of these proofs.
+-- For proofs of crates that use this one: import from here alone.
 --
--- A ruleset is for `#[tactic(auto, using(smol_str::proofs::CallerLemmas::NAME))]`; a goal may want two. CALLING.md says which
--- goals each closes, and the form in which to say a clause.
+-- Give a ruleset to a function: `#[tactic(auto, using(smol_str::proofs::CallerLemmas::NAME))]`, two rulesets where a goal wants
+-- both. CALLING.md says which goals each closes, and how to say a clause so that it is closed.
 --
--- For whoever writes one:
---     - `grind` stops at a number of instances, and a lemma that fits everywhere takes them from all others. So a ruleset has at
---       most 25 lemmas, with those of the rulesets in it, and each kind of caller has one of its own: two lemmas more in
---       `cut_once`, which is full, lost four callers.
---     - `grind` finds no pattern below a λ. Where a clause speaks of every text, the lemma is found by what is outside, as
---       `insert_entry`, `KeepsOthers` or `if`, which its first part repeats; its second part is a function, which is found by
---       `chars bs`.
---     - An equation has `chars` on its left side, and shows each variable there.
+-- To add one:
+--     - A ruleset has at most 25 lemmas, with those of the rulesets in it: `grind` stops at a number of instances, and one
+--       lemma that fits everywhere takes them all. So each kind of caller has a ruleset of its own. `cut_once` is full.
+--     - `grind` finds no pattern below a λ. Of a clause on every text, a lemma repeats in its first part what is outside the
+--       λ, as `insert_entry`, `KeepsOthers` or `if`; its second part is a function, which `grind` finds by `chars bs`.
+--     - The left side of an equation has `chars`, and every variable.
 pub mod Common
 pub mod Texts
 pub mod Builders
@@ -29,10 +27,10 @@ pub mod Crates
 mod Iterators
 mod Splits
 pub use Rattle.smol_str.proofs.CallerLemmas.Texts.{texts, compared, tested, replacing, prints}
-pub use Rattle.smol_str.proofs.CallerLemmas.Builders.{builders, passed_builders, OnHeap-front}
+pub use Rattle.smol_str.proofs.CallerLemmas.Builders.{builders, passed_builders}
 pub use Rattle.smol_str.proofs.CallerLemmas.Values.{texts-push, text_at, listed, stacked, among}
 pub use Rattle.smol_str.proofs.CallerLemmas.Sorting.{sorting}
-pub use Rattle.smol_str.proofs.CallerLemmas.Interning.{interning}
+pub use Rattle.smol_str.proofs.CallerLemmas.Interning.{interning, bytes_eq-apart}
 pub use Rattle.smol_str.proofs.CallerLemmas.Maps.{updates, lookups, inserts, put_and_asked, scopes, lookup-with_entry}
 pub use Rattle.smol_str.proofs.CallerLemmas.Groups.{grouped, counted}
 pub use Rattle.smol_str.proofs.CallerLemmas.Loops.{by_line, by_char, by_char_some, by_item, by_text, side_by_side}
@@ -54,5 +52,6 @@ pub use Rattle.smol_str.proofs.TextLemmas.Split.{boundary-parts, chars-take, cha
 -- appending twice is appending the joined text, and nothing changes nothing; a new builder leaves its buffer only for a
 -- text that is not short
 pub use Rattle.smol_str.proofs.BuilderLemmas.State.{appended-twice, appended-nothing, OnHeap-long}
+pub use Rattle.smol_str.proofs.BuilderLemmas.Push.{appended-heap}
 -- cuts: the one there is, a first match in front of a cut, a text without a match, and what joins pieces
 pub use Rattle.smol_str.proofs.CutLemmas.Cut.{same_parts, joined_more, IsCut-cut, IsCut-unique, IsCutAt-step, IsCutAt-unmatched}

@@ -1,6 +1,6 @@
 -- What holds if an input was not read, or has no report.
 use Rattle.std.proofs.Common.{◌≡◌, ℕ, List, Option, Result, IsUtf8, arith, rules}
-use Rattle.std.specs.Result.{IsErrAnd, IfErr, OnErr}
+use Rattle.std.specs.Result.{IsErrAnd, IfErr}
 use Rattle.std.specs.Str.{chars}
 use Rattle.std.specs.Io.KnownBytes.{Consumes, IsAtEnd}
 use Rattle.std.proofs.KnownBytes.{Keeps-refl}
@@ -22,7 +22,3 @@ after-no_report mode input left held bytes fault came end utf8 none = search (ru
 pub no_report-refused : {T : Type 0} (r : Result T RunFault) (mode : Mode) (t : List ℕ)
     → IsErrAnd r (λ fault. fault ≡ OutOfMemory) → WantsMemory mode t → IfErr r (HasNoReport mode t)
 no_report-refused r mode t refused wants = search (rules, arith, err_from_is_err_and)
-
--- what holds anyway
-pub OnErr-from : {T E : Type 0} (P : Type 0) (r : Result T E) → P → OnErr r P
-OnErr-from P r h = search rules

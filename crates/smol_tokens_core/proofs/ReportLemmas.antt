@@ -1,11 +1,8 @@
 -- For the reports: the bytes of report lines and of count lines, one after another.
-use Rattle.std.proofs.Common.{◌≡◌, ℕ, ◌+◌, ◌<◌, ◌^◌, List, [], ◌∷◌, ◌++◌, Some, take, arith, rules, codes, encode_utf8_all}
+use Rattle.std.proofs.Common.{◌≡◌, ℕ, ◌<◌, ◌^◌, List, [], ◌∷◌, ◌++◌, arith, rules, codes, encode_utf8_all}
 use Rattle.std.specs.Fmt.{decimal}
 use Rattle.std.specs.List.{flat_map}
-use Rattle.std.specs.Prelude.{slice_get}
-use Rattle.std.proofs.lemmas.Grind.{take_at_read}
 use Rattle.std.proofs.lemmas.List.{append-nil}
-use Rattle.std.proofs.lemmas.Option.{slice_get_cases}
 use Rattle.std.proofs.lemmas.List.Concat.{flat_map-append}
 use Rattle.std.proofs.lemmas.Str.{encodes-append, encodes-IsAscii}
 use Rattle.std.proofs.lemmas.Fmt.{IsAscii-decimal}
@@ -45,10 +42,3 @@ pub report-last : {A : Type 0} (f : A → List ℕ) (items : List A) (x : A) (ou
     → out ≡ encode_utf8_all (flat_map f items) → new ≡ out ++ encode_utf8_all (f x)
     → new ≡ encode_utf8_all (flat_map f (items ++ x ∷ []))
 report-last f items x out new so_far is = search (rules, arith, flat_map-append, append-nil, encodes-append)
-
--- what is out, and the value_line of the item at the next index
-pub report-next : {A : Type 0} (f : A → List ℕ) (items : List A) (i : ℕ) (x : A) (out new : List ℕ)
-    → slice_get items i ≡ Some x → out ≡ encode_utf8_all (flat_map f (take i items))
-    → new ≡ out ++ encode_utf8_all (f x) → new ≡ encode_utf8_all (flat_map f (take (i + 1) items))
-report-next f items i x out new at so_far is =
-    search (rules, arith, report-last, slice_get_cases items i, take_at_read)

@@ -6,8 +6,9 @@ use Rattle.std.specs.Map.{lookup}
 use Rattle.indexmap.specs.IndexMap.{insert_entry}
 use Rattle.std.proofs.lemmas.List.Sums.{sum_by-append}
 use Rattle.std.proofs.lemmas.List.Elements.{All-head, All-tail}
+use Rattle.smol_str.proofs.CallerLemmas.{bytes_eq-apart}
 use Rattle.smol_tokens_core.specs.Tally.{tokens, times_of, tally}
-use Rattle.smol_tokens_core.proofs.TallyLemmas.{same_from, bytes_eq_itself, by_same, other_from, other_way, times-cons, without_token, tally-cons, once-tally}
+use Rattle.smol_tokens_core.proofs.TallyLemmas.{same_from, bytes_eq_itself, by_same, other_from, times-cons, without_token, tally-cons, once-tally}
 
 -- a token without an entry
 new : (t : List ℕ) (es : List (List ℕ × ℕ)) → All (λ u. t ≢ u) (tokens es)
@@ -32,7 +33,7 @@ lookup-others t k (e ∷ es) h = search (rules, by_same, same_from, lookup-other
 put-others : (t k : List ℕ) (es : List (List ℕ × ℕ)) (v : ℕ) → bytes_eq k t ≡ false
     → without_token k (insert_entry bytes_eq es t v) ≡ insert_entry bytes_eq (without_token k es) t v
 put-others t k [] v h = search rules
-put-others t k (e ∷ es) v h = search (rules, by_same, same_from, other_way, put-others t k es v h)
+put-others t k (e ∷ es) v h = search (rules, by_same, same_from, bytes_eq-apart, put-others t k es v h)
 
 put-same : (t : List ℕ) (es : List (List ℕ × ℕ)) (v : ℕ)
     → without_token t (insert_entry bytes_eq es t v) ≡ without_token t es
@@ -54,7 +55,7 @@ pub tally-added : (es : List (List ℕ × ℕ)) (t : List ℕ) (n : ℕ)
     → tally (es ++ (t, n) ∷ []) ≡ insert_entry bytes_eq (tally es) t (times_of t es + n)
 tally-added [] t n = search (rules, times-cons, bytes_eq_itself)
 tally-added (e ∷ es) t n =
-    search (rules, arith, times, sum_by-append, other_way, put-same, put-others, tally-added es t n)
+    search (rules, arith, times, sum_by-append, bytes_eq-apart, put-same, put-others, tally-added es t n)
 
 -- a tally of a tally and more: a tally takes one more entry, whatever list it is of
 same_so_far : (es fs more : List (List ℕ × ℕ)) → tally es ≡ tally fs → tally (es ++ more) ≡ tally (fs ++ more)

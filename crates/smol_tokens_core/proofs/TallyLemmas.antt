@@ -8,6 +8,7 @@ use Rattle.std.proofs.lemmas.List.{map-append}
 use Rattle.std.proofs.lemmas.List.Sums.{sum_by-cons}
 use Rattle.std.proofs.lemmas.List.Elements.{filter-append, filter_passes, All-map, All-weaker}
 use Rattle.std.proofs.lemmas.List.Kept.{AllPairs-cons, AllPairs-filter}
+use Rattle.smol_str.proofs.CallerLemmas.{bytes_eq-apart}
 use Rattle.smol_tokens_core.specs.Tally.{tokens, times_of, without, first_sights, tally}
 
 pub same_from : (s t : List ℕ) → bytes_eq s t ≡ true → s ≡ t
@@ -25,9 +26,6 @@ other_from s t ne = search (rules, false_from_ne_true, same_from)
 
 differ : (s t : List ℕ) → bytes_eq s t ≡ false → s ≢ t
 differ s t e same = search (rules, bytes_eq-Decides, false≢true)
-
-pub other_way : (s t : List ℕ) → bytes_eq s t ≡ false → bytes_eq t s ≡ false
-other_way s t e = search (rules, other_from, differ)
 
 -- no text occurs twice
 sights_once : (ts : List (List ℕ)) → AllPairs (λ s t. s ≢ t) (first_sights ts)
@@ -57,7 +55,7 @@ without_token t es = filter (λ e. not (bytes_eq t e.0)) es
 others_counted : (e : List ℕ × ℕ) (es : List (List ℕ × ℕ)) (us : List (List ℕ))
     → map (λ u. (u, times_of u (e ∷ es))) (without e.0 us) ≡ without_token e.0 (map (λ u. (u, times_of u es)) us)
 others_counted e es [] = refl
-others_counted e es (u ∷ us) = search (rules, arith, by_same, times-cons, other_way, others_counted e es us)
+others_counted e es (u ∷ us) = search (rules, arith, by_same, times-cons, bytes_eq-apart, others_counted e es us)
 
 pub tally-cons : (e : List ℕ × ℕ) (es : List (List ℕ × ℕ))
     → tally (e ∷ es) ≡ (e.0, e.1 + times_of e.0 es) ∷ without_token e.0 (tally es)

@@ -20,17 +20,13 @@ pub ruleset in_loops = (take_at_read, take_all, flat_map-append, append-nil, app
 
 pub ruleset builders = (texts, size-cons, appended-twice, appended-nothing, OnHeap-long, nat_tests, size-append, size-front, in_loops)
 
--- a builder that a text takes to the heap is there whatever follows
-pub OnHeap-front : (b : BuilderState) (t u : List ℕ) → (appended b t).kind ≡ OnHeap → (appended b (t ++ u)).kind ≡ OnHeap
-OnHeap-front b t u heap = appended-heap b t u heap
-
--- the same where a character comes first
+-- a builder that a character takes to the heap is there whatever follows
 pub OnHeap-cons : (b : BuilderState) (c : ℕ) (t : List ℕ) → (appended b (c ∷ [])).kind ≡ OnHeap → (appended b (c ∷ t)).kind ≡ OnHeap
-OnHeap-cons b c t = OnHeap-front b (c ∷ []) t
+OnHeap-cons b c t = appended-heap b (c ∷ []) t
 
 pub OnHeap-cons_front : (b : BuilderState) (c : ℕ) (t u : List ℕ) → (appended b (c ∷ t)).kind ≡ OnHeap
     → (appended b (c ∷ (t ++ u))).kind ≡ OnHeap
-OnHeap-cons_front b c t u = OnHeap-front b (c ∷ t) u
+OnHeap-cons_front b c t u = appended-heap b (c ∷ t) u
 
 -- in a loop: the pieces of the first items and of one more, and those that follow
 pub pieces-front : {X : Type 0} (f : X → List ℕ) (xs : List X) (i : ℕ) → (flat_map f (take i xs) ≡ flat_map f (take i xs))
@@ -38,4 +34,4 @@ pub pieces-front : {X : Type 0} (f : X → List ℕ) (xs : List X) (i : ℕ) →
 pieces-front f xs i = (refl, flat_map-parts f xs (i + 1))
 
 -- of a builder that is passed in, whose text is not known
-pub ruleset passed_builders = (texts, appended-twice, appended-nothing, OnHeap-front, OnHeap-cons, OnHeap-cons_front, pieces-front, flat_map-map, in_loops)
+pub ruleset passed_builders = (texts, appended-twice, appended-nothing, appended-heap, OnHeap-cons, OnHeap-cons_front, pieces-front, flat_map-map, in_loops)

@@ -16,7 +16,8 @@ position-more p xs x b e =
 position-kept : {X : Type 0} (p : X → Bool) (xs : List X) (x : X) → p x ≡ false → position p (xs ++ x ∷ []) ≡ position p xs
 position-kept p xs x fails = let more = position-more p xs x false fails in grind (arith, common_steps, more)
 
-bytes_eq-apart : (s t : List ℕ) → bytes_eq s t ≡ false → bytes_eq t s ≡ false
+-- a text that is not another: the other is not it
+pub bytes_eq-apart : (s t : List ℕ) → bytes_eq s t ≡ false → bytes_eq t s ≡ false
 bytes_eq-apart s t other =
     false_from_ne_true (bytes_eq t s) (λ e. false≢true (sym other ∙ (bytes_eq-Decides s t).1 (sym ((bytes_eq-Decides t s).0 e))))
 

@@ -1,7 +1,7 @@
 use Rattle.std.proofs.lemmas.Grind.{common_steps}
 use Rattle.std.proofs.Common.{arith}
 use Rattle.std.specs.Str.{chars}
-use Rattle.smol_tokens_core.proofs.FaultLemmas.{OnErr-from}
+use Rattle.smol_str.proofs.CallerLemmas.{OnErr-always}
 use Rattle.smol_tokens_core.proofs.ReportLemmas.{report_line-value, report-last}
 use Rattle.smol_tokens_core.proofs.TokenLemmas.{lines-seen, some_text}
 use Rattle.smol_tokens_core.proofs.report.report_lines.Goals as goal
@@ -11,10 +11,10 @@ loop-line-preserved c = grind (arith, common_steps, report_line-value, lines-see
 
 pub returns-in_err-value_of-clause-refused : goal.returns-in_err-value_of-clause-refused
 returns-in_err-value_of-clause-refused c =
-    OnErr-from _ c.from_residual.result
+    OnErr-always c.from_residual.result _
     (some_text (chars c.args.text.now) _ _ _ _ c.loop-line.invariant.1 c.in-Some.ensures.steps)
 
 pub returns-in_err-push_line-clause-refused : goal.returns-in_err-push_line-clause-refused
 returns-in_err-push_line-clause-refused c =
-    OnErr-from _ c.from_residual-in_err-push_line.result
+    OnErr-always c.from_residual-in_err-push_line.result _
     (some_text (chars c.args.text.now) _ _ _ _ c.loop-line.invariant.1 c.in-Some.ensures.steps)
