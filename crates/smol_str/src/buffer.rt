@@ -10,7 +10,7 @@ ghost use Rattle.smol_str.specs.Case.{IsAsciiText, converted};
 
 mod packing;
 
-use crate::bytes::ascii::{AsciiCase, LANES, convert_all, is_all_ascii};
+use crate::bytes::ascii::{ASCII_LANES, AsciiCase, convert_all, is_all_ascii};
 use packing::{copy_packed, equal_words, order_words, pack, pack_char, write_ascii, write_at};
 use std::cmp::Ordering;
 use std::marker::Model;
@@ -87,7 +87,7 @@ impl InlineText {
     pub(crate) fn is_ascii(&self) -> bool
         ensures { IsTrue result ↔ IsAsciiText self.now }
     {
-        let (front, back) = self.packed.split_at(PACKED_LEN / LANES * LANES);
+        let (front, back) = self.packed.split_at(PACKED_LEN / ASCII_LANES * ASCII_LANES);
         is_all_ascii(front) & is_all_ascii(back)
     }
 

@@ -8,7 +8,7 @@ use crate::bytes::words::load;
 use std::simd::prelude::*;
 
 /// How many bytes are mapped at a time.
-pub(crate) const LANES: usize = 16;
+pub(crate) const ASCII_LANES: usize = 16;
 
 /// How far a small ASCII letter lies behind its capital.
 const CASE_OFFSET: u8 = b'a' - b'A';
@@ -40,15 +40,15 @@ pub(crate) fn front_len(bytes: &[u8]) -> usize
 #[tactic(auto, using(crate::proofs::CaseLemmas::Ascii::ascii_fronts))]
 fn ascii_chunks(bytes: &[u8]) -> usize
     ensures all { IsAsciiFront bytes.now result }
-    ensures stops { result + LANES ≤ length bytes.now →
-        ¬ (IsAscii (take LANES (drop result bytes.now))) }
+    ensures stops { result + ASCII_LANES ≤ length bytes.now →
+        ¬ (IsAscii (take ASCII_LANES (drop result bytes.now))) }
 {
     let mut at = 0;
-    while bytes.len() - at >= LANES {
-        if has_high(load::<LANES>(bytes, at)) {
+    while bytes.len() - at >= ASCII_LANES {
+        if has_high(load::<ASCII_LANES>(bytes, at)) {
             return at;
         }
-        at += LANES;
+        at += ASCII_LANES;
     }
     at
 }
@@ -72,11 +72,11 @@ pub(crate) fn is_all_ascii(bytes: &[u8]) -> bool
     if len < 8 {
         return bytes.is_ascii();
     }
-    if len < LANES {
+    if len < ASCII_LANES {
         return !has_high(load::<8>(bytes, 0)) & !has_high(load::<8>(bytes, len - 8));
     }
     let at = ascii_chunks(bytes);
-    (len - at < LANES) & !has_high(load::<LANES>(bytes, len - LANES))
+    (len - at < ASCII_LANES) & !has_high(load::<ASCII_LANES>(bytes, len - ASCII_LANES))
 }
 
 /// Maps all ASCII letters in place; no other byte changes.
@@ -86,9 +86,9 @@ pub(crate) fn convert_all(bytes: &mut [u8], case: AsciiCase)
     ensures { bytes.new ≡ converted case bytes.old }
 {
     let mut at = 0;
-    while bytes.len() - at >= LANES {
-        convert_part::<LANES>(bytes, at, case);
-        at += LANES;
+    while bytes.len() - at >= ASCII_LANES {
+        convert_part::<ASCII_LANES>(bytes, at, case);
+        at += ASCII_LANES;
     }
     if bytes.len() - at >= 8 {
         convert_part::<8>(bytes, at, case);

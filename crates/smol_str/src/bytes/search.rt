@@ -14,7 +14,7 @@ use std::simd::prelude::*;
 const NEAR: usize = 64;
 
 /// How many of them are tested at once.
-pub(crate) const LANES: usize = 32;
+pub(crate) const SEARCH_LANES: usize = 32;
 
 /// `text[from..]` as bytes, stated with `drop`.
 #[inline(always)]
@@ -69,11 +69,11 @@ fn first_index(byte: u8, bytes: &[u8]) -> Option<usize>
     ensures { IsFirstByte (is_byte byte) bytes.now result }
 {
     let mut at = 0;
-    while at < NEAR && bytes.len() - at >= LANES {
+    while at < NEAR && bytes.len() - at >= SEARCH_LANES {
         if let Some(index) = index_in_lanes(byte, bytes, at) {
             return Some(index);
         }
-        at += LANES;
+        at += SEARCH_LANES;
     }
     memchr(byte, bytes)
 }
@@ -81,10 +81,10 @@ fn first_index(byte: u8, bytes: &[u8]) -> Option<usize>
 /// The index of the first byte that is `byte`, among those that are tested at once from an index on.
 #[inline(always)]
 fn index_in_lanes(byte: u8, bytes: &[u8], at: usize) -> Option<usize>
-    requires { at + LANES ≤ length bytes.now }
-    ensures { IsFirst (Passes (is_byte byte) bytes.now) at (at + LANES) result }
+    requires { at + SEARCH_LANES ≤ length bytes.now }
+    ensures { IsFirst (Passes (is_byte byte) bytes.now) at (at + SEARCH_LANES) result }
 {
-    let same = marks::<LANES>(byte, bytes, at);
+    let same = marks::<SEARCH_LANES>(byte, bytes, at);
     if same == 0 {
         return None;
     }
@@ -105,16 +105,16 @@ fn marks<const N: usize>(byte: u8, bytes: &[u8], at: usize) -> u64
 /// How many bytes are `byte`. The last lanes may overlap those before them.
 #[inline(never)]
 pub(crate) fn count_byte(byte: u8, bytes: &[u8]) -> usize
-    requires { LANES ≤ length bytes.now }
+    requires { SEARCH_LANES ≤ length bytes.now }
 {
-    let last = bytes.len() - LANES;
+    let last = bytes.len() - SEARCH_LANES;
     let mut total: usize = 0;
     let mut at = 0;
     while at < last {
-        total = total.saturating_add(marks::<LANES>(byte, bytes, at).count_ones() as usize);
-        at += LANES;
+        total = total.saturating_add(marks::<SEARCH_LANES>(byte, bytes, at).count_ones() as usize);
+        at += SEARCH_LANES;
     }
-    let rest = marks::<LANES>(byte, bytes, last) >> (at - last);
+    let rest = marks::<SEARCH_LANES>(byte, bytes, last) >> (at - last);
     total.saturating_add(rest.count_ones() as usize)
 }
 

@@ -11,7 +11,7 @@ ghost use Rattle.smol_str.specs.Replacing.{IsReplacing};
 
 use crate::buffer::INLINE_CAP;
 use crate::builder::SmolStrBuilder;
-use crate::bytes::search::{LANES, Needle, bytes_from, count_byte, first_byte};
+use crate::bytes::search::{Needle, SEARCH_LANES, bytes_from, count_byte, first_byte};
 use crate::value::SmolStr;
 use std::alloc::{AllocError, Global};
 
@@ -183,7 +183,7 @@ fn growth(text: &str, from: &str, to: &str, count: usize) -> usize {
     if to.len() <= from.len() {
         return 0;
     }
-    if from.len() == 1 && text.len() >= LANES {
+    if from.len() == 1 && text.len() >= SEARCH_LANES {
         let matches = count_byte(from.as_bytes()[0], text.as_bytes());
         return matches.min(count).saturating_mul(to.len() - 1);
     }

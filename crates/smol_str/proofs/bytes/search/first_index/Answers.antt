@@ -8,9 +8,9 @@ loop-at-init c = (omega arith, λ k low high. absurd (omega arith))
 
 pub returns-in-Some : goal.returns-in-Some
 returns-in-Some c =
-    then-first (length c.args.bytes.now) (omega arith) (omega (arith, c.if-bytes-at-ge-LANES.true)) c.loop-at.invariant.1
+    then-first (length c.args.bytes.now) (omega arith) (omega (arith, c.if-bytes-at-ge-SEARCH_LANES.true)) c.loop-at.invariant.1
     c.in-Some.ensures
 
 pub loop-at-preserved : goal.loop-at-preserved
 loop-at-preserved c =
-    (omega (arith, c.if-bytes-at-ge-LANES.true), Nowhere-then c.loop-at.invariant.1 c.in_default.ensures)
+    (omega (arith, c.if-bytes-at-ge-SEARCH_LANES.true), Nowhere-then c.loop-at.invariant.1 c.in_default.ensures)
