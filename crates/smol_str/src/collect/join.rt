@@ -32,7 +32,7 @@ impl SmolStr {
             return SmolStrBuilder::new(alloc).into_value();
         };
         // Memory for the whole text, in one request. There is none where the text may fit in the buffer.
-        let room = least_len(first, separator, others);
+        let room = min_len(first, separator, others);
         // The length of a builder's text lies in memory: each append would wait for the one before.
         if room > INLINE_CAP {
             if let Some(text) = join_lent(alloc, first, separator, others, room)? {
@@ -48,16 +48,16 @@ impl SmolStr {
 
 /// A number of bytes that a text and others, each behind the separator, have at least.
 #[inline(always)]
-fn least_len<P: Piece>(first: &P, separator: &str, others: &[P]) -> usize
+fn min_len<P: Piece>(first: &P, separator: &str, others: &[P]) -> usize
     ensures { result ≤ size (P.text first.now
         ++ flat_map (λ piece. chars separator.now ++ P.text piece) others.now) }
 {
-    let mut len = first.at_least();
+    let mut len = first.min_len();
     for piece in others {
         // A sum that wraps is still no more than the length.
         len = len
             .wrapping_add(separator.len())
-            .wrapping_add(piece.at_least());
+            .wrapping_add(piece.min_len());
     }
     len
 }

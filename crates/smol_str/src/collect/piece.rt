@@ -26,7 +26,7 @@ pub trait Piece: Drop {
         ensures refused { OnErr result ((appended builder.old (text self.now)).kind ≡ OnHeap) };
 
     /// A number of bytes that the text has at least, told without reading it: [`SmolStr::join`] asks for its room by it.
-    fn at_least(&self) -> usize
+    fn min_len(&self) -> usize
         ensures { result ≤ size (text self.now) }
     {
         0
@@ -74,7 +74,7 @@ impl<'a> Piece for &'a str {
 
     #[inline(always)]
     #[tactic(auto, using(crate::proofs::TextLemmas::Sizes::sizes))]
-    fn at_least(&self) -> usize {
+    fn min_len(&self) -> usize {
         let text: &str = *self;
         text.len()
     }
@@ -99,7 +99,7 @@ impl Piece for String {
 
     #[inline(always)]
     #[tactic(auto, using(crate::proofs::TextLemmas::Sizes::sizes))]
-    fn at_least(&self) -> usize {
+    fn min_len(&self) -> usize {
         self.len()
     }
 
@@ -123,7 +123,7 @@ impl<'a> Piece for &'a String {
 
     #[inline(always)]
     #[tactic(auto, using(crate::proofs::TextLemmas::Sizes::sizes))]
-    fn at_least(&self) -> usize {
+    fn min_len(&self) -> usize {
         self.len()
     }
 
@@ -147,7 +147,7 @@ impl Piece for SmolStr {
     }
 
     #[inline(always)]
-    fn at_least(&self) -> usize {
+    fn min_len(&self) -> usize {
         self.len()
     }
 

@@ -9,7 +9,7 @@ returns-in_err-text-clause-refused g c =
     let whole : c.args.pieces.now ≡ c.in-Some.first.now ∷ c.in-Some.others.now = search rules in
     let joins = joined-first g.P.Piece.text (chars c.args.separator.now) _ _ _ whole in
     OnErr-always c.from_residual.result _
-    (rw joins (λ short. omega (arith, short, c.least_len-room.ensures, c.if-room-gt-INLINE_CAP.true)))
+    (rw joins (λ short. omega (arith, short, c.min_len-room.ensures, c.if-room-gt-INLINE_CAP.true)))
 
 pub returns-in-Some-2-clause-ok : goal.returns-in-Some-2-clause-ok
 returns-in-Some-2-clause-ok g c =
@@ -25,28 +25,28 @@ returns-in-Some-2-clause-refused g c =
     let whole : c.args.pieces.now ≡ c.in-Some.first.now ∷ c.in-Some.others.now = search rules in
     let joins = joined-first g.P.Piece.text (chars c.args.separator.now) _ _ _ whole in
     OnErr-always c.from_owned.result _
-    (rw joins (λ short. omega (arith, short, c.least_len-room.ensures, c.if-room-gt-INLINE_CAP.true)))
+    (rw joins (λ short. omega (arith, short, c.min_len-room.ensures, c.if-room-gt-INLINE_CAP.true)))
 
 pub returns-in_err-builder-clause-refused : goal.returns-in_err-builder-clause-refused
 returns-in_err-builder-clause-refused g c =
     let whole : c.args.pieces.now ≡ c.in-Some.first.now ∷ c.in-Some.others.now = search rules in
     let joins = joined-first g.P.Piece.text (chars c.args.separator.now) _ _ _ whole in
     OnErr-always c.from_residual-in_err-builder.result _
-    (rw joins (λ short. omega (arith, short, c.least_len-room.ensures, c.in_err-builder.ensures.refused)))
+    (rw joins (λ short. omega (arith, short, c.min_len-room.ensures, c.in_err-builder.ensures.refused)))
 
 pub returns-in_err-append_to-clause-refused : goal.returns-in_err-append_to-clause-refused
 returns-in_err-append_to-clause-refused g c =
     let whole : c.args.pieces.now ≡ c.in-Some.first.now ∷ c.in-Some.others.now = search rules in
     let joins = joined-first g.P.Piece.text (chars c.args.separator.now) _ _ _ whole in
     OnErr-always c.from_residual-in_err-append_to.result _
-    (rw joins (first-long _ _ _ _ c.in_ok-builder.ensures.ok c.least_len-room.ensures c.in_err-append_to.ensures.refused))
+    (rw joins (first-long _ _ _ _ c.in_ok-builder.ensures.ok c.min_len-room.ensures c.in_err-append_to.ensures.refused))
 
 pub returns-in_err-append_others-clause-refused : goal.returns-in_err-append_others-clause-refused
 returns-in_err-append_others-clause-refused g c =
     let whole : c.args.pieces.now ≡ c.in-Some.first.now ∷ c.in-Some.others.now = search rules in
     let joins = joined-first g.P.Piece.text (chars c.args.separator.now) _ _ _ whole in
     OnErr-always c.from_residual-in_err-append_others.result _
-    (rw joins (others-long _ _ _ _ c.in_ok-builder.ensures.ok c.least_len-room.ensures _ c.in_ok-append_to.ensures.ok c.in_err-append_others.ensures.refused))
+    (rw joins (others-long _ _ _ _ c.in_ok-builder.ensures.ok c.min_len-room.ensures _ c.in_ok-append_to.ensures.ok c.in_err-append_others.ensures.refused))
 
 pub returns-clause-ok : goal.returns-clause-ok
 returns-clause-ok g c =
