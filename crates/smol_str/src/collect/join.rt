@@ -9,6 +9,7 @@ ghost use Rattle.smol_str.specs.BuilderState.{OnHeap, appended};
 ghost use Rattle.smol_str.specs.Meaning.{IsValueOf};
 
 use super::Piece;
+use crate::buffer::INLINE_CAP;
 use crate::builder::SmolStrBuilder;
 use crate::value::SmolStr;
 use std::alloc::{AllocError, Global};
