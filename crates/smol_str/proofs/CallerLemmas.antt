@@ -27,15 +27,15 @@ pub mod Crates
 mod Iterators
 mod Splits
 pub use Rattle.smol_str.proofs.CallerLemmas.Texts.{texts, compared, tested, replacing, prints}
-pub use Rattle.smol_str.proofs.CallerLemmas.Builders.{builders, passed_builders}
+pub use Rattle.smol_str.proofs.CallerLemmas.Builders.{builders, passed_builders, by_entry}
 pub use Rattle.smol_str.proofs.CallerLemmas.Values.{texts-push, text_at, listed, stacked, among}
 pub use Rattle.smol_str.proofs.CallerLemmas.Sorting.{sorting}
 pub use Rattle.smol_str.proofs.CallerLemmas.Interning.{interning, bytes_eq-apart}
 pub use Rattle.smol_str.proofs.CallerLemmas.Maps.{updates, lookups, inserts, put_and_asked, scopes, lookup-with_entry}
 pub use Rattle.smol_str.proofs.CallerLemmas.Groups.{grouped, counted}
-pub use Rattle.smol_str.proofs.CallerLemmas.Loops.{by_line, by_char, by_char_some, by_item, by_text, side_by_side}
+pub use Rattle.smol_str.proofs.CallerLemmas.Loops.{by_line, by_char, by_char_some, by_item, by_text, side_by_side, sized, size_more}
 pub use Rattle.smol_str.proofs.CallerLemmas.Collecting.{collecting_chars, collecting_strs, collecting_pieces, collecting_strings, chars_by_std, strings_by_std, texts_collected}
-pub use Rattle.smol_str.proofs.CallerLemmas.Cuts.{cutting, joining, pieces_lack}
+pub use Rattle.smol_str.proofs.CallerLemmas.Cuts.{cutting, joining, by_piece, among_pieces, pieces_lack}
 pub use Rattle.smol_str.proofs.CallerLemmas.CutOnce.{cut_once, stripped, stripped_both, cut_at_texts, cut_alike, not_taken, trimmed}
 pub use Rattle.smol_str.proofs.CallerLemmas.Wire.{forms, parts, items, items-apart, lists-apart, form_is_whole, form-cut-utf8, AreRead, one_read, all_read, next_form}
 -- for an answer in a loop over wire forms: what is left after a value, after an early end, and where memory was refused

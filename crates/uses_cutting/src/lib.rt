@@ -1,8 +1,8 @@
 //! Callers that cut lines at a separator and join them again; what a caller does with an index or a buffer that a call returns.
 #![tactic(auto)]
 
-ghost use Rattle.std.specs.List.{enumerate_from, filter_map, prefix_len};
-ghost use Rattle.std.specs.Prelude.{get_or, ◌≡◌, ◌≢◌, ◌<◌, ◌≤◌, ◌↔◌, ◌+◌, ◌++◌, ◌∷◌, ◌-◌, [], ℕ, List, codes, drop, length, map, set, take, IfNone, IfOk, IfSome, IsTrue, MatchBool, OnErr, encode_utf8_all, String, All, None, Some, ◌==◌, if◌then◌else◌, string_bytes};
+ghost use Rattle.std.specs.List.{enumerate_from, filter_map, list_any, prefix_len};
+ghost use Rattle.std.specs.Prelude.{get_or, ◌≡◌, ◌≢◌, ◌<◌, ◌≤◌, ◌↔◌, ◌+◌, ◌++◌, ◌∷◌, ◌-◌, [], ℕ, List, codes, drop, length, map, set, take, true, bytes_eq, IfErr, IfNone, IfOk, IfSome, IsTrue, MatchBool, OnErr, encode_utf8_all, String, All, None, Some, ◌==◌, if◌then◌else◌, string_bytes};
 ghost use Rattle.std.specs.Str.{IsCharBoundary, chars, skip_leading_whitespace, drop_trailing_whitespace};
 ghost use Rattle.std.specs.Str.Lines.{lines};
 ghost use Rattle.smol_str.specs.Cut.{IsFirstAfter, Occurs, joined_by};
@@ -377,6 +377,16 @@ pub fn one_setting(key: &SmolStr, value: &SmolStr, other_key: &SmolStr, other_va
     ensures value { value.now.text ≡ other_value.now.text }
 {}
 
+/// Chords `modifiers+key` that read the same have the same key and the same modifiers, where no key has a plus sign.
+#[tactic(auto, using(smol_str::proofs::CallerLemmas::cut_alike))]
+pub fn one_chord(held: &SmolStr, key: &SmolStr, other_held: &SmolStr, other_key: &SmolStr)
+    requires plain { ¬ Occurs (43 ∷ []) key.now.text }
+    requires other_plain { ¬ Occurs (43 ∷ []) other_key.now.text }
+    requires one_text { held.now.text ++ (43 ∷ key.now.text) ≡ other_held.now.text ++ (43 ∷ other_key.now.text) }
+    ensures held { held.now.text ≡ other_held.now.text }
+    ensures key { key.now.text ≡ other_key.now.text }
+{}
+
 /// A text without the spaces in front.
 #[tactic(auto, using(smol_str::proofs::CallerLemmas::trimmed))]
 pub fn unindented(text: &str) -> &str
@@ -488,4 +498,64 @@ pub fn brackets(line: &str) -> (bool, bool)
 {
     let opened = line.strip_prefix('[').is_some();
     (opened, line.strip_suffix(']').is_some())
+}
+
+/// The fields of a line, without the white space around each.
+#[tactic(auto, using(smol_str::proofs::CallerLemmas::by_piece))]
+pub fn trimmed_fields(alloc: Global, line: &str) -> Result<Vec<SmolStr>, AllocError>
+    ensures { IfOk result (λ fields. texts fields.items
+        ≡ map (λ t. drop_trailing_whitespace (skip_leading_whitespace t)) (cut (chars line.now) (44 ∷ []) (no_limit (chars line.now)))) }
+{
+    line.split(',')
+        .map(|field| SmolStr::new(alloc, field.trim()))
+        .try_collect(alloc)
+}
+
+/// How many modifiers a chord names. A word that is none comes back: it is one of the chord's.
+#[tactic(auto, using(smol_str::proofs::CallerLemmas::among_pieces))]
+pub fn modifiers(chord: &str) -> Result<usize, &str>
+    ensures { IfErr result (λ word.
+        list_any (bytes_eq (chars word.now)) (cut (chars chord.now) (43 ∷ []) (no_limit (chars chord.now))) ≡ true) }
+{
+    let mut count = 0_usize;
+    for word in chord.split('+') {
+        if !is_modifier(word) {
+            return Err(word);
+        }
+        count = count.saturating_add(1);
+    }
+    Ok(count)
+}
+
+fn is_modifier(word: &str) -> bool {
+    matches!(word, "ctrl" | "shift" | "alt")
+}
+
+/// Whether each segment of a path is short. One that is not comes back: it is one of the path's.
+#[tactic(auto, using(smol_str::proofs::CallerLemmas::among_pieces))]
+pub fn check_segments(path: &str) -> Result<(), &str>
+    ensures { IfErr result (λ it.
+        list_any (bytes_eq (chars it.now)) (cut (chars path.now) (chars (codes "::")) (no_limit (chars path.now))) ≡ true) }
+{
+    for segment in path.split("::") {
+        if segment.len() > INLINE_CAP {
+            return Err(segment);
+        }
+    }
+    Ok(())
+}
+
+/// The lines of a text, which are all short; else nothing.
+#[tactic(auto, using(smol_str::proofs::CallerLemmas::by_line))]
+pub fn short_lines(alloc: Global, text: &str) -> Result<Option<Vec<SmolStr>>, AllocError>
+    ensures { IfOk result (λ found. IfSome found (λ values. All (λ line. length line ≤ INLINE_CAP) (lines text.now))) }
+{
+    let mut values = Vec::new(alloc);
+    for line in text.lines() {
+        if line.len() > INLINE_CAP {
+            return Ok(None);
+        }
+        values.push(SmolStr::new_inline(line))?;
+    }
+    Ok(Some(values))
 }

@@ -1,3 +1,4 @@
+pub mod Fields
 pub mod Headers
 pub mod Names
 pub mod Settings

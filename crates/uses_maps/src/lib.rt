@@ -9,6 +9,7 @@ ghost use Rattle.std.specs.List.Sorted.{IsPermutation, IsSorted, IsStrictlySorte
 ghost use Rattle.smol_str.specs.Keys.{ordered_value_at, value_at, has_text, is_before, innermost, entry_lists, entry_texts};
 ghost use Rattle.smol_str.specs.Meaning.{texts};
 
+pub mod fields;
 pub mod groups;
 pub mod headers;
 pub mod paths;

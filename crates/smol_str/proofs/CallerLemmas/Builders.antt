@@ -1,5 +1,5 @@
 -- Builders: appends one after another, and when a builder leaves its buffer.
-use Rattle.smol_str.proofs.Common.{BuilderState, OnHeap, appended, ◌++◌, drop, ◌≡◌, ◌∷◌, ℕ, ◌+◌, ◌≤◌, List, [], take, take_all, refl, arith, flat_map, size, nat_tests, append-nil, append_assoc}
+use Rattle.smol_str.proofs.Common.{BuilderState, OnHeap, appended, ◌++◌, drop, ◌≡◌, ◌∷◌, ℕ, ◌+◌, ◌≤◌, List, [], take, take_all, refl, arith, flat_map, size, nat_tests, append-nil, append_assoc, map-append}
 use Rattle.smol_str.proofs.CallerLemmas.Common.{take_at_read, flat_map-append, flat_map-map}
 use Rattle.smol_str.proofs.TextLemmas.Lists.{flat_map-parts}
 use Rattle.smol_str.proofs.TextLemmas.Sizes.{size-append}
@@ -35,3 +35,6 @@ pieces-front f xs i = (refl, flat_map-parts f xs (i + 1))
 
 -- of a builder that is passed in, whose text is not known
 pub ruleset passed_builders = (texts, appended-twice, appended-nothing, appended-heap, OnHeap-cons, OnHeap-cons_front, pieces-front, flat_map-map, in_loops)
+
+-- a loop over the entries of a map of `indexmap`, which appends something for each
+pub ruleset by_entry = (texts, appended-twice, appended-nothing, map-append, in_loops)

@@ -273,4 +273,17 @@ pub same_at_text : (p q x : List ℕ) → 0 < length p → IsFirstAfter p q → 
     × ((r y : List ℕ) → IsFirstAfter p r → q ++ (p ++ x) ≡ r ++ (p ++ y) → (q ≡ r) × (x ≡ y))
 same_at_text p q x some first = (refl, λ r y other e. same_parts p q r x y some e first other)
 
-pub ruleset cut_alike = (same_at_char, same_at_text)
+-- and at their last matches of a character
+last_alike : (c : ℕ) (a b k j : List ℕ) → ¬ Occurs (c ∷ []) k → ¬ Occurs (c ∷ []) j → a ++ (c ∷ k) ≡ b ++ (c ∷ j)
+    → (a ≡ b) × (k ≡ j)
+last_alike c [] [] k j none other e = (refl, ap (drop 1) e)
+last_alike c [] (y ∷ b) k j none other e = absurd (none (b, j, ap (drop 1) e))
+last_alike c (x ∷ a) [] k j none other e = absurd (other (a, k, sym (ap (drop 1) e)))
+last_alike c (x ∷ a) (y ∷ b) k j none other e =
+    let rest = last_alike c a b k j none other (ap (drop 1) e) in (cc (e, rest.0), rest.1)
+
+pub same_at_last : (c : ℕ) (a k : List ℕ) → ¬ Occurs (c ∷ []) k → (a ++ (c ∷ k) ≡ a ++ (c ∷ k))
+    × ((b j : List ℕ) → ¬ Occurs (c ∷ []) j → a ++ (c ∷ k) ≡ b ++ (c ∷ j) → (a ≡ b) × (k ≡ j))
+same_at_last c a k none = (refl, λ b j other e. last_alike c a b k j none other e)
+
+pub ruleset cut_alike = (same_at_char, same_at_text, same_at_last)

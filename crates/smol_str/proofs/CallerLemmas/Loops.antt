@@ -1,7 +1,10 @@
 -- Loops over what std's iterators lend, and what `map` and `try_collect` make of it.
 use Rattle.smol_str.proofs.Common.{Bool, cond, Ok, Err, IfOk, refl, sym, ◌≡◌, Some, None, ap, ◌∙◌, Result, Option, Bor, true, ◌<◌, ◌+◌, ℕ, arith, ◌≤◌, nat_tests, nat_eq, get_or, take, map, List, [], ◌∷◌, ◌++◌, length, length-append, append-nil, append_assoc, items_from_drains, FoldsTo, All-nil, All-cons, YieldsList-from_chars, map-id, All, YieldsList, YieldsList-from_slice, flat_map}
 use Rattle.smol_str.proofs.Common.{length-map, nil_from_length, take_all, take_more, pointwise, encode_utf8_all, chars, IsUtf8, encode_utf8, chars-nil, Meaning, size, map-append, false, false≢true, slice_get}
-use Rattle.smol_str.proofs.CallerLemmas.Common.{slice_get_read, bytes_eq-Decides, texts, Vec, Yields, AlwaysYields, map_source, map_callee, enumerate_source, enumerate_count, enumerate_from, filter, fold, chars_rest, chars_steps, lines_rest, lines_steps, Chars, iter_rest, iter_steps, Iter, lines, YieldsList-from_lines, fold-append, flat_map-append, filter-append, filter_map-append, filter_more, get_or-map, map-map, Map}
+use Rattle.smol_str.proofs.CallerLemmas.Common.{slice_get_read, bytes_eq-Decides, texts, Vec, Yields, AlwaysYields, map_source, map_callee, enumerate_source, enumerate_count, enumerate_from, filter, fold, chars_rest, chars_steps, lines_rest, lines_steps, Chars, iter_rest, iter_steps, Iter, lines, YieldsList-from_lines, fold-append, flat_map-append, filter-append, filter_map-append, filter_more, get_or-map, map-map, Map, get_or_append_left, get_or_push}
+use Rattle.std.proofs.Common.{◌⊎◌, ⊎_elim, inl, inr}
+use Rattle.std.proofs.lemmas.Bool.{cases_lt}
+use Rattle.std.proofs.lemmas.List.Folds.{concat-append}
 use Rattle.smol_str.proofs.CallerLemmas.Builders.{size-cons}
 use Rattle.smol_str.proofs.BuilderLemmas.State.{appended-twice, OnHeap-long}
 use Rattle.std.specs.Vec.{vec_items}
@@ -131,8 +134,21 @@ lines_numbered steps xs s t run ends first = (
       items_from_drains xs (t, run, λ _. ends) gives,
 )
 
+-- one thing more, at a place: what holds of all so far, and of it, holds there
+pub at_pushed : {A B : Type 0} (f : A → B) (xs : List A) (x : A) (k : ℕ) (d : B) → k < length (map f (xs ++ x ∷ []))
+    → ((k < length (map f xs)) × (get_or (map f (xs ++ x ∷ [])) k d ≡ get_or (map f xs) k d))
+    ⊎ (get_or (map f (xs ++ x ∷ [])) k d ≡ f x)
+at_pushed f xs x k d within =
+    let more = map-append f xs (x ∷ []) in
+    let long = ap length more ∙ length-append (map f xs) (f x ∷ []) in
+    ⊎_elim
+    (λ (here : k < length (map f xs)).
+    inl (here, ap (λ l. get_or l k d) more ∙ get_or_append_left (map f xs) (f x ∷ []) d k here))
+    (λ past. inr (ap (λ l. get_or l k d) more ∙ get_or_push (map f xs) (f x) d k (omega (arith, past, within, long))))
+    (cases_lt k (length (map f xs)))
+
 -- a loop whose invariant folds, maps or filters what was yielded goes on by `fold-append` and the like
-pub ruleset by_line = (lines_yielded, lines_tried, lines_numbered, collected_oks, map-append, filter_map-append, append-nil, fold-append)
+pub ruleset by_line = (lines_yielded, lines_tried, lines_numbered, collected_oks, map-append, filter_map-append, append-nil, fold-append, at_pushed)
 
 -- a loop over the characters of a text: all of them at its end, and in it no more than all
 module _ {steps : Chars → Option ℕ → Chars → Type 0} (xs : List ℕ) (s t : Chars) (run : Yields steps s xs t)
@@ -208,6 +224,16 @@ pub texts_all : (vs : List Meaning) (n : ℕ) → n ≡ length vs → take n (te
 texts_all vs n e = take_all n (texts vs) (omega (arith, e, length-map vs (λ (v : Meaning). v.text)))
 
 pub ruleset by_text = (texts_more, texts_all, fold-push, same_bytes)
+
+-- the same where the invariant measures what was read so far
+pub ruleset sized = (by_text, concat-append, append-nil, size-append)
+
+-- the pieces of any items, measured: those so far, and one more
+pub size_more : {X : Type 0} (f : X → List ℕ) (xs : List X) (i : ℕ) (x : X) → i < length xs → x ≡ get_or xs i x
+    → size (flat_map f (take (i + 1) xs)) ≡ size (flat_map f (take i xs)) + size (f x)
+size_more f xs i x within is =
+    ap (λ ys. size (flat_map f ys)) (take_more xs i x within ∙ (λ j. take i xs ++ (sym is j) ∷ []))
+    ∙ ap size (flat_map-push f (take i xs) x) ∙ size-append (flat_map f (take i xs)) (f x)
 
 -- a loop over two lists of values side by side, whose texts are the same so far
 pub same_front : (vs ws : List Meaning) (i : ℕ) (v w : Meaning) → take i (texts vs) ≡ take i (texts ws) → i < length vs → i < length ws

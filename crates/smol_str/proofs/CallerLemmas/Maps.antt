@@ -88,7 +88,26 @@ pub value_at-left : {V S : Type 0} (r : Option V) (bs : List ℕ) (m : IndexMap 
     → lookup (stands_for bs) m.entries ≡ r → value_at (chars bs) m ≡ r
 value_at-left r bs m u left = sym (found-at bs m.entries u) ∙ left
 
-pub ruleset lookups = (value-lent, value-keyed, lookup-stands_for, value_at-found, value_at-left)
+-- a value that was taken out, and what is left there, as texts: by a key, and by a `&str`
+pub taken : (r : Option Meaning) (key : Meaning) (es : List (Meaning × Meaning)) → r ≡ lookup (same_key key) es
+    → option_map (λ v. v.text) r ≡ lookup (bytes_eq key.text) (entry_texts (λ (v : Meaning). v.text) es)
+taken r key es found = ap (option_map (λ (v : Meaning). v.text)) found ∙ lookup-keyed (λ (v : Meaning). v.text) key.text es
+
+pub gone : (key : Meaning) (es : List (Meaning × Meaning)) → lookup (same_key key) es ≡ None
+    → lookup (bytes_eq key.text) (entry_texts (λ (v : Meaning). v.text) es) ≡ None
+gone key es none = sym (taken None key es (sym none))
+
+pub taken_str : (r : Option Meaning) (bs : List ℕ) (es : List (Meaning × Meaning)) → IsUtf8 bs → r ≡ lookup (stands_for bs) es
+    → option_map (λ v. v.text) r ≡ lookup (bytes_eq (chars bs)) (entry_texts (λ (v : Meaning). v.text) es)
+taken_str r bs es u found = ap (option_map (λ (v : Meaning). v.text)) found ∙ lookup-stands_for (λ (v : Meaning). v.text) bs es u
+
+pub gone_str : (bs : List ℕ) (es : List (Meaning × Meaning)) → IsUtf8 bs → lookup (stands_for bs) es ≡ None
+    → lookup (bytes_eq (chars bs)) (entry_texts (λ (v : Meaning). v.text) es) ≡ None
+gone_str bs es u none = sym (taken_str None bs es u (sym none))
+
+pub ruleset removed = (taken, gone, taken_str, gone_str)
+
+pub ruleset lookups = (value-lent, value-keyed, lookup-stands_for, value_at-found, value_at-left, removed)
 
 -- an insert into a map of `indexmap`, and into a set: its entries and its keys seen as texts
 module _ (eq : Meaning → Meaning → Bool) where
