@@ -1,0 +1,2 @@
+mod BracketLemmas
+mod TreeLemmas

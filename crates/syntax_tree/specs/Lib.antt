@@ -1,0 +1,4 @@
+pub mod Brackets
+pub mod Building
+pub mod Faults
+pub mod Trees
