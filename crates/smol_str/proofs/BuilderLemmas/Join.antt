@@ -1,5 +1,5 @@
 -- For joining: a text, and then others behind a separator.
-use Rattle.smol_str.proofs.Common.{◌≡◌, ℕ, ◌+◌, ◌<◌, List, ◌∷◌, ◌++◌, length, get_or, map, take, flat_map, ap, ◌∙◌, arith, append-nil, append_assoc, sym, subst, take_at, take_all, length-take-le, chars-append, IsUtf8-append, common_steps, joined_by, BuilderState, OnHeap, empty_builder, appended, kind_for, IsShort, IsUtf8, chars, size, ◌%◌, ◌≤◌, ⊎_elim}
+use Rattle.smol_str.proofs.Common.{◌≡◌, ℕ, ◌+◌, ◌<◌, List, ◌∷◌, ◌++◌, length, get_or, map, take, flat_map, ap, ◌∙◌, arith, append-nil, append_assoc, chars-append, IsUtf8-append, common_steps, joined_by, BuilderState, OnHeap, empty_builder, appended, kind_for, IsShort, IsUtf8, chars, size, ◌%◌, ◌≤◌, ⊎_elim}
 use Rattle.std.proofs.lemmas.Grind.{take_at_read, flat_map-append}
 use Rattle.std.proofs.lemmas.List.Folds.{flat_map-map}
 use Rattle.std.proofs.Math.Nat.{mod-le}
@@ -73,12 +73,3 @@ written-next {X = X} f t sep xs i x old piece new u v w here at so_far is put =
         append_assoc t (flat_map g (take i xs)) (chars sep ++ f x),
       ),
     )
-
--- memory for no more bytes than the text has, in which the text is written
-pub filled : (t room rest : List ℕ) (end n : ℕ) → length room ≡ n → end ≤ length room → n ≤ size t → IsUtf8 (take end room)
-    → chars (take end room) ≡ t → IsUtf8 (take n (room ++ rest)) × (chars (take n (room ++ rest)) ≡ t)
-filled t room rest end n long within least u is =
-    let sized : size t ≡ end = rw is at (size-chars (take end room) u ∙ length-take-le end room within) in
-    let whole : take n (room ++ rest) ≡ take end room =
-    take_at room rest n long ∙ sym (take_all end room (omega (arith, long, least, sized))) in
-    (subst IsUtf8 (sym whole) u, ap chars whole ∙ is)

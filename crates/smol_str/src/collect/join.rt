@@ -1,5 +1,5 @@
 //! Texts with a separator between each two.
-ghost use Rattle.std.specs.Prelude.{◌≡◌, ◌≤◌, ◌++◌, length, take, map, IfSome, IfOk, OnOk, OnErr};
+ghost use Rattle.std.specs.Prelude.{◌≡◌, ◌≤◌, [], ◌++◌, map, IfSome, IfOk, OnOk, OnErr};
 ghost use Rattle.std.specs.List.{flat_map};
 ghost use Rattle.std.specs.Str.{chars, IsUtf8};
 ghost use Rattle.std.specs.String.{string_bytes};
@@ -97,7 +97,9 @@ fn append_next<P: Piece>(
     piece.append_to(builder)
 }
 
-/// The texts on the heap, if each piece lends its own: copied into memory of `len` bytes, each to its place.
+/// The texts in memory of `len` bytes, if each piece lends its own and all of them have room. Out of line, so that a short
+/// join is small.
+#[inline(never)]
 fn join_lent<P: Piece>(
     alloc: Global,
     first: &P,
@@ -105,7 +107,6 @@ fn join_lent<P: Piece>(
     others: &[P],
     len: usize,
 ) -> Result<Option<String>, AllocError>
-    requires { len ≤ size (P.text first.now ++ flat_map (λ piece. chars separator.now ++ P.text piece) others.now) }
     ensures { IfOk result (λ joined. IfSome joined (λ text. chars (string_bytes text)
         ≡ P.text first.now ++ flat_map (λ piece. chars separator.now ++ P.text piece) others.now)) }
 {
@@ -113,54 +114,46 @@ fn join_lent<P: Piece>(
         return Ok(None);
     };
     let mut bytes = Vec::with_capacity(alloc, len)?;
-    bytes.resize(len, 0)?;
-    match write_lent(bytes.as_mut_slice(), begin, separator, others) {
-        Some(_) => Ok(Some(unsafe { String::from_utf8_unchecked(bytes) })),
+    match push_lent(&mut bytes, begin, separator, others) {
+        Some(()) => Ok(Some(unsafe { String::from_utf8_unchecked(bytes) })),
         None => Ok(None),
     }
 }
 
-/// Writes the texts, each behind the separator but the first, and returns their end; `None` if one is not lent or has no
-/// room.
+/// Appends a text and others, each behind the separator; `None` if one is not lent or has no room.
 #[inline(always)]
-fn write_lent<P: Piece>(
-    room: &mut [u8],
+fn push_lent<P: Piece>(
+    bytes: &mut Vec<u8>,
     first: &str,
     separator: &str,
     others: &[P],
-) -> Option<usize>
-    ensures len { length room.new ≡ length room.old }
-    ensures within { IfSome result (λ end. end ≤ length room.new) }
-    ensures utf8 { IfSome result (λ end. IsUtf8 (take end room.new)) }
-    ensures text { IfSome result (λ end. chars (take end room.new)
+) -> Option<()>
+    requires { bytes.old.items ≡ [] }
+    ensures utf8 { IfSome result (λ _. IsUtf8 bytes.new.items) }
+    ensures text { IfSome result (λ _. chars bytes.new.items
         ≡ chars first.now ++ flat_map (λ piece. chars separator.now ++ P.text piece) others.now) }
 {
-    let mut end = write_next(room, 0, first)?;
+    push_in_room(bytes, first)?;
     for piece in others {
-        end = write_next(room, end, separator)?;
-        end = write_next(room, end, piece.lent()?)?;
+        push_in_room(bytes, separator)?;
+        push_in_room(bytes, piece.lent()?)?;
     }
-    Some(end)
+    Some(())
 }
 
-/// Writes a text at an index, and returns its end; `None` if it has no room. `memcpy` is not called for a separator of no or
-/// one byte.
+/// Appends a text; `None` if it has no room. Nothing here needs more memory, so the length stays in a register.
 #[inline(always)]
-fn write_next(room: &mut [u8], at: usize, text: &str) -> Option<usize>
-    requires { at ≤ length room.old }
-    ensures len { length room.new ≡ length room.old }
-    ensures within { IfSome result (λ end. end ≤ length room.new) }
-    ensures written { IfSome result (λ end. take end room.new ≡ take at room.old ++ text.now) }
+fn push_in_room(bytes: &mut Vec<u8>, text: &str) -> Option<()>
+    ensures { IfSome result (λ _. bytes.new.items ≡ bytes.old.items ++ text.now) }
 {
-    let bytes = text.as_bytes();
-    if bytes.len() > room.len() - at {
+    if text.len() > bytes.capacity() - bytes.len() {
         return None;
     }
-    let end = at + bytes.len();
-    match bytes {
+    match text.as_bytes() {
         [] => {}
-        [byte] => room[at] = *byte,
-        _ => room[at..end].copy_from_slice(bytes),
+        // One store: `extend_from_slice` would call `memmove`.
+        [byte] => bytes.push_reserved(*byte),
+        long => bytes.extend_from_slice(long).ok()?,
     }
-    Some(end)
+    Some(())
 }
