@@ -102,8 +102,7 @@ fn read_escaped(alloc: Global, text: &str, plain: &str, rest: &str) -> Result<Sm
     ensures of_text { (t : List ℕ) → IsJsonText text.now t → IfOk result (λ v. IsValueOf t v) }
     ensures fault { IfErr result (AfterJsonFault text.now) }
 {
-    // An escape has more bytes than its character, so no text is longer than its JSON.
-    let mut builder = SmolStrBuilder::expecting(alloc, plain.len().saturating_add(rest.len()));
+    let mut builder = SmolStrBuilder::new(alloc);
     let rest = read_content(&mut builder, plain, rest)?;
     if is_closed(rest) {
         return Ok(builder.into_value()?);
@@ -123,7 +122,7 @@ fn read_content<'a>(
     ensures { IfOk result (λ after.
         Unescapes (plain.now ++ rest.now) (encode_utf8_all builder.new.text) after.now) }
 {
-    builder.push_str(plain)?;
+    builder.push_with_spare(plain, rest.len())?;
     let mut rest = rest;
     while let Some((character, after)) = split_escape(rest) {
         builder.push_heap_first(character)?;
@@ -145,7 +144,7 @@ fn read_plain<'a>(builder: &mut SmolStrBuilder, text: &'a str) -> Result<&'a str
         return Ok(text);
     }
     let (plain, rest) = split_plain(text);
-    builder.push_str(plain)?;
+    builder.push_with_spare(plain, rest.len())?;
     Ok(rest)
 }
 

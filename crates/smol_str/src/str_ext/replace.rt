@@ -178,7 +178,7 @@ fn push_matches(
     Ok(index)
 }
 
-/// By how much the text grows. It is counted for a pattern of one byte, else a guess.
+/// By how much the text grows. It is counted for a pattern of one byte, else a guess: by one match and a short text more.
 fn growth(text: &str, from: &str, to: &str, count: usize) -> usize {
     if to.len() <= from.len() {
         return 0;
@@ -187,5 +187,5 @@ fn growth(text: &str, from: &str, to: &str, count: usize) -> usize {
         let matches = count_byte(from.as_bytes()[0], text.as_bytes());
         return matches.min(count).saturating_mul(to.len() - 1);
     }
-    INLINE_CAP
+    (to.len() - from.len()).saturating_add(INLINE_CAP)
 }

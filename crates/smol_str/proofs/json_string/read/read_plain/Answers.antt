@@ -7,5 +7,5 @@ returns-clause-unescapes c = λ whole h.
     let plain = c.split_plain.result.0.now in
     let rest = c.split_plain.result.1.now in
     let cut = c.split_plain.ensures in
-    let bytes : encode_utf8_all c.push_str.new.self.text ≡ encode_utf8_all c.args.builder.now.text ++ plain = search (rules, encodes-append, encodes-chars) in
+    let bytes : encode_utf8_all c.push_with_spare.new.self.text ≡ encode_utf8_all c.args.builder.now.text ++ plain = search (rules, encodes-append, encodes-chars) in
     rw bytes (Unescapes-more whole _ c.args.text.now plain rest h (rw cut.whole (Unescapes-plain plain rest cut.plain)))
