@@ -3,7 +3,7 @@
 --     text_so_far b, depth b     the text of these elements, and how many nodes are open
 --     with_element b e, with_start b kind, IsFinished b c   one element more, a node opened, the last one closed
 --     HasRoot b                  the node that was opened first begins where the text does
-use Rattle.std.specs.Prelude.{◌≡◌, ◌+◌, ℕ, List, [], ◌∷◌, ◌++◌, flat_map, length, take, drop}
+use Rattle.std.specs.Prelude.{◌≡◌, ℕ, List, [], ◌∷◌, ◌++◌, flat_map, length, take, drop}
 use Rattle.std.specs.Global.{Vec}
 use Rattle.syntax_tree.specs.declared.tree.SyntaxKind.{SyntaxKind}
 use Rattle.syntax_tree.specs.declared.tree.Element.{Element}
