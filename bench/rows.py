@@ -7,11 +7,12 @@ import subprocess
 import building
 
 # name: as it is printed. operation: of rattle/rows.rt.txt and rust/rows.rs. is_short: whether the text of each value is
-# inline. count: how many texts. size: of each, in bytes; what: how it is drawn, and how the other text of its case differs.
+# inline. count: how many texts. size: of each, in bytes. what: how it is drawn, and how the other text of its case
+# differs.
 Row = collections.namedtuple("Row", "name operation is_short count size what")
 LETTERS = "abcdefghijklmnopqrstuvwxy"
 
-# A row is a name with `{}` for the bytes of a text, the operation, these bytes, first of texts that are inline, and the texts.
+# A row is a name with `{}` for the bytes of a text, the operation, these bytes, first of inline texts, and the texts.
 TABLE = [
     ("new {}", "new", [5, 20, 39], [100], "letters"),
     ("new blank run of {}", "new", [], [160], "blank"),
@@ -111,7 +112,7 @@ def text(draw, row, pool):
         "few letters": lambda: letters(draw, size, "abcde"),
         "no match": lambda: letters(draw, size, LETTERS[1:]),
         # as a lexer has them: words, each of which occurs some times, and one in eight is a keyword
-        "lexemes": lambda: draw.choice(["if", "else", "while", "return"]) if draw.random() < 1 / 8 else draw.choice(pool),
+        "lexemes": lambda: draw.choice(["if", "else", "while", "return"] if draw.random() < 1 / 8 else pool),
     }.get(row.what, lambda: letters(draw, size))()
 
 
@@ -133,7 +134,7 @@ class Side:
         return ran.stdout if ran.returncode == 0 else None
 
     def instructions(self, row):
-        """Instructions of an operation on a text, of more rounds less those of few; with the C library's best loops here."""
+        """Instructions of an operation on a text, of more rounds less those of few; with the C library's best loops."""
         few, many = (building.count([*self.words, row.operation, rounds, 0], given(row), os.environ)
                      for rounds in (4, 4 + rounds_of(row)))
         return (many - few) / rounds_of(row) / row.count

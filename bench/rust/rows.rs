@@ -9,8 +9,10 @@ use std::hash::{DefaultHasher, Hash, Hasher};
 use std::hint::black_box;
 use std::ops::Deref;
 
-trait Text: Clone + Ord + Hash + Display + Debug + Deref<Target = str> + Borrow<str> + From<String> + for<'a> From<&'a str> {}
-impl<T: Clone + Ord + Hash + Display + Debug + Deref<Target = str> + Borrow<str> + From<String> + for<'a> From<&'a str>> Text for T {}
+trait Made: From<String> + for<'a> From<&'a str> + Deref<Target = str> {}
+impl<T: From<String> + for<'a> From<&'a str> + Deref<Target = str>> Made for T {}
+trait Text: Made + Clone + Ord + Hash + Display + Debug + Borrow<str> {}
+impl<T: Made + Clone + Ord + Hash + Display + Debug + Borrow<str>> Text for T {}
 
 /// Two texts of the input, the value of each, and the wire form and JSON of the first.
 struct Case<T> {
@@ -48,7 +50,8 @@ fn cases<T: Text>(input: &str) -> Vec<Case<T>> {
     let (texts, others) = texts.split_at(texts.len() / 2);
     let case = |(text, other): (&&str, &&str)| {
         let (form, json) = (form_of(&SmolStr::from(*text)), serde_json::to_string(text).unwrap());
-        Case { value: T::from(*text), other_value: T::from(*other), text: text.to_string(), other: other.to_string(), form, json }
+        let (value, other_value) = (T::from(*text), T::from(*other));
+        Case { text: text.to_string(), other: other.to_string(), value, other_value, form, json }
     };
     texts.iter().zip(others).map(case).collect()
 }
@@ -133,7 +136,9 @@ fn run_own(operation: &str, all: &[Case<SmolStr>], n: Turns) -> Option<u64> {
     let empty = SmolStrBuilder::new;
     Some(match operation {
         "new_static" => rounds(all, n, |it, at| new_static(&it.text, at)),
-        "from_utf8" => rounds(all, n, |it, at| SmolStr::from_utf8(it.text.as_bytes()).map_or(0, |value| seen(&value, at))),
+        "from_utf8" => {
+            rounds(all, n, |it, at| SmolStr::from_utf8(it.text.as_bytes()).map_or(0, |value| seen(&value, at)))
+        }
         "into_string" => rounds(all, n, |it, at| seen(&String::from(it.value.clone()), at)),
         "collect" => rounds(all, n, |it, at| seen(&it.text.chars().collect::<SmolStr>(), at)),
         "push" => rounds(all, n, |it, at| grown(empty(), at, |builder| it.text.chars().for_each(|c| builder.push(c)))),
@@ -152,7 +157,9 @@ fn run_own(operation: &str, all: &[Case<SmolStr>], n: Turns) -> Option<u64> {
         "serialize" => rounds(all, n, |it, at| seen_bytes(&form_of(&it.value), at)),
         "reader" => rounds(all, n, |it, at| seen(&SmolStr::deserialize_reader(&mut it.form.as_slice()).unwrap(), at)),
         "to_json" => rounds(all, n, |it, at| seen(&serde_json::to_string(&it.value).unwrap(), at)),
-        "from_json" => rounds(all, n, |it, at| serde_json::from_str(&it.json).map_or(0, |value: SmolStr| seen(&value, at))),
+        "from_json" => {
+            rounds(all, n, |it, at| serde_json::from_str(&it.json).map_or(0, |value: SmolStr| seen(&value, at)))
+        }
         "document" => {
             let document = serde_json::to_string(&kept(all, |it| it.value.clone())).unwrap();
             batches(all, n, |_, at| last_of::<SmolStr>(serde_json::from_str(&document).unwrap(), at))
