@@ -10,7 +10,7 @@ ghost use Rattle.smol_str.specs.Case.{lowercased};
 ghost use Rattle.smol_str.specs.CaseParts.{word_after, IsLowered, IsLowering};
 ghost use Rattle.smol_str.specs.Cut.{IsNextMatch};
 
-use super::case_ranges::is_cased_letter;
+use super::case_ranges::{is_cased_letter, letter_of};
 use super::mapped::{push_mapped, push_mapped_character};
 use crate::builder::SmolStrBuilder;
 use crate::kernel::{AsciiCase, next_match};
@@ -91,6 +91,10 @@ fn push_in_context(
     if character == 'Σ' {
         let sigma = text.len() - after.len() - 2;
         return push_sigma(builder, &text[..sigma], after);
+    }
+    // A short text stays in the buffer, which `push` looks for first.
+    if let Some(letter) = letter_of(character, AsciiCase::Lower) {
+        return builder.push(letter);
     }
     push_mapped_character(builder, character, AsciiCase::Lower)
 }

@@ -34,6 +34,20 @@ returns-then-character-eq931-clause-refused c =
     (λ heap. lowered-refused _ _ _ _ h heap)
     (rw (c.range.ensures.value, from_start c.args.text.now (length c.args.text.now - length c.args.after.now - 2), before) at c.push_sigma.ensures.refused)
 
+pub returns-in-Some-clause-ok : goal.returns-in-Some-clause-ok
+returns-in-Some-clause-ok c =
+    let alone = lowered-alone _ _ _ _ c.requires c.if-character-eq931.false in
+    on_ok_weaker c.push.result
+    (λ e. lowered-more _ _ _ _ c.requires _ e)
+    (rw (← c.in-Some.ensures, ← alone) at c.push.ensures.ok)
+
+pub returns-in-Some-clause-refused : goal.returns-in-Some-clause-refused
+returns-in-Some-clause-refused c =
+    let alone = lowered-alone _ _ _ _ c.requires c.if-character-eq931.false in
+    on_err_weaker c.push.result
+    (λ heap. lowered-refused _ _ _ _ c.requires heap)
+    (rw (← c.in-Some.ensures, ← alone) at c.push.ensures.refused)
+
 pub returns-clause-ok : goal.returns-clause-ok
 returns-clause-ok c =
     let alone = lowered-alone _ _ _ _ c.requires c.if-character-eq931.false in
