@@ -4,7 +4,7 @@
 --     show_report t, join_report t, lower_report t, upper_report t, replace_report from to t, tokens_report t
 --                        what is written of t in the mode of that name
 --     IsReport mode t out    out is what the program writes of t in a mode
---     mapped_line map l       the mode's mapping applied to a line, in the modes with a report line for each
+--     mapped_line mode l     a line after the mode's mapping
 use Rattle.std.specs.Prelude.{◌≡◌, ℕ, List, ◌++◌, codes}
 use Rattle.std.specs.List.{concat, flat_map}
 use Rattle.std.specs.Fmt.{decimal}
@@ -20,8 +20,6 @@ use Rattle.smol_tokens_core.specs.Tally.{tally, seen_once}
 use Rattle.smol_tokens_core.specs.Counts.{count_line, IsMerge}
 use Rattle.smol_tokens_core.specs.declared.mode.Mode.{Mode}
 use Rattle.smol_tokens_core.specs.declared.mode.Mode.TheVariants.{Show, Join, Lower, Upper, Replace, Tokens, Merge}
-use Rattle.smol_tokens_core.specs.declared.report.LineMap.{LineMap}
-use Rattle.smol_tokens_core.specs.declared.report.LineMap.TheVariants as to
 
 -- the word for a place
 abbrev pub place_word : Place → List ℕ
@@ -71,9 +69,9 @@ IsReport (Replace from to) t out = out ≡ replace_report (chars (string_bytes f
 IsReport Tokens t out = out ≡ tokens_report t
 IsReport Merge t out = IsMerge t out
 
--- applies the mode's mapping to a line
-abbrev pub mapped_line : LineMap → List ℕ → List ℕ
-mapped_line to.Keep line = line
-mapped_line to.Lower line = lower line
-mapped_line to.Upper line = upper line
-mapped_line (to.Replace a b) line = replaced_all line (chars a.now) (chars b.now)
+-- a line after the mode's mapping; in the other modes a line stays as it is
+abbrev pub mapped_line : Mode → List ℕ → List ℕ
+mapped_line Lower line = lower line
+mapped_line Upper line = upper line
+mapped_line (Replace from to) line = replaced_all line (chars (string_bytes from)) (chars (string_bytes to))
+mapped_line _ line = line

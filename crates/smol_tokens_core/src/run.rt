@@ -1,10 +1,16 @@
 //! The program, over any reader and writer.
-ghost use Rattle.std.specs.Prelude.{OnOk, IfErr};
+ghost use Rattle.std.specs.Prelude.{◌≡◌, ℕ, List, IfOk, OnOk, IfErr, encode_utf8_all};
+ghost use Rattle.std.specs.Str.{chars};
+ghost use Rattle.std.specs.String.{string_bytes};
+ghost use Rattle.smol_tokens_core.specs.Report.{IsReport};
+ghost use Rattle.smol_tokens_core.specs.ReportFaults.{HasNoReport};
 ghost use Rattle.smol_tokens_core.specs.Faults.{streams, WroteReport, AfterFault};
 
 use crate::fault::RunFault;
+use crate::merge::merge_counts;
 use crate::mode::Mode;
-use crate::report::make_report;
+use crate::report::{join, report_lines};
+use crate::tokens::count_lines;
 use simdutf8::compat::from_utf8;
 use smol_str::stream::{read_all, write_fully};
 use std::alloc::Global;
@@ -55,4 +61,26 @@ pub fn run_with_hasher<S: BuildHasher + Drop, R: Read, W: Write>(
     let report = make_report(alloc, state, &mode, text)?;
     write_fully(writer, report.as_bytes())?;
     Ok(())
+}
+
+/// The whole report on a text. Modes tokens and merge alone hash, by `state`, and no report depends on it.
+fn make_report<S: BuildHasher + Drop>(
+    alloc: Global,
+    state: S,
+    mode: &Mode,
+    text: &str,
+) -> Result<String, RunFault>
+    ensures ok { IfOk result (λ out. (report : List ℕ) × IsReport mode.now (chars text.now) report
+        × (string_bytes out ≡ encode_utf8_all report)) }
+    ensures fault { IfErr result (HasNoReport mode.now (chars text.now)) }
+{
+    let report = match mode {
+        Mode::Show | Mode::Lower | Mode::Upper | Mode::Replace(_, _) => {
+            report_lines(alloc, mode, text)?
+        }
+        Mode::Join => join(alloc, text)?,
+        Mode::Tokens => count_lines(alloc, state, text)?,
+        Mode::Merge => merge_counts(alloc, state, text)?,
+    };
+    Ok(report)
 }

@@ -9,8 +9,8 @@ use Rattle.smol_tokens_core.proofs.report.report_lines.Goals as goal
 pub loop-line-preserved : goal.loop-line-preserved
 loop-line-preserved c = grind (arith, common_steps, report_line-value, lines-seen, report-last)
 
-pub returns-in_err-value_of-clause-refused : goal.returns-in_err-value_of-clause-refused
-returns-in_err-value_of-clause-refused c =
+pub returns-in_err-mapped_value-clause-refused : goal.returns-in_err-mapped_value-clause-refused
+returns-in_err-mapped_value-clause-refused c =
     OnErr-always c.from_residual.result _
     (some_text (chars c.args.text.now) _ _ _ _ c.loop-line.invariant.1 c.in-Some.ensures.steps)
 

@@ -9,5 +9,5 @@ use Rattle.smol_tokens_core.proofs.report.report_lines.Given as goal
 
 abbrev pub invariant-loop-line : goal.invariant-loop-line
 invariant-loop-line l =
-    (string_bytes l.out ≡ encode_utf8_all (flat_map (λ line. value_line (mapped_line l.map (chars line.now))) l.yielded))
+    (string_bytes l.out ≡ encode_utf8_all (flat_map (λ line. value_line (mapped_line l.mode (chars line.now))) l.yielded))
     × (lines (chars l.text) ≡ map (λ line. chars line.now) l.yielded ++ lines (chars l.line-iterator))
