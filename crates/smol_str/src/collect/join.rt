@@ -53,14 +53,26 @@ fn min_len<P: Piece>(first: &P, separator: &str, others: &[P]) -> usize
     ensures { result ≤ size (P.text first.now
         ++ flat_map (λ piece. chars separator.now ++ P.text piece) others.now) }
 {
-    let mut len = first.min_len();
+    let mut len = lent_len(first);
     for piece in others {
         // A sum that wraps is still no more than the length.
         len = len
             .wrapping_add(separator.len())
-            .wrapping_add(piece.min_len());
+            .wrapping_add(lent_len(piece));
     }
     len
+}
+
+/// The length of a text that is lent, in bytes; 0 of another.
+#[inline(always)]
+#[tactic(auto, using(crate::proofs::TextLemmas::Sizes::sizes))]
+fn lent_len<P: Piece>(piece: &P) -> usize
+    ensures { result ≤ size (P.text piece.now) }
+{
+    match piece.lent() {
+        Some(text) => text.len(),
+        None => 0,
+    }
 }
 
 /// Appends the texts, each behind the separator.

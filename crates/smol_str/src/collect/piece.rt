@@ -1,8 +1,7 @@
 //! What is collected, appended and joined.
-ghost use Rattle.std.specs.Prelude.{◌≡◌, ◌≤◌, ℕ, List, IfSome, OnOk, OnErr};
+ghost use Rattle.std.specs.Prelude.{◌≡◌, ℕ, List, IfSome, OnOk, OnErr};
 ghost use Rattle.std.specs.Str.{chars};
 ghost use Rattle.std.proofs.Common.{refl};
-ghost use Rattle.smol_str.specs.Text.{size};
 ghost use Rattle.smol_str.specs.BuilderState.{OnHeap, appended};
 ghost use Rattle.smol_str.specs.Joined.{joined, joined_strs, joined_strings, joined_string_refs, char_text, str_text, string_text, string_ref_text};
 ghost use Rattle.smol_str.specs.JoinedLaws.{joined-chars, joined-strs, joined-string_refs};
@@ -25,14 +24,7 @@ pub trait Piece: Drop {
         ensures unchanged { OnErr result (builder.new ≡ builder.old) }
         ensures refused { OnErr result ((appended builder.old (text self.now)).kind ≡ OnHeap) };
 
-    /// A number of bytes that the text has at least, told without reading it: [`SmolStr::join`] asks for its room by it.
-    fn min_len(&self) -> usize
-        ensures { result ≤ size (text self.now) }
-    {
-        0
-    }
-
-    /// The text, where it lies in memory: [`SmolStr::join`] copies it from there.
+    /// The text, where it lies in memory: [`SmolStr::join`] asks for its room at once, and copies it from there.
     fn lent(&self) -> Option<&str>
         ensures { IfSome result (λ lent. chars lent.now ≡ text self.now) }
     {
@@ -73,13 +65,6 @@ impl<'a> Piece for &'a str {
     }
 
     #[inline(always)]
-    #[tactic(auto, using(crate::proofs::TextLemmas::Sizes::sizes))]
-    fn min_len(&self) -> usize {
-        let text: &str = *self;
-        text.len()
-    }
-
-    #[inline(always)]
     fn lent(&self) -> Option<&str> {
         Some(*self)
     }
@@ -95,12 +80,6 @@ impl Piece for String {
     #[inline(always)]
     fn append_to(&self, builder: &mut SmolStrBuilder) -> Result<(), AllocError> {
         builder.push_str_heap_first(self.as_str())
-    }
-
-    #[inline(always)]
-    #[tactic(auto, using(crate::proofs::TextLemmas::Sizes::sizes))]
-    fn min_len(&self) -> usize {
-        self.len()
     }
 
     #[inline(always)]
@@ -122,12 +101,6 @@ impl<'a> Piece for &'a String {
     }
 
     #[inline(always)]
-    #[tactic(auto, using(crate::proofs::TextLemmas::Sizes::sizes))]
-    fn min_len(&self) -> usize {
-        self.len()
-    }
-
-    #[inline(always)]
     fn lent(&self) -> Option<&str> {
         Some(self.as_str())
     }
@@ -144,11 +117,6 @@ impl Piece for SmolStr {
     #[inline(always)]
     fn append_to(&self, builder: &mut SmolStrBuilder) -> Result<(), AllocError> {
         builder.push_str_heap_first(self.as_str())
-    }
-
-    #[inline(always)]
-    fn min_len(&self) -> usize {
-        self.len()
     }
 
     #[inline(always)]
