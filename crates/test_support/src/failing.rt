@@ -39,7 +39,8 @@ pub fn cause_of(error: &io::Error) -> Cause {
     (error.kind(), error.raw_os_error(), hasher.finish())
 }
 
-/// Whether a place in so many bytes is tried: each in a few, and in many those about the ends of chunks.
+/// Whether a place in so many bytes is tried: each in a few, and in many those about the ends of chunks. Between two ends a
+/// call does the same at each place, and to fail at each of 9,000 reads 40 million times for one row.
 fn is_tried(place: usize, size: usize, chunk: usize) -> bool {
     let after = place.saturating_add(3);
     size < 200 || after % chunk.max(1) < 7 || after > size

@@ -18,8 +18,8 @@ static MARKS: [&str; 24] = table! {
 };
 
 /// Spans of lengths, without their ends: up to 300, about the powers of two up to 70,000, and one of more than two megabytes.
-static SPANS: [(usize, usize); 11] = table! {
-    (0, 301); (511, 514); (1_023, 1_026); (2_047, 2_050); (4_095, 4_098); (8_191, 8_194); (16_383, 16_386);
+static SPANS: [(usize, usize); 12] = table! {
+    (0, 301); (511, 514); (1_023, 1_026); (2_047, 2_050); (4_095, 4_098); (5_000, 5_001); (8_191, 8_194); (16_383, 16_386);
     (32_767, 32_770); (65_535, 65_538); (70_000, 70_001); (2_200_003, 2_200_004);
 };
 

@@ -55,11 +55,21 @@ pub fn ok_found(test: &Test, outcome: Result<(SmolStr, usize), DecodeFault>) -> 
     }
 }
 
+/// Bytes, the text that they begin with, and how many of them its form has.
+static BEGINNINGS: [(&[u8], &str, usize); 2] = table! {
+    (b"\x02\0\0\0abc", "ab", 6); (b"\0\0\0\0\xff", "", 4);
+};
+
 #[test]
 fn rows(rt: HostRuntime) -> Result<(), Fail> {
     let test = Test::begin(rt);
     for row in &ROWS {
         check_row(&test, *row);
+    }
+    for &(bytes, text, size) in &BEGINNINGS {
+        let (value, taken) = ok_found(&test, from_wire(test.alloc, bytes));
+        same_value(&test, &value, text, Inline, &bytes);
+        same(&test, &taken, &size, &bytes);
     }
     // what is read is not pinned
     let bytes = written(&test, &SmolStr::new_static("ab"));

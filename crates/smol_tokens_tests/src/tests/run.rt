@@ -121,7 +121,22 @@ static FAULTS: [(&[u8], Reason); 19] = table! {
 fn faults_of_merges(rt: HostRuntime) -> Result<(), Fail> {
     let test = Test::begin(rt);
     for &(input, reason) in &FAULTS {
-        check_merge(&test, input, reason);
+        check_fault(&test, MERGE, input, reason);
+    }
+    test.end()
+}
+
+const MERGE: Words = &["merge"];
+
+static EACH_MODE: [Words; 7] = table! {
+    &["show"]; &["join"]; &["lower"]; &["upper"]; &["replace", "a", "b"]; &["tokens"]; MERGE;
+};
+
+#[test]
+fn not_utf8(rt: HostRuntime) -> Result<(), Fail> {
+    let test = Test::begin(rt);
+    for &words in &EACH_MODE {
+        check_fault(&test, words, b"\xff", NotUtf8);
     }
     test.end()
 }
@@ -164,16 +179,17 @@ fn late_faults_of_merges(rt: HostRuntime) -> Result<(), Fail> {
     for lines in 0..300 {
         let front = test.repeated("1 b\n", lines);
         let input = test.joined(front.as_str(), "x\n");
-        check_merge(&test, input.as_bytes(), NotCounts(lines + 1));
+        check_fault(&test, MERGE, input.as_bytes(), NotCounts(lines + 1));
         let input = test.joined("18446744073709551615 a\n1 a\n", front.as_str());
-        check_merge(&test, input.as_bytes(), Full);
+        check_fault(&test, MERGE, input.as_bytes(), Full);
     }
     test.end()
 }
 
-fn check_merge(test: &Test, input: &[u8], reason: Reason) {
+/// The run in the mode of these words ends so, and nothing is written.
+fn check_fault(test: &Test, words: Words, input: &[u8], reason: Reason) {
     let (mut reader, mut out) = (input, Vec::new(test.alloc));
-    let ended = run_by(test, &["merge"], &mut reader, &mut out);
-    same(test, &ended, &Some(reason), &(input, reason));
-    holds(test, out.is_empty(), &(input, reason));
+    let ended = run_by(test, words, &mut reader, &mut out);
+    same(test, &ended, &Some(reason), &(words, input));
+    holds(test, out.is_empty(), &(words, input));
 }
