@@ -1,10 +1,27 @@
-//! What the tests of all crates share: a running test and what its rows compare, values and texts, memory refused and
-//! counted, the law of memory, and streams that fail. A test takes all of it, by `use test_support::*`.
+//! What the tests of all crates share: a running test and what its rows compare, values and texts, what things print, memory
+//! refused and counted, the law of memory, and streams that fail. A test takes all of it, by `use test_support::*`.
+//!
+//! ```text
+//! static ROWS: [(&str, usize); 2] = table! { ("if", 2); ("é", 2); };      rows, one a line: they cost a proof nothing
+//! let test = Test::begin(rt);                                           the test, which keeps its first wrong row
+//! let value = ok(&test, SmolStr::new(test.alloc, text));                what a call makes, or an empty one and a wrong row
+//! same(&test, &value.len(), &len, &text);                               the two are equal, else the row `text` is wrong
+//! holds(&test, !value.is_empty(), &text);                               it is so
+//! test.end()                                                            the first wrong row, if there is one
+//! ```
+//!
+//! A row of the law of memory is a line of `laws!`: a call and its name, how many requests it may make, for how many bytes, and
+//! of which texts. What a call returns there is a [`Thing`].
+//!
+//! ```text
+//! New => "SmolStr::new", Most(2), 1 * text + 40, UnlessResident;
+//! ```
 #![tactic(auto)]
 
 mod failing;
 mod memory;
 mod memory_law;
+mod printing;
 mod sampling;
 mod test;
 mod things;
@@ -19,6 +36,7 @@ pub use memory::{
     start_counts,
 };
 pub use memory_law::{Asks, Call, Law, Limits, Requests, check_law};
+pub use printing::{Sentence, Variant, same_debug, same_display};
 pub use sampling::samples;
 pub use std::alloc::{AllocError, Global};
 pub use std::test::Fail;

@@ -118,24 +118,39 @@ static PAST_ASCII: [&str; 7] = [
 fn debug_past_ascii(rt: HostRuntime) -> Result<(), Fail> {
     let test = Test::begin(rt);
     for text in &PAST_ASCII {
-        check_debug(&test, text);
+        check_forms(&test, text);
     }
     for times in [1000, 70_000] {
-        check_debug(&test, test.repeated("é\n", times).as_str());
+        check_forms(&test, test.repeated("é\n", times).as_str());
     }
     test.end()
 }
 
-fn check_debug(test: &Test, text: &str) {
-    let value = test.value(text);
-    let printed = ok(test, format!(in test.alloc; "{value:?}"));
-    let wanted = ok(test, format!(in test.alloc; "{text:?}"));
-    same(test, &printed.as_str(), &wanted.as_str(), &"a value");
+/// The value of a text and builders of it are printed as std prints the text.
+fn check_forms(test: &Test, text: &str) {
+    check_value_forms(test, &test.value(text), text);
     for capacity in [0, 100] {
         let builder = test.builder(capacity, text);
-        let printed = ok(test, format!(in test.alloc; "{builder:?}"));
-        same(test, &printed.as_str(), &wanted.as_str(), &capacity);
+        same_debug(test, &builder, &text, &("a builder", capacity));
     }
+}
+
+fn check_value_forms(test: &Test, value: &SmolStr, text: &str) {
+    let row = (value.place(), text.get(..8));
+    same_display(test, value, &text, &row);
+    same_debug(test, value, &text, &row);
+    same_debug(test, &Some(value), &Some(text), &row);
+}
+
+// In each place.
+#[test]
+fn each_form(rt: HostRuntime) -> Result<(), Fail> {
+    let test = Test::begin(rt);
+    for text in ["", "ab", "a\n\"é", long_blank(), long_text()] {
+        check_forms(&test, text);
+        check_value_forms(&test, &SmolStr::new_static(text), text);
+    }
+    test.end()
 }
 
 /// A text that counts how often it is printed.

@@ -1,35 +1,62 @@
-//! The lines that report a fault, and what a fault of a tally prints.
+//! The lines that report a fault, and what faults print.
 use smol_str::SmolStr;
 use smol_tokens_core::fault::{RunFault, fault_line};
 use smol_tokens_core::tally::AddFault;
 use std::error::Error;
+use std::fmt::Debug;
 use std::io::{self, ErrorKind};
 use test_support::*;
 
 #[test]
 fn fault_lines(rt: HostRuntime) -> Result<(), Fail> {
     let test = Test::begin(rt);
-    check_line(&test, &RunFault::NotUtf8, "not UTF-8", "");
-    check_line(&test, &RunFault::OutOfMemory, "out of memory", "");
-    check_line(&test, &RunFault::NotCounts(17), "not a count line", ": 17");
-    check_line(&test, &RunFault::Full, "full", "");
-    let io = RunFault::Io(io::Error::from(ErrorKind::WriteZero));
-    check_line(&test, &io, "read or write failed", "");
-    let token = SmolStr::new_static("a");
-    let out_of_memory = AddFault::OutOfMemory(token);
-    prints(&test, &out_of_memory, "memory allocation failed");
-    let full = AddFault::Full(SmolStr::new_static("a"));
-    prints(&test, &full, "the count would exceed 18446744073709551615");
+    check_line(&test, &RunFault::NotUtf8, "not UTF-8", "NotUtf8");
+    check_line(
+        &test,
+        &RunFault::OutOfMemory,
+        "out of memory",
+        "OutOfMemory",
+    );
+    check_line(&test, &RunFault::Full, "full", "Full");
+    let error = [io::Error::from(ErrorKind::WriteZero)];
+    let (line, io) = ("read or write failed", RunFault::Io(error[0]));
+    same(&test, &fault_line(&io), &line, &line);
+    prints(&test, &io, &Sentence(line), &Variant("Io", &error));
+    let (line, malformed) = ("not a count line", RunFault::NotCounts(17));
+    same(&test, &fault_line(&malformed), &line, &line);
+    prints(
+        &test,
+        &malformed,
+        &Sentence("not a count line: 17"),
+        &Variant("NotCounts", &[17]),
+    );
     test.end()
 }
 
-/// The fault has the line, and prints it with what a line's number adds.
-fn check_line(test: &Test, fault: &RunFault, line: &str, number: &str) {
+/// A fault that holds nothing prints its line.
+fn check_line(test: &Test, fault: &RunFault, line: &'static str, name: &'static str) {
     same(test, &fault_line(fault), &line, &"fault_line");
-    prints(test, fault, test.joined(line, number).as_str());
+    prints(test, fault, &Sentence(line), &Variant::<u8>(name, &[]));
 }
 
-fn prints<E: Error>(test: &Test, fault: &E, wanted: &str) {
-    let printed = ok(test, format!(in test.alloc; "{fault}"));
-    same(test, &printed.as_str(), &wanted, &"a fault");
+#[test]
+fn faults_of_tallies(rt: HostRuntime) -> Result<(), Fail> {
+    let test = Test::begin(rt);
+    let fault = AddFault::OutOfMemory(SmolStr::new_static("a"));
+    prints(
+        &test,
+        &fault,
+        &Sentence("memory allocation failed"),
+        &Variant("OutOfMemory", &["a"]),
+    );
+    let fault = AddFault::Full(SmolStr::new_static("a"));
+    let sentence = "the count would exceed 18446744073709551615";
+    prints(&test, &fault, &Sentence(sentence), &Variant("Full", &["a"]));
+    test.end()
+}
+
+/// The fault prints the sentence, and by `{:?}` what the other does.
+fn prints<E: Error>(test: &Test, fault: &E, sentence: &Sentence, debug: &impl Debug) {
+    same_display(test, fault, sentence, &debug);
+    same_debug(test, fault, debug, &debug);
 }

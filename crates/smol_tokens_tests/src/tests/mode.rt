@@ -21,17 +21,17 @@ pub fn mode_by(test: &Test, words: &[&str]) -> Mode {
     }
 }
 
-/// Words, and how the mode prints that they ask for.
-static MODES: [(&[&str], &str); 9] = table! {
-    (&[], "Show");
-    (&["show"], "Show");
-    (&["join"], "Join");
-    (&["lower"], "Lower");
-    (&["upper"], "Upper");
-    (&["tokens"], "Tokens");
-    (&["merge"], "Merge");
-    (&["replace", "", "x"], "Replace(\"\", \"x\")");
-    (&["replace", "ba", ""], "Replace(\"ba\", \"\")");
+/// Words, and the variant of the mode that they ask for with the texts that it holds.
+static MODES: [(&[&str], &str, &[&str]); 9] = table! {
+    (&[], "Show", &[]);
+    (&["show"], "Show", &[]);
+    (&["join"], "Join", &[]);
+    (&["lower"], "Lower", &[]);
+    (&["upper"], "Upper", &[]);
+    (&["tokens"], "Tokens", &[]);
+    (&["merge"], "Merge", &[]);
+    (&["replace", "", "x"], "Replace", &["", "x"]);
+    (&["replace", "ba", ""], "Replace", &["ba", ""]);
 };
 
 static WRONG: [&[&str]; 9] = table! {
@@ -42,10 +42,9 @@ static WRONG: [&[&str]; 9] = table! {
 #[test]
 fn modes(rt: HostRuntime) -> Result<(), Fail> {
     let test = Test::begin(rt);
-    for &(words, printed) in &MODES {
+    for &(words, name, texts) in &MODES {
         let mode = mode_by(&test, words);
-        let found = ok(&test, format!(in test.alloc; "{mode:?}"));
-        same(&test, &found.as_str(), &printed, &words);
+        same_debug(&test, &mode, &Variant(name, texts), &words);
     }
     for &words in &WRONG {
         holds(&test, mode_of(strings(&test, words)).is_none(), &words);
