@@ -2,7 +2,7 @@
 use smol_str::borsh::{DecodeFault, LimitedFault};
 use smol_str::json_string::JsonFault;
 use smol_str::stream::ReadFault;
-use smol_str::{FormatError, FromUtf8Fault, Place, SmolStr, SmolStrBuilder};
+use smol_str::{FormatError, FromUtf8Fault, INLINE_CAP, Place, SmolStr, SmolStrBuilder};
 use std::alloc::AllocError;
 use std::borrow::CowStr;
 use std::boxed::BoxedStr;
@@ -25,8 +25,9 @@ pub enum Thing {
 /// What a call made, or left where it was refused.
 pub type Outcome = Result<Thing, Thing>;
 
-/// What a shared text has beside its bytes: its counts, and what the C library leaves at the end of a block.
-const BESIDE: usize = 128;
+/// What a shared text has beside its bytes: its counts, what the C library leaves at the end of a block, and spare room of
+/// the `String` that it was made of.
+const BESIDE: usize = 128 + INLINE_CAP;
 
 impl Thing {
     /// The bytes of its text, where it has one.

@@ -2,25 +2,23 @@
 use OnBuilder::*;
 use smol_str::{BLANK_NEWLINES, BLANK_SPACES, SmolStr, SmolStrBuilder, ValueAlloc};
 use std::default;
-use std::fmt::Write;
+use std::fmt::{self, Debug, Write};
 use test_support::*;
 
 pub enum OnBuilder {
     CloneSmall,
     /// On the heap, with room for more.
     CloneLarge,
+    CloneByTrait,
     Emptied,
     Finish,
     FromBuilder,
     IntoValue,
     ValueOf,
+    /// Of one byte and, wide, of three.
     Push,
     PushWide,
-    /// Within the room that the builder has, as below.
-    PushWithin,
     PushStr,
-    PushStrWithin,
-    ExtendWithin,
     /// With room for twice as many bytes more.
     PushWithSpare,
     /// As many spaces as the text has bytes, up to the most, and as many newlines or none.
@@ -28,6 +26,10 @@ pub enum OnBuilder {
     WriteStr,
     WriteFmt,
     ExtendChars,
+    ExtendByStr,
+    ExtendByItem,
+    /// `{:?}`, to a writer that asks for nothing.
+    PrintBuilder,
 }
 
 impl Call for OnBuilder {
@@ -36,8 +38,8 @@ impl Call for OnBuilder {
     /// With no more room than it begins with or than the text needs; where nothing is appended also with more.
     fn ways(&self) -> usize {
         match self {
-            Finish | FromBuilder | IntoValue | ValueOf => 3,
-            CloneLarge | Emptied | PushWithin | PushStrWithin | ExtendWithin => 1,
+            CloneByTrait | Finish | FromBuilder | IntoValue | ValueOf | PrintBuilder => 3,
+            CloneLarge | Emptied => 1,
             _ => 2,
         }
     }
@@ -45,7 +47,7 @@ impl Call for OnBuilder {
     fn input(&self, test: &Test, text: &'static str, way: usize) -> SmolStrBuilder {
         let twice = text.len().saturating_mul(2).saturating_add(100);
         let capacity = match self {
-            CloneLarge | Emptied | PushWithin | PushStrWithin | ExtendWithin => twice,
+            CloneLarge | Emptied => twice,
             _ => [0, text.len(), twice][way.min(2)],
         };
         test.builder(capacity, text)
@@ -54,11 +56,15 @@ impl Call for OnBuilder {
     fn run(&self, _alloc: Global, text: &str, mut builder: SmolStrBuilder) -> Outcome {
         match self {
             CloneSmall | CloneLarge => made(builder.clone()),
+            CloneByTrait => made(cloned(&builder)),
+            PrintBuilder => changed(is_printed(&builder), builder),
             Emptied => made(<SmolStrBuilder as default::Emptied>::emptied(&builder)),
             Finish => made(builder.finish()),
             FromBuilder => made(SmolStr::from_builder(builder)),
             IntoValue => made(builder.into_value()),
             ValueOf => made(Global::value_of(builder)),
+            Push => changed(self.append("b", &mut builder), builder),
+            PushWide => changed(self.append("€", &mut builder), builder),
             _ => changed(self.append(text, &mut builder), builder),
         }
     }
@@ -67,38 +73,143 @@ impl Call for OnBuilder {
         match self {
             Emptied => test.string(""),
             Push => test.joined(text, "b"),
-            PushWide | PushWithin => test.joined(text, "€"),
-            PushBlank => {
-                let newlines = text.len().min(text.len() % 2 * BLANK_NEWLINES);
-                let spaces = test.repeated(" ", text.len().min(BLANK_SPACES));
-                let blank = test.repeated_and("\n", newlines, spaces.as_str());
-                test.joined(text, blank.as_str())
-            }
-            CloneSmall | CloneLarge | Finish | FromBuilder => test.string(text),
-            IntoValue | ValueOf => test.string(text),
-            _ => test.joined(text, text),
+            PushWide => test.joined(text, "€"),
+            CloneSmall | CloneLarge | CloneByTrait | PrintBuilder => test.string(text),
+            Finish | FromBuilder | IntoValue | ValueOf => test.string(text),
+            _ => test.joined(text, self.appended(test, text).as_str()),
         }
     }
 }
 
 impl OnBuilder {
-    /// Whether it is appended.
+    /// What is appended for a text.
+    fn appended(&self, test: &Test, text: &str) -> String {
+        let PushBlank = self else {
+            return test.string(text);
+        };
+        let newlines = text.len().min(text.len() % 2 * BLANK_NEWLINES);
+        let spaces = test.repeated(" ", text.len().min(BLANK_SPACES));
+        test.repeated_and("\n", newlines, spaces.as_str())
+    }
+
+    /// Whether it is appended; of a text that is pushed its first character.
     fn append(&self, text: &str, builder: &mut SmolStrBuilder) -> bool {
         match self {
-            Push => builder.push('b').is_ok(),
-            PushWide | PushWithin => builder.push('€').is_ok(),
+            Push | PushWide => builder.push(text.chars().next().unwrap_or('a')).is_ok(),
             PushWithSpare => builder.push_with_spare(text, 2 * text.len()).is_ok(),
             PushBlank => {
                 let newlines = text.len().min(text.len() % 2 * BLANK_NEWLINES);
                 let spaces = text.len().min(BLANK_SPACES);
                 builder.push_blank(newlines, spaces).is_ok()
             }
-            ExtendWithin => builder.extend_strs([text].into_iter()).is_ok(),
+            ExtendByStr => builder.extend_strs([text].into_iter()).is_ok(),
+            ExtendByItem => builder.extend([text]).is_ok(),
             WriteStr => builder.write_str(text).is_ok(),
             WriteFmt => builder.write_fmt(text).is_ok(),
             ExtendChars => builder.extend_chars(text.chars()).is_ok(),
-            PushStr | PushStrWithin => builder.push_str(text).is_ok(),
+            PushStr => builder.push_str(text).is_ok(),
             _ => false,
         }
+    }
+}
+
+/// By the trait, as a container clones what it has.
+pub fn cloned<T: Clone>(thing: &T) -> Result<T, AllocError> {
+    thing.clone()
+}
+
+/// The same call nine times, within the room that the builder has.
+pub struct Again(pub OnBuilder);
+
+const TIMES: usize = 9;
+
+impl Call for Again {
+    type Input = SmolStrBuilder;
+
+    fn takes(&self, text: &str) -> bool {
+        !text.is_empty() && text.len() <= 5_000
+    }
+
+    fn input(&self, test: &Test, text: &'static str, _way: usize) -> SmolStrBuilder {
+        let room = text.len().max(BLANK_NEWLINES + BLANK_SPACES);
+        test.builder(room.saturating_mul(TIMES + 1), text)
+    }
+
+    fn run(&self, _alloc: Global, text: &str, mut builder: SmolStrBuilder) -> Outcome {
+        for _ in 0..TIMES {
+            if !self.0.append(text, &mut builder) {
+                return changed(false, builder);
+            }
+        }
+        changed(true, builder)
+    }
+
+    fn wanted(&self, test: &Test, text: &'static str, _way: usize) -> String {
+        let piece = match self.0 {
+            Push => first_of(text),
+            _ => text,
+        };
+        let appended = self.0.appended(test, piece);
+        test.joined(text, test.repeated(appended.as_str(), TIMES).as_str())
+    }
+}
+
+/// The first character, as a text.
+fn first_of(text: &str) -> &str {
+    match text.chars().next() {
+        Some(first) => text.get(..first.len_utf8()).unwrap_or(""),
+        None => "",
+    }
+}
+
+/// A call for each character of a text, on a builder that begins with none.
+pub struct Each(pub OnBuilder);
+
+impl Call for Each {
+    type Input = SmolStrBuilder;
+
+    fn takes(&self, text: &str) -> bool {
+        text.len() <= 5_000
+    }
+
+    fn input(&self, test: &Test, _text: &'static str, _way: usize) -> SmolStrBuilder {
+        test.builder(0, "")
+    }
+
+    fn run(&self, _alloc: Global, text: &str, mut builder: SmolStrBuilder) -> Outcome {
+        let mut rest = text;
+        while !rest.is_empty() {
+            let (first, after) = rest.split_at(first_of(rest).len());
+            if !self.0.append(first, &mut builder) {
+                return changed(false, builder);
+            }
+            rest = after;
+        }
+        changed(true, builder)
+    }
+
+    fn wanted(&self, test: &Test, text: &'static str, _way: usize) -> String {
+        let mut all = String::new(test.alloc);
+        let mut buf = [0; 4];
+        for character in text.chars() {
+            let appended = self.0.appended(test, character.encode_utf8(&mut buf));
+            ok(test, all.push_str(appended.as_str()));
+        }
+        all
+    }
+}
+
+/// Whether a print comes to an end, to a writer that keeps nothing.
+pub fn is_printed(thing: &impl Debug) -> bool {
+    let mut nowhere = Nowhere;
+    write!(nowhere, "{thing:?}{thing:#?}{thing:>60?}").is_ok()
+}
+
+#[derive(Drop)]
+pub struct Nowhere;
+
+impl Write for Nowhere {
+    fn write_str(&mut self, _text: &str) -> fmt::Result {
+        Ok(())
     }
 }

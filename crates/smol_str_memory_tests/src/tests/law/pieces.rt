@@ -10,6 +10,8 @@ pub enum OnPieces {
     /// Texts, strings, values or, where nothing is joined, characters, as those below but for the calls that name theirs.
     Collect,
     Join,
+    /// Three pieces by the text.
+    JoinByText,
     ExtendStrs,
     ExtendStrings,
     Extend,
@@ -48,13 +50,18 @@ impl Call for OnPieces {
         match self {
             Collect | Extend | Append => 10,
             Join => 15,
+            JoinByText => 9,
             _ => 3,
         }
     }
 
     fn input(&self, test: &Test, text: &'static str, way: usize) -> Self::Input {
         let builder = test.builder(0, self.front(text));
-        (self.pieces(test, text, way), builder, SEPARATORS[way % 5])
+        (
+            self.pieces(test, text, way),
+            builder,
+            self.separator(text, way),
+        )
     }
 
     fn run(
@@ -85,8 +92,12 @@ impl Call for OnPieces {
         match self {
             Join => {
                 let strs = cut(test, text, count_of(text, way));
-                ok(test, strs.as_slice().join(test.alloc, SEPARATORS[way % 5]))
+                ok(
+                    test,
+                    strs.as_slice().join(test.alloc, self.separator(text, way)),
+                )
             }
+            JoinByText => ok(test, cut(test, "abc", 3).as_slice().join(test.alloc, text)),
             _ => test.joined(self.front(text), text),
         }
     }
@@ -101,6 +112,13 @@ impl OnPieces {
         }
     }
 
+    fn separator(&self, text: &'static str, way: usize) -> &'static str {
+        match self {
+            JoinByText => text,
+            _ => SEPARATORS[way % 5],
+        }
+    }
+
     /// Texts are joined by each separator in each number of pieces.
     fn kind(&self, way: usize) -> usize {
         match self {
@@ -111,7 +129,10 @@ impl OnPieces {
     }
 
     fn pieces(&self, test: &Test, text: &'static str, way: usize) -> Pieces {
-        let strs = cut(test, text, count_of(text, way));
+        let strs = match self {
+            JoinByText => cut(test, "abc", 3),
+            _ => cut(test, text, count_of(text, way)),
+        };
         match self.kind(way) {
             0 => Pieces::Strs(strs),
             1 => Pieces::Strings(strings(test, &strs)),
@@ -128,7 +149,7 @@ impl OnPieces {
         separator: &str,
     ) -> Outcome {
         match self {
-            Join => made(SmolStr::join(alloc, pieces.as_slice(), separator)),
+            Join | JoinByText => made(SmolStr::join(alloc, pieces.as_slice(), separator)),
             Extend => gathered(builder.extend(pieces), builder),
             Append => gathered(append_all(&mut builder, pieces), builder),
             Collect => made(SmolStr::from_iter(alloc, pieces)),

@@ -14,6 +14,10 @@ pub enum Replace {
     ByMore,
     /// No bytes: a new text in front of each character and at the end.
     Between,
+    /// A byte by the text.
+    ByText,
+    /// The text by a byte, and by one more than a value has room for.
+    OfText,
 }
 
 /// However often the pattern occurs.
@@ -67,11 +71,15 @@ impl Replace {
             ByLess => &BY_LESS,
             ByMore => &BY_MORE,
             Between => &BETWEEN,
+            ByText => &[("-", "", ALL)],
+            OfText => &[("", "b", ALL), ("", LONG, ALL)],
         }
     }
 
-    fn change(&self, text: &str, way: usize) -> Change {
+    fn change(&self, text: &'static str, way: usize) -> Change {
         match self.changes().get(way) {
+            Some(&(from, _, count)) if matches!(self, ByText) => (from, text, count),
+            Some(&(_, to, count)) if matches!(self, OfText) => (text, to, count),
             Some(&(from, to, FEW)) => (from, to, text.len() % 9),
             Some(&(from, to, HALF)) => (from, to, text.len() / 2),
             Some(change) => *change,
@@ -80,8 +88,20 @@ impl Replace {
     }
 }
 
+impl Replace {
+    /// Where a byte becomes the text, it is there twice; and the text is there twice that becomes a byte.
+    fn whole(&self, test: &Test, text: &str) -> String {
+        match self {
+            ByText => test.string("a-b-c"),
+            OfText => test.joined(text, test.joined("-", text).as_str()),
+            _ => test.string(text),
+        }
+    }
+}
+
 impl Call for Replace {
-    type Input = Change;
+    /// The text in which it is replaced.
+    type Input = (String, Change);
 
     fn ways(&self) -> usize {
         self.changes().len()
@@ -91,15 +111,17 @@ impl Call for Replace {
         match self {
             ByteByMore => text.len() > INLINE_CAP && text.len() < MAPPED,
             ByMore | Between => text.len() < MAPPED,
+            OfText => !text.is_empty(),
             _ => true,
         }
     }
 
-    fn input(&self, _test: &Test, text: &'static str, way: usize) -> Change {
-        self.change(text, way)
+    fn input(&self, test: &Test, text: &'static str, way: usize) -> (String, Change) {
+        (self.whole(test, text), self.change(text, way))
     }
 
-    fn run(&self, alloc: Global, text: &str, (from, to, count): Change) -> Outcome {
+    fn run(&self, alloc: Global, _text: &str, (whole, change): (String, Change)) -> Outcome {
+        let (text, (from, to, count)) = (whole.as_str(), change);
         match count {
             ALL => made(text.replace_smolstr(alloc, from, to)),
             _ => made(text.replacen_smolstr(alloc, from, to, count)),
@@ -109,6 +131,9 @@ impl Call for Replace {
     /// As std replaces.
     fn wanted(&self, test: &Test, text: &'static str, way: usize) -> String {
         let (from, to, count) = self.change(text, way);
-        ok(test, text.replacen(test.alloc, from, to, count))
+        ok(
+            test,
+            self.whole(test, text).replacen(test.alloc, from, to, count),
+        )
     }
 }

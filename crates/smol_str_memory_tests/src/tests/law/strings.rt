@@ -1,6 +1,6 @@
 //! Calls that take a `String` of the text, or what is made of one.
 use OnString::*;
-use smol_str::SmolStr;
+use smol_str::{INLINE_CAP, SmolStr};
 use std::borrow::CowStr;
 use std::rc::RcStr;
 use test_support::*;
@@ -18,11 +18,11 @@ impl Call for OnString {
     /// A `String`, or a shared text.
     type Input = Result<String, RcStr>;
 
-    /// With no more room than the text needs, and with more.
+    /// With no more room than the text needs, with some more, and with much.
     fn ways(&self) -> usize {
         match self {
             FromBoxed | FromShared => 1,
-            _ => 2,
+            _ => 3,
         }
     }
 
@@ -32,7 +32,9 @@ impl Call for OnString {
                 return Err(shared);
             }
         }
-        let room = text.len().saturating_add(way.saturating_mul(5_000));
+        let room = text
+            .len()
+            .saturating_add([0, 2 * INLINE_CAP, 5_000][way % 3]);
         let mut string = ok(test, String::with_capacity(test.alloc, room));
         ok(test, string.push_str(text));
         Ok(string)

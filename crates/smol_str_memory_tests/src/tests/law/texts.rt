@@ -1,5 +1,6 @@
 //! Calls on a text.
 use OnText::*;
+use lexer::lex;
 use smol_str::{
     FormatError, SmolStr, SmolStrBuilder, Step, StrExt, ToSmolStr, build, format_smolstr,
 };
@@ -25,12 +26,17 @@ pub enum OnText {
     ToBuild,
     /// With a capacity of the size of both.
     ToBuildAtOnce,
+    /// With a step for each character, and no capacity.
+    ToBuildByChars,
     AsciiLower,
     AsciiUpper,
     LowerOfAscii,
     UpperOfAscii,
     Lower,
     Upper,
+    /// Of letters alone, which are one token, and of any other text.
+    LexWord,
+    Lex,
 }
 
 impl Call for OnText {
@@ -41,6 +47,8 @@ impl Call for OnText {
         match self {
             LowerOfAscii | UpperOfAscii => text.is_ascii(),
             Lower | Upper => !text.is_ascii(),
+            LexWord => text.chars().all(char::is_alphanumeric),
+            ToBuildByChars | Lex => text.len() <= 70_000,
             _ => true,
         }
     }
@@ -50,6 +58,11 @@ impl Call for OnText {
         if let ToBuild | ToBuildAtOnce = self {
             test.push(&mut steps, Step::PushStr(test.string(text)));
             test.push(&mut steps, Step::Push('é'));
+        }
+        if let ToBuildByChars = self {
+            for character in text.chars() {
+                test.push(&mut steps, Step::Push(character));
+            }
         }
         steps
     }
@@ -62,6 +75,7 @@ impl Call for OnText {
                 made(self.printed(alloc, text))
             }
             WithCapacity => with_capacity(alloc, text),
+            Lex | LexWord => lexed(alloc, text),
             _ => made(self.value(alloc, text, &steps)),
         }
     }
@@ -98,7 +112,7 @@ impl OnText {
             FromUtf8Unchecked => SmolStr::from_utf8_unchecked(alloc, text.as_bytes()),
             FromChars => SmolStr::from_chars(alloc, text.chars()),
             CollectChars => text.chars().collect(alloc),
-            ToBuild => build(alloc, 0, steps),
+            ToBuild | ToBuildByChars => build(alloc, 0, steps),
             ToBuildAtOnce => build(alloc, text.len().saturating_add(2), steps),
             AsciiLower => text.to_ascii_lowercase_smolstr(alloc),
             AsciiUpper => text.to_ascii_uppercase_smolstr(alloc),
@@ -122,6 +136,14 @@ fn formatted(alloc: Global, value: &impl Display) -> Result<SmolStr, FormatError
 fn with_capacity(alloc: Global, text: &str) -> Outcome {
     match SmolStrBuilder::with_capacity(alloc, text.len()) {
         Ok(mut builder) => changed(builder.push_str(text).is_ok(), builder),
+        Err(fault) => Err(fault.into_thing()),
+    }
+}
+
+/// The tokens, which are dropped: the contract has their text.
+fn lexed(alloc: Global, text: &str) -> Outcome {
+    match lex(alloc, text) {
+        Ok(_tokens) => Ok(Thing::Nothing),
         Err(fault) => Err(fault.into_thing()),
     }
 }

@@ -1,4 +1,5 @@
 //! Calls on a value. A clone shares the text, and a value on the heap hands out the shared text that it has.
+use super::builders::{cloned, is_printed};
 use OnValue::*;
 use serde_json::Value;
 use smol_str::borsh::BorshSerialize;
@@ -8,6 +9,9 @@ use test_support::*;
 
 pub enum OnValue {
     Cloned,
+    ClonedByTrait,
+    /// `{:?}` and `{}`, to a writer that asks for nothing.
+    PrintValue,
     IntoString,
     IntoRcStr,
     IntoRcStrOnHeap,
@@ -78,6 +82,8 @@ impl OnValue {
     fn of_value(&self, alloc: Global, value: SmolStr, out: &mut Vec<u8>) -> Outcome {
         match self {
             Cloned => made(value.clone()),
+            ClonedByTrait => made(cloned(&value)),
+            PrintValue => changed(is_printed(&value), value),
             IntoString => made(value.into_string(alloc)),
             IntoRcStr | IntoRcStrOnHeap => made(value.into_rc_str(alloc)),
             Write => written(&value, out),
