@@ -1,15 +1,19 @@
-//! The law of memory for the program: each mode on each line, and a token added to tallies of some.
+//! The law of memory for the program: each mode on each line, and on many lines; a token added to tallies of some.
+mod lines;
+mod tallies;
+
 use super::mode::mode_by;
 use super::run::reason_of;
 use Asks::ForAny;
 use OnLine::*;
 use Requests::{Doubling, Doublings, Most};
-use smol_str::{Place, SmolStr};
+use lines::OnLines;
+use smol_str::Place;
 use smol_tokens_core::fault::RunFault;
 use smol_tokens_core::mode::Mode;
 use smol_tokens_core::run::{run, run_with_hasher};
-use smol_tokens_core::tally::{AddFault, Tally};
 use std::hash::{BuildHasherDefault, FoldHasher};
+use tallies::Add;
 use test_support::*;
 
 /// A mode. A row reads as those of the library: three lines make three times their call's requests, and the input and the
@@ -43,6 +47,18 @@ static MODES: [Law<OnLine>; 10] = laws! {
 #[test]
 fn of_modes(rt: HostRuntime) -> Result<(), Fail> {
     check_law(rt, &MODES)
+}
+
+/// Of as many lines as a text has bytes.
+static LINES: [Law<OnLines>; 3] = laws! {
+    OnLines::Show => "run::run, show", Doubling(10), 20 * text + 100, ForAny;
+    OnLines::Tokens => "run::run_with_hasher, tokens", Doublings(5, 4), 300 * text + 1000, ForAny;
+    OnLines::Merge => "run::run_with_hasher, merge", Doublings(5, 4), 300 * text + 1000, ForAny;
+};
+
+#[test]
+fn of_lines(rt: HostRuntime) -> Result<(), Fail> {
+    check_law(rt, &LINES)
 }
 
 impl OnLine {
@@ -90,7 +106,9 @@ impl OnLine {
 /// Each line up to this length is tried, and some longer ones: all would take more time than a test has.
 const LONGEST: usize = 100;
 
-static LONGER: [usize; 10] = [111, 150, 200, 250, 290, 454, 512, 1_228, 3_052, 4_096];
+static LONGER: [usize; 11] = [
+    111, 150, 200, 250, 290, 454, 512, 1_228, 3_052, 4_096, 5_000,
+];
 
 /// How often a line occurs.
 static TIMES: [usize; 4] = [1, 1, 3, 3];
@@ -178,79 +196,13 @@ impl Call for OnLine {
     }
 }
 
-/// A token, added to a tally of so many others, four of which grow: a new one, and one that is there.
-enum Add {
-    New,
-    Again,
-}
-
+/// Of a token, added to a tally.
 static ADDS: [Law<Add>; 2] = laws! {
     Add::New => "Tally::add", Most(4), 0 * text + 640, ForAny;
     Add::Again => "Tally::add", Most(0), 0 * text + 0, ForAny;
 };
 
-static OTHERS: [u64; 8] = [0, 1, 3, 4, 7, 8, 14, 28];
-
 #[test]
 fn of_tallies(rt: HostRuntime) -> Result<(), Fail> {
     check_law(rt, &ADDS)
-}
-
-/// A tally of so many others, and the token.
-#[derive(Drop)]
-struct Filled {
-    tally: Tally,
-    token: SmolStr,
-    others: u64,
-}
-
-impl Call for Add {
-    type Input = Filled;
-
-    fn ways(&self) -> usize {
-        8
-    }
-
-    /// None of the others.
-    fn takes(&self, text: &str) -> bool {
-        text.len() > 2
-    }
-
-    fn input(&self, test: &Test, text: &'static str, way: usize) -> Filled {
-        let mut tally = Tally::new(test.alloc);
-        let others = OTHERS[way % 8];
-        for number in 0..others {
-            let token = ok(test, format!(in test.alloc; "{number}"));
-            let is_added = tally.add(test.value(token.as_str()), 1).is_ok();
-            holds(test, is_added, &number);
-        }
-        if let Add::Again = self {
-            holds(test, tally.add(test.value(text), 1).is_ok(), &text);
-        }
-        Filled {
-            tally,
-            token: test.value(text),
-            others,
-        }
-    }
-
-    /// A token that comes back is not counted.
-    fn run(&self, _alloc: Global, _text: &str, filled: Filled) -> Outcome {
-        let Filled {
-            mut tally,
-            token,
-            others,
-        } = filled;
-        match tally.add(token, 7) {
-            Ok(count) => Ok(nothing(count == if let Add::New = self { 7 } else { 8 })),
-            Err(AddFault::OutOfMemory(back)) if tally.len() as u64 == others => {
-                Err(Thing::Value(back))
-            }
-            Err(_) => Err(Thing::Fault),
-        }
-    }
-
-    fn wanted(&self, test: &Test, text: &'static str, _way: usize) -> String {
-        test.string(text)
-    }
 }

@@ -1,5 +1,5 @@
 //! Reports of every mode, on short and on long inputs.
-use super::run::Words;
+use super::run::{Words, run_by};
 use test_support::*;
 
 /// The words of a mode, an input, and the report on it.
@@ -35,16 +35,11 @@ static REPORTS: &[(Words, &str, &str)] = &table! {
     (&["merge"], "18446744073709551614 a\n1 a\n", "18446744073709551615 a\n");
 };
 
-/// The words of a mode, how the report line for one of 9,000 `a` begins, and the letter made of an `a`.
-static LETTERS: &[(Words, &str, &str)] = &[
-    (&["show"], "heap 9000 ", "a"),
-    (&["join"], "heap 9000 ", "a"),
-    (&["lower"], "heap 9000 ", "a"),
-    (&["upper"], "heap 9000 ", "A"),
-    (&["replace", "a", "x"], "heap 9000 ", "x"),
-    (&["replace", "aa", "xx"], "heap 9000 ", "x"),
-    (&["tokens"], "1 ", "a"),
-];
+/// The words of a mode, and the letter made of an `a`.
+static LETTERS: &[(Words, &str)] = &table! {
+    (&["show"], "a"); (&["join"], "a"); (&["lower"], "a"); (&["upper"], "A"); (&["replace", "a", "x"], "x");
+    (&["replace", "aa", "xx"], "x"); (&["tokens"], "a");
+};
 
 /// The words of a mode, an input, and the report on it.
 #[derive(Drop)]
@@ -56,21 +51,26 @@ pub struct Row {
 
 /// The reports of the table, and those on a line of 9,000 letters.
 pub fn all_rows(test: &Test) -> Vec<Row> {
-    let mut all = Vec::new(test.alloc);
+    let mut all = rows_of_letters(test, 9_000);
     for &(words, input, report) in REPORTS {
         push_row(test, &mut all, words, input, test.string(report));
-    }
-    for &(words, front, letter) in LETTERS {
-        push_letters(test, &mut all, words, front, letter);
     }
     all
 }
 
-fn push_letters(test: &Test, all: &mut Vec<Row>, words: Words, front: &str, letter: &str) {
-    let input = test.repeated_and("a", 9000, "\n");
-    let line = test.repeated_and(letter, 9000, "\n");
-    let report = test.joined(front, line.as_str());
-    push_row(test, all, words, input.as_str(), report)
+/// The reports on a line of so many letters, of which each mode makes one on the heap.
+fn rows_of_letters(test: &Test, size: usize) -> Vec<Row> {
+    let mut all = Vec::new(test.alloc);
+    for &(words, letter) in LETTERS {
+        let input = test.repeated_and("a", size, "\n");
+        let line = test.repeated_and(letter, size, "\n");
+        let report = match words {
+            ["tokens"] => test.joined("1 ", line.as_str()),
+            _ => ok(test, format!(in test.alloc; "heap {size} {line}")),
+        };
+        push_row(test, &mut all, words, input.as_str(), report);
+    }
+    all
 }
 
 fn push_row(test: &Test, all: &mut Vec<Row>, words: Words, input: &str, report: String) {
@@ -83,4 +83,70 @@ fn push_row(test: &Test, all: &mut Vec<Row>, words: Words, input: &str, report: 
             report,
         },
     );
+}
+
+// The whole report goes out by one call, and an empty one by none.
+#[test]
+fn few_calls(rt: HostRuntime) -> Result<(), Fail> {
+    let test = Test::begin(rt);
+    for row in &all_rows(&test) {
+        check_calls(&test, row);
+    }
+    for size in ABOVE_BUFFERS {
+        for row in &rows_of_letters(&test, size + size % 2) {
+            check_calls(&test, row);
+        }
+    }
+    for words in MANY {
+        check_calls(&test, &row_of_numbers(&test, words, 100_000));
+    }
+    test.end()
+}
+
+/// The modes that are tried on many lines.
+static MANY: [Words; 4] = [&["show"], &["join"], &["tokens"], &["merge"]];
+
+/// The report on so many different lines.
+fn row_of_numbers(test: &Test, words: Words, count: usize) -> Row {
+    let (mut input, mut report) = (String::new(test.alloc), String::new(test.alloc));
+    for number in 0..count {
+        let line = ok(test, format!(in test.alloc; "{number}"));
+        let (line, size) = (line.as_str(), line.len());
+        let (front, counted) = match words {
+            ["show"] => (
+                "",
+                ok(test, format!(in test.alloc; "inline {size} {line}\n")),
+            ),
+            ["join"] => ("", test.string(line)),
+            ["tokens"] => ("", ok(test, format!(in test.alloc; "1 {line}\n"))),
+            _ => ("1 ", ok(test, format!(in test.alloc; "1 {line}\n"))),
+        };
+        ok(
+            test,
+            input.push_str(
+                test.joined(front, test.joined(line, "\n").as_str())
+                    .as_str(),
+            ),
+        );
+        ok(test, report.push_str(counted.as_str()));
+    }
+    if let ["join"] = words {
+        let size = report.len();
+        report = ok(test, format!(in test.alloc; "heap {size} {report}\n"));
+    }
+    Row {
+        words,
+        input,
+        report,
+    }
+}
+
+fn check_calls(test: &Test, row: &Row) {
+    let (mut reader, report) = (row.input.as_bytes(), row.report.as_bytes());
+    let mut writer = empty_drip(test.alloc, usize::MAX, 0, None);
+    let ended = run_by(test, row.words, &mut reader, &mut writer);
+    let told = (row.words, report.len());
+    same(test, &ended, &None, &told);
+    holds(test, writer.taken.as_slice() == report, &told);
+    same(test, &writer.calls, &report.len().min(1), &told);
 }

@@ -11,7 +11,9 @@ use test_support::*;
 #[test]
 fn counted(rt: HostRuntime) -> Result<(), Fail> {
     let test = Test::begin(rt);
+    refuse_all(test.alloc);
     let mut tally = Tally::new(test.alloc);
+    holds(&test, !end_refusals(test.alloc), &"an empty tally");
     check_add(&test, &mut tally, SmolStr::new_inline("a"), 0, Some(0));
     check_at(&test, &tally, 0, ("a", 0, Inline));
     holds(&test, tally.at(1).is_none(), &"one token");
@@ -78,6 +80,20 @@ fn check_at(test: &Test, tally: &Tally, index: usize, wanted: (&str, u64, Place)
         .nth(index)
         .map(|(token, count)| (token.as_str(), *count, token.place()));
     same(test, &found, &Some(wanted), &index);
+}
+
+// Many tokens, each of which is there once.
+#[test]
+fn many(rt: HostRuntime) -> Result<(), Fail> {
+    let test = Test::begin(rt);
+    let mut tally = Tally::new(test.alloc);
+    for number in 0..20_000u64 {
+        let token = ok(&test, format!(in test.alloc; "{number}"));
+        let added = tally.add(test.value(token.as_str()), number);
+        holds(&test, added.is_ok_and(|count| count == number), &number);
+    }
+    same(&test, &tally.len(), &20_000, &"len");
+    test.end()
 }
 
 /// Gives each token the same hash.
