@@ -160,10 +160,13 @@ pub fn deserialize_limited<R: Read>(
     reader: &mut R,
     limit: usize,
 ) -> Result<SmolStr, LimitedFault>
+    // On success the wire form of the value was read and no more, and its text is within the limit.
     ensures ok { IfOk result (λ v.
         Gave R.remaining reader.old reader.new (wire v.text)) }
     ensures value { IfOk result (λ v. HasWire v.text × (v.place ≡ place_of v.text)) }
     ensures limited { IfOk result (λ v. size v.text ≤ limit) }
+
+    // On failure the fault says which bytes were read.
     ensures fault { IfErr result
         (AfterLimitedFault limit (R.remaining reader.old) (R.remaining reader.new)) }
 {

@@ -15,7 +15,6 @@ use std::fmt;
 #[derive(Debug, Drop)]
 pub struct FormatError;
 
-/// The message.
 impl fmt::Display for FormatError {
     ghost output = { λ _. Some format_message };
 
@@ -38,7 +37,6 @@ impl From<AllocError> for FormatError {
     }
 }
 
-/// For `?` after a refused `push`; the item that comes back is dropped.
 impl<T: Drop> From<AllocFailed<T>> for FormatError {
     fn from(_error: AllocFailed<T>) -> FormatError {
         FormatError

@@ -45,7 +45,6 @@ impl From<AllocError> for ReadFault {
     }
 }
 
-/// For `?` after a refused `push`; the item that comes back is dropped.
 impl<T: Drop> From<AllocFailed<T>> for ReadFault {
     ghost from_gives = { λ error fault. fault ≡ OutOfMemory };
 
@@ -54,7 +53,6 @@ impl<T: Drop> From<AllocFailed<T>> for ReadFault {
     }
 }
 
-/// The message.
 impl Display for ReadFault {
     ghost output = { read_fault_message ⟦<io::Error as Display>⟧.output };
 

@@ -92,7 +92,6 @@ impl From<AllocError> for DecodeFault {
     }
 }
 
-/// For `?` after a refused `push`; the item that comes back is dropped.
 impl<T: Drop> From<AllocFailed<T>> for DecodeFault {
     ghost from_gives = { λ error fault. fault ≡ NoMemory };
 
@@ -125,7 +124,6 @@ impl From<AllocError> for LimitedFault {
     }
 }
 
-/// For `?` after a refused `push`; the item that comes back is dropped.
 impl<T: Drop> From<AllocFailed<T>> for LimitedFault {
     ghost from_gives = { λ error fault. fault ≡ Decode NoMemory };
 
@@ -134,7 +132,6 @@ impl<T: Drop> From<AllocFailed<T>> for LimitedFault {
     }
 }
 
-/// The message.
 impl Display for EncodeFault {
     ghost output = { encode_fault_message ⟦<io::Error as Display>⟧.output };
 
@@ -148,7 +145,6 @@ impl Display for EncodeFault {
 
 impl Error for EncodeFault {}
 
-/// The message.
 impl Display for DecodeFault {
     ghost output = { decode_fault_message ⟦<Utf8Error as Display>⟧.output ⟦<io::Error as Display>⟧.output };
 
@@ -164,7 +160,6 @@ impl Display for DecodeFault {
 
 impl Error for DecodeFault {}
 
-/// The message.
 impl Display for LimitedFault {
     ghost output = { limited_fault_message ⟦<DecodeFault as Display>⟧.output };
 

@@ -18,9 +18,12 @@ pub trait Piece: Drop {
     // The text of items, one after another, in the words of the items' kind.
     ghost texts: { List Self → List ℕ };
 
-    /// Appends the text; a refusal leaves the builder as it was.
+    /// Appends the text.
     fn append_to(&self, builder: &mut SmolStrBuilder) -> Result<(), AllocError>
+        // On success the builder has the text behind its own.
         ensures ok { OnOk result (builder.new ≡ appended builder.old (text self.now)) }
+
+        // On failure the builder stays. Only a text that would be on the heap can fail.
         ensures unchanged { OnErr result (builder.new ≡ builder.old) }
         ensures refused { OnErr result ((appended builder.old (text self.now)).kind ≡ OnHeap) };
 

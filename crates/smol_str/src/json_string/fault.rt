@@ -1,4 +1,4 @@
-//! Why JSON made no value.
+//! The fault of the JSON calls.
 ghost use Rattle.std.specs.Prelude.{◌≡◌};
 ghost use Rattle.smol_str.specs.Messages.{json_fault_message};
 ghost use Rattle.smol_str.specs.declared.json_string.fault.JsonFault.TheVariants.{OutOfMemory};
@@ -28,7 +28,6 @@ impl From<AllocError> for JsonFault {
     }
 }
 
-/// For `?` after a refused `push`; the item that comes back is dropped.
 impl<T: Drop> From<AllocFailed<T>> for JsonFault {
     ghost from_gives = { λ error fault. fault ≡ OutOfMemory };
 
@@ -37,7 +36,6 @@ impl<T: Drop> From<AllocFailed<T>> for JsonFault {
     }
 }
 
-/// The message.
 impl Display for JsonFault {
     ghost output = { json_fault_message ⟦<serde_json::Error as Display>⟧.output };
 

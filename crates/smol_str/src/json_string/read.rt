@@ -52,9 +52,14 @@ pub fn from_value(alloc: Global, value: &Value) -> Result<SmolStr, JsonFault>
 /// ```
 #[tactic(auto, using(crate::proofs::JsonLemmas::values_read))]
 pub fn from_json(alloc: Global, text: &str) -> Result<SmolStr, JsonFault>
+    // On success the value is of the text that the JSON text spells, in that text's place.
     ensures text { IfOk result (λ v. IsJsonText text.now v.text) }
     ensures of_text { (t : List ℕ) → IsJsonText text.now t → IfOk result (λ v. IsValueOf t v) }
+
+    // A fault says why there is no value.
     ensures fault { IfErr result (AfterJsonFault text.now) }
+
+    // A plain resident text always has its value.
     ensures plain { (t : List ℕ) → IsPlainJson text.now t → IsResident t →
         IsOkAnd result (IsValueOf t) }
 {

@@ -43,7 +43,6 @@ impl From<AllocError> for FromUtf8Fault {
     }
 }
 
-/// For `?` after a refused `push`; the item that comes back is dropped.
 impl<T: Drop> From<AllocFailed<T>> for FromUtf8Fault {
     ghost from_gives = { λ error fault. fault ≡ OutOfMemory };
 
