@@ -1,10 +1,13 @@
 //! Values and builders from iterators, and hints that promise too much.
-ghost use Rattle.std.specs.Prelude.{◌+◌, length};
+ghost use Rattle.std.specs.Prelude.{◌+◌, [], ◌∷◌, length};
 ghost use Rattle.std.specs.Iterator.{at_most, YieldsFirst};
 ghost use Rattle.std.specs.Vec.Iter.{into_iter_items};
+ghost use Rattle.std.proofs.Common.{refl};
+ghost use Rattle.smol_str.specs.Joined.{joined};
 
 use Place::{Heap, Inline, Static};
-use smol_str::{BLANK_NEWLINES, INLINE_CAP, Place, SmolStr};
+use smol_str::{BLANK_NEWLINES, INLINE_CAP, Piece, Place, SmolStr, SmolStrBuilder};
+use std::cell::Cell;
 use std::vec::IntoIter;
 use test_support::*;
 
@@ -170,15 +173,26 @@ fn hints(rt: HostRuntime) -> Result<(), Fail> {
 fn check_hint(test: &Test, text: &str, lower: usize) {
     let alloc = test.alloc;
     let chars = with_hint(chars_of(test, text), lower);
+    refuse(alloc, Refusals::One(0));
     check_made(test, SmolStr::from_chars(alloc, chars), text);
+    check_little(test, lower);
     let strs = with_hint(strs_of(test, text), lower);
+    refuse(alloc, Refusals::One(0));
     check_made(test, SmolStr::from_strs(alloc, strs), text);
+    check_little(test, lower);
     let strings = strings_of(test, &[("", 1), (text, 1)]);
     let refs = with_hint(refs_of(test, &strings), lower);
     check_made(test, SmolStr::from_string_refs(alloc, refs), text);
     let strings = with_hint(strings, lower);
     check_made(test, SmolStr::from_strings(alloc, strings), text);
     check_extending_hint(test, text, lower);
+}
+
+/// No more was asked for than texts of up to 40 bytes need.
+fn check_little(test: &Test, lower: usize) {
+    end_refusals(test.alloc);
+    let is_little = is_at_most(test.alloc, Count::Bytes, 300);
+    holds(test, is_little || !can_refuse(test.alloc), &lower);
 }
 
 fn check_extending_hint(test: &Test, text: &str, lower: usize) {
@@ -212,4 +226,54 @@ fn strs_of<'a>(test: &Test, text: &'a str) -> Vec<&'a str> {
 
 fn refs_of<'a>(test: &Test, strings: &'a Vec<String>) -> Vec<&'a String> {
     ok(test, strings.iter().collect(test.alloc))
+}
+
+/// A piece with the text `b`, that counts what it is asked.
+#[derive(Drop)]
+struct Counting<'a> {
+    lends: &'a Cell<usize>,
+    appends: &'a Cell<usize>,
+}
+
+impl Piece for Counting<'_> {
+    ghost text = { λ _. 98 ∷ [] };
+
+    ghost texts = { joined (λ _. 98 ∷ []) };
+
+    ghost joins = { λ _. refl };
+
+    fn append_to(&self, builder: &mut SmolStrBuilder) -> Result<(), AllocError> {
+        count(self.appends);
+        builder.push('b')
+    }
+
+    fn lent(&self) -> Option<&str> {
+        count(self.lends);
+        None
+    }
+}
+
+fn count(times: &Cell<usize>) {
+    times.set(times.get().wrapping_add(1));
+}
+
+// Each piece is asked for its text once for the room, the first once more for the copy, and appended once.
+#[test]
+fn pieces_asked_once(rt: HostRuntime) -> Result<(), Fail> {
+    let test = Test::begin(rt);
+    let (lends, appends) = (Cell::new(0), Cell::new(0));
+    let mut pieces = Vec::new(test.alloc);
+    for _ in 0..5_000 {
+        let (lends, appends) = (&lends, &appends);
+        test.push(&mut pieces, Counting { lends, appends });
+    }
+    let joined = SmolStr::join(test.alloc, pieces.as_slice(), ",");
+    holds(&test, joined.is_ok(), &"join");
+    same(
+        &test,
+        &(lends.get(), appends.get()),
+        &(5_001, 5_000),
+        &"join",
+    );
+    test.end()
 }

@@ -91,15 +91,11 @@ fn print_not_json(test: &Test, json: &str) {
     match (
         Value::from_str(test.alloc, json),
         Value::from_str(test.alloc, json),
+        Value::from_str(test.alloc, json),
     ) {
-        (Err(held), Err(error)) => {
-            let errors = [error];
-            prints(
-                test,
-                &JsonFault::Json(held),
-                &errors[0],
-                &Variant("Json", &errors),
-            );
+        (Err(held), Err(shown), Err(error)) => {
+            let fault = JsonFault::Json(held);
+            prints(test, &fault, &shown, &Variant("Json", &[error]));
         }
         _ => test.fail(&json),
     }

@@ -48,6 +48,12 @@ fn rows(rt: HostRuntime) -> Result<(), Fail> {
     for &(text, json) in &READ {
         check_read(&test, json, text);
     }
+    let spaces = test.repeated(" ", ABOVE_BUFFERS[0]);
+    check_read(
+        &test,
+        test.joined(spaces.as_str(), "\"\\n\"").as_str(),
+        "\n",
+    );
     let large = test.repeated_and("a", ABOVE_BUFFERS[2], "\"");
     let written = ok(&test, to_json(test.alloc, &test.value(large.as_str())));
     check_read(&test, written.as_str(), large.as_str());

@@ -227,14 +227,14 @@ fn fails_at_each_write_call(rt: HostRuntime) -> Result<(), Fail> {
     test.end()
 }
 
-// An inline text goes out by one call. Of a longer one the size does, and then the text by another.
+// The size goes out by one call, and then the text by another, if there is one.
 #[test]
 fn few_calls(rt: HostRuntime) -> Result<(), Fail> {
     let test = Test::begin(rt);
-    for len in 0..=INLINE_CAP {
-        check_write_calls(&test, len, 1);
+    for len in 0..=INLINE_CAP + 1 {
+        check_write_calls(&test, len, 1 + len.min(1));
     }
-    for len in [INLINE_CAP + 1, 100, 5_000_000] {
+    for len in [100, 5_000_000] {
         check_write_calls(&test, len, 2);
     }
     for text in [long_text(), long_blank(), PINNED] {
@@ -257,11 +257,14 @@ fn check_writes(test: &Test, value: &SmolStr, wanted: usize) {
 }
 
 /// The size of a body, and by how many calls its form is read: one for the prefix, and one for each chunk.
-static READ_CALLS: [(u32, usize); 9] = [
+static READ_CALLS: [(u32, usize); 12] = [
     (0, 1),
     (1, 2),
     (39, 2),
     (40, 2),
+    (64, 2),
+    (100, 2),
+    (255, 2),
     (256, 2),
     (257, 2),
     (4096, 2),
@@ -286,6 +289,9 @@ fn few_read_calls(rt: HostRuntime) -> Result<(), Fail> {
         &"read_all",
     );
     same(&test, &reader.calls, &4, &"read_all");
+    let (mut reader, mut room) = (trickle_of(&[b'a'; 9000], usize::MAX, 0), [0; 9000]);
+    holds(&test, fill(&mut reader, &mut room).is_ok(), &"fill");
+    same(&test, &reader.calls, &1, &"fill");
     let mut writer = empty_drip(test.alloc, 1, 0, None);
     holds(&test, write_fully(&mut writer, b"").is_ok(), &"write_fully");
     same(&test, &writer.calls, &0, &"write_fully");

@@ -42,16 +42,17 @@ fn check_line(test: &Test, fault: &RunFault, line: &'static str, name: &'static 
 #[test]
 fn faults_of_tallies(rt: HostRuntime) -> Result<(), Fail> {
     let test = Test::begin(rt);
+    let token = [test.joined("a", "")];
     let fault = AddFault::OutOfMemory(SmolStr::new_static("a"));
     prints(
         &test,
         &fault,
         &Sentence("memory allocation failed"),
-        &Variant("OutOfMemory", &["a"]),
+        &Variant("OutOfMemory", &token),
     );
     let fault = AddFault::Full(SmolStr::new_static("a"));
     let sentence = "the count would exceed 18446744073709551615";
-    prints(&test, &fault, &Sentence(sentence), &Variant("Full", &["a"]));
+    prints(&test, &fault, &Sentence(sentence), &Variant("Full", &token));
     test.end()
 }
 

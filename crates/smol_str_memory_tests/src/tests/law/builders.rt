@@ -177,13 +177,11 @@ impl Call for Each {
     }
 
     fn run(&self, _alloc: Global, text: &str, mut builder: SmolStrBuilder) -> Outcome {
-        let mut rest = text;
-        while !rest.is_empty() {
-            let (first, after) = rest.split_at(first_of(rest).len());
-            if !self.0.append(first, &mut builder) {
+        let mut buf = [0; 4];
+        for character in text.chars() {
+            if !self.0.append(character.encode_utf8(&mut buf), &mut builder) {
                 return changed(false, builder);
             }
-            rest = after;
         }
         changed(true, builder)
     }

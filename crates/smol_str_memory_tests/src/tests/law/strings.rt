@@ -34,7 +34,7 @@ impl Call for OnString {
         }
         let room = text
             .len()
-            .saturating_add([0, 2 * INLINE_CAP, 5_000][way % 3]);
+            .saturating_add([0, 10 * INLINE_CAP, 5_000][way % 3]);
         let mut string = ok(test, String::with_capacity(test.alloc, room));
         ok(test, string.push_str(text));
         Ok(string)

@@ -5,6 +5,7 @@ use smol_str::borsh::{
 };
 use smol_str::stream::CHUNK;
 use smol_str::{INLINE_CAP, SmolStr};
+use std::str::Utf8Error;
 use test_support::*;
 
 pub fn reason_of(fault: &DecodeFault) -> Reason {
@@ -113,12 +114,12 @@ fn same_fault(test: &Test, found: Option<DecodeFault>, reason: Reason, row: (usi
     }
 }
 
-/// A body, and how many of its bytes are UTF-8.
-static INVALID: [(&[u8], usize); 6] = table! {
-    (b"ab\xff", 2); (b"\xe9ab", 0); (b"abc\xf0\x9f", 3); (&[b'a'; 41], 40); (&[b'a'; 301], 300); (&[b'a'; 9001], 9000);
+/// A body, and the index at which 0xff is written into it, where it has one.
+static INVALID: [(&[u8], usize); 8] = table! {
+    (b"ab\xff", 2); (b"\xe9ab", 9); (b"abc\xf0\x9f", 9); (b"\xe9", 9); (b"a\xe2\x82a", 9); (&[b'a'; 41], 40); (&[b'a'; 301], 300); (&[b'a'; 9001], 9000);
 };
 
-// The fault has std's error, which says where the bytes are not UTF-8.
+// The fault has std's error, which says where the bytes are not UTF-8, and whether they end within a character.
 #[test]
 fn invalid_from(rt: HostRuntime) -> Result<(), Fail> {
     let test = Test::begin(rt);
@@ -127,18 +128,23 @@ fn invalid_from(rt: HostRuntime) -> Result<(), Fail> {
         if let Some(last) = bytes.get_mut(valid.saturating_add(4)) {
             *last = 0xff;
         }
-        check_index(&test, from_wire(test.alloc, bytes.as_slice()).err(), valid);
+        let wanted = str::from_utf8(bytes.get(4..).unwrap_or(b"")).err();
+        check_error(
+            &test,
+            from_wire(test.alloc, bytes.as_slice()).err(),
+            &wanted,
+        );
         let mut reader = trickle_of(bytes.as_slice(), usize::MAX, 0);
         let read = SmolStr::deserialize_reader(test.alloc, &mut reader);
-        check_index(&test, read.err(), valid);
+        check_error(&test, read.err(), &wanted);
     }
     test.end()
 }
 
-fn check_index(test: &Test, found: Option<DecodeFault>, valid: usize) {
+fn check_error(test: &Test, found: Option<DecodeFault>, wanted: &Option<Utf8Error>) {
     match found {
-        Some(DecodeFault::NotUtf8(error)) => same(test, &error.valid_up_to(), &valid, &"bytes"),
-        _ => test.fail(&valid),
+        Some(DecodeFault::NotUtf8(error)) => same(test, &Some(error), wanted, &"bytes"),
+        _ => test.fail(wanted),
     }
 }
 

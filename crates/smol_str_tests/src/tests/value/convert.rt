@@ -1,5 +1,10 @@
 //! Values from other texts, and back.
-use smol_str::{FromUtf8Fault, Place, SmolStr};
+use smol_str::borsh::{DecodeFault, LimitedFault};
+use smol_str::json_string::JsonFault;
+use smol_str::stream::ReadFault;
+use smol_str::{FormatError, FromUtf8Fault, Place, SmolStr};
+use std::alloc::AllocFailed;
+use std::convert::{AsSlice, AsStr};
 use std::io::{Cursor, Read};
 use std::path::Path;
 use std::rc::RcStr;
@@ -90,5 +95,65 @@ fn shared_texts(rt: HostRuntime) -> Result<(), Fail> {
         let text = string.as_str();
         same_value(&test, &of_shared(&test, text), text, place, &unit);
     }
+    test.end()
+}
+
+fn text_of<T: AsStr>(thing: &T) -> &str {
+    thing.as_str()
+}
+
+fn bytes_of<T: AsSlice<u8>>(thing: &T) -> &[u8] {
+    thing.as_slice()
+}
+
+// A value and a builder lend their text to code over anything that does.
+#[test]
+fn lent_by_traits(rt: HostRuntime) -> Result<(), Fail> {
+    let test = Test::begin(rt);
+    for text in ["né", long_text()] {
+        let (value, builder) = (test.value(text), test.builder(0, text));
+        same(
+            &test,
+            &[text_of(&value), text_of(&builder)],
+            &[text; 2],
+            &"as_str",
+        );
+        let found = [bytes_of(&value), bytes_of(&builder)];
+        same(&test, &found, &[text.as_bytes(); 2], &"as_slice");
+        same(&test, &&*value, &text, &"deref");
+        same(&test, &Some(value).as_deref(), &Some(text), &"as_deref");
+    }
+    test.end()
+}
+
+/// What `?` makes of a refused `push`.
+fn push_fault<F: From<AllocFailed<u8>> + Drop>(alloc: Global) -> Option<F> {
+    let mut list = Vec::new(alloc);
+    match list.push(1u8) {
+        Ok(()) => None,
+        Err(refused) => Some(F::from(refused)),
+    }
+}
+
+// In a function that returns one of the faults, it says that memory ran out.
+#[test]
+fn refused_pushes(rt: HostRuntime) -> Result<(), Fail> {
+    let test = Test::begin(rt);
+    let alloc = test.alloc;
+    refuse_all(alloc);
+    let found = [
+        push_fault(alloc).is_none_or(|fault| matches!(fault, FromUtf8Fault::OutOfMemory)),
+        push_fault(alloc).is_none_or(|fault| matches!(fault, ReadFault::OutOfMemory)),
+        push_fault(alloc).is_none_or(|fault| matches!(fault, DecodeFault::OutOfMemory)),
+        push_fault(alloc).is_none_or(|fault| matches!(fault, JsonFault::OutOfMemory)),
+        push_fault(alloc).is_none_or(|fault| matches!(fault, FormatError)),
+        push_fault(alloc).is_none_or(|fault| matches!(
+            fault,
+            LimitedFault::Decode(DecodeFault::OutOfMemory)
+        )),
+    ];
+    let was_refused = end_refusals(alloc);
+    same(&test, &was_refused, &can_refuse(alloc), &"push");
+    same(&test, &found, &[true; 6], &"push");
     test.end()
 }
