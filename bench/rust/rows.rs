@@ -143,7 +143,8 @@ fn sum_of_own(call: &str, input: &Input<SmolStr>) -> Option<u64> {
     Some(match call {
         "new_inline" => each!(input, |it| SmolStr::new_inline(&it.text)),
         "new_static" => {
-            each!(input, |it| SmolStr::new_static(if it.text.len() > 9 { "a literal of some length" } else { "another" }))
+            let literal = |is_long| if is_long { "a literal of some length" } else { "another" };
+            each!(input, |it| SmolStr::new_static(literal(it.text.len() > 9)))
         }
         "From<char>" => each!(input, |it| SmolStr::from(it.text.chars().next().unwrap_or('x'))),
         "from_utf8" => each!(input, |it| SmolStr::from_utf8(it.text.as_bytes())),
