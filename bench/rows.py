@@ -118,7 +118,7 @@ TABLE = [
     ("Tally::add, {} tokens", "tally.add", [10], [100, 1000, 10000], "many"),
     ("Tally::count, {} tokens", "tally.count", [10], [100, 1000], "many"),
     ("Tally::at, {} tokens", "tally.at", [10], [100, 1000], "many"),
-    ("Tally::len, {} tokens", "tally.len", [10], [100, 1000], "many"),
+    ("Tally::add and len, {} tokens", "tally.len", [10], [100, 1000], "many"),
 ]
 
 # How many texts a call takes in turn: a power of two, so that crates/rows picks them by a mask.

@@ -3,6 +3,7 @@ use crate::answer::Answer;
 use crate::input::{Input, tally_of, values_of};
 use smol_str::borsh::BorshSerialize;
 use smol_str::{SmolStr, SmolStrBuilder, build};
+use smol_tokens_core::tally::Tally;
 use std::alloc::AllocError;
 use std::collections::HashMap;
 
@@ -41,7 +42,7 @@ pub fn sum_of_maps(name: &str, input: &Input) -> Option<u64> {
         "tally.add" => tally_of(alloc, input.values.as_slice())?.len(),
         "tally.count" => counts(input),
         "tally.at" => lengths(input),
-        "tally.len" => input.tally.len(),
+        "tally.len" => grown(input),
     })
 }
 
@@ -114,6 +115,19 @@ fn places(input: &Input) -> usize {
         sum = sum.wrapping_add(input.places.get(value).copied().unwrap_or(0));
     }
     sum
+}
+
+/// The length after each token: of a tally that stays the same it would be taken once.
+fn grown(input: &Input) -> Option<usize> {
+    let mut tally = Tally::new(input.alloc);
+    let mut sum = 0usize;
+    for value in input.values.as_slice() {
+        if tally.add(value.clone().ok()?, 1).is_err() {
+            return None;
+        }
+        sum = sum.wrapping_add(tally.len());
+    }
+    Some(sum)
 }
 
 fn counts(input: &Input) -> usize {
