@@ -73,11 +73,7 @@ impl SmolStrBuilder {
     pub const fn new(alloc: Global) -> SmolStrBuilder
         ensures { result ≡ empty_builder InBuffer }
     {
-        SmolStrBuilder {
-            alloc,
-            expected: 0,
-            repr: BuilderRepr::Inline(InlineText::new()),
-        }
+        SmolStrBuilder::expecting(alloc, 0)
     }
 
     /// An empty builder with room for `capacity` bytes.

@@ -234,14 +234,9 @@ impl SmolStr {
         ensures { MatchOption result (¬ (IsResident (chars text.now))) (λ v. IsValueOf (chars text.now) v) }
     {
         if text.len() <= INLINE_CAP {
-            return Some(SmolStr {
-                repr: Repr::Inline(InlineText::from_short(text)),
-            });
+            return Some(SmolStr::new_inline(text));
         }
-        let run = blank_slice(text)?;
-        Some(SmolStr {
-            repr: Repr::Static(run),
-        })
+        Some(SmolStr::new_static(blank_slice(text)?))
     }
 
     /// The value that keeps a short text in its buffer.

@@ -1,5 +1,5 @@
 -- For joining: a text, and then others behind a separator.
-use Rattle.smol_str.proofs.Common.{◌≡◌, ℕ, ◌+◌, ◌<◌, List, ◌∷◌, ◌++◌, length, get_or, map, take, flat_map, ap, ◌∙◌, arith, append-nil, append_assoc, chars-append, IsUtf8-append, common_steps, joined_by, BuilderState, OnHeap, empty_builder, appended, kind_for, IsShort, IsUtf8, chars, size, ◌%◌, ◌≤◌, ⊎_elim}
+use Rattle.smol_str.proofs.Common.{◌≡◌, Option, None, Some, IfSome, unwrap_or, [], ℕ, ◌+◌, ◌<◌, List, ◌∷◌, ◌++◌, length, get_or, map, take, flat_map, ap, ◌∙◌, arith, append-nil, append_assoc, chars-append, IsUtf8-append, common_steps, joined_by, BuilderState, OnHeap, empty_builder, appended, kind_for, IsShort, IsUtf8, chars, size, ◌%◌, ◌≤◌, ⊎_elim}
 use Rattle.std.proofs.lemmas.Grind.{take_at_read, flat_map-append}
 use Rattle.std.proofs.lemmas.List.Folds.{flat_map-map}
 use Rattle.std.proofs.Math.Nat.{mod-le}
@@ -28,6 +28,13 @@ heap-at f old now xs i x here is so_far heap =
     let joins : appended now (f x) ≡ appended old (flat_map f (take (i + 1) xs)) =
     cc (so_far, more, appended-twice old (flat_map f (take i xs)) (f x)) in
     rw (flat_map-parts f xs (i + 1)) (appended-heap old (flat_map f (take (i + 1) xs)) _ (cc (joins, heap)))
+
+-- the length of a text that is lent, or 0, is at most that of the piece
+pub lent-least : {X : Type 0} (now : X → List ℕ) (t : List ℕ) (lent : Option X) (none text : X) → text ≡ unwrap_or lent none
+    → now none ≡ [] → IsUtf8 (now text) → IfSome lent (λ x. chars (now x) ≡ t) → length (now text) ≤ size t
+lent-least now t None none text is empty u reads = omega (arith, ap (λ x. length (now x)) is, ap length empty)
+lent-least now t (Some x) none text is empty u reads =
+    omega (arith, ap (λ y. length (now y)) is, size-chars (now text) u, ap (λ y. size (chars (now y))) is, ap size reads)
 
 -- in a loop that sums, in machine words, what a text t and pieces have at least, each behind a separator
 pub least-more : {X : Type 0} (f : X → List ℕ) (t sep : List ℕ) (xs : List X) (i len m : ℕ) (x : X) (k : ℕ)

@@ -14,7 +14,7 @@ use std::alloc::{AllocError, Global};
 impl SmolStrBuilder {
     /// An empty builder whose text is expected to have so many bytes: it asks for room for them where it leaves its buffer.
     #[inline(always)]
-    pub(crate) fn expecting(alloc: Global, expected: usize) -> SmolStrBuilder
+    pub(crate) const fn expecting(alloc: Global, expected: usize) -> SmolStrBuilder
         ensures { result ≡ empty_builder InBuffer }
     {
         SmolStrBuilder {

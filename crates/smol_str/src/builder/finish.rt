@@ -46,8 +46,8 @@ impl SmolStrBuilder {
         }
     }
 
-    /// Like `finish`, but drops the builder on failure, and reuses the allocation that the text is in,
-    /// shrunk to fit where the heap does that. That no copy is made is only tested.
+    /// Like `finish`, but drops the builder on failure, and reuses the allocation that the text is in. Spare room of more
+    /// than [`INLINE_CAP`](crate::INLINE_CAP) bytes is given back where the heap does that. That no copy is made is only tested.
     ///
     /// It is refused with [`AllocError`] where the heap has no room for the value's own count.
     ///

@@ -53,26 +53,13 @@ fn min_len<P: Piece>(first: &P, separator: &str, others: &[P]) -> usize
     ensures { result ≤ size (P.text first.now
         ++ flat_map (λ piece. chars separator.now ++ P.text piece) others.now) }
 {
-    let mut len = lent_len(first);
+    let mut len = first.lent().unwrap_or("").len();
     for piece in others {
+        let next = piece.lent().unwrap_or("");
         // A sum that wraps is still no more than the length.
-        len = len
-            .wrapping_add(separator.len())
-            .wrapping_add(lent_len(piece));
+        len = len.wrapping_add(separator.len()).wrapping_add(next.len());
     }
     len
-}
-
-/// The length of a text that is lent, in bytes; 0 of another.
-#[inline(always)]
-#[tactic(auto, using(crate::proofs::TextLemmas::Sizes::sizes))]
-fn lent_len<P: Piece>(piece: &P) -> usize
-    ensures { result ≤ size (P.text piece.now) }
-{
-    match piece.lent() {
-        Some(text) => text.len(),
-        None => 0,
-    }
 }
 
 /// Appends the texts, each behind the separator.
@@ -89,24 +76,10 @@ fn append_others<P: Piece>(
 {
     builder.short_in_buffer();
     for piece in others {
-        append_next(builder, separator, piece)?;
+        builder.push_str_heap_first(separator)?;
+        piece.append_to(builder)?;
     }
     Ok(())
-}
-
-/// Appends a separator and a text.
-#[inline(always)]
-#[tactic(auto, using(crate::proofs::BuilderLemmas::Join::appends))]
-fn append_next<P: Piece>(
-    builder: &mut SmolStrBuilder,
-    separator: &str,
-    piece: &P,
-) -> Result<(), AllocError>
-    ensures ok { OnOk result (builder.new ≡ appended builder.old (chars separator.now ++ P.text piece.now)) }
-    ensures refused { OnErr result ((appended builder.old (chars separator.now ++ P.text piece.now)).kind ≡ OnHeap) }
-{
-    builder.push_str_heap_first(separator)?;
-    piece.append_to(builder)
 }
 
 /// The texts in memory of `len` bytes, if each piece lends its own and all of them have room. Out of line, so that a short

@@ -63,7 +63,7 @@ pub fn from_json(alloc: Global, text: &str) -> Result<SmolStr, JsonFault>
     ensures plain { (t : List ℕ) → IsPlainJson text.now t → IsResident t →
         IsOkAnd result (IsValueOf t) }
 {
-    let Some(inner) = behind_quote(text) else {
+    let Some(inner) = strip_ascii(without_spaces(text), b'"') else {
         return read_any(alloc, text);
     };
     let (plain, rest) = split_plain(inner);
@@ -71,16 +71,6 @@ pub fn from_json(alloc: Global, text: &str) -> Result<SmolStr, JsonFault>
         return Ok(SmolStr::new(alloc, plain)?);
     }
     read_escaped(alloc, text, plain, rest)
-}
-
-/// What comes after white space and a quote.
-#[inline(always)]
-fn behind_quote(text: &str) -> Option<&str>
-    ensures { MatchOption result
-        ((rest : List ℕ) → ¬ (drop (prefix_len is_space text.now) text.now ≡ 34 ∷ rest))
-        (λ rest. drop (prefix_len is_space text.now) text.now ≡ 34 ∷ rest.now) }
-{
-    strip_ascii(without_spaces(text), b'"')
 }
 
 /// Whether a quote and white space are all.
@@ -197,20 +187,12 @@ fn split_code(text: &str) -> Option<(char, &str)>
     ensures shorter { IfSome result (λ cut. length cut.1.now < length text.now) }
 {
     let (unit, rest) = split_unit(text)?;
-    if !is_surrogate(unit) {
-        return Some((char::from_u32(unit)?, rest));
+    if let Some(character) = char::from_u32(unit) {
+        return Some((character, rest));
     }
     let second = strip_ascii(strip_ascii(rest, b'\\')?, b'u')?;
     let (low, rest) = split_unit(second)?;
     Some((surrogate_pair(unit, low)?, rest))
-}
-
-/// Whether a UTF-16 code unit is half of a pair.
-#[inline(always)]
-fn is_surrogate(unit: u32) -> bool
-    ensures { IsTrue result ↔ (0xd800 ≤ unit) × (unit < 0xe000) }
-{
-    unit >= 0xd800 && unit < 0xe000
 }
 
 /// The character of a pair of surrogates; `None` where the first is not a high one or the second not a low one.

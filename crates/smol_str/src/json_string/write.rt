@@ -151,20 +151,12 @@ fn write_escape(json: &mut Vec<u8>, byte: u8) -> Result<(), AllocError>
     ensures { OnOk result (json.new.items ≡ json.old.items ++ escape_byte byte) }
 {
     match letter_of_byte(byte) {
-        Some(letter) => write_letter(json, letter),
-        None => write_control(json, byte),
+        Some(letter) => json.extend_from_slice(&[b'\\', letter]),
+        None => {
+            let (high, low) = (hex_digit(byte / 16), hex_digit(byte % 16));
+            json.extend_from_slice(&[b'\\', b'u', b'0', b'0', high, low])
+        }
     }
-}
-
-/// Appends a backslash and a letter.
-#[inline(always)]
-fn write_letter(json: &mut Vec<u8>, letter: u8) -> Result<(), AllocError>
-    ensures { OnOk result (json.new.items ≡ json.old.items ++ 92 ∷ letter ∷ []) }
-{
-    json.reserve(2)?;
-    json.push_reserved(b'\\');
-    json.push_reserved(letter);
-    Ok(())
 }
 
 /// The letter after the backslash in the escape of a byte that is not plain, if there is one.
@@ -188,23 +180,6 @@ fn letter_of_byte(byte: u8) -> Option<u8>
         b'\r' => Some(b'r'),
         _ => None,
     }
-}
-
-/// Appends the escape of a control character by its number.
-#[inline(always)]
-fn write_control(json: &mut Vec<u8>, byte: u8) -> Result<(), AllocError>
-    requires { byte < 32 }
-    ensures { OnOk result (json.new.items ≡ json.old.items
-        ++ 92 ∷ 117 ∷ 48 ∷ 48 ∷ digit_char (byte / 16) ∷ digit_char (byte % 16) ∷ []) }
-{
-    json.reserve(6)?;
-    json.push_reserved(b'\\');
-    json.push_reserved(b'u');
-    json.push_reserved(b'0');
-    json.push_reserved(b'0');
-    json.push_reserved(hex_digit(byte / 16));
-    json.push_reserved(hex_digit(byte % 16));
-    Ok(())
 }
 
 /// The hex digit of a number.

@@ -63,7 +63,7 @@ static REPLACEMENTS: [Law<Replace>; 7] = laws! {
     ByteByMore => "StrExt::replacen_smolstr", Most(2), 1 * text + 40, UnlessShort;
     ByLess => "StrExt::replacen_smolstr", Most(2), 1 * text + 40, UnlessShort;
     ByMore => "StrExt::replacen_smolstr", Doubling(3), 4 * text + 40, UnlessShort;
-    Between => "StrExt::replacen_smolstr", Doubling(3), 4 * text + 40, UnlessShort;
+    Between => "StrExt::replacen_smolstr", Most(2), 4 * text + 40, UnlessShort;
     ByText => "StrExt::replace_smolstr", Doubling(3), 4 * text + 80, UnlessShort;
     OfText => "StrExt::replace_smolstr", Doubling(3), 4 * text + 80, UnlessShort;
 };

@@ -1,11 +1,11 @@
-use Rattle.smol_str.proofs.Common.{◌<◌, ◌≤◌, ◌⊎◌, arith, common_steps, nat_tests}
+use Rattle.smol_str.proofs.Common.{◌<◌, ◌≤◌, ◌⊎◌, rules}
 use Rattle.smol_str.proofs.JsonLemmas.Unescaped.{UnescapesAfterU-one, UnescapesAfterU-pair}
 use Rattle.smol_str.proofs.json_string.read.split_code.Goals as goal
 
-pub returns-then-not-is_surrogate-clause-unescapes : goal.returns-then-not-is_surrogate-clause-unescapes
-returns-then-not-is_surrogate-clause-unescapes c =
-    let far : (c.in_ok-unit.unit < 0xd800) ⊎ (0xe000 ≤ c.in_ok-unit.unit) = grind (arith, common_steps, nat_tests, c.is_surrogate.ensures) in
-    UnescapesAfterU-one _ _ _ _ c.in_ok-unit.ensures.unit (grind (arith, common_steps, c.in_ok-from_u32.ensures)) far
+pub returns-in-Some-clause-unescapes : goal.returns-in-Some-clause-unescapes
+returns-in-Some-clause-unescapes c =
+    let far : (c.in_ok-unit.unit < 0xd800) ⊎ (0xe000 ≤ c.in_ok-unit.unit) = search rules in
+    UnescapesAfterU-one _ _ _ _ c.in_ok-unit.ensures.unit (search rules) far
 
 pub returns-clause-unescapes : goal.returns-clause-unescapes
 returns-clause-unescapes c =
