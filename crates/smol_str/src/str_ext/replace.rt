@@ -92,7 +92,8 @@ fn replace_matches(
         return SmolStr::new(alloc, text);
     }
     let needle = Needle::new(from);
-    let mut builder = SmolStrBuilder::expecting(alloc, expected_len(text, from, to, count));
+    let expected = text.len().saturating_add(growth(text, from, to, count));
+    let mut builder = SmolStrBuilder::expecting(alloc, expected);
     let mut index = 0;
     for taken in 0..count {
         let Some(skipped) = needle.find(bytes_from(text, index)) else {
@@ -107,19 +108,16 @@ fn replace_matches(
     builder.into_value()
 }
 
-/// How many bytes the new text has: counted for a pattern of one byte, else a guess, of one match and a short text more.
-fn expected_len(text: &str, from: &str, to: &str, count: usize) -> usize {
+/// By how much the text grows: counted for a pattern of one byte, else a guess, of one match and a short text more.
+fn growth(text: &str, from: &str, to: &str, count: usize) -> usize {
     if to.len() <= from.len() {
-        return text.len();
+        return 0;
     }
     if from.len() == 1 && text.len() >= SEARCH_LANES {
-        let matches = count_byte(from.as_bytes()[0], text.as_bytes()).min(count);
-        return text
-            .len()
-            .saturating_add(matches.saturating_mul(to.len() - 1));
+        let matches = count_byte(from.as_bytes()[0], text.as_bytes());
+        return matches.min(count).saturating_mul(to.len() - 1);
     }
-    text.len()
-        .saturating_add((to.len() - from.len()).saturating_add(INLINE_CAP))
+    (to.len() - from.len()).saturating_add(INLINE_CAP)
 }
 
 /// Replaces the empty pattern: the new text comes before each of the first `count` characters, and at the end where the

@@ -6,7 +6,7 @@ ghost use Rattle.std.specs.Str.{chars};
 ghost use Rattle.smol_str.specs.Text.{IsBlankRun, blank_run, leading_newlines};
 ghost use Rattle.smol_str.specs.Meaning.{IsValueOf};
 
-use super::SmolStr;
+use super::{Repr, SmolStr};
 use crate::buffer::INLINE_CAP;
 
 /// The most newlines of a blank run that needs no memory.
@@ -33,9 +33,10 @@ impl SmolStr {
     {
         let run = blank_text(newlines, spaces);
         if run.len() <= INLINE_CAP {
-            SmolStr::new_inline(run)
-        } else {
-            SmolStr::new_static(run)
+            return SmolStr::new_inline(run);
+        }
+        SmolStr {
+            repr: Repr::Static(run),
         }
     }
 }

@@ -3,8 +3,8 @@ use Rattle.smol_str.proofs.TextLemmas.Places.{place_of-blank}
 use Rattle.smol_str.proofs.TextLemmas.Sizes.{size-chars}
 use Rattle.smol_str.proofs.value.SmolStr.blank.Goals as goal
 
-pub returns-else-run-le-INLINE_CAP : goal.returns-else-run-le-INLINE_CAP
-returns-else-run-le-INLINE_CAP c =
+pub returns : goal.returns
+returns c =
     let t = blank_run c.args.newlines c.args.spaces in
     let run : IsBlankRun t = record {
       newlines = c.args.newlines;
