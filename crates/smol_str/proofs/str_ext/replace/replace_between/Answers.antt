@@ -55,8 +55,8 @@ returns-in_err-push_str-2-clause-refused c =
     OnErr-always c.from_residual-in_err-push_str-2.result _
     (rest-refused _ _ _ _ _ _ ended c.utf8.text (rw c.range_from-2.ensures.value at c.in_err-push_str-2.ensures.refused))
 
-pub returns-clause-ok : goal.returns-clause-ok
-returns-clause-ok c =
+pub returns : goal.returns
+returns c =
     let h = c.loop-passed.invariant in
     let ended : IsReplacing (chars c.args.text.now) [] (chars c.args.to.now) c.args.count 0 c.loop-passed-test.builder c.loop-passed.index =
     elim c.loop-passed-test.branch [
@@ -66,18 +66,9 @@ returns-clause-ok c =
           rw w.builder-is (taken-end _ _ _ _ (c.args.count - (c.loop-passed.passed + 1)) _ _ h (omega arith) none _ w.in_ok-push_str.ensures.ok)
     ] in
     let put = rw c.range_from-2.ensures.value at c.in_ok-push_str-2.ensures.ok in
-    rw (rest-whole _ _ _ _ _ _ ended c.utf8.text _ put) at c.into_value.ensures.ok
-
-pub returns-clause-refused : goal.returns-clause-refused
-returns-clause-refused c =
-    let h = c.loop-passed.invariant in
-    let ended : IsReplacing (chars c.args.text.now) [] (chars c.args.to.now) c.args.count 0 c.loop-passed-test.builder c.loop-passed.index =
-    elim c.loop-passed-test.branch [
-      | else-loop-passed-test w ↦ rw w.builder-is (replacing-limit _ _ _ _ _ _ _ h (omega (arith, w.loop-passed-test.false)))
-      | then-loop-passed-test+in_ok-push_str+in_default w ↦
-          let none = next-char _ _ _ _ _ _ _ h c.utf8.text w.chars.result.rest.now None (search rules) w.in_default.ensures.steps.2 in
-          rw w.builder-is (taken-end _ _ _ _ (c.args.count - (c.loop-passed.passed + 1)) _ _ h (omega arith) none _ w.in_ok-push_str.ensures.ok)
-    ] in
-    let put = rw c.range_from-2.ensures.value at c.in_ok-push_str-2.ensures.ok in
-    on_err_weaker c.into_value.result (λ away short. away (inl short))
-    (rw (rest-whole _ _ _ _ _ _ ended c.utf8.text _ put) at c.into_value.ensures.refused)
+    let whole = rest-whole _ _ _ _ _ _ ended c.utf8.text _ put in
+    record {
+      ok = rw whole at c.into_value.ensures.ok;
+      refused =
+          on_err_weaker c.into_value.result (λ away short. away (inl short)) (rw whole at c.into_value.ensures.refused);
+    }

@@ -63,14 +63,6 @@ returns-in_err-push_str_heap_first-2-clause-refused c =
     (second-heap c.loop-taken.builder c.push_str_heap_first.new.self k.before (chars c.args.to.now) first
     c.in_err-push_str_heap_first-2.ensures.refused))
 
-pub overflow_add-found : goal.overflow_add-found
-overflow_add-found c =
-    let (h, sound, is) = c.loop-taken.invariant in
-    let some : 0 < length c.args.from.now = search rules in
-    let k = replacing-found _ _ _ _ _ _ _ _ _ _ h c.utf8.text c.utf8.from some c.bytes_from.ensures is c.in-Some.ensures in
-    let end = match-end _ _ _ _ _ _ _ _ h k c.utf8.text c.utf8.from in
-    search (rules, arith, end)
-
 pub overflow_add-index : goal.overflow_add-index
 overflow_add-index c =
     let (h, sound, is) = c.loop-taken.invariant in
@@ -104,8 +96,8 @@ returns-in_err-push_str-clause-refused c =
     OnErr-always c.from_residual-in_err-push_str.result _
     (rest-refused _ _ _ _ _ _ ended c.utf8.text (rw c.range_from.ensures.value at c.in_err-push_str.ensures.refused))
 
-pub returns-clause-ok : goal.returns-clause-ok
-returns-clause-ok c =
+pub returns : goal.returns
+returns c =
     let (h, sound, is) = c.loop-taken.invariant in
     let ended : IsReplacing (chars c.args.text.now) (chars c.args.from.now) (chars c.args.to.now) c.args.count 0 c.loop-taken.builder c.loop-taken.index =
     elim c.loop-taken-test.branch [
@@ -114,17 +106,9 @@ returns-clause-ok c =
           replacing-none _ _ _ _ _ _ _ _ _ h c.utf8.text c.utf8.from w.bytes_from.ensures is w.in_default.ensures
     ] in
     let put = rw c.range_from.ensures.value at c.in_ok-push_str.ensures.ok in
-    rw (rest-whole _ _ _ _ _ _ ended c.utf8.text _ put) at c.into_value.ensures.ok
-
-pub returns-clause-refused : goal.returns-clause-refused
-returns-clause-refused c =
-    let (h, sound, is) = c.loop-taken.invariant in
-    let ended : IsReplacing (chars c.args.text.now) (chars c.args.from.now) (chars c.args.to.now) c.args.count 0 c.loop-taken.builder c.loop-taken.index =
-    elim c.loop-taken-test.branch [
-      | else-loop-taken-test w ↦ replacing-limit _ _ _ _ _ _ _ h (omega (arith, w.loop-taken-test.false))
-      | then-loop-taken-test+in_default w ↦
-          replacing-none _ _ _ _ _ _ _ _ _ h c.utf8.text c.utf8.from w.bytes_from.ensures is w.in_default.ensures
-    ] in
-    let put = rw c.range_from.ensures.value at c.in_ok-push_str.ensures.ok in
-    on_err_weaker c.into_value.result (λ away short. away (inl short))
-    (rw (rest-whole _ _ _ _ _ _ ended c.utf8.text _ put) at c.into_value.ensures.refused)
+    let whole = rest-whole _ _ _ _ _ _ ended c.utf8.text _ put in
+    record {
+      ok = rw whole at c.into_value.ensures.ok;
+      refused =
+          on_err_weaker c.into_value.result (λ away short. away (inl short)) (rw whole at c.into_value.ensures.refused);
+    }
