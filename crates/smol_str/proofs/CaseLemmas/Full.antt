@@ -79,6 +79,10 @@ pub sigma : chars (0xCE ∷ 0xA3 ∷ []) ≡ 0x3A3 ∷ []
 unfolding lib.Utf8.encode
 sigma = chars-encodes (0x3A3 ∷ []) refl
 
+pub two_capitals : chars (0x53 ∷ 0x53 ∷ []) ≡ 0x53 ∷ 0x53 ∷ []
+unfolding lib.Utf8.encode
+two_capitals = chars-encodes (0x53 ∷ 0x53 ∷ []) refl
+
 pub ruleset letters_appended = (common_steps, OnErr-always, appended-twice, appended-heap)
 
 pub ruleset short_texts = (OnErr-always, full-ascii)

@@ -72,6 +72,11 @@ pub uppercase_moves : AllMove to_uppercase uppercase_ranges
 unfolding by_runs by_strings to_uppercase uppercase_runs uppercase_strings
 uppercase_moves = AllMove-computed to_uppercase uppercase_ranges refl
 
+-- one that becomes two
+pub uppercase-sharp_s : (c : ℕ) → c ≡ 0xdf → to_uppercase c ≡ 0x53 ∷ 0x53 ∷ []
+unfolding by_strings to_uppercase uppercase_strings
+uppercase-sharp_s c e = rw e refl
+
 -- ---- ranges without case: no row of the tables lies there
 
 -- no run has one of n characters from a on

@@ -97,6 +97,7 @@ pub(super) fn push_mapped_character(
     }
     let letters = match case {
         AsciiCase::Lower => character.to_lowercase(),
+        AsciiCase::Upper if character == 'ß' => return builder.push_str_heap_first("SS"),
         AsciiCase::Upper => character.to_uppercase(),
     };
     for letter in letters {
