@@ -1,11 +1,13 @@
 -- For the reports: the bytes of report lines and of count lines, one after another.
-use Rattle.std.proofs.Common.{◌≡◌, ℕ, ◌<◌, ◌^◌, List, [], ◌∷◌, ◌++◌, arith, rules, codes, encode_utf8_all}
+use Rattle.std.proofs.Common.{◌≡◌, String, Global, ℕ, ◌<◌, ◌^◌, List, [], ◌∷◌, ◌++◌, arith, rules, codes, encode_utf8_all}
 use Rattle.std.specs.Fmt.{decimal}
 use Rattle.std.specs.List.{flat_map}
 use Rattle.std.proofs.lemmas.List.{append-nil}
 use Rattle.std.proofs.lemmas.List.Concat.{flat_map-append}
 use Rattle.std.proofs.lemmas.Str.{encodes-append, encodes-IsAscii}
-use Rattle.std.proofs.lemmas.Fmt.{IsAscii-decimal}
+use Rattle.std.proofs.lemmas.Fmt.{IsAscii-decimal, contents_after_writes}
+use Rattle.std.specs.String.{string_bytes}
+use Rattle.std.specs.Fmt.{WritesInCalls}
 use Rattle.smol_str.specs.declared.value.place.Place.{Place}
 use Rattle.smol_str.specs.Text.{size}
 use Rattle.smol_str.specs.Meaning.{Meaning, IsValueOf}
@@ -30,7 +32,12 @@ pub encodes-count_line : (t : List ℕ) (n : ℕ) → n < 2 ^ 64
 unfolding lib.Utf8.encode
 encodes-count_line t n small = search (rules, encodes-append, encodes-IsAscii, IsAscii-decimal)
 
-pub ruleset lines_in_bytes = (encodes-report_line, encodes-count_line)
+-- what was printed stands behind what was there
+pub printed : (old new : String Global) (bytes : List ℕ) → WritesInCalls (λ s bs t. string_bytes t ≡ string_bytes s ++ bs) old bytes new
+    → string_bytes new ≡ string_bytes old ++ bytes
+printed old new bytes wrote = contents_after_writes _ string_bytes (λ s bs t is. is) old bytes new wrote
+
+pub ruleset lines_in_bytes = (encodes-report_line, encodes-count_line, printed)
 
 -- the report line of a value of the text
 pub report_line-value : (t : List ℕ) (v : Meaning) → IsValueOf t v

@@ -13,6 +13,7 @@ use crate::lines::Lines;
 use crate::mode::Mode;
 use smol_str::{INLINE_CAP, Place, SmolStr, SmolStrBuilder, StrExt};
 use std::alloc::{AllocError, Global};
+use std::fmt;
 
 /// The bytes that a report line has round an inline text, whose size has two digits at most.
 const AROUND_INLINE: usize = "inline 00 \n".len();
@@ -74,7 +75,7 @@ fn print_line(out: &mut String, value: &SmolStr) -> Result<(), AllocError>
         ++ encode_utf8_all (report_line value.now.place (size value.now.text) value.now.text)) }
 {
     let (place, size) = (place_word(value.place()), value.len());
-    write!(out, "{place} {size} {value}\n")
+    fmt::Write::write_fmt(out, format_args!("{place} {size} {value}\n")).or(Err(AllocError))
 }
 
 /// Prints the report line of an inline value into a builder, and appends that.

@@ -15,6 +15,7 @@ use crate::lines::Lines;
 use crate::tally::Tally;
 use smol_str::SmolStr;
 use std::alloc::{AllocError, Global};
+use std::fmt;
 use std::hash::BuildHasher;
 
 /// The count of each different line of a text, and the line, in order of first sight.
@@ -72,5 +73,5 @@ fn push_count(out: &mut String, token: &SmolStr, count: u64) -> Result<(), Alloc
         ++ encode_utf8_all (count_line (token.now.text, count))) }
 {
     let token = token.as_str();
-    write!(out, "{count} {token}\n")
+    fmt::Write::write_fmt(out, format_args!("{count} {token}\n")).or(Err(AllocError))
 }
