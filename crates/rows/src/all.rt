@@ -7,51 +7,61 @@ use smol_tokens_core::tally::Tally;
 use std::alloc::AllocError;
 use std::collections::HashMap;
 
-pub fn sum(name: &str, input: &Input) -> Option<u64> {
-    let alloc = input.alloc;
-    sum_of_all!(name, input, {
-        "join" => SmolStr::join(alloc, input.values.as_slice(), ","),
-        "build" => build(alloc, 0, input.steps.as_slice()),
-        "from_string_refs" => SmolStr::from_string_refs(alloc, input.strings.iter()),
-        "from_strings" => from_strings(input),
-        "builder.extend_chars, many" => extended(input),
-        "builder.extend_strings" => extended_by_strings(input),
-        "serialize, many" => forms_of(input)?.len(),
-        "Serialize" => serde_json::to_string(alloc, &input.values),
-    })
-}
+pub const CALLS: [&str; 9] = [
+    "join",
+    "join, of &str",
+    "build",
+    "from_string_refs",
+    "from_strings",
+    "builder.extend_chars, many",
+    "builder.extend_strings",
+    "serialize, many",
+    "Serialize",
+];
 
-/// Of texts that are lent.
-pub fn sum_of_lent(name: &str, input: &Input) -> Option<u64> {
+#[inline(always)]
+pub fn number<const CALL: usize>(input: &Input, texts: &[&str], at: usize) -> u64 {
     let alloc = input.alloc;
-    let texts: Vec<&str> = texts_of(input)?;
-    sum_of_all!(name, input, {
-        "join, of &str" => SmolStr::join(alloc, texts.as_slice(), ","),
-    })
-}
-
-pub fn sum_of_maps(name: &str, input: &Input) -> Option<u64> {
-    let alloc = input.alloc;
-    sum_of_all!(name, input, {
-        "new, into a Vec" => values_of(alloc, input.cases.as_slice())?.len(),
-        "clone, into a Vec" => copied(input)?.len(),
-        "Ord, sorted" => sorted(input)?.last()?.len(),
-        "DeserializeOwned" => parsed(input)?.len(),
-        "Hash, counted" => count(input),
-        "Hash, get" => places(input),
-        "tally.add" => tally_of(alloc, input.values.as_slice())?.len(),
-        "tally.count" => counts(input),
-        "tally.at" => lengths(input),
-        "tally.len" => grown(input),
-    })
-}
-
-fn texts_of(input: &Input) -> Option<Vec<&str>> {
-    let mut texts = Vec::new(input.alloc);
-    for case in input.cases.as_slice() {
-        texts.push(case.text.as_str()).ok()?;
+    match CALL {
+        0 => SmolStr::join(alloc, input.values.as_slice(), ",").number(at),
+        1 => SmolStr::join(alloc, texts, ",").number(at),
+        2 => build(alloc, 0, input.steps.as_slice()).number(at),
+        3 => SmolStr::from_string_refs(alloc, input.strings.iter()).number(at),
+        4 => from_strings(input).number(at),
+        5 => extended(input).number(at),
+        6 => extended_by_strings(input).number(at),
+        7 => forms_of(input).number(at),
+        _ => serde_json::to_string(alloc, &input.values).number(at),
     }
-    Some(texts)
+}
+
+pub const OF_MAPS: [&str; 10] = [
+    "new, into a Vec",
+    "clone, into a Vec",
+    "Ord, sorted",
+    "DeserializeOwned",
+    "Hash, counted",
+    "Hash, get",
+    "tally.add",
+    "tally.count",
+    "tally.at",
+    "tally.len",
+];
+
+#[inline(always)]
+pub fn number_of_maps<const CALL: usize>(input: &Input, at: usize) -> u64 {
+    match CALL {
+        0 => values_of(input.alloc, input.cases.as_slice()).number(at),
+        1 => input.values.clone().ok().number(at),
+        2 => sorted(input).number(at),
+        3 => parsed(input).number(at),
+        4 => count(input).number(at),
+        5 => places(input).number(at),
+        6 => tally_of(input.alloc, input.values.as_slice()).number(at),
+        7 => counts(input).number(at),
+        8 => lengths(input).number(at),
+        _ => grown(input).number(at),
+    }
 }
 
 fn from_strings(input: &Input) -> Option<SmolStr> {
@@ -81,14 +91,11 @@ fn forms_of(input: &Input) -> Option<Vec<u8>> {
     Some(forms)
 }
 
-fn copied(input: &Input) -> Option<Vec<SmolStr>> {
-    input.values.clone().ok()
-}
-
-fn sorted(input: &Input) -> Option<Vec<SmolStr>> {
-    let mut values = copied(input)?;
+/// The length of the last.
+fn sorted(input: &Input) -> Option<usize> {
+    let mut values = input.values.clone().ok()?;
     values.sort().ok()?;
-    Some(values)
+    Some(values.last()?.len())
 }
 
 fn parsed(input: &Input) -> Option<Vec<SmolStr>> {

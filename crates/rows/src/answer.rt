@@ -1,5 +1,6 @@
 //! What is added up of what a call returns.
 use smol_str::SmolStr;
+use smol_tokens_core::tally::Tally;
 
 pub trait Answer {
     /// A number of it: of a text the length and one byte, so that the text must lie in memory.
@@ -38,6 +39,28 @@ impl Answer for usize {
     #[inline(always)]
     fn number(self, at: usize) -> u64 {
         self.wrapping_add(at) as u64
+    }
+}
+
+impl Answer for bool {
+    #[inline(always)]
+    fn number(self, at: usize) -> u64 {
+        usize::from(self).number(at)
+    }
+}
+
+/// How many.
+impl<T: Drop> Answer for Vec<T> {
+    #[inline(always)]
+    fn number(self, at: usize) -> u64 {
+        self.len().number(at)
+    }
+}
+
+impl Answer for Tally {
+    #[inline(always)]
+    fn number(self, at: usize) -> u64 {
+        self.len().number(at)
     }
 }
 

@@ -1,34 +1,51 @@
-//! Texts that are made of another, and what is found in a text.
+//! Texts that are made of another, and printed.
 use crate::answer::Answer;
-use crate::input::Input;
-use lexer::lex;
-use smol_str::kernel::{AsciiCase, convert_while_ascii, next_match};
-use smol_str::{INLINE_CAP, StrExt};
+use crate::input::Case;
+use smol_str::{SmolStrBuilder, StrExt, ToSmolStr, format_smolstr};
 use std::alloc::Global;
+use std::fmt::Write;
 
-pub fn sum(name: &str, input: &Input) -> Option<u64> {
-    let alloc = input.alloc;
-    sum_of!(name, input, |it| {
-        "to_ascii_lowercase_smolstr" => it.text.as_str().to_ascii_lowercase_smolstr(alloc),
-        "to_ascii_uppercase_smolstr" => it.text.as_str().to_ascii_uppercase_smolstr(alloc),
-        "to_lowercase_smolstr" => it.text.as_str().to_lowercase_smolstr(alloc),
-        "to_uppercase_smolstr" => it.text.as_str().to_uppercase_smolstr(alloc),
-        "replace_smolstr, by x" => it.text.as_str().replace_smolstr(alloc, &it.other, "x"),
-        "replace_smolstr, by xyz" => it.text.as_str().replace_smolstr(alloc, &it.other, "xyz"),
-        "replacen_smolstr" => it.text.as_str().replacen_smolstr(alloc, &it.other, "xyz", 5),
-        "next_match" => next_match(&it.text, 0, "z"),
-        "convert_while_ascii" => converted(&it.text),
-        "lex" => tokens(alloc, &it.text),
-    })
-}
+pub const CALLS: [&str; 11] = [
+    "to_ascii_lowercase_smolstr",
+    "to_ascii_uppercase_smolstr",
+    "to_lowercase_smolstr",
+    "to_uppercase_smolstr",
+    "replace_smolstr, by x",
+    "replace_smolstr, by xyz",
+    "replacen_smolstr",
+    "to_smolstr",
+    "builder.write_fmt",
+    "Display",
+    "Debug",
+];
 
-fn converted(text: &str) -> Option<usize> {
-    if text.len() > INLINE_CAP {
-        return None;
+#[inline(always)]
+pub fn number<const CALL: usize>(alloc: Global, it: &Case, out: &mut String, at: usize) -> u64 {
+    let text = it.text.as_str();
+    match CALL {
+        0 => text.to_ascii_lowercase_smolstr(alloc).number(at),
+        1 => text.to_ascii_uppercase_smolstr(alloc).number(at),
+        2 => text.to_lowercase_smolstr(alloc).number(at),
+        3 => text.to_uppercase_smolstr(alloc).number(at),
+        4 => text.replace_smolstr(alloc, &it.other, "x").number(at),
+        5 => text.replace_smolstr(alloc, &it.other, "xyz").number(at),
+        6 => text.replacen_smolstr(alloc, &it.other, "xyz", 5).number(at),
+        7 => text.to_smolstr(alloc).number(at),
+        8 => format_smolstr!(alloc; "{}-{}", it.text, it.other.len()).number(at),
+        9 => printed::<false>(out, it).number(at),
+        _ => printed::<true>(out, it).number(at),
     }
-    Some(convert_while_ascii(text, AsciiCase::Lower).1)
 }
 
-fn tokens(alloc: Global, text: &str) -> Option<usize> {
-    Some(lex(alloc, text).ok()?.len())
+/// Into a `String` that is kept.
+#[inline(always)]
+fn printed<const IS_DEBUG: bool>(out: &mut String, it: &Case) -> Option<usize> {
+    out.clear();
+    if IS_DEBUG {
+        write!(out, "{:?}", it.value)
+    } else {
+        write!(out, "{}", it.value)
+    }
+    .ok()?;
+    Some(out.len())
 }

@@ -61,6 +61,15 @@ impl Input {
         })
     }
 
+    /// The texts of the values.
+    pub fn texts(&self) -> Option<Vec<&str>> {
+        let mut texts = Vec::new(self.alloc);
+        for case in self.cases.as_slice() {
+            texts.push(case.text.as_str()).ok()?;
+        }
+        Some(texts)
+    }
+
     /// The case of a call: they take turns, and there are 2, 4, 8 .. of them.
     #[inline(always)]
     pub fn case(&self, time: usize) -> Option<&Case> {

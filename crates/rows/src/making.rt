@@ -1,79 +1,50 @@
 //! Values of a whole text.
 use crate::answer::Answer;
-use crate::input::{Case, Input};
+use crate::input::Case;
 use smol_str::kernel::AsciiCase;
 use smol_str::{BLANK_NEWLINES, BLANK_SPACES, INLINE_CAP, SmolStr};
 use std::alloc::Global;
 
-pub fn sum(name: &str, input: &Input) -> Option<u64> {
-    let alloc = input.alloc;
-    sum_of!(name, input, |it| {
-        "nothing" => 0usize,
-        "new" => SmolStr::new(alloc, &it.text),
-        "new_inline" => new_inline(&it.text),
-        "new_inline_in_case" => new_inline_in_case(&it.text),
-        "new_static" => new_static(&it.text),
-        "clone" => it.value.clone().ok(),
-        "From<char>" => SmolStr::from(it.text.chars().next().unwrap_or('x')),
-        "blank" => SmolStr::blank(it.text.len().min(BLANK_NEWLINES), it.text.len().min(BLANK_SPACES)),
-        "from_utf8" => SmolStr::from_utf8(alloc, it.text.as_bytes()),
-        "from_utf8_unchecked" => from_utf8_unchecked(alloc, &it.text),
-    })
-}
+pub const CALLS: [&str; 15] = [
+    "nothing",
+    "new",
+    "new_inline",
+    "new_inline_in_case",
+    "new_static",
+    "clone",
+    "From<char>",
+    "blank",
+    "from_utf8",
+    "from_utf8_unchecked",
+    "from_string",
+    "from_owned",
+    "from_boxed_str",
+    "into_string",
+    "into_rc_str",
+];
 
-fn from_utf8_unchecked(alloc: Global, text: &str) -> Option<SmolStr> {
-    SmolStr::from_utf8_unchecked(alloc, text.as_bytes()).ok()
-}
-
-/// Of what is given up.
-pub fn sum_of_given(name: &str, input: &Input) -> Option<u64> {
-    let alloc = input.alloc;
-    sum_of!(name, input, |it| {
-        "from_string" => from_string(alloc, it),
-        "from_owned" => from_owned(alloc, it),
-        "from_boxed_str" => from_boxed_str(alloc, it),
-        "into_string" => into_string(alloc, it),
-        "into_rc_str" => shared(alloc, it),
-    })
-}
-
-fn from_string(alloc: Global, it: &Case) -> Option<SmolStr> {
-    SmolStr::from_string(alloc, String::from_str(alloc, &it.text).ok()?).ok()
-}
-
-fn from_owned(alloc: Global, it: &Case) -> Option<SmolStr> {
-    SmolStr::from_owned(String::from_str(alloc, &it.text).ok()?).ok()
-}
-
-fn from_boxed_str(alloc: Global, it: &Case) -> Option<SmolStr> {
-    SmolStr::from_boxed_str(
-        alloc,
-        String::from_str(alloc, &it.text).ok()?.into_boxed_str(),
-    )
-    .ok()
-}
-
-fn into_string(alloc: Global, it: &Case) -> Option<String> {
-    it.value.clone().ok()?.into_string(alloc).ok()
-}
-
-/// There and back.
-fn shared(alloc: Global, it: &Case) -> Option<SmolStr> {
-    Some(SmolStr::from_rc_str(it.value.clone().ok()?.into_rc_str(alloc).ok()?))
-}
-
-fn new_inline(text: &str) -> Option<SmolStr> {
-    if text.len() > INLINE_CAP {
-        return None;
+#[inline(always)]
+pub fn number<const CALL: usize>(alloc: Global, it: &Case, at: usize) -> u64 {
+    let text = it.text.as_str();
+    match CALL {
+        0 => at as u64,
+        1 => SmolStr::new(alloc, text).number(at),
+        2 if text.len() <= INLINE_CAP => SmolStr::new_inline(text).number(at),
+        3 if text.len() <= INLINE_CAP => SmolStr::new_inline_in_case(text, AsciiCase::Lower).number(
+            at,
+        ),
+        4 => new_static(text).number(at),
+        5 => it.value.clone().ok().number(at),
+        6 => SmolStr::from(text.chars().next().unwrap_or('x')).number(at),
+        7 => SmolStr::blank(text.len().min(BLANK_NEWLINES), text.len().min(BLANK_SPACES)).number(
+            at,
+        ),
+        8 => SmolStr::from_utf8(alloc, text.as_bytes()).number(at),
+        9 => SmolStr::from_utf8_unchecked(alloc, text.as_bytes()).number(at),
+        13 => into_string(alloc, it).number(at),
+        14 => shared(alloc, it).number(at),
+        _ => given::<CALL>(alloc, it).number(at),
     }
-    Some(SmolStr::new_inline(text))
-}
-
-fn new_inline_in_case(text: &str) -> Option<SmolStr> {
-    if text.len() > INLINE_CAP {
-        return None;
-    }
-    Some(SmolStr::new_inline_in_case(text, AsciiCase::Lower))
 }
 
 /// The compiler does not know which literal it is.
@@ -83,4 +54,27 @@ fn new_static(text: &str) -> SmolStr {
     } else {
         "another"
     })
+}
+
+/// Of a `String` that is given up.
+#[inline(always)]
+fn given<const CALL: usize>(alloc: Global, it: &Case) -> Option<SmolStr> {
+    let string = String::from_str(alloc, &it.text).ok()?;
+    match CALL {
+        10 => SmolStr::from_string(alloc, string).ok(),
+        11 => SmolStr::from_owned(string).ok(),
+        12 => SmolStr::from_boxed_str(alloc, string.into_boxed_str()).ok(),
+        _ => None,
+    }
+}
+
+#[inline(always)]
+fn into_string(alloc: Global, it: &Case) -> Option<String> {
+    it.value.clone().ok()?.into_string(alloc).ok()
+}
+
+/// There and back.
+#[inline(always)]
+fn shared(alloc: Global, it: &Case) -> Option<SmolStr> {
+    Some(SmolStr::from_rc_str(it.value.clone().ok()?.into_rc_str(alloc).ok()?))
 }
