@@ -1,46 +1,28 @@
 //! Upstream's side of `bench/upstream compare`: rattle/compare.rt.txt over upstream's crate, with the library's answer
 //! where the two differ on purpose. Those places are marked with what docs/differences.md says of them.
-use borsh::io::{Error, ErrorKind, Read, Write};
+use borsh::io::{self, Error, ErrorKind, Read, Write};
 use borsh::{BorshDeserialize, BorshSerialize};
 use serde_json::Value;
 use smol_str::{SmolStr, SmolStrBuilder, StrExt, ToSmolStr, format_smolstr};
 use std::borrow::Cow;
 use std::fmt::{Debug, Write as _};
 use std::hash::{DefaultHasher, Hash, Hasher};
-use std::io::Read as _;
 use std::mem::take;
 use std::sync::Arc;
 
 include!("limits.rs");
-const STATICS: [&str; 6] =
-    ["", "a", "static text of some length", "a static text that is longer than a value has room for", "é€🦀", "\n\n  "];
-/// The most bytes of a text that an answer shows.
-const SHOWN: usize = 200;
+include!("common.rs");
+type Printed = std::fmt::Result;
 
-/// A line: a call, the registers that it writes and reads, and its other operands. Each call takes what it needs.
-struct Call {
-    name: String,
-    to: usize,
-    from: usize,
-    form: usize,
-    number: u64,
-    width: usize,
-    digits: usize,
-    /// These need not be UTF-8.
-    texts: Vec<Vec<u8>>,
-}
-
-impl Call {
-    fn read(line: &str) -> Call {
+impl<'a> Call<'a> {
+    fn read(line: &'a str) -> Call<'a> {
         let mut fields = line.split(' ');
-        let name = fields.next().unwrap().to_string();
+        let name = fields.next().unwrap();
         let [to, from, form, number, width, digits] = [(); 6].map(|()| fields.next().unwrap().parse::<u64>().unwrap());
         let [to, from, form, width, digits] = [to, from, form, width, digits].map(|it| it as usize);
         Call { name, to, from, form, number, width, digits, texts: fields.map(unquoted).collect() }
     }
 
-    fn text(&self, at: usize) -> &str { self.texts.get(at).and_then(|it| str::from_utf8(it).ok()).unwrap_or("") }
-    fn character(&self) -> char { self.text(0).chars().next().unwrap_or('x') }
     fn string(&self) -> String { self.text(0).to_string() }
     fn strs(&self) -> Vec<&str> { (0..self.texts.len()).map(|at| self.text(at)).collect() }
     fn strings(&self) -> Vec<String> { self.strs().into_iter().map(String::from).collect() }
@@ -82,7 +64,7 @@ impl Machine {
     }
 
     /// Answers a value, and keeps it in its register.
-    fn keep(&mut self, it: &Call, value: SmolStr) {
+    fn keep(&mut self, it: &Call<'_>, value: SmolStr) {
         let own = (&raw const value).addr()..(&raw const value).addr() + size_of::<SmolStr>();
         let (is_inside, is_heap) = (own.contains(&value.as_ptr().addr()), value.is_heap_allocated());
         let place = if is_heap { "Heap" } else if is_inside { "Inline" } else { "Static" };
@@ -102,20 +84,10 @@ impl Machine {
 /// "a blank run that is not short and is collected lies on the heap"
 fn pinned(value: SmolStr) -> SmolStr { if value.is_heap_allocated() { SmolStr::new(&value) } else { value } }
 
-/// Makes the call, and says what came of it.
-fn answer(m: &mut Machine, it: &Call) -> Option<()> {
-    let done = make(m, it);
-    let done = done.or_else(|| change(m, it));
-    let done = done.or_else(|| read(m, it));
-    let done = done.or_else(|| grow(m, it));
-    let done = done.or_else(|| wire(m, it));
-    done.or_else(|| json_of(m, it))
-}
-
 /// Calls that make a value.
-fn make(m: &mut Machine, it: &Call) -> Option<()> {
+fn make(m: &mut Machine, it: &Call<'_>) -> Done {
     let (text, count) = (it.text(0), it.width);
-    let made = match (it.name.as_str(), it.form) {
+    let made = match (it.name, it.form) {
         ("new", _) => SmolStr::new(text),
         ("from_str", _) => text.parse().unwrap(),
         ("from_string_ref", _) => SmolStr::from(&it.string()),
@@ -159,7 +131,7 @@ fn make(m: &mut Machine, it: &Call) -> Option<()> {
     Some(m.keep(it, made))
 }
 
-fn formatted(it: &Call, value: &SmolStr, form: usize) -> SmolStr {
+fn formatted(it: &Call<'_>, value: &SmolStr, form: usize) -> SmolStr {
     let (number, width, digits, text) = (it.number, it.width, it.digits, it.text(0));
     match form {
         0 => format_smolstr!("{value}"),
@@ -174,10 +146,10 @@ fn formatted(it: &Call, value: &SmolStr, form: usize) -> SmolStr {
 }
 
 /// Case and replacement, of a text or of a value's.
-fn change(m: &mut Machine, it: &Call) -> Option<()> {
+fn change(m: &mut Machine, it: &Call<'_>) -> Done {
     let text = if it.form == 1 { m.values[it.from].as_str() } else { it.text(0) };
     let (from, to) = (it.text(1), it.text(2));
-    let made = match it.name.as_str() {
+    let made = match it.name {
         "to_ascii_lowercase_smolstr" => text.to_ascii_lowercase_smolstr(),
         "to_ascii_uppercase_smolstr" => text.to_ascii_uppercase_smolstr(),
         // "`to_lowercase_smolstr` lowers a short text character by character"
@@ -192,9 +164,9 @@ fn change(m: &mut Machine, it: &Call) -> Option<()> {
 }
 
 /// Calls that read values.
-fn read(m: &mut Machine, it: &Call) -> Option<()> {
+fn read(m: &mut Machine, it: &Call<'_>) -> Done {
     let (left, right, text) = (m.values[it.to].clone(), m.values[it.from].clone(), it.text(0));
-    Some(match it.name.as_str() {
+    Some(match it.name {
         "compare" => {
             m.say([left == right, left != right]);
             m.say([left < right, left <= right, left > right, left >= right]);
@@ -215,33 +187,21 @@ fn read(m: &mut Machine, it: &Call) -> Option<()> {
             let from = it.number as usize;
             m.say(text[from..].find(it.text(1)).map(|at| from + at))
         }
-        "print" => m.show(print(it, &right)),
+        "print" => {
+            let mut printed = String::new();
+            print(&mut printed, it, &right).ok()?;
+            m.show(printed)
+        }
         _ => return None,
     })
 }
 
-fn print(it: &Call, value: &SmolStr) -> String {
-    let (width, digits) = (it.width, it.digits);
-    match it.form {
-        0 => format!("{value}"),
-        1 => format!("{value:width$}"),
-        2 => format!("{value:>width$}"),
-        3 => format!("{value:é^width$}"),
-        4 => format!("{value:🦀<width$}"),
-        5 => format!("{value:.digits$}"),
-        6 => format!("{value:-^width$.digits$}"),
-        7 => format!("{value:?}"),
-        8 => format!("{value:>width$?}"),
-        _ => format!("<{value:>3}|{value:5.1}|{value:012}|{value:#?}>"),
-    }
-}
-
 /// Calls on builders.
-fn grow(m: &mut Machine, it: &Call) -> Option<()> {
+fn grow(m: &mut Machine, it: &Call<'_>) -> Done {
     let (text, character, number, width) = (it.text(0), it.character(), it.number, it.width);
     let Machine { values, builders, .. } = m;
     let value = &values[it.from];
-    match (it.name.as_str(), it.form) {
+    match (it.name, it.form) {
         ("builder_new", _) => builders[it.to] = SmolStrBuilder::new(),
         ("with_capacity", _) => builders[it.to] = SmolStrBuilder::with_capacity(width),
         ("builder_clone", _) => builders[it.to] = builders[it.from].clone(),
@@ -266,10 +226,10 @@ fn grow(m: &mut Machine, it: &Call) -> Option<()> {
 }
 
 /// The wire form, by a reader and a writer that move few bytes a call and may fail at a byte.
-fn wire(m: &mut Machine, it: &Call) -> Option<()> {
+fn wire(m: &mut Machine, it: &Call<'_>) -> Done {
     let bytes = it.texts.first().map_or(&[][..], Vec::as_slice);
     let mut slow = Slow { rest: bytes, written: vec![], moved: 0, step: it.width, end: it.digits, fails: it.form > 0 };
-    Some(match it.name.as_str() {
+    Some(match it.name {
         "serialize" => {
             let done = m.values[it.from].serialize(&mut slow);
             m.say(done.is_ok());
@@ -290,7 +250,7 @@ fn wire(m: &mut Machine, it: &Call) -> Option<()> {
 }
 
 /// "the error is an `io::Error` with a text": by it what is not UTF-8 is known.
-fn keep_read(m: &mut Machine, it: &Call, made: Result<SmolStr, Error>, count: usize) {
+fn keep_read(m: &mut Machine, it: &Call<'_>, made: Result<SmolStr, Error>, count: usize) {
     match made {
         Ok(value) => {
             m.say(count);
@@ -301,29 +261,6 @@ fn keep_read(m: &mut Machine, it: &Call, made: Result<SmolStr, Error>, count: us
             ErrorKind::UnexpectedEof | ErrorKind::InvalidData => m.out.push_str(" ended"),
             kind => m.say(kind),
         },
-    }
-}
-
-/// Moves at most `step` bytes a call; at byte `end` it fails, where it does.
-struct Slow<'a> {
-    rest: &'a [u8],
-    written: Vec<u8>,
-    moved: usize,
-    step: usize,
-    end: usize,
-    fails: bool,
-}
-
-impl Slow<'_> {
-    /// How many of so many bytes the next call moves.
-    fn next(&mut self, wanted: usize) -> Result<usize, Error> {
-        let most = if self.fails { self.end.saturating_sub(self.moved) } else { wanted };
-        if most == 0 && wanted > 0 {
-            return Err(ErrorKind::BrokenPipe.into());
-        }
-        let count = wanted.min(self.step).min(most);
-        self.moved += count;
-        Ok(count)
     }
 }
 
@@ -343,9 +280,9 @@ impl Write for Slow<'_> {
     fn flush(&mut self) -> Result<(), Error> { Ok(()) }
 }
 
-fn json_of(m: &mut Machine, it: &Call) -> Option<()> {
+fn json(m: &mut Machine, it: &Call<'_>) -> Done {
     let (text, value) = (it.text(0), &m.values[it.from]);
-    let made = match (it.name.as_str(), it.form) {
+    let made = match (it.name, it.form) {
         ("to_json", 0 | 2) => return Some(m.show(serde_json::to_string(value).unwrap())),
         ("to_json", 1) => return Some(m.show(serde_json::to_string(&SmolStr::new(text)).unwrap())),
         ("to_json", _) => return Some(m.show(serde_json::to_value(value).unwrap().as_str().unwrap())),
