@@ -7,19 +7,9 @@ use smol_tokens_core::tally::Tally;
 use std::alloc::AllocError;
 use std::collections::HashMap;
 
-pub const CALLS: [&str; 9] = [
-    "join",
-    "join, of &str",
-    "build",
-    "from_string_refs",
-    "from_strings",
-    "builder.extend_chars, many",
-    "builder.extend_strings",
-    "serialize, many",
-    "Serialize",
-];
+pub const CALLS: &str = "join|join, of &str|build|from_string_refs|from_strings|\
+    builder.extend_chars, many|builder.extend_strings|serialize, many|Serialize";
 
-#[inline(always)]
 pub fn number<const CALL: usize>(input: &Input, texts: &[&str], at: usize) -> u64 {
     let alloc = input.alloc;
     match CALL {
@@ -35,20 +25,9 @@ pub fn number<const CALL: usize>(input: &Input, texts: &[&str], at: usize) -> u6
     }
 }
 
-pub const OF_MAPS: [&str; 10] = [
-    "new, into a Vec",
-    "clone, into a Vec",
-    "Ord, sorted",
-    "DeserializeOwned",
-    "Hash, counted",
-    "Hash, get",
-    "tally.add",
-    "tally.count",
-    "tally.at",
-    "tally.len",
-];
+pub const OF_MAPS: &str = "new, into a Vec|clone, into a Vec|Ord, sorted|DeserializeOwned|\
+    Hash, counted|Hash, get|tally.add|tally.count|tally.at|tally.len";
 
-#[inline(always)]
 pub fn number_of_maps<const CALL: usize>(input: &Input, at: usize) -> u64 {
     match CALL {
         0 => values_of(input.alloc, input.cases.as_slice()).number(at),
@@ -57,7 +36,7 @@ pub fn number_of_maps<const CALL: usize>(input: &Input, at: usize) -> u64 {
         3 => parsed(input).number(at),
         4 => count(input).number(at),
         5 => places(input).number(at),
-        6 => tally_of(input.alloc, input.values.as_slice()).number(at),
+        6 => tally(input).number(at),
         7 => counts(input).number(at),
         8 => lengths(input).number(at),
         _ => grown(input).number(at),
@@ -122,6 +101,10 @@ fn places(input: &Input) -> usize {
         sum = sum.wrapping_add(input.places.get(value).copied().unwrap_or(0));
     }
     sum
+}
+
+fn tally(input: &Input) -> Option<usize> {
+    Some(tally_of(input.alloc, input.values.as_slice())?.len())
 }
 
 /// The length after each token: of a tally that stays the same it would be taken once.

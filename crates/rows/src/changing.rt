@@ -5,21 +5,10 @@ use smol_str::{SmolStrBuilder, StrExt, ToSmolStr, format_smolstr};
 use std::alloc::Global;
 use std::fmt::Write;
 
-pub const CALLS: [&str; 11] = [
-    "to_ascii_lowercase_smolstr",
-    "to_ascii_uppercase_smolstr",
-    "to_lowercase_smolstr",
-    "to_uppercase_smolstr",
-    "replace_smolstr, by x",
-    "replace_smolstr, by xyz",
-    "replacen_smolstr",
-    "to_smolstr",
-    "builder.write_fmt",
-    "Display",
-    "Debug",
-];
+pub const CALLS: &str = "to_ascii_lowercase_smolstr|to_ascii_uppercase_smolstr|\
+    to_lowercase_smolstr|to_uppercase_smolstr|replace_smolstr, by x|replace_smolstr, by xyz|\
+    replacen_smolstr|to_smolstr|builder.write_fmt|Display|Debug";
 
-#[inline(always)]
 pub fn number<const CALL: usize>(alloc: Global, it: &Case, out: &mut String, at: usize) -> u64 {
     let text = it.text.as_str();
     match CALL {
@@ -38,7 +27,6 @@ pub fn number<const CALL: usize>(alloc: Global, it: &Case, out: &mut String, at:
 }
 
 /// Into a `String` that is kept.
-#[inline(always)]
 fn printed<const IS_DEBUG: bool>(out: &mut String, it: &Case) -> Option<usize> {
     out.clear();
     if IS_DEBUG {

@@ -7,21 +7,9 @@ use smol_str::json_string::{from_json, from_value, to_json, to_value};
 use smol_str::stream::{read_up_to, write_fully};
 use std::alloc::Global;
 
-pub const CALLS: [&str; 11] = [
-    "serialize",
-    "read_up_to",
-    "write_fully",
-    "deserialize_reader",
-    "from_wire",
-    "split_wire",
-    "deserialize_limited",
-    "to_json",
-    "from_json",
-    "to_value",
-    "from_value",
-];
+pub const CALLS: &str = "serialize|read_up_to|write_fully|deserialize_reader|from_wire|split_wire|\
+    deserialize_limited|to_json|from_json|to_value|from_value";
 
-#[inline(always)]
 pub fn number<const CALL: usize>(alloc: Global, it: &Case, at: usize) -> u64 {
     let bytes = it.text.as_bytes();
     match CALL {
@@ -39,14 +27,12 @@ pub fn number<const CALL: usize>(alloc: Global, it: &Case, at: usize) -> u64 {
     }
 }
 
-#[inline(always)]
 fn written(alloc: Global, bytes: &[u8]) -> Option<Vec<u8>> {
     let mut out = Vec::new(alloc);
     write_fully(&mut out, bytes).ok()?;
     Some(out)
 }
 
-#[inline(always)]
 fn deserialized(alloc: Global, form: &[u8]) -> Option<SmolStr> {
     let mut reader = form;
     SmolStr::deserialize_reader(alloc, &mut reader).ok()

@@ -5,27 +5,12 @@ use smol_str::{BLANK_NEWLINES, BLANK_SPACES, SmolStr, SmolStrBuilder};
 use std::alloc::{AllocError, Global};
 use std::fmt::Write;
 
-pub const CALLS: [&str; 15] = [
-    "from_chars",
-    "FromIterator",
-    "from_strs",
-    "join, three",
-    "builder.clone",
-    "builder.PartialEq",
-    "builder.with_capacity",
-    "builder.push",
-    "builder.push_str",
-    "builder.push_with_spare",
-    "builder.push_blank",
-    "builder.extend_chars",
-    "builder.extend_strs",
-    "builder.Extend",
-    "builder.Write",
-];
+pub const CALLS: &str = "from_chars|FromIterator|from_strs|join, three|builder.clone|\
+    builder.PartialEq|builder.with_capacity|builder.push|builder.push_str|builder.push_with_spare|\
+    builder.push_blank|builder.extend_chars|builder.extend_strs|builder.Extend|builder.Write";
 
 type Made = Result<SmolStr, AllocError>;
 
-#[inline(always)]
 pub fn number<const CALL: usize>(alloc: Global, it: &Case, at: usize) -> u64 {
     let (text, other) = (it.text.as_str(), it.other.as_str());
     match CALL {
@@ -40,19 +25,16 @@ pub fn number<const CALL: usize>(alloc: Global, it: &Case, at: usize) -> u64 {
     }
 }
 
-#[inline(always)]
 fn collected(alloc: Global, text: &str) -> Made {
     text.chars().collect(alloc)
 }
 
-#[inline(always)]
 fn cloned(alloc: Global, text: &str) -> Made {
     let mut builder = SmolStrBuilder::new(alloc);
     builder.push_str(text)?;
     builder.clone()?.into_value()
 }
 
-#[inline(always)]
 fn equal(alloc: Global, text: &str) -> Option<usize> {
     let mut builder = SmolStrBuilder::new(alloc);
     builder.push_str(text).ok()?;
@@ -60,7 +42,6 @@ fn equal(alloc: Global, text: &str) -> Option<usize> {
     Some(usize::from(builder == copy))
 }
 
-#[inline(always)]
 fn with_capacity(alloc: Global, text: &str) -> Made {
     let mut builder = SmolStrBuilder::with_capacity(alloc, 100)?;
     builder.push_str(text)?;
@@ -68,7 +49,6 @@ fn with_capacity(alloc: Global, text: &str) -> Made {
 }
 
 /// By one call on a new builder, or some of one kind.
-#[inline(always)]
 fn grown<const CALL: usize>(alloc: Global, it: &Case) -> Option<SmolStr> {
     let mut builder = SmolStrBuilder::new(alloc);
     let text = it.text.as_str();
@@ -91,7 +71,6 @@ fn grown<const CALL: usize>(alloc: Global, it: &Case) -> Option<SmolStr> {
     }
 }
 
-#[inline(always)]
 fn push_each(builder: &mut SmolStrBuilder, text: &str) -> Result<(), AllocError> {
     for character in text.chars() {
         builder.push(character)?;
@@ -99,7 +78,6 @@ fn push_each(builder: &mut SmolStrBuilder, text: &str) -> Result<(), AllocError>
     Ok(())
 }
 
-#[inline(always)]
 fn push_three(builder: &mut SmolStrBuilder, it: &Case) -> Result<(), AllocError> {
     builder.push_str(&it.text)?;
     builder.push_str(&it.other)?;

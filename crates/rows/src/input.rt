@@ -71,7 +71,6 @@ impl Input {
     }
 
     /// The case of a call: they take turns, and there are 2, 4, 8 .. of them.
-    #[inline(always)]
     pub fn case(&self, time: usize) -> Option<&Case> {
         self.cases.get(time & self.cases.len().wrapping_sub(1))
     }
@@ -93,7 +92,6 @@ impl Case {
 }
 
 /// The wire form, in a `Vec` that begins empty.
-#[inline(always)]
 pub fn form_of(alloc: Global, value: &SmolStr) -> Option<Vec<u8>> {
     let mut form = Vec::new(alloc);
     value.serialize(&mut form).ok()?;
@@ -101,7 +99,6 @@ pub fn form_of(alloc: Global, value: &SmolStr) -> Option<Vec<u8>> {
 }
 
 /// Values in a `Vec` that outlives what made them.
-#[inline(always)]
 pub fn values_of(alloc: Global, cases: &[Case]) -> Option<Vec<SmolStr>> {
     let mut values = Vec::with_capacity(alloc, cases.len()).ok()?;
     for case in cases {

@@ -2,9 +2,19 @@
 //! turn, and prints the sum of what it returned. `bench/rows.py` has the rows; `bench/rust/rows.rs` makes the same calls of
 //! other types.
 //!
-//! The calls are in groups, a file each: its `CALLS` are named in the order of the numbers in its `number`. Both numbers of a
-//! call are types' here, so that each has a loop of its own with nothing in it but the call.
+//! The calls are in groups: `CALLS` has their names in the order of the numbers in `number`. The number of a group and of a call
+//! in it are types' here, so that each call has a loop of its own, with nothing else in it.
 #![tactic(auto)]
+
+/// The sum of the call with a number, which is a type from here on.
+macro_rules! with_type {
+    ($call:expr, $input:expr, $($number:literal)*) => {
+        match $call {
+            $($number => repeated::<GROUP, $number>($input),)*
+            _ => None,
+        }
+    };
+}
 
 mod all;
 mod answer;
@@ -19,6 +29,17 @@ use input::Input;
 use smol_str::stream::read_all;
 use std::env;
 use std::process::ExitCode;
+
+/// The names of the calls of each group, in the order of their numbers.
+const GROUPS: [&str; 7] = [
+    making::CALLS,
+    reading::CALLS,
+    growing::CALLS,
+    changing::CALLS,
+    forms::CALLS,
+    all::CALLS,
+    all::OF_MAPS,
+];
 
 fn main(rt: HostRuntime) -> ExitCode {
     let Some(sum) = run(&rt) else {
@@ -41,50 +62,24 @@ fn run(rt: &HostRuntime) -> Option<u64> {
 }
 
 fn sum(name: &str, input: &Input) -> Option<u64> {
-    if let Some(call) = place(&making::CALLS, name) {
-        return sum_of::<0>(call, input);
+    for (group, calls) in GROUPS.iter().enumerate() {
+        if let Some(call) = calls.split('|').position(|it| it == name) {
+            return match group {
+                0 => sum_of::<0>(call, input),
+                1 => sum_of::<1>(call, input),
+                2 => sum_of::<2>(call, input),
+                3 => sum_of::<3>(call, input),
+                4 => sum_of::<4>(call, input),
+                5 => sum_of::<5>(call, input),
+                _ => sum_of::<6>(call, input),
+            };
+        }
     }
-    if let Some(call) = place(&reading::CALLS, name) {
-        return sum_of::<1>(call, input);
-    }
-    if let Some(call) = place(&growing::CALLS, name) {
-        return sum_of::<2>(call, input);
-    }
-    if let Some(call) = place(&changing::CALLS, name) {
-        return sum_of::<3>(call, input);
-    }
-    if let Some(call) = place(&forms::CALLS, name) {
-        return sum_of::<4>(call, input);
-    }
-    if let Some(call) = place(&all::CALLS, name) {
-        return sum_of::<5>(call, input);
-    }
-    sum_of::<6>(place(&all::OF_MAPS, name)?, input)
-}
-
-fn place(calls: &[&str], name: &str) -> Option<usize> {
-    calls.iter().position(|it| *it == name)
+    None
 }
 
 fn sum_of<const GROUP: usize>(call: usize, input: &Input) -> Option<u64> {
-    match call {
-        0 => repeated::<GROUP, 0>(input),
-        1 => repeated::<GROUP, 1>(input),
-        2 => repeated::<GROUP, 2>(input),
-        3 => repeated::<GROUP, 3>(input),
-        4 => repeated::<GROUP, 4>(input),
-        5 => repeated::<GROUP, 5>(input),
-        6 => repeated::<GROUP, 6>(input),
-        7 => repeated::<GROUP, 7>(input),
-        8 => repeated::<GROUP, 8>(input),
-        9 => repeated::<GROUP, 9>(input),
-        10 => repeated::<GROUP, 10>(input),
-        11 => repeated::<GROUP, 11>(input),
-        12 => repeated::<GROUP, 12>(input),
-        13 => repeated::<GROUP, 13>(input),
-        14 => repeated::<GROUP, 14>(input),
-        _ => None,
-    }
+    with_type!(call, input, 0 1 2 3 4 5 6 7 8 9 10 11 12 13 14)
 }
 
 /// The sum of a call's answers.

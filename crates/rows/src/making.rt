@@ -5,25 +5,10 @@ use smol_str::kernel::AsciiCase;
 use smol_str::{BLANK_NEWLINES, BLANK_SPACES, INLINE_CAP, SmolStr};
 use std::alloc::Global;
 
-pub const CALLS: [&str; 15] = [
-    "nothing",
-    "new",
-    "new_inline",
-    "new_inline_in_case",
-    "new_static",
-    "clone",
-    "From<char>",
-    "blank",
-    "from_utf8",
-    "from_utf8_unchecked",
-    "from_string",
-    "from_owned",
-    "from_boxed_str",
-    "into_string",
-    "into_rc_str",
-];
+pub const CALLS: &str = "nothing|new|new_inline|new_inline_in_case|new_static|clone|From<char>|\
+    blank|from_utf8|from_utf8_unchecked|from_string|from_owned|from_boxed_str|into_string|\
+    into_rc_str";
 
-#[inline(always)]
 pub fn number<const CALL: usize>(alloc: Global, it: &Case, at: usize) -> u64 {
     let text = it.text.as_str();
     match CALL {
@@ -57,7 +42,6 @@ fn new_static(text: &str) -> SmolStr {
 }
 
 /// Of a `String` that is given up.
-#[inline(always)]
 fn given<const CALL: usize>(alloc: Global, it: &Case) -> Option<SmolStr> {
     let string = String::from_str(alloc, &it.text).ok()?;
     match CALL {
@@ -68,13 +52,11 @@ fn given<const CALL: usize>(alloc: Global, it: &Case) -> Option<SmolStr> {
     }
 }
 
-#[inline(always)]
 fn into_string(alloc: Global, it: &Case) -> Option<String> {
     it.value.clone().ok()?.into_string(alloc).ok()
 }
 
 /// There and back.
-#[inline(always)]
 fn shared(alloc: Global, it: &Case) -> Option<SmolStr> {
     Some(SmolStr::from_rc_str(it.value.clone().ok()?.into_rc_str(alloc).ok()?))
 }

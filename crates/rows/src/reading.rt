@@ -7,20 +7,9 @@ use smol_str::{INLINE_CAP, SmolStr};
 use std::alloc::Global;
 use std::hash::{DefaultHasher, Hash, Hasher};
 
-pub const CALLS: [&str; 10] = [
-    "len",
-    "is_ascii",
-    "PartialEq",
-    "eq_str",
-    "Ord",
-    "cmp_str",
-    "Hash",
-    "next_match",
-    "convert_while_ascii",
-    "lex",
-];
+pub const CALLS: &str = "len|is_ascii|PartialEq|eq_str|Ord|cmp_str|Hash|next_match|\
+    convert_while_ascii|lex";
 
-#[inline(always)]
 pub fn number<const CALL: usize>(alloc: Global, it: &Case, at: usize) -> u64 {
     match CALL {
         0 => it.value.len().number(at),
@@ -39,7 +28,6 @@ pub fn number<const CALL: usize>(alloc: Global, it: &Case, at: usize) -> u64 {
     }
 }
 
-#[inline(always)]
 fn hash(value: &SmolStr) -> usize {
     let mut hasher = DefaultHasher::new();
     value.hash(&mut hasher);
