@@ -97,6 +97,16 @@ fn builder_faults(rt: HostRuntime) -> Result<(), Fail> {
     Ok(())
 }
 
+// By their variants, kinds and texts.
+#[test]
+fn trees_and_faults_in_debug(rt: HostRuntime) -> Result<(), Fail> {
+    let tree = parse(rt.alloc(), "a")?;
+    let printed = format!(in rt.alloc(); "{tree:?} {:?}", [Unclosed(7), Tree(TreeFault::TooDeep)])?;
+    let wanted = "Node(SyntaxKind(0), [Token(SyntaxKind(4), \"a\")]) [Unclosed(7), Tree(TooDeep)]";
+    assert_eq!(&rt; printed.as_str(), wanted);
+    Ok(())
+}
+
 static MESSAGES: [(ParseFault, &str); 7] = [
     (Tree(TreeFault::OutOfMemory), "memory allocation failed"),
     (Tree(TreeFault::TooDeep), "nodes nest too deep"),

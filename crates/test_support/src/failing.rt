@@ -186,6 +186,7 @@ pub fn fails_at_each_read<C: Reading>(
 ) {
     for step in steps_about(chunk) {
         let calls = count_reads(test, call, trickle_of(bytes, step, 0), wanted);
+        few_calls(test, calls, (bytes.len(), step, chunk), call.name());
         for fails_at in 1..calls.saturating_add(1) {
             if is_tried(fails_at.saturating_mul(step), bytes.len(), chunk) {
                 fails_at_read(test, call, bytes, (step, fails_at));
@@ -212,6 +213,14 @@ fn has_made(test: &Test, read: Result<Vec<u8>, Reason>, wanted: &[u8], row: &Row
         Err(reason) => test.fail(&(row, reason)),
     }
     no_blocks(test, row);
+}
+
+/// Each call moves as much as the stream does, but for the last of a chunk, of a prefix and of all, and one that meets the end.
+fn few_calls(test: &Test, calls: usize, sizes: (usize, usize, usize), name: &str) {
+    let (size, step, chunk) = sizes;
+    let chunks = (size / chunk.max(1)).saturating_add(3);
+    let most = (size / step.max(1)).saturating_add(chunks);
+    holds(test, calls <= most, &(name, sizes, calls));
 }
 
 /// By single bytes, a call moves one.
@@ -263,6 +272,7 @@ pub trait Writing {
 pub fn fails_at_each_write<C: Writing>(test: &Test, chunk: usize, call: &C, bytes: &[u8]) {
     for step in steps_about(chunk) {
         let calls = count_writes(test, call, bytes, step);
+        few_calls(test, calls, (bytes.len(), step, chunk), call.name());
         for fails_at in 1..calls.saturating_add(1) {
             if is_tried(fails_at.saturating_mul(step), bytes.len(), chunk) {
                 fails_at_write(test, call, bytes, (step, fails_at));

@@ -2,8 +2,10 @@
 use crate::test::{Test, ok, same};
 use std::fmt::{self, Debug, Display, Formatter, Write};
 
-/// The two are printed alike: with widths, fills, a precision, a sign, and in the alternate form.
+/// The two are printed alike: with widths, fills, a precision, a sign, and in the alternate form; plainly also in as many
+/// pieces, of which each is a write where nothing gathers them.
 pub fn same_display(test: &Test, found: &impl Display, wanted: &impl Display, row: &impl Debug) {
+    same(test, &pieces_of(found), &pieces_of(wanted), row);
     let (found, wanted) = (displayed(test, found), displayed(test, wanted));
     same(test, &found.as_str(), &wanted.as_str(), row);
 }
@@ -13,6 +15,23 @@ fn displayed(test: &Test, it: &impl Display) -> String {
         "{it}|{it:#}|{it:+}|{it:9}|{it:>60}|{it:*^50.41}|{it:é<4.1}|{it:.3}|{it:060}"
     );
     ok(test, printed)
+}
+
+/// A writer that counts what it is handed.
+#[derive(Drop)]
+struct Pieces(usize);
+
+impl Write for Pieces {
+    fn write_str(&mut self, _text: &str) -> fmt::Result {
+        self.0 = self.0.wrapping_add(1);
+        Ok(())
+    }
+}
+
+fn pieces_of(it: &impl Display) -> usize {
+    let mut pieces = Pieces(0);
+    let _ = write!(pieces, "{it}");
+    pieces.0
 }
 
 /// The same of `{:?}`.

@@ -178,6 +178,14 @@ fn printed_once(rt: HostRuntime) -> Result<(), Fail> {
         };
         check_value(&test, counting.to_smolstr(test.alloc), text);
         same(&test, &times.get(), &1, &text);
+        check_value(&test, format_smolstr!(test.alloc; "{counting}"), text);
+        same(&test, &times.get(), &2, &text);
+        for capacity in [0, 100] {
+            let mut builder = test.builder(capacity, "");
+            let is_printed = write!(builder, "{counting}").is_ok();
+            holds(&test, is_printed && builder.as_str() == text, &text);
+        }
+        same(&test, &times.get(), &4, &text);
     }
     test.end()
 }

@@ -5,7 +5,9 @@ mod convert;
 use super::borsh::ok_found;
 use Place::{Heap, Inline, Static};
 use smol_str::borsh::from_wire;
-use smol_str::{BLANK_NEWLINES, BLANK_SPACES, INLINE_CAP, InlineBuffer, Place, SmolStr, StrExt};
+use smol_str::{
+    BLANK_NEWLINES, BLANK_SPACES, INLINE_CAP, InlineBuffer, Place, SmolStr, SmolStrBuilder, StrExt,
+};
 use test_support::*;
 
 /// Texts so many times, one after the other, and the place of the value.
@@ -40,7 +42,12 @@ fn limits(rt: HostRuntime) -> Result<(), Fail> {
     let test = Test::begin(rt);
     let limits = [INLINE_CAP, BLANK_NEWLINES, BLANK_SPACES];
     same(&test, &limits, &[39, 64, 256], &"limits");
-    same(&test, &size_of::<SmolStr>(), &48, &"a value");
+    let sizes = [
+        size_of::<SmolStr>(),
+        size_of::<Option<SmolStr>>(),
+        size_of::<SmolStrBuilder>(),
+    ];
+    same(&test, &sizes, &[48, 56, 56], &"sizes");
     test.end()
 }
 

@@ -3,7 +3,7 @@ use smol_str::SmolStr;
 use smol_tokens_core::fault::{RunFault, fault_line};
 use smol_tokens_core::tally::AddFault;
 use std::error::Error;
-use std::fmt::Debug;
+use std::fmt::{Debug, Display};
 use std::io::{self, ErrorKind};
 use test_support::*;
 
@@ -27,7 +27,7 @@ fn fault_lines(rt: HostRuntime) -> Result<(), Fail> {
     prints(
         &test,
         &malformed,
-        &Sentence("not a count line: 17"),
+        &format_args!("not a count line: {}", 17),
         &Variant("NotCounts", &[17]),
     );
     test.end()
@@ -56,8 +56,8 @@ fn faults_of_tallies(rt: HostRuntime) -> Result<(), Fail> {
     test.end()
 }
 
-/// The fault prints the sentence, and by `{:?}` what the other does.
-fn prints<E: Error>(test: &Test, fault: &E, sentence: &Sentence, debug: &impl Debug) {
-    same_display(test, fault, sentence, &debug);
+/// The fault prints what the one does, and by `{:?}` what the other does.
+fn prints<E: Error>(test: &Test, fault: &E, wanted: &impl Display, debug: &impl Debug) {
+    same_display(test, fault, wanted, &debug);
     same_debug(test, fault, debug, &debug);
 }

@@ -45,6 +45,10 @@ fn modes(rt: HostRuntime) -> Result<(), Fail> {
     for &(words, name, texts) in &MODES {
         let mode = mode_by(&test, words);
         same_debug(&test, &mode, &Variant(name, texts), &words);
+        let words = strings(&test, words);
+        refuse_all(test.alloc);
+        let is_read = mode_of(words).is_some();
+        holds(&test, is_read && !end_refusals(test.alloc), &name);
     }
     for &words in &WRONG {
         holds(&test, mode_of(strings(&test, words)).is_none(), &words);

@@ -5,7 +5,7 @@ use smol_str::stream::ReadFault;
 use smol_str::{FormatError, FromUtf8Fault, Place, SmolStr};
 use std::alloc::AllocFailed;
 use std::convert::{AsSlice, AsStr};
-use std::io::{Cursor, Read};
+use std::io::{self, Cursor, ErrorKind, Read};
 use std::path::Path;
 use std::rc::RcStr;
 use test_support::*;
@@ -48,10 +48,15 @@ fn of_shared(test: &Test, text: &str) -> SmolStr {
     }
 }
 
+/// A value that comes back is dropped by `?`.
+fn string_of(alloc: Global, value: SmolStr) -> Result<String, AllocError> {
+    Ok(value.into_string(alloc)?)
+}
+
 #[test]
 fn conversions(rt: HostRuntime) -> Result<(), Fail> {
     let test = Test::begin(rt);
-    let string = ok(&test, test.value("Hello, World!").into_string(test.alloc));
+    let string = ok(&test, string_of(test.alloc, test.value("Hello, World!")));
     same(&test, &string.as_str(), &"Hello, World!", &"into_string");
     match of_shared(&test, "Hello, World!").into_rc_str(test.alloc) {
         Ok(shared) => same(&test, &shared.as_str(), &"Hello, World!", &"into_rc_str"),
@@ -123,6 +128,19 @@ fn lent_by_traits(rt: HostRuntime) -> Result<(), Fail> {
         same(&test, &&*value, &text, &"deref");
         same(&test, &Some(value).as_deref(), &Some(text), &"as_deref");
     }
+    test.end()
+}
+
+// What `?` makes of them in a function that reads within a limit.
+#[test]
+fn faults_of_limited_reads(rt: HostRuntime) -> Result<(), Fail> {
+    let test = Test::begin(rt);
+    let of_reader = LimitedFault::from(io::Error::from(ErrorKind::UnexpectedEof));
+    let is_kept = matches!(of_reader, LimitedFault::Decode(DecodeFault::Io(_)));
+    holds(&test, is_kept, &"a reader's error");
+    let of_memory = LimitedFault::from(AllocError);
+    let is_kept = matches!(of_memory, LimitedFault::Decode(DecodeFault::OutOfMemory));
+    holds(&test, is_kept, &"memory");
     test.end()
 }
 
