@@ -64,8 +64,8 @@ static REPLACEMENTS: [Law<Replace>; 7] = laws! {
     ByLess => "StrExt::replacen_smolstr", Most(2), 1 * text + 40, UnlessShort;
     ByMore => "StrExt::replacen_smolstr", Doubling(3), 4 * text + 40, UnlessShort;
     Between => "StrExt::replacen_smolstr", Most(2), 4 * text + 40, UnlessShort;
-    ByText => "StrExt::replace_smolstr", Doubling(3), 4 * text + 80, UnlessShort;
-    OfText => "StrExt::replace_smolstr", Doubling(3), 4 * text + 80, UnlessShort;
+    ByText => "StrExt::replace_smolstr", Most(3), 2 * text + 140, UnlessShort;
+    OfText => "StrExt::replace_smolstr", Most(2), 2 * text + 80, UnlessShort;
 };
 
 #[test]
@@ -89,7 +89,7 @@ fn of_strings(rt: HostRuntime) -> Result<(), Fail> {
 }
 
 /// Of pieces: texts, strings and values.
-static PIECES: [Law<OnPieces>; 10] = laws! {
+static PIECES: [Law<OnPieces>; 11] = laws! {
     FromStrs => "SmolStr::from_strs", Doubling(2), 4 * text + 40, UnlessShort;
     FromStrings => "SmolStr::from_strings", Doubling(2), 4 * text + 40, UnlessShort;
     FromStringRefs => "SmolStr::from_string_refs", Doubling(2), 4 * text + 40, UnlessShort;
@@ -98,6 +98,7 @@ static PIECES: [Law<OnPieces>; 10] = laws! {
     JoinByText => "SmolStr::join", Most(2), 1 * text + 40, UnlessShort;
     ExtendStrs => "SmolStrBuilder::extend_strs", Doubling(2), 4 * text + 40, UnlessShort;
     ExtendStrings => "SmolStrBuilder::extend_strings", Doubling(2), 4 * text + 40, UnlessShort;
+    ExtendByEach => "SmolStrBuilder::extend_strings", Doubling(2), 4 * text + 40, UnlessShort;
     Extend => "SmolStrBuilder::extend", Doubling(2), 4 * text + 40, UnlessShort;
     Append => "Piece::append_to", Doubling(2), 4 * text + 40, UnlessShort;
 };
@@ -108,13 +109,14 @@ fn of_pieces(rt: HostRuntime) -> Result<(), Fail> {
 }
 
 /// Of a value, also of a pinned one where nothing else is said.
-static VALUES: [Law<OnValue>; 14] = laws! {
+static VALUES: [Law<OnValue>; 15] = laws! {
     Cloned => "SmolStr::clone", Most(0), 0 * text + 0, ForAny;
     ClonedByTrait => "Clone::clone", Most(0), 0 * text + 0, ForAny;
     PrintValue => "SmolStr::fmt", Most(0), 0 * text + 0, ForAny;
     IntoString => "SmolStr::into_string", Most(1), 1 * text + 0, UnlessEmpty;
     IntoRcStr => "SmolStr::into_rc_str", Most(2), 1 * text + 40, ForAny;
     IntoRcStrOnHeap => "SmolStr::into_rc_str", Most(0), 0 * text + 0, ForAny;
+    IntoRcStrCloned => "SmolStr::into_rc_str", Most(0), 0 * text + 0, ForAny;
     Write => "BorshSerialize::serialize", Most(0), 0 * text + 0, ForAny;
     ToValue => "json_string::to_value", Most(1), 1 * text + 0, UnlessEmpty;
     InTree => "ToValue::to_value", Most(1), 1 * text + 0, UnlessEmpty;
@@ -131,7 +133,7 @@ fn of_values(rt: HostRuntime) -> Result<(), Fail> {
 }
 
 /// Of a builder.
-static BUILDERS: [Law<OnBuilder>; 17] = laws! {
+static BUILDERS: [Law<OnBuilder>; 19] = laws! {
     CloneSmall => "SmolStrBuilder::clone", Most(1), 1 * text + 0, UnlessShort;
     CloneLarge => "SmolStrBuilder::clone", Most(1), 1 * text + 0, ForAny;
     CloneByTrait => "Clone::clone", Most(1), 1 * text + 0, ForAny;
@@ -149,6 +151,8 @@ static BUILDERS: [Law<OnBuilder>; 17] = laws! {
     WriteFmt => "SmolStrBuilder::write_fmt", Most(1), 2 * text + 0, UnlessShort;
     ExtendChars => "SmolStrBuilder::extend_chars", Doubling(2), 4 * text + 40, UnlessShort;
     PrintBuilder => "SmolStrBuilder::fmt", Most(0), 0 * text + 0, ForAny;
+    Read => "SmolStrBuilder::as_str and what reads it", Most(0), 0 * text + 0, ForAny;
+    MadeEmpty => "SmolStrBuilder::made_with", Most(0), 0 * text + 0, ForAny;
 };
 
 #[test]
@@ -193,12 +197,13 @@ fn of_each_character(rt: HostRuntime) -> Result<(), Fail> {
 }
 
 /// Of bytes: a wire form of the text, or the text itself.
-static FORMS: [Law<OnForm>; 11] = laws! {
+static FORMS: [Law<OnForm>; 12] = laws! {
     FromWire => "borsh::from_wire", Most(2), 1 * text + 40, UnlessResident;
     SplitWire => "borsh::split_wire", Most(2), 1 * text + 40, UnlessResident;
     ReadChunk => "BorshDeserialize::deserialize_reader", Most(2), 1 * text + 40, UnlessShort;
     ReadForm => "BorshDeserialize::deserialize_reader", Doubling(0), 4 * text + 40, UnlessShort;
-    ReadLimited => "borsh::deserialize_limited", Doubling(2), 5 * text + 40, UnlessShort;
+    ReadLimitedChunk => "borsh::deserialize_limited", Most(2), 1 * text + 40, UnlessShort;
+    ReadLimited => "borsh::deserialize_limited", Doubling(0), 4 * text + 40, UnlessShort;
     ReadUpTo => "stream::read_up_to", Doubling(1), 4 * text + 8, UnlessEmpty;
     ReadAll => "stream::read_all", Doubling(1), 4 * text + 8, UnlessEmpty;
     Fill => "stream::fill", Most(0), 0 * text + 0, ForAny;
@@ -221,7 +226,7 @@ static JSON: [Law<OnJson>; 11] = laws! {
     BehindNumbers => "json_string::from_json", Most(2), 1 * text + 140, UnlessShort;
     NumbersAndMore => "json_string::from_json", Most(2), 2 * text + 140, UnlessShort;
     NotString => "json_string::from_json", Most(3), 2 * text + 140, ForAny;
-    Object => "json_string::from_json", Most(5), 3 * text + 880, ForAny;
+    Object => "json_string::from_json", Most(4), 2 * text + 880, ForAny;
     Deserialize => "SmolStr::deserialize", Most(3), 2 * text + 48, ForAny;
     DeserializeEscaped => "SmolStr::deserialize", Most(3), 7 * text + 48, ForAny;
     DeserializeOwned => "SmolStr::deserialize_owned", Doubling(4), 4 * text + 180, ForAny;

@@ -1,7 +1,8 @@
 //! Calls on a builder.
 use OnBuilder::*;
-use smol_str::{BLANK_NEWLINES, BLANK_SPACES, SmolStr, SmolStrBuilder, ValueAlloc};
-use std::default;
+use smol_str::{BLANK_NEWLINES, BLANK_SPACES, INLINE_CAP, SmolStr, SmolStrBuilder, ValueAlloc};
+use std::convert::{AsSlice, AsStr};
+use std::default::{self, MadeWith};
 use std::fmt::{self, Debug, Write};
 use test_support::*;
 
@@ -30,6 +31,10 @@ pub enum OnBuilder {
     ExtendByItem,
     /// `{:?}`, to a writer that asks for nothing.
     PrintBuilder,
+    /// Its text, and what is asked of that.
+    Read,
+    /// An empty one, as a map makes it.
+    MadeEmpty,
 }
 
 impl Call for OnBuilder {
@@ -38,8 +43,8 @@ impl Call for OnBuilder {
     /// With no more room than it begins with or than the text needs; where nothing is appended also with more.
     fn ways(&self) -> usize {
         match self {
-            CloneByTrait | Finish | FromBuilder | IntoValue | ValueOf | PrintBuilder => 3,
-            CloneLarge | Emptied => 1,
+            CloneByTrait | Finish | FromBuilder | IntoValue | ValueOf | PrintBuilder | Read => 3,
+            CloneLarge | Emptied | MadeEmpty => 1,
             _ => 2,
         }
     }
@@ -53,11 +58,13 @@ impl Call for OnBuilder {
         test.builder(capacity, text)
     }
 
-    fn run(&self, _alloc: Global, text: &str, mut builder: SmolStrBuilder) -> Outcome {
+    fn run(&self, alloc: Global, text: &str, mut builder: SmolStrBuilder) -> Outcome {
         match self {
             CloneSmall | CloneLarge => made(builder.clone()),
             CloneByTrait => made(cloned(&builder)),
             PrintBuilder => changed(is_printed(&builder), builder),
+            Read => changed(is_read(&builder, text), builder),
+            MadeEmpty => Ok(Thing::Builder(SmolStrBuilder::made_with(alloc))),
             Emptied => made(<SmolStrBuilder as default::Emptied>::emptied(&builder)),
             Finish => made(builder.finish()),
             FromBuilder => made(SmolStr::from_builder(builder)),
@@ -71,10 +78,10 @@ impl Call for OnBuilder {
 
     fn wanted(&self, test: &Test, text: &'static str, _way: usize) -> String {
         match self {
-            Emptied => test.string(""),
+            Emptied | MadeEmpty => test.string(""),
             Push => test.joined(text, "b"),
             PushWide => test.joined(text, "€"),
-            CloneSmall | CloneLarge | CloneByTrait | PrintBuilder => test.string(text),
+            CloneSmall | CloneLarge | CloneByTrait | PrintBuilder | Read => test.string(text),
             Finish | FromBuilder | IntoValue | ValueOf => test.string(text),
             _ => test.joined(text, self.appended(test, text).as_str()),
         }
@@ -111,6 +118,24 @@ impl OnBuilder {
             _ => false,
         }
     }
+}
+
+/// Whether all that reads a builder finds the text.
+fn is_read(builder: &SmolStrBuilder, text: &str) -> bool {
+    let (is_empty, has_buffer) = (builder.is_empty(), builder.inline_buffer().is_some());
+    builder == builder
+        && (builder.len(), is_empty) == (text.len(), text.is_empty())
+        && (!has_buffer || text.len() <= INLINE_CAP)
+        && lent(builder) == text
+        && bytes_of(builder) == text.as_bytes()
+}
+
+fn lent<T: AsStr>(thing: &T) -> &str {
+    thing.as_str()
+}
+
+fn bytes_of<T: AsSlice<u8>>(thing: &T) -> &[u8] {
+    thing.as_slice()
 }
 
 /// By the trait, as a container clones what it has.

@@ -12,7 +12,8 @@ pub enum OnForm {
     /// Of a body that fits in a chunk, and of a longer one.
     ReadChunk,
     ReadForm,
-    /// By a limit of the text's size, a greater and the greatest.
+    /// By a limit of the text's size, a greater and the greatest, as the two above.
+    ReadLimitedChunk,
     ReadLimited,
     ReadUpTo,
     ReadAll,
@@ -41,8 +42,8 @@ impl Call for OnForm {
 
     fn takes(&self, text: &str) -> bool {
         match self {
-            ReadChunk => text.len() <= CHUNK,
-            ReadForm => text.len() > CHUNK,
+            ReadChunk | ReadLimitedChunk => text.len() <= CHUNK,
+            ReadForm | ReadLimited => text.len() > CHUNK,
             _ => true,
         }
     }
@@ -88,7 +89,7 @@ impl OnForm {
     /// What comes behind the text.
     fn behind<'a>(&self, text: &'a str) -> &'a [u8] {
         match self {
-            FromWire | ReadLimited => text.as_bytes(),
+            FromWire | ReadLimitedChunk | ReadLimited => text.as_bytes(),
             NotUtf8 => b"\xff",
             _ => b"",
         }
@@ -107,7 +108,7 @@ impl OnForm {
     fn read(&self, alloc: Global, reader: &mut Trickle<'_>, limit: usize) -> Outcome {
         match self {
             EndsEarly => faulty(made(deserialize_limited(alloc, reader, limit))),
-            ReadLimited => made(deserialize_limited(alloc, reader, limit)),
+            ReadLimitedChunk | ReadLimited => made(deserialize_limited(alloc, reader, limit)),
             ReadUpTo => made(read_up_to(alloc, reader, limit)),
             ReadAll => made(read_all(alloc, reader)),
             ReadChunk | ReadForm => made(SmolStr::deserialize_reader(alloc, reader)),

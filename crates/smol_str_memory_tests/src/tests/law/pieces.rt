@@ -14,6 +14,8 @@ pub enum OnPieces {
     JoinByText,
     ExtendStrs,
     ExtendStrings,
+    /// `extend_strings` by each string.
+    ExtendByEach,
     Extend,
     Append,
 }
@@ -80,6 +82,7 @@ impl Call for OnPieces {
                 FromStrings => made(SmolStr::from_strings(alloc, strings.into_iter())),
                 FromStringRefs => made(SmolStr::from_string_refs(alloc, strings.iter())),
                 ExtendStrings => gathered(builder.extend_strings(strings.iter()), builder),
+                ExtendByEach => gathered(extend_by_each(&mut builder, &strings), builder),
                 _ => self.of_each(alloc, strings, builder, separator),
             },
             Pieces::Values(values) => self.of_each(alloc, values, builder, separator),
@@ -107,7 +110,9 @@ impl OnPieces {
     /// What a builder has that is extended: nothing, or a text on the heap.
     fn front(&self, text: &str) -> &'static str {
         match self {
-            ExtendStrs | ExtendStrings | Extend | Append if text.len() % 2 == 0 => SEPARATORS[4],
+            ExtendStrs | ExtendStrings | ExtendByEach | Extend | Append if text.len() % 2 == 0 => {
+                SEPARATORS[4]
+            }
             _ => "",
         }
     }
@@ -122,7 +127,7 @@ impl OnPieces {
     /// Texts are joined by each separator in each number of pieces.
     fn kind(&self, way: usize) -> usize {
         match self {
-            FromStrings | FromStringRefs | ExtendStrings => 1,
+            FromStrings | FromStringRefs | ExtendStrings | ExtendByEach => 1,
             Join => way / 5,
             _ => way / 3,
         }
@@ -164,6 +169,13 @@ fn gathered(outcome: Result<(), AllocError>, builder: SmolStrBuilder) -> Outcome
         Ok(()) => Ok(Thing::Builder(builder)),
         Err(fault) => Err(fault.into_thing()),
     }
+}
+
+fn extend_by_each(builder: &mut SmolStrBuilder, strings: &Vec<String>) -> Result<(), AllocError> {
+    for string in strings {
+        builder.extend_strings([string].into_iter())?;
+    }
+    Ok(())
 }
 
 fn append_all<P: Piece>(builder: &mut SmolStrBuilder, pieces: Vec<P>) -> Result<(), AllocError> {

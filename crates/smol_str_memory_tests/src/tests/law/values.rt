@@ -15,6 +15,8 @@ pub enum OnValue {
     IntoString,
     IntoRcStr,
     IntoRcStrOnHeap,
+    /// Where a clone has the text, too.
+    IntoRcStrCloned,
     /// To a list that has room.
     Write,
     ToValue,
@@ -35,7 +37,7 @@ impl Call for OnValue {
     /// As it is made by `new`, and pinned.
     fn ways(&self) -> usize {
         match self {
-            IntoRcStrOnHeap | Serialize => 1,
+            IntoRcStrOnHeap | IntoRcStrCloned | Serialize => 1,
             _ => 2,
         }
     }
@@ -43,7 +45,7 @@ impl Call for OnValue {
     fn takes(&self, text: &str) -> bool {
         match self {
             IntoRcStr => place_of(text) != Place::Heap,
-            IntoRcStrOnHeap => place_of(text) == Place::Heap,
+            IntoRcStrOnHeap | IntoRcStrCloned => place_of(text) == Place::Heap,
             ToJson => escapes(text) > 1,
             ToJsonDoubled => escapes(text) == text.len() && !text.contains('\u{1}'),
             ToJsonOneEscape => escapes(text) == 1,
@@ -86,6 +88,7 @@ impl OnValue {
             PrintValue => changed(is_printed(&value), value),
             IntoString => made(value.into_string(alloc)),
             IntoRcStr | IntoRcStrOnHeap => made(value.into_rc_str(alloc)),
+            IntoRcStrCloned => shared_out(alloc, value),
             Write => written(&value, out),
             Serialize => by_serde(serde_json::to_string(alloc, &value)),
             ToValue => tree(to_value(alloc, &value)),
@@ -94,6 +97,14 @@ impl OnValue {
                 made(to_json(alloc, &value))
             }
         }
+    }
+}
+
+/// The text that the value and its clone share.
+fn shared_out(alloc: Global, value: SmolStr) -> Outcome {
+    match value.clone() {
+        Ok(_clone) => made(value.into_rc_str(alloc)),
+        Err(fault) => Err(fault.into_thing()),
     }
 }
 
