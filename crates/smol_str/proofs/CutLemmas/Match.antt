@@ -1,6 +1,9 @@
 -- For `kernel::next_match`: the first place of a pattern's bytes is the first match of its characters.
 use Rattle.smol_str.proofs.Common.{◌≡◌, ◌↔◌, Option, None, Some, refl, sym, ap, ◌∙◌, subst, same_Some, ⊎_elim, rules, ℕ, ◌+◌, ◌<◌, arith, cases_lt, ◌≤◌, ◌-◌, get_or, List, [], ◌++◌, length, take, drop, length-append, append_assoc, take-append-drop, length-take-le, take_at, drop_at, length-drop, take-append-le, common_steps}
 use Rattle.smol_str.proofs.Common.{IsUtf8, chars, encode_utf8_all, encodes-append, encodes-chars, length-le-encodes, IsCharBoundary, IsCharBoundary-start, IsUtf8-drop, chars-append, size, Occurs, StandsAt, but_last, IsNextMatch, IsFirstAfter}
+use Rattle.smol_str.specs.Needle.{needle_bytes, IsSoundNeedle}
+use Rattle.smol_str.specs.declared.bytes.search.Needle.{Needle}
+use Rattle.smol_str.specs.declared.bytes.search.Needle.TheVariants.{One, Two, Long}
 use Rattle.memchr.specs.Find.{OccursAt, FindsNeedle, is_byte, IsFirstByte}
 use Rattle.memchr.proofs.lemmas.FindLemmas.{OccursAt-byte, byte-OccursAt}
 use Rattle.memchr.proofs.lemmas.MatchLemmas.{OccursAt-split, OccursAt-from_part}
@@ -9,6 +12,17 @@ use Rattle.smol_str.proofs.CutLemmas.Cut.{last_part, one_first, sooner}
 use Rattle.smol_str.proofs.CutLemmas.Sync.{StandsAt-bytes}
 use Rattle.smol_str.proofs.TextLemmas.Split.{boundary-parts, drop-parts, chars-take, chars-drop}
 use Rattle.std.proofs.lemmas.Str.{IsUtf8-take}
+
+-- a needle is a text that is not empty
+pub sound-utf8 : (n : Needle) → IsSoundNeedle n → IsUtf8 (needle_bytes n)
+sound-utf8 (One byte) sound = sound
+sound-utf8 (Two bytes) sound = sound.0
+sound-utf8 (Long search) sound = sound.0
+
+pub sound-some : (n : Needle) → IsSoundNeedle n → 0 < length (needle_bytes n)
+sound-some (One byte) sound = omega arith
+sound-some (Two bytes) sound = omega (arith, sound.1)
+sound-some (Long search) sound = sound.1
 
 -- one byte is found as a needle of one byte
 pub one_byte : (hay nd : List ℕ) → length nd ≡ 1 → (r : Option ℕ) → IsFirstByte (is_byte (get_or nd 0 0)) hay r

@@ -1,8 +1,10 @@
 -- For `str_ext::replace`: replacing match by match.
-use Rattle.smol_str.proofs.Common.{◌≡◌, None, Some, refl, sym, ap, ◌∙◌, Option, MatchOption, Bool, true, not, Result, IfOk, IfOk-weaker, rules, ℕ, ◌+◌, ◌-◌, ◌<◌, ◌≤◌, arith, List, [], ◌∷◌, ◌++◌, length, take, drop, append_assoc, append-nil, length-append, slice_get, common_steps}
+use Rattle.smol_str.proofs.Common.{◌≡◌, None, Some, refl, sym, ap, ◌∙◌, Option, MatchOption, Bool, true, not, Result, IfOk, IfOk-weaker, rules, ℕ, ◌+◌, ◌-◌, ◌<◌, ◌≤◌, arith, nat_tests, List, [], ◌∷◌, ◌++◌, length, take, drop, append_assoc, append-nil, length-append, slice_get, common_steps}
 use Rattle.smol_str.proofs.Common.{IsUtf8, IsCharBoundary, chars, encode_utf8_all, len_utf8, encode, length-encode, length-le-encodes}
 use Rattle.smol_str.proofs.Common.{size, IsShort, IsNextMatch, IsOnlyCut, joined_by, cut, Meaning, IsValueOf, replaced, replaced_all, IsReplacing, BuilderState, InBuffer, OnHeap, empty_builder, appended}
+use Rattle.smol_str.proofs.TextLemmas.Results.{OnErr-always}
 use Rattle.smol_str.proofs.TextLemmas.Sizes.{size-append, size-chars, IsShort-front}
+use Rattle.smol_str.proofs.TextLemmas.Chars.{chars-empty}
 use Rattle.std.specs.Option.{is_some}
 use Rattle.std.proofs.lemmas.Bool.{true≢false}
 use Rattle.memchr.specs.Find.{FindsNeedle}
@@ -160,11 +162,6 @@ module _ (t w : List ℕ) (n m l : ℕ) (b : BuilderState) (i : ℕ) (h : IsRepl
   before-refused [] e heap = replacing-refused t [] w n m 0 b i h [] [] w e (end-made e) heap
   before-refused (c ∷ r) e heap = taken-refused c r e (appended-heap b w (c ∷ []) heap)
 
--- as many matches are replaced as the limit lets
-pub replacing-limit : (t p w : List ℕ) (n m : ℕ) (b : BuilderState) (i : ℕ) → IsReplacing t p w n m b i → m ≡ 0
-    → IsReplacing t p w n 0 b i
-replacing-limit t p w n m b i h none = rw none at h
-
 -- the rest appended
 module _ (bs p w : List ℕ) (n : ℕ) (b : BuilderState) (i : ℕ) (h : IsReplacing (chars bs) p w n 0 b i) (u : IsUtf8 bs) where
   pub rest-whole : (d : BuilderState) → d ≡ appended b (chars (drop i bs)) → d ≡ appended (empty_builder InBuffer) (replaced (chars bs) p w n)
@@ -188,3 +185,7 @@ only_cut r t p w n is =
     (cut t p n, (own, λ others h. IsCut-unique t p n others (cut t p n) h own), IfOk-weaker r _ _ (λ v g. g.text) is)
 
 pub ruleset replacements = (replaced-unlimited, only_cut)
+
+pub ruleset first_steps = (chars-empty, nat_tests)
+
+pub ruleset last_steps = (OnErr-always, replacing-boundary, rest-whole, rest-refused, replaced-absent)

@@ -143,6 +143,19 @@ impl<'n> Needle<'n> {
         }
     }
 
+    /// Its length in bytes.
+    #[inline(always)]
+    pub(crate) fn len(&self) -> usize
+        requires { IsSoundNeedle self.now }
+        ensures { result ≡ length (needle_bytes self.now) }
+    {
+        match self {
+            Needle::One(_) => 1,
+            Needle::Two(bytes) => bytes.len(),
+            Needle::Long(search) => search.needle().len(),
+        }
+    }
+
     /// The index of its first match.
     #[inline(always)]
     #[tactic(auto, using(crate::proofs::CutLemmas::Match::one_byte))]

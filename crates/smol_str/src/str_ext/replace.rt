@@ -4,7 +4,10 @@ ghost use Rattle.std.specs.Prelude.{◌≡◌, ◌<◌, ◌≤◌, [], length, I
 ghost use Rattle.std.specs.Str.{chars};
 ghost use Rattle.smol_str.specs.Text.{IsShort};
 ghost use Rattle.smol_str.specs.Meaning.{IsValueOf};
+ghost use Rattle.smol_str.specs.BuilderState.{InBuffer, empty_builder};
+ghost use Rattle.smol_str.specs.Needle.{needle_bytes, IsSoundNeedle};
 ghost use Rattle.smol_str.specs.Replace.{each_replaced, replaced};
+ghost use Rattle.smol_str.specs.Replacing.{IsReplacing};
 
 use crate::buffer::INLINE_CAP;
 use crate::builder::SmolStrBuilder;
@@ -73,6 +76,7 @@ fn replace_each(bytes: &mut [u8], from: u8, to: u8)
 /// Replaces by pieces pushed into one builder. A text that lacks the pattern's first byte is copied.
 /// Slow path, kept out of line so that the fast path inlines.
 #[inline(never)]
+#[tactic(auto, using(crate::proofs::CutLemmas::Replacing::last_steps))]
 fn replace_matches(
     alloc: Global,
     text: &str,
@@ -85,61 +89,107 @@ fn replace_matches(
     ensures refused { OnErr result
         (¬ (IsShort (replaced (chars text.now) (chars from.now) (chars to.now) count))) }
 {
-    if from.is_empty() {
-        return replace_between(alloc, text, to, count);
-    }
-    if first_byte(text.as_bytes(), from.as_bytes()).is_none() {
+    if !from.is_empty() && first_byte(text.as_bytes(), from.as_bytes()).is_none() {
         return SmolStr::new(alloc, text);
     }
-    let needle = Needle::new(from);
-    let expected = text.len().saturating_add(growth(text, from, to, count));
-    let mut builder = SmolStrBuilder::expecting(alloc, expected);
-    let mut index = 0;
-    for taken in 0..count {
-        let Some(skipped) = needle.find(bytes_from(text, index)) else {
-            break;
-        };
-        let found = index + skipped;
-        builder.push_str_heap_first(&text[index..found])?;
-        builder.push_str_heap_first(to)?;
-        index = found + from.len();
-    }
+    let mut builder = SmolStrBuilder::expecting(
+        alloc,
+        text.len().saturating_add(growth(text, from, to, count)),
+    );
+    let index = push_replaced(&mut builder, text, from, to, count)?;
     builder.push_str(&text[index..])?;
     builder.into_value()
 }
 
-/// By how much the text grows: counted for a pattern of one byte, else a guess, of one match and a short text more.
-fn growth(text: &str, from: &str, to: &str, count: usize) -> usize {
-    if to.len() <= from.len() {
-        return 0;
+/// Appends the text up to the last match that is replaced; returns the index where the rest begins.
+#[tactic(auto, using(crate::proofs::CutLemmas::Replacing::first_steps))]
+fn push_replaced(
+    builder: &mut SmolStrBuilder,
+    text: &str,
+    from: &str,
+    to: &str,
+    count: usize,
+) -> Result<usize, AllocError>
+    requires { builder.old ≡ empty_builder InBuffer }
+    ensures ok { IfOk result (λ index.
+        IsReplacing (chars text.now) (chars from.now) (chars to.now) count 0 builder.new index) }
+    ensures refused { OnErr result
+        (¬ (IsShort (replaced (chars text.now) (chars from.now) (chars to.now) count))) }
+{
+    if from.is_empty() {
+        return push_between(builder, text, to, count);
     }
-    if from.len() == 1 && text.len() >= SEARCH_LANES {
-        let matches = count_byte(from.as_bytes()[0], text.as_bytes());
-        return matches.min(count).saturating_mul(to.len() - 1);
-    }
-    (to.len() - from.len()).saturating_add(INLINE_CAP)
+    push_matches(builder, text, &Needle::new(from), to, count)
 }
 
-/// Replaces the empty pattern: the new text comes before each of the first `count` characters, and at the end where the
-/// limit goes past them.
-fn replace_between(alloc: Global, text: &str, to: &str, count: usize) -> Result<SmolStr, AllocError>
-    ensures ok { IfOk result (λ v. IsValueOf (replaced (chars text.now) [] (chars to.now) count) v) }
-    ensures refused { OnErr result (¬ (IsShort (replaced (chars text.now) [] (chars to.now) count))) }
+/// Appends the new text before each of the first `count` characters, and at the end where the limit
+/// goes past them; returns the index where the rest begins.
+fn push_between(
+    builder: &mut SmolStrBuilder,
+    text: &str,
+    to: &str,
+    count: usize,
+) -> Result<usize, AllocError>
+    requires { builder.old ≡ empty_builder InBuffer }
+    ensures ok { IfOk result (λ index.
+        IsReplacing (chars text.now) [] (chars to.now) count 0 builder.new index) }
+    ensures refused { OnErr result
+        (¬ (IsShort (replaced (chars text.now) [] (chars to.now) count))) }
 {
-    // A text has no more characters than bytes.
-    let times = count.min(text.len().saturating_add(1));
-    let expected = to.len().saturating_mul(times).saturating_add(text.len());
-    let mut builder = SmolStrBuilder::expecting(alloc, expected);
     let mut index = 0;
     for passed in 0..count {
         builder.push_str(to)?;
         let Some(character) = text[index..].chars().next() else {
-            break;
+            return Ok(index);
         };
         // Before the push, where the compiler knows of most characters that they have one byte.
         index += character.len_utf8();
         builder.push(character)?;
     }
-    builder.push_str(&text[index..])?;
-    builder.into_value()
+    Ok(index)
+}
+
+/// Appends the text before each of the first `count` matches, and the new text; returns the
+/// index where the rest begins.
+fn push_matches(
+    builder: &mut SmolStrBuilder,
+    text: &str,
+    needle: &Needle<'_>,
+    to: &str,
+    count: usize,
+) -> Result<usize, AllocError>
+    requires sound { IsSoundNeedle needle.now }
+    requires empty { builder.old ≡ empty_builder InBuffer }
+    ensures ok { IfOk result (λ index.
+        IsReplacing (chars text.now) (chars (needle_bytes needle.now)) (chars to.now) count 0 builder.new index) }
+    ensures refused { OnErr result
+        (¬ (IsShort (replaced (chars text.now) (chars (needle_bytes needle.now)) (chars to.now) count))) }
+{
+    let mut index = 0;
+    for taken in 0..count {
+        let Some(skipped) = needle.find(bytes_from(text, index)) else {
+            return Ok(index);
+        };
+        let found = index + skipped;
+        builder.push_str_heap_first(&text[index..found])?;
+        builder.push_str_heap_first(to)?;
+        index = found + needle.len();
+    }
+    Ok(index)
+}
+
+/// By how much the text grows. It is counted for a pattern of one byte, and for the empty one, which is taken to match once
+/// more than the text has bytes; else a guess: by one match and a short text more.
+fn growth(text: &str, from: &str, to: &str, count: usize) -> usize {
+    if to.len() <= from.len() {
+        return 0;
+    }
+    let matches = if from.is_empty() {
+        text.len().saturating_add(1)
+    } else if from.len() == 1 && text.len() >= SEARCH_LANES {
+        count_byte(from.as_bytes()[0], text.as_bytes())
+    } else {
+        return (to.len() - from.len()).saturating_add(INLINE_CAP);
+    };
+    matches.min(count).saturating_mul(to.len() - from.len())
 }
