@@ -131,8 +131,9 @@ impl TreeBuilder {
 
     /// The offset at which the node begins that was opened last; 0 if none is open. It counts all elements before that.
     pub fn last_start(&self) -> usize
-        ensures { IfSome (slice_get self.now.starts (depth self.now - 1)) (λ start.
+        ensures open { IfSome (slice_get self.now.starts (depth self.now - 1)) (λ start.
             result ≡ min (size (flat_map text_of (take start.1 self.now.elements))) (2 ^ 64 - 1)) }
+        ensures none { depth self.now ≡ 0 → result ≡ 0 }
     {
         match self.starts.last() {
             Some(&(_, first)) => len_of_all(&self.elements[..first.min(self.elements.len())]),

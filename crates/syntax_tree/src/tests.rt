@@ -27,6 +27,8 @@ fn kinds(rt: HostRuntime) -> Result<(), Fail> {
     let list = tree.children().first().expect(&rt, "a list");
     assert_eq!(&rt; list.kind(), LIST);
     assert_eq!(&rt; list.tokens(rt.alloc())?.len(), 13);
+    let empty = Element::Token(WORD, SmolStr::new_inline(""));
+    assert_eq!(&rt; empty.tokens(rt.alloc())?.len(), 1);
     let kinds: Vec<SyntaxKind> = list
         .children()
         .iter()
@@ -92,7 +94,7 @@ fn builder_faults(rt: HostRuntime) -> Result<(), Fail> {
     assert_eq!(&rt; builder.finish().err(), Some(TreeFault::StillOpen));
     let mut builder = TreeBuilder::new(rt.alloc());
     builder.token(WORD, SmolStr::new_inline("a"))?;
-    builder.token(WORD, SmolStr::new_inline("b"))?;
+    builder.token(WORD, SmolStr::new_inline(""))?;
     assert_eq!(&rt; builder.finish().err(), Some(TreeFault::NotOneRoot));
     Ok(())
 }
@@ -100,9 +102,11 @@ fn builder_faults(rt: HostRuntime) -> Result<(), Fail> {
 // By their variants, kinds and texts.
 #[test]
 fn trees_and_faults_in_debug(rt: HostRuntime) -> Result<(), Fail> {
-    let tree = parse(rt.alloc(), "a")?;
+    let tree = parse(rt.alloc(), "(a) ")?;
     let printed = format!(in rt.alloc(); "{tree:?} {:?}", [Unclosed(7), Tree(TreeFault::TooDeep)])?;
-    let wanted = "Node(SyntaxKind(0), [Token(SyntaxKind(4), \"a\")]) [Unclosed(7), Tree(TooDeep)]";
+    let wanted =
+        "Node(SyntaxKind(0), [Node(SyntaxKind(1), [Token(SyntaxKind(2), \"(\"), Token(SyntaxKind(4), \"a\"), \
+        Token(SyntaxKind(2), \")\")]), Token(SyntaxKind(3), \" \")]) [Unclosed(7), Tree(TooDeep)]";
     assert_eq!(&rt; printed.as_str(), wanted);
     Ok(())
 }
