@@ -27,7 +27,7 @@ pub type Outcome = Result<Thing, Thing>;
 
 /// What a shared text has beside its bytes: its counts, what the C library leaves at the end of a block, and spare room of
 /// the `String` that it was made of.
-const BESIDE: usize = 128 + INLINE_CAP;
+const BESIDE: usize = 104 + INLINE_CAP;
 
 impl Thing {
     /// The bytes of its text, where it has one.

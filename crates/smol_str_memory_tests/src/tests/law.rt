@@ -197,7 +197,7 @@ fn of_each_character(rt: HostRuntime) -> Result<(), Fail> {
 }
 
 /// Of bytes: a wire form of the text, or the text itself.
-static FORMS: [Law<OnForm>; 12] = laws! {
+static FORMS: [Law<OnForm>; 13] = laws! {
     FromWire => "borsh::from_wire", Most(2), 1 * text + 40, UnlessResident;
     SplitWire => "borsh::split_wire", Most(2), 1 * text + 40, UnlessResident;
     ReadChunk => "BorshDeserialize::deserialize_reader", Most(2), 1 * text + 40, UnlessShort;
@@ -210,6 +210,7 @@ static FORMS: [Law<OnForm>; 12] = laws! {
     WriteFully => "stream::write_fully", Most(0), 0 * text + 0, ForAny;
     NotUtf8 => "SmolStr::from_utf8", Most(0), 0 * text + 0, ForAny;
     EndsEarly => "borsh::deserialize_limited", Doubling(1), 4 * text + 8, UnlessShort;
+    SliceEndsEarly => "borsh::from_wire", Most(0), 0 * text + 0, ForAny;
 };
 
 #[test]

@@ -145,11 +145,14 @@ fn not_utf8(rt: HostRuntime) -> Result<(), Fail> {
 const MOST_BYTES: u32 = 3_000;
 
 // Many tokens, and faults behind many lines.
-static MANY: [(&str, &str); 4] = table! {
+static MANY: [(&str, &str); 5] = table! {
     ("tokens", "a\nb\nc\nd\ne\nf\ng\nh\ni\nj\nk\nl\n");
     ("merge", "1 a\n1 b\n1 c\n1 d\n1 e\n1 f\n1 g\n1 h\n1 i\n1 j\n1 k\n1 l\n");
     ("merge", "1 a\n1 b\n1 c\n1 d\n1 e\n1 f\n1 g\n1 h\n1 i\n1 j\n1 k\nl\n");
     ("merge", "1 a\n1 b\n1 c\n1 d\n1 e\n1 f\n1 g\n1 h\n1 i\n1 j\n18446744073709551615 a\n");
+    // no token is kept behind an overflow
+    ("merge", "18446744073709551615 a\n1 a\n1 b\n1 c\n1 d\n1 e\n1 f\n1 g\n1 h\n1 i\n1 j\n1 k\n1 l\n1 m\n1 n\n1 o\n1 p\n1 q\n1 r\n\
+        1 s\n1 t\n1 u\n1 v\n1 w\n1 x\n1 y\n1 z\n1 A\n1 B\n1 C\n1 D\n1 E\n1 F\n1 G\n1 H\n1 I\n1 J\n");
 };
 
 #[test]

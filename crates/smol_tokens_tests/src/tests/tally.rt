@@ -112,11 +112,12 @@ impl Hasher for Collides {
     fn write(&mut self, _bytes: &[u8]) {}
 }
 
-/// Counts the hashers that it makes.
+/// Counts the hashers that it makes, and holds memory.
 #[derive(Drop)]
 struct Counting<'a> {
     hasher: Collides,
     made: &'a Cell<usize>,
+    _held: String,
 }
 
 impl BuildHasher for Counting<'_> {
@@ -130,23 +131,36 @@ impl BuildHasher for Counting<'_> {
     }
 }
 
-// The state that is handed in hashes the tokens.
+// The state that is handed in hashes the tokens, at most twice a line, and is dropped.
 #[test]
 fn hashed_by_the_state(rt: HostRuntime) -> Result<(), Fail> {
     let test = Test::begin(rt);
-    check_state(&test, Mode::Tokens, b"if\nx\nif\n", b"2 if\n1 x\n");
-    check_state(&test, Mode::Merge, b"1 if\n1 x\n1 if\n", b"2 if\n1 x\n");
+    check_state(&test, Mode::Tokens, b"if\nx\nif\n", b"2 if\n1 x\n", 3);
+    check_state(&test, Mode::Merge, b"1 if\n1 x\n1 if\n", b"2 if\n1 x\n", 3);
+    check_state(
+        &test,
+        Mode::Lower,
+        b"IF\nx\nIF\n",
+        b"inline 2 if\ninline 1 x\ninline 2 if\n",
+        0,
+    );
+    check_state(&test, Mode::Join, b"if\nx\n", b"inline 3 ifx\n", 0);
     test.end()
 }
 
-fn check_state(test: &Test, mode: Mode, mut input: &[u8], wanted: &[u8]) {
+fn check_state(test: &Test, mode: Mode, mut input: &[u8], wanted: &[u8], lines: usize) {
+    start_counts(test.alloc);
     let (made, mut out) = (Cell::new(0), Vec::new(test.alloc));
     let (hasher, count) = (Collides, &made);
     let state = Counting {
         hasher,
         made: count,
+        _held: test.string("a state"),
     };
     let ended = run_with_hasher(test.alloc, state, mode, &mut input, &mut out);
     holds(test, ended.is_ok() && out.as_slice() == wanted, &wanted);
-    holds(test, made.get() >= 3, &made.get());
+    drop(out);
+    no_blocks(test, &wanted);
+    let is_hashed = (lines..=lines.saturating_mul(2)).contains(&made.get());
+    holds(test, is_hashed, &made.get());
 }

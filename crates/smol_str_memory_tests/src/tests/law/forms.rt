@@ -23,6 +23,8 @@ pub enum OnForm {
     NotUtf8,
     /// The size is one more than the text's, and by single bytes more than the limit.
     EndsEarly,
+    /// The same, of a slice.
+    SliceEndsEarly,
 }
 
 /// How many bytes a reader gives a call.
@@ -35,7 +37,7 @@ impl Call for OnForm {
     /// From a slice, and from readers that give one byte a call, some, and all.
     fn ways(&self) -> usize {
         match self {
-            FromWire | SplitWire | WriteFully | NotUtf8 => 1,
+            FromWire | SplitWire | WriteFully | NotUtf8 | SliceEndsEarly => 1,
             _ => 3,
         }
     }
@@ -69,6 +71,7 @@ impl Call for OnForm {
         match self {
             FromWire => found(from_wire(alloc, &form)),
             SplitWire => found(split_wire(alloc, &form)),
+            SliceEndsEarly => faulty(found(from_wire(alloc, &form))),
             NotUtf8 => faulty(made(SmolStr::from_utf8(alloc, &form))),
             WriteFully => changed(write_fully(&mut room, &form).is_ok(), room),
             Fill => changed(fill(&mut reader, &mut room).is_ok(), room),
@@ -80,7 +83,7 @@ impl Call for OnForm {
 impl OnForm {
     /// The text's size, as its form has it.
     fn size_of(&self, text: &str) -> [u8; 4] {
-        let more = usize::from(matches!(self, EndsEarly));
+        let more = usize::from(matches!(self, EndsEarly | SliceEndsEarly));
         u32::try_from(text.len().saturating_add(more))
             .unwrap_or(0)
             .to_le_bytes()

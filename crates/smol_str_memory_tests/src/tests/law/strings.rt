@@ -18,11 +18,11 @@ impl Call for OnString {
     /// A `String`, or a shared text.
     type Input = Result<String, RcStr>;
 
-    /// With no more room than the text needs, with some more, and with much.
+    /// With no more room than the text needs, with some more, with more, and with much.
     fn ways(&self) -> usize {
         match self {
             FromBoxed | FromShared => 1,
-            _ => 3,
+            _ => 4,
         }
     }
 
@@ -34,7 +34,7 @@ impl Call for OnString {
         }
         let room = text
             .len()
-            .saturating_add([0, 10 * INLINE_CAP, 5_000][way % 3]);
+            .saturating_add([0, 110, 10 * INLINE_CAP, 5_000][way % 4]);
         let mut string = ok(test, String::with_capacity(test.alloc, room));
         ok(test, string.push_str(text));
         Ok(string)
