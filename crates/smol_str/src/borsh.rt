@@ -192,6 +192,7 @@ impl BorshSerialize for SmolStr {
 
     ghost has_form = { λ s. HasWire s.text };
 
+    #[inline(always)]
     #[tactic(auto, using(crate::proofs::WireLemmas::Borsh::written_forms))]
     fn serialize<W: Write>(&self, writer: &mut W) -> Result<(), EncodeFault> {
         let bytes = self.as_str().as_bytes();

@@ -56,7 +56,8 @@ fn read_into<R: Read>(
     Ok(SmolStr::from_utf8(alloc, buffer)?)
 }
 
-/// Reads a body of `size` bytes.
+/// Reads a body of `size` bytes. Inlined, so that a loop of reads clears the buffers once.
+#[inline(always)]
 pub(super) fn read_body<R: Read>(
     alloc: Global,
     reader: &mut R,

@@ -89,13 +89,14 @@ fn of_strings(rt: HostRuntime) -> Result<(), Fail> {
 }
 
 /// Of pieces: texts, strings and values.
-static PIECES: [Law<OnPieces>; 11] = laws! {
+static PIECES: [Law<OnPieces>; 12] = laws! {
     FromStrs => "SmolStr::from_strs", Doubling(2), 4 * text + 40, UnlessShort;
     FromStrings => "SmolStr::from_strings", Doubling(2), 4 * text + 40, UnlessShort;
     FromStringRefs => "SmolStr::from_string_refs", Doubling(2), 4 * text + 40, UnlessShort;
     Collect => "SmolStr::from_iter", Doubling(2), 4 * text + 40, UnlessShort;
     Join => "SmolStr::join", Most(2), 1 * text + 40, UnlessShort;
     JoinByText => "SmolStr::join", Most(2), 1 * text + 40, UnlessShort;
+    JoinOfRefs => "SmolStr::join", Most(2), 1 * text + 40, UnlessShort;
     ExtendStrs => "SmolStrBuilder::extend_strs", Doubling(2), 4 * text + 40, UnlessShort;
     ExtendStrings => "SmolStrBuilder::extend_strings", Doubling(2), 4 * text + 40, UnlessShort;
     ExtendByEach => "SmolStrBuilder::extend_strings", Doubling(2), 4 * text + 40, UnlessShort;

@@ -10,8 +10,9 @@ pub enum OnPieces {
     /// Texts, strings, values or, where nothing is joined, characters, as those below but for the calls that name theirs.
     Collect,
     Join,
-    /// Three pieces by the text.
+    /// Three pieces by the text; and the same lent once more.
     JoinByText,
+    JoinOfRefs,
     ExtendStrs,
     ExtendStrings,
     /// `extend_strings` by each string.
@@ -83,6 +84,7 @@ impl Call for OnPieces {
                 FromStringRefs => made(SmolStr::from_string_refs(alloc, strings.iter())),
                 ExtendStrings => gathered(builder.extend_strings(strings.iter()), builder),
                 ExtendByEach => gathered(extend_by_each(&mut builder, &strings), builder),
+                JoinOfRefs => made(join_refs(alloc, strings.as_slice(), separator)),
                 _ => self.of_each(alloc, strings, builder, separator),
             },
             Pieces::Values(values) => self.of_each(alloc, values, builder, separator),
@@ -100,7 +102,9 @@ impl Call for OnPieces {
                     strs.as_slice().join(test.alloc, self.separator(text, way)),
                 )
             }
-            JoinByText => ok(test, cut(test, "abc", 3).as_slice().join(test.alloc, text)),
+            JoinByText | JoinOfRefs => {
+                ok(test, cut(test, "abc", 3).as_slice().join(test.alloc, text))
+            }
             _ => test.joined(self.front(text), text),
         }
     }
@@ -119,7 +123,7 @@ impl OnPieces {
 
     fn separator(&self, text: &'static str, way: usize) -> &'static str {
         match self {
-            JoinByText => text,
+            JoinByText | JoinOfRefs => text,
             _ => SEPARATORS[way % 5],
         }
     }
@@ -127,7 +131,7 @@ impl OnPieces {
     /// Texts are joined by each separator in each number of pieces.
     fn kind(&self, way: usize) -> usize {
         match self {
-            FromStrings | FromStringRefs | ExtendStrings | ExtendByEach => 1,
+            FromStrings | FromStringRefs | ExtendStrings | ExtendByEach | JoinOfRefs => 1,
             Join => way / 5,
             _ => way / 3,
         }
@@ -135,7 +139,7 @@ impl OnPieces {
 
     fn pieces(&self, test: &Test, text: &'static str, way: usize) -> Pieces {
         let strs = match self {
-            JoinByText => cut(test, "abc", 3),
+            JoinByText | JoinOfRefs => cut(test, "abc", 3),
             _ => cut(test, text, count_of(text, way)),
         };
         match self.kind(way) {
@@ -176,6 +180,14 @@ fn extend_by_each(builder: &mut SmolStrBuilder, strings: &Vec<String>) -> Result
         builder.extend_strings([string].into_iter())?;
     }
     Ok(())
+}
+
+/// The three, and the empty one behind them.
+fn join_refs(alloc: Global, strings: &[String], separator: &str) -> Result<SmolStr, AllocError> {
+    match strings {
+        [a, b, c, empty] => SmolStr::join(alloc, &[a, b, c, empty], separator),
+        _ => Err(AllocError),
+    }
 }
 
 fn append_all<P: Piece>(builder: &mut SmolStrBuilder, pieces: Vec<P>) -> Result<(), AllocError> {
