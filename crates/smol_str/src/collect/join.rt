@@ -21,6 +21,7 @@ impl SmolStr {
     /// let line = SmolStr::join(alloc, &["id", "name", "city"], ",")?;
     /// assert_eq!(rt; line.as_str(), "id,name,city");
     /// ```
+    #[inline(always)]
     pub fn join<P: Piece>(
         alloc: Global,
         pieces: &[P],
@@ -40,10 +41,7 @@ impl SmolStr {
                 return SmolStr::from_owned(text);
             }
         }
-        let mut builder = SmolStrBuilder::with_capacity(alloc, room)?;
-        first.append_to(&mut builder)?;
-        append_others(&mut builder, separator, others)?;
-        builder.into_value()
+        join_appended(alloc, first, separator, others, room)
     }
 }
 
@@ -60,6 +58,27 @@ fn min_len<P: Piece>(first: &P, separator: &str, others: &[P]) -> usize
         len = len.wrapping_add(separator.len()).wrapping_add(next.len());
     }
     len
+}
+
+/// The value of a text and others, each behind the separator, by a builder with room for so many bytes.
+fn join_appended<P: Piece>(
+    alloc: Global,
+    first: &P,
+    separator: &str,
+    others: &[P],
+    room: usize,
+) -> Result<SmolStr, AllocError>
+    requires { room ≤ size (P.text first.now
+        ++ flat_map (λ piece. chars separator.now ++ P.text piece) others.now) }
+    ensures ok { IfOk result (λ v. IsValueOf (P.text first.now
+        ++ flat_map (λ piece. chars separator.now ++ P.text piece) others.now) v) }
+    ensures refused { OnErr result (¬ (IsShort (P.text first.now
+        ++ flat_map (λ piece. chars separator.now ++ P.text piece) others.now))) }
+{
+    let mut builder = SmolStrBuilder::with_capacity(alloc, room)?;
+    first.append_to(&mut builder)?;
+    append_others(&mut builder, separator, others)?;
+    builder.into_value()
 }
 
 /// Appends the texts, each behind the separator.
@@ -120,10 +139,25 @@ fn push_lent<P: Piece>(
 {
     push_in_room(bytes, first)?;
     for piece in others {
-        push_in_room(bytes, separator)?;
+        push_separator(bytes, separator)?;
         push_in_room(bytes, piece.lent()?)?;
     }
     Some(())
+}
+
+/// Appends a separator; `None` if it has no room. Of one byte it is a store, where `extend_from_slice` would call `memmove`.
+#[inline(always)]
+fn push_separator(bytes: &mut Vec<u8>, separator: &str) -> Option<()>
+    ensures { IfSome result (λ _. bytes.new.items ≡ bytes.old.items ++ separator.now) }
+{
+    match separator.as_bytes() {
+        [] => Some(()),
+        [byte] if bytes.len() < bytes.capacity() => {
+            bytes.push_reserved(*byte);
+            Some(())
+        }
+        _ => push_in_room(bytes, separator),
+    }
 }
 
 /// Appends a text; `None` if it has no room. Nothing here needs more memory, so the length stays in a register.
@@ -134,11 +168,5 @@ fn push_in_room(bytes: &mut Vec<u8>, text: &str) -> Option<()>
     if text.len() > bytes.capacity() - bytes.len() {
         return None;
     }
-    match text.as_bytes() {
-        [] => {}
-        // One store: `extend_from_slice` would call `memmove`.
-        [byte] => bytes.push_reserved(*byte),
-        long => bytes.extend_from_slice(long).ok()?,
-    }
-    Some(())
+    bytes.extend_from_slice(text.as_bytes()).ok()
 }

@@ -1,6 +1,5 @@
 use Rattle.smol_str.proofs.Common.{◌≡◌, ◌∷◌, ◌++◌, arith, rules, chars, flat_map, string_bytes}
-use Rattle.smol_str.proofs.BuilderLemmas.State.{appended-twice}
-use Rattle.smol_str.proofs.BuilderLemmas.Join.{joined-first, first-long, others-long}
+use Rattle.smol_str.proofs.BuilderLemmas.Join.{joined-first}
 use Rattle.smol_str.proofs.TextLemmas.Results.{OnErr-always}
 use Rattle.smol_str.proofs.value.SmolStr.join.Goals as goal
 
@@ -27,35 +26,14 @@ returns-in-Some-2-clause-refused g c =
     OnErr-always c.from_owned.result _
     (rw joins (λ short. omega (arith, short, c.min_len-room.ensures, c.if-room-gt-INLINE_CAP.true)))
 
-pub returns-in_err-builder-clause-refused : goal.returns-in_err-builder-clause-refused
-returns-in_err-builder-clause-refused g c =
-    let whole : c.args.pieces.now ≡ c.in-Some.first.now ∷ c.in-Some.others.now = search rules in
-    let joins = joined-first g.P.Piece.text (chars c.args.separator.now) _ _ _ whole in
-    OnErr-always c.from_residual-in_err-builder.result _
-    (rw joins (λ short. omega (arith, short, c.min_len-room.ensures, c.in_err-builder.ensures.refused)))
-
-pub returns-in_err-append_to-clause-refused : goal.returns-in_err-append_to-clause-refused
-returns-in_err-append_to-clause-refused g c =
-    let whole : c.args.pieces.now ≡ c.in-Some.first.now ∷ c.in-Some.others.now = search rules in
-    let joins = joined-first g.P.Piece.text (chars c.args.separator.now) _ _ _ whole in
-    OnErr-always c.from_residual-in_err-append_to.result _
-    (rw joins (first-long _ _ _ _ c.in_ok-builder.ensures.ok c.min_len-room.ensures c.in_err-append_to.ensures.refused))
-
-pub returns-in_err-append_others-clause-refused : goal.returns-in_err-append_others-clause-refused
-returns-in_err-append_others-clause-refused g c =
-    let whole : c.args.pieces.now ≡ c.in-Some.first.now ∷ c.in-Some.others.now = search rules in
-    let joins = joined-first g.P.Piece.text (chars c.args.separator.now) _ _ _ whole in
-    OnErr-always c.from_residual-in_err-append_others.result _
-    (rw joins (others-long _ _ _ _ c.in_ok-builder.ensures.ok c.min_len-room.ensures _ c.in_ok-append_to.ensures.ok c.in_err-append_others.ensures.refused))
-
 pub returns-clause-ok : goal.returns-clause-ok
 returns-clause-ok g c =
     let whole : c.args.pieces.now ≡ c.in-Some.first.now ∷ c.in-Some.others.now = search rules in
     let joins = joined-first g.P.Piece.text (chars c.args.separator.now) _ _ _ whole in
-    grind (arith, joins, appended-twice)
+    rw joins c.join_appended.ensures.ok
 
 pub returns-clause-refused : goal.returns-clause-refused
 returns-clause-refused g c =
     let whole : c.args.pieces.now ≡ c.in-Some.first.now ∷ c.in-Some.others.now = search rules in
     let joins = joined-first g.P.Piece.text (chars c.args.separator.now) _ _ _ whole in
-    grind (arith, joins, appended-twice)
+    rw joins c.join_appended.ensures.refused
