@@ -10,7 +10,7 @@ pub enum OnPieces {
     /// Texts, strings, values or, where nothing is joined, characters, as those below but for the calls that name theirs.
     Collect,
     Join,
-    /// Three pieces by the text; and the same lent once more.
+    /// Three pieces by the text; and the same and an empty one, as `&String`s.
     JoinByText,
     JoinOfRefs,
     ExtendStrs,
@@ -182,7 +182,7 @@ fn extend_by_each(builder: &mut SmolStrBuilder, strings: &Vec<String>) -> Result
     Ok(())
 }
 
-/// The three, and the empty one behind them.
+/// Three strings and the empty one behind them, joined by references to them.
 fn join_refs(alloc: Global, strings: &[String], separator: &str) -> Result<SmolStr, AllocError> {
     match strings {
         [a, b, c, empty] => SmolStr::join(alloc, &[a, b, c, empty], separator),
