@@ -47,7 +47,6 @@ impl<T: Drop> From<AllocFailed<T>> for FormatError {
 impl fmt::Write for SmolStrBuilder {
     ghost write_str_gives = { λ s bytes t. IsUtf8 bytes × (t ≡ appended s (chars bytes)) };
 
-    #[inline(always)]
     fn write_str(&mut self, text: &str) -> fmt::Result
         ensures ok { OnOk result (IsUtf8 text.now × (self.new ≡ appended self.old (chars text.now))) }
         ensures unchanged { OnErr result (self.new ≡ self.old) }
